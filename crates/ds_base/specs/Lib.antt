@@ -1,0 +1,10 @@
+pub mod FaultNumbers
+pub mod Items
+pub mod Lending
+pub mod LendingBytes
+pub mod Leb
+pub mod Reading
+pub mod Room
+pub mod Spot
+pub mod FirstUse
+pub mod Texts

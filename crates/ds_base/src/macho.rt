@@ -1,0 +1,110 @@
+//! The numbers of Mach-O under the names of Apple's headers.
+
+// mach-o/loader.h: the header of a 64-bit file.
+pub const MH_MAGIC_64: u32 = 0xfeed_facf;
+
+pub const MH_OBJECT: u32 = 1;
+
+pub const MH_EXECUTE: u32 = 2;
+
+pub const MH_DYLIB: u32 = 6;
+
+pub const MH_BUNDLE: u32 = 8;
+
+pub const MH_DSYM: u32 = 10;
+
+// mach/machine.h: the CPU types that are read.
+pub const CPU_TYPE_X86_64: u32 = 0x0100_0007;
+
+pub const CPU_TYPE_ARM64: u32 = 0x0100_000c;
+
+// mach-o/loader.h: load commands.
+pub const LC_SYMTAB: u32 = 0x02;
+
+pub const LC_SEGMENT_64: u32 = 0x19;
+
+pub const LC_UUID: u32 = 0x1b;
+
+// mach-o/loader.h, mach-o/nlist.h, mach-o/reloc.h, ar.h: sizes of records in bytes.
+pub const MACH_HEADER_64_SIZE: u32 = 32;
+
+pub const SEGMENT_COMMAND_64_SIZE: u32 = 72;
+
+pub const SECTION_64_SIZE: u32 = 80;
+
+pub const SYMTAB_COMMAND_SIZE: u32 = 24;
+
+pub const UUID_COMMAND_SIZE: u32 = 24;
+
+pub const NLIST_64_SIZE: u32 = 16;
+
+pub const RELOCATION_INFO_SIZE: u32 = 8;
+
+pub const AR_HDR_SIZE: u32 = 60;
+
+// mach-o/loader.h: names of segments and sections, padded with zeros to 16 bytes.
+pub const SEG_TEXT: [u8; 16] = *b"__TEXT\0\0\0\0\0\0\0\0\0\0";
+
+pub const SEG_DWARF: [u8; 16] = *b"__DWARF\0\0\0\0\0\0\0\0\0";
+
+pub const SECT_TEXT: [u8; 16] = *b"__text\0\0\0\0\0\0\0\0\0\0";
+
+pub const SECT_DEBUG_ABBREV: [u8; 16] = *b"__debug_abbrev\0\0";
+
+pub const SECT_DEBUG_INFO: [u8; 16] = *b"__debug_info\0\0\0\0";
+
+pub const SECT_DEBUG_STR: [u8; 16] = *b"__debug_str\0\0\0\0\0";
+
+// mach-o/loader.h: the type and the attributes in a section's flags.
+pub const SECTION_TYPE: u32 = 0xff;
+
+pub const S_ZEROFILL: u32 = 0x01;
+
+pub const S_ATTR_DEBUG: u32 = 0x0200_0000;
+
+// mach/vm_prot.h: protections of a segment.
+pub const VM_PROT_READ: u32 = 0x01;
+
+pub const VM_PROT_WRITE: u32 = 0x02;
+
+pub const VM_PROT_EXECUTE: u32 = 0x04;
+
+// mach-o/nlist.h: the fields and the values of a symbol's n_type.
+pub const N_STAB: u8 = 0xe0;
+
+pub const N_TYPE: u8 = 0x0e;
+
+pub const N_EXT: u8 = 0x01;
+
+pub const N_UNDF: u8 = 0x00;
+
+pub const N_ABS: u8 = 0x02;
+
+pub const N_SECT: u8 = 0x0e;
+
+// mach-o/stab.h: the kinds of stabs.
+pub const N_GSYM: u8 = 0x20;
+
+pub const N_FUN: u8 = 0x24;
+
+pub const N_STSYM: u8 = 0x26;
+
+pub const N_LCSYM: u8 = 0x28;
+
+pub const N_BNSYM: u8 = 0x2e;
+
+pub const N_AST: u8 = 0x32;
+
+pub const N_ENSYM: u8 = 0x4e;
+
+pub const N_SO: u8 = 0x64;
+
+pub const N_OSO: u8 = 0x66;
+
+// mach-o/x86_64/reloc.h and mach-o/arm64/reloc.h: the plain relocation, and the length of 8 bytes in
+// powers of two (mach-o/reloc.h).
+pub const X86_64_RELOC_UNSIGNED: u8 = 0;
+
+pub const ARM64_RELOC_UNSIGNED: u8 = 0;
+
+pub const RELOC_LENGTH_8: u8 = 3;
