@@ -1,0 +1,5 @@
+pub mod Counting
+pub mod MemoryFiles
+pub mod MemorySink
+pub mod Outside
+pub mod Streams

@@ -1,0 +1,107 @@
+//! The files of the system.
+
+ghost use Rattle.std.specs.Prelude.{◌≡◌, ◌≤◌, length, IfOk};
+
+use crate::files::{FileError, Files};
+use crate::streams::{read_whole, write_whole};
+use crate::tally::Tally;
+use ds_base::Bytes;
+use std::alloc::Global;
+use std::fs::{File, OpenFile};
+use std::io::ErrorKind;
+use std::marker::Model;
+use std::path::Path;
+use std::{fs, io, rt};
+
+/// The files of the system, each by its path. What they hold is not told; a contract sees the counts alone.
+///
+/// A file is read into one buffer, and is `Missing` where the system finds no such path, `TooLong` once it has more bytes
+/// than the call allows, and `Failed` at any other error. To replace a file makes the folders of its path that are missing.
+#[derive(Drop)]
+pub struct HostFiles<R> {
+    rt: R,
+    tally: Tally,
+}
+
+impl<R> Model for HostFiles<R> {
+    ghost use Rattle.ds_files.specs.Outside.{Counts};
+
+    ghost Value = { Counts };
+
+    ghost view = { λ s. s.tally };
+}
+
+impl<R: rt::Files> HostFiles<R> {
+    ghost use Rattle.ds_files.specs.Counting.{no_counts};
+
+    /// The files that a runtime reaches, with nothing counted yet. `rt` may be a reference to the runtime.
+    pub fn new(rt: R) -> HostFiles<R>
+        ensures { result ≡ no_counts }
+    {
+        HostFiles {
+            rt,
+            tally: Tally::new(),
+        }
+    }
+}
+
+impl<R: rt::Files> Files for HostFiles<R> {
+    ghost use Rattle.std.specs.Prelude.{◌≡◌, ◌≤◌, length, None, IfOk, IfErr};
+    ghost use Rattle.ds_files.specs.Outside.{IsLater};
+    ghost use Rattle.ds_files.specs.Counting.{counts_after};
+    ghost use Rattle.ds_files.specs.declared.files.FileError.TheVariants as errors;
+
+    ghost files = { λ _. None };
+
+    ghost counts = { λ s. s };
+
+    fn read(&mut self, alloc: Global, name: &str, most: u64) -> Result<Bytes, FileError>
+        ensures within { IfOk result (λ b. length b ≤ most) }
+        ensures after { self.new ≡ counts_after result self.old }
+        ensures later { IsLater self.old self.new }
+    {
+        match read_file(&self.rt, alloc, name, most) {
+            Ok(bytes) => Ok(bytes),
+            Err(error) => Err(self.tally.count(error)),
+        }
+    }
+
+    fn replace(&mut self, _alloc: Global, name: &str, bytes: &[u8]) -> Result<(), FileError>
+        ensures failed { IfErr result (λ error. error ≡ errors.Failed) }
+        ensures after { self.new ≡ counts_after result self.old }
+        ensures later { IsLater self.old self.new }
+    {
+        match replace_file(&self.rt, name, bytes) {
+            Ok(()) => Ok(()),
+            Err(_) => Err(self.tally.count(FileError::Failed)),
+        }
+    }
+}
+
+/// All bytes of a file. Its size, where the system tells it, says what to reserve and whether to read at all.
+fn read_file<R: rt::Files>(rt: &R, alloc: Global, name: &str, most: u64) -> Result<Bytes, FileError>
+    ensures { IfOk result (λ b. length b ≤ most) }
+{
+    let mut file = match File::open(rt, name) {
+        Ok(file) => file,
+        Err(error) if error.kind() == ErrorKind::NotFound => return Err(FileError::Missing),
+        Err(_) => return Err(FileError::Failed),
+    };
+    let size = match file.metadata() {
+        Ok(metadata) if metadata.is_file() => metadata.len(),
+        _ => 0,
+    };
+    if size > most {
+        return Err(FileError::TooLong);
+    }
+    read_whole(&mut file, alloc, size, most)
+}
+
+/// Makes the folders that are missing, and the file anew.
+fn replace_file<R: rt::Files>(rt: &R, name: &str, bytes: &[u8]) -> io::Result<()> {
+    if let Some(folder) = Path::new(name).parent() {
+        fs::create_dir_all(rt, folder)?;
+    }
+    let mut file = File::create(rt, name)?;
+    write_whole(&mut file, bytes)
+}
