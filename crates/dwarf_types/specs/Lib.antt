@@ -1,0 +1,4 @@
+pub mod Abbreviations
+pub mod Encode
+pub mod Entries
+pub mod Values
