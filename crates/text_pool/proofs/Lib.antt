@@ -1,0 +1,3 @@
+pub mod FirstUses
+pub mod KeptLemmas
+pub mod Places

@@ -1,0 +1,17 @@
+//! The string section: `__debug_str`, texts by first use and each once.
+//!
+//! Layer: writers. Texts stand one after the other, each as "a sequence of contiguous non-null bytes followed
+//! by one null byte" (DWARF 4, section 7.5.4, class string), and a value of form `DW_FORM_strp` names one by its
+//! offset. A [`TextPool`] is the list of its texts: [`add`] gives `with_text` of it, [`offset_of`] gives `place_of`
+//! and [`emit_texts`] writes `section_of` (`ds_base/specs/Texts.antt`). No text shares the end of another, and
+//! that a text has no zero byte is left to its user.
+#![tactic(auto)]
+
+mod pool;
+
+pub use pool::{
+    TextError, TextPool, add, emit_texts, new_pool, offset_of, pool_of_uses_is_each_once, pool_size,
+};
+
+#[cfg(test)]
+mod tests;
