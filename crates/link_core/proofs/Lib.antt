@@ -1,0 +1,15 @@
+pub mod RelocLoop
+pub mod FlatEncoding
+pub mod UnitTexts
+pub mod SectionLoop
+pub mod LastPart
+pub mod Stages
+pub mod RecordLaws
+pub mod ProgramLaws
+pub mod LiveFunctions
+pub mod Backwards
+pub mod RangeLemmas
+pub mod LinkSteps
+pub mod UnitLaws
+pub mod ObjectLaws
+pub mod ObjectSizes

@@ -1,0 +1,17 @@
+pub mod Records
+pub mod ProgramForm
+pub mod ObjectForm
+pub mod Ranges
+pub mod RecordReading
+pub mod ProgramReading
+pub mod ObjectReading
+pub mod Linked
+pub mod Image
+pub mod FlatUnit
+pub mod Live
+pub mod Words
+pub mod Codes
+pub mod Answer
+pub mod RangeTable
+pub mod Seen
+pub mod Fits

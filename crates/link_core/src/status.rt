@@ -1,0 +1,65 @@
+//! How a link ended, and the program's exit code for it.
+
+ghost use Rattle.std.specs.Prelude.{◌≡◌};
+ghost use Rattle.link_core.specs.Codes.{code_of};
+
+use ds_base::Fault;
+
+/// A limit that a link can reach (docs/PROFILE.md, "Limits").
+#[derive(Clone, Copy, Debug, PartialEq, Eq)]
+pub enum LimitKind {
+    /// The objects of a debug map.
+    Objects,
+    /// The bytes of all files that are read.
+    Input,
+    /// The entries whose names are merged.
+    Pooled,
+    /// The bytes of an output unit.
+    Unit,
+    /// The bytes of an output section.
+    Section,
+    /// The bytes of the image.
+    File,
+}
+
+/// How a link ended.
+///
+/// A file is numbered: 0 is the program, and its objects follow from 1. In `WriteFault` 0 is Info.plist and 1 the image.
+#[derive(Clone, Copy, Debug, PartialEq, Eq)]
+pub enum Status {
+    /// The bundle was written.
+    Done,
+    /// The words are not those of the command.
+    Usage,
+    /// The file is not there.
+    Missing { file: u32 },
+    /// The file could not be read.
+    ReadFault { file: u32 },
+    /// The file's content is wrong: its first fault.
+    Faulty { file: u32, fault: Fault },
+    /// The limit was reached.
+    Limit { which: LimitKind, number: u64 },
+    /// The file could not be written.
+    WriteFault { file: u32 },
+    /// Memory ran out.
+    NoMemory,
+    /// The message could not be put out.
+    MessageFault,
+}
+
+/// The exit code of a status: 0 to 8 in the order of the statuses.
+pub fn code(status: &Status) -> u8
+    ensures { result ≡ code_of status.now }
+{
+    match status {
+        Status::Done => 0,
+        Status::Usage => 1,
+        Status::Missing { .. } => 2,
+        Status::ReadFault { .. } => 3,
+        Status::Faulty { .. } => 4,
+        Status::Limit { .. } => 5,
+        Status::WriteFault { .. } => 6,
+        Status::NoMemory => 7,
+        Status::MessageFault => 8,
+    }
+}
