@@ -173,6 +173,10 @@ impl<'a> Cursor<'a> {
         ensures { Moves (λ n. n) result self.old self.new (uleb_at self.old) }
     {
         let rest = &self.bytes[self.place as usize..self.end as usize];
+        if !rest.is_empty() && rest[0] < 128 {
+            self.place += 1;
+            return Ok(u64::from(rest[0]));
+        }
         let Some(last) = first_below(128, rest) else {
             return Err(self.fault(Kind::Truncated));
         };
