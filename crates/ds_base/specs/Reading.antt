@@ -79,6 +79,11 @@ ReadsUnlessFull view (Ok x) new read = read ≡ Ok (view x, new)
 ReadsUnlessFull view (Err (errors.Faulty f)) new read = read ≡ Err f
 ReadsUnlessFull view (Err errors.NoMemory) new read = Unit {0}
 
+-- What a call answered, seen by view, is what the bytes mean.
+abbrev pub Finds : {X Y : Type 0} → (X → Y) → Result X Fault → Result Y Fault → Type 0
+Finds view (Ok x) read = read ≡ Ok (view x)
+Finds view (Err f) read = read ≡ Err f
+
 -- What a call answered, seen by view, is what reading all of some bytes gives, unless memory ran out.
 abbrev pub Gives : {X Y : Type 0} → (X → Y) → Result X ReadError → Result Y Fault → Type 0
 Gives view (Ok x) read = read ≡ Ok (view x)

@@ -15,6 +15,7 @@ mod fault;
 mod leb;
 mod list;
 pub mod macho;
+mod pieces;
 mod put;
 
 pub use bit_row::BitRow;
@@ -26,6 +27,7 @@ pub use leb::{
     uleb4_reads_back,
 };
 pub use list::List;
+pub use pieces::{bytes_from, cut};
 pub use put::{put_bytes, put_sleb, put_u8, put_u16, put_u32, put_u64, put_uleb, put_uleb4};
 
 #[cfg(test)]

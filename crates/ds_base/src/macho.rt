@@ -55,6 +55,29 @@ pub const SECT_DEBUG_INFO: [u8; 16] = *b"__debug_info\0\0\0\0";
 
 pub const SECT_DEBUG_STR: [u8; 16] = *b"__debug_str\0\0\0\0\0";
 
+pub const SECT_DEBUG_STR_OFFS: [u8; 16] = *b"__debug_str_offs";
+
+pub const SECT_DEBUG_ADDR: [u8; 16] = *b"__debug_addr\0\0\0\0";
+
+pub const SECT_DEBUG_LINE: [u8; 16] = *b"__debug_line\0\0\0\0";
+
+pub const SECT_DEBUG_LINE_STR: [u8; 16] = *b"__debug_line_str";
+
+pub const SECT_DEBUG_RANGES: [u8; 16] = *b"__debug_ranges\0\0";
+
+pub const SECT_DEBUG_RNGLISTS: [u8; 16] = *b"__debug_rnglists";
+
+pub const SECT_DEBUG_LOC: [u8; 16] = *b"__debug_loc\0\0\0\0\0";
+
+pub const SECT_DEBUG_LOCLISTS: [u8; 16] = *b"__debug_loclists";
+
+pub const SECT_DEBUG_ARANGES: [u8; 16] = *b"__debug_aranges\0";
+
+pub const SECT_DEBUG_FRAME: [u8; 16] = *b"__debug_frame\0\0\0";
+
+/// What the name of each compressed debug section begins with.
+pub const SECT_ZDEBUG: [u8; 8] = *b"__zdebug";
+
 // mach-o/loader.h: the type and the attributes in a section's flags.
 pub const SECTION_TYPE: u32 = 0xff;
 
@@ -108,3 +131,11 @@ pub const X86_64_RELOC_UNSIGNED: u8 = 0;
 pub const ARM64_RELOC_UNSIGNED: u8 = 0;
 
 pub const RELOC_LENGTH_8: u8 = 3;
+
+// ar.h: the bytes an archive begins with, those that end a member's header, and those that a long name's
+// length follows.
+pub const ARMAG: [u8; 8] = *b"!<arch>\n";
+
+pub const ARFMAG: [u8; 2] = *b"`\n";
+
+pub const AR_EFMT1: [u8; 3] = *b"#1/";
