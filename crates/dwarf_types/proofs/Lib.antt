@@ -1,1 +1,2 @@
 pub mod WorkedGraph
+pub mod Readers

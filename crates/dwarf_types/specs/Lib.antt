@@ -1,4 +1,5 @@
 pub mod Abbreviations
 pub mod Encode
 pub mod Entries
+pub mod Spelled
 pub mod Values
