@@ -1,0 +1,3 @@
+mod FieldLoop
+mod DeclarationLoop
+pub mod TableLaws

@@ -1,0 +1,6 @@
+use Rattle.std.proofs.Common.{◌≡◌, ◌-◌, []}
+use Rattle.abbrev_read.specs.Reading.{fields_at}
+use Rattle.abbrev_read.proofs.table.read_fields.Given as goal
+
+abbrev pub invariant-loop : goal.invariant-loop
+invariant-loop l = fields_at (256 - l.counter) l.fields l.fn.first l.cursor ≡ fields_at 256 [] l.fn.first l.fn.cursor
