@@ -27,3 +27,5 @@ pub use status::{LimitKind, Status, code};
 
 #[cfg(test)]
 mod ranges_tests;
+#[cfg(test)]
+mod tests;
