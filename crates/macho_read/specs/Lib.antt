@@ -1,0 +1,10 @@
+pub mod Fields
+pub mod Header
+pub mod Records
+pub mod Commands
+pub mod Symbols
+pub mod Image
+pub mod Kind
+pub mod Debug
+pub mod Sound
+pub mod Spelling

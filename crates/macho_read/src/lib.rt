@@ -1,0 +1,26 @@
+//! Mach-O images: the header, the segments, the sections and the symbols of a file's bytes.
+//!
+//! Layer: files. Reads 64-bit little-endian files for x86_64 and arm64 (mach-o/loader.h, mach-o/nlist.h).
+//! [`read_image`] gives `image_of` the bytes (`specs/Image.antt`), or the first fault in the order header,
+//! commands, symbols. [`check_kind`] tests that an image can be the program or one of its objects, and
+//! [`section_bytes`] cuts the bytes of a debug section. Nothing here looks into the debug sections, and
+//! other load commands are passed over by their size.
+#![tactic(auto)]
+
+mod commands;
+mod debug;
+mod fields;
+mod header;
+mod image;
+mod kind;
+mod law;
+mod records;
+mod symbols;
+
+pub use debug::{debug_part, is_debug, section_bytes};
+pub use image::{Image, Section, Segment, Symbol, read_image};
+pub use kind::{Role, check_kind};
+pub use law::{commands_read_back, records_read_back};
+
+#[cfg(test)]
+mod tests;
