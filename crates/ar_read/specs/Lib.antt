@@ -1,0 +1,4 @@
+pub mod Number
+pub mod Padding
+pub mod Header
+pub mod Archive
