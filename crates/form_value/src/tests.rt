@@ -82,6 +82,12 @@ fn is_number(
     Ok(())
 }
 
+fn is_wide(rt: &impl Abort, alloc: Global, value: &[u8]) -> Result<(), Fail> {
+    let read = value_of(rt, alloc, DW_FORM_data16, value)?;
+    assert!(rt; matches!(&read, Value::Wide(bytes) if bytes.as_slice() == value));
+    Ok(())
+}
+
 fn is_offset(
     rt: &impl Abort,
     alloc: Global,
@@ -164,17 +170,16 @@ fn constants_and_flags_keep_their_form(rt: HostRuntime) -> Result<(), Fail> {
             }
         )
     );
-    let wide = value_of(&rt, a, DW_FORM_data16, b"0123456789abcdef")?;
-    assert!(rt;
-        matches!(&wide, Value::Wide(bytes) if bytes.as_slice() == b"0123456789abcdef".as_slice())
-    );
+    for wanted in [[0; 16], *b"0123456789abcdef", [0xff; 16]] {
+        is_wide(&rt, a, &wanted)?;
+    }
     Ok(())
 }
 
 #[test]
 fn references_offsets_and_indices_are_the_stored_numbers(rt: HostRuntime) -> Result<(), Fail> {
     #[rattlefmt::skip]
-    let table: [(u16, &[u8], u64); 34] = [
+    let table: [(u16, &[u8], u64); 40] = [
         (DW_FORM_ref1, &[0], 0),
         (DW_FORM_ref1, &[0xff], 0xff),
         (DW_FORM_ref2, &[0, 0], 0),
@@ -193,17 +198,23 @@ fn references_offsets_and_indices_are_the_stored_numbers(rt: HostRuntime) -> Res
         (DW_FORM_addrx, &MOST, u64::MAX),
         (DW_FORM_addrx1, &[0], 0),
         (DW_FORM_addrx1, &[0xff], 0xff),
+        (DW_FORM_addrx2, &[0, 0], 0),
         (DW_FORM_addrx2, &[0xff, 0xff], 0xffff),
+        (DW_FORM_addrx3, &[0, 0, 0], 0),
         (DW_FORM_addrx3, &[0x56, 0x34, 0x12], 0x12_3456),
         (DW_FORM_addrx3, &[0xff, 0xff, 0xff], 0xff_ffff),
+        (DW_FORM_addrx4, &[0, 0, 0, 0], 0),
         (DW_FORM_addrx4, &[0xff, 0xff, 0xff, 0xff], 0xffff_ffff),
         (DW_FORM_strx, &[0], 0),
         (DW_FORM_strx, &MOST, u64::MAX),
         (DW_FORM_strx1, &[0], 0),
         (DW_FORM_strx1, &[0xff], 0xff),
+        (DW_FORM_strx2, &[0, 0], 0),
         (DW_FORM_strx2, &[0xff, 0xff], 0xffff),
+        (DW_FORM_strx3, &[0, 0, 0], 0),
         (DW_FORM_strx3, &[0x56, 0x34, 0x12], 0x12_3456),
         (DW_FORM_strx3, &[0xff, 0xff, 0xff], 0xff_ffff),
+        (DW_FORM_strx4, &[0, 0, 0, 0], 0),
         (DW_FORM_strx4, &[0xff, 0xff, 0xff, 0xff], 0xffff_ffff),
         (DW_FORM_loclistx, &[0], 0),
         (DW_FORM_loclistx, &MOST, u64::MAX),
