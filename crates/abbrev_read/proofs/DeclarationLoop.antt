@@ -8,7 +8,7 @@ use Rattle.ds_base.specs.declared.fault.ReadError.TheVariants as errors
 use Rattle.ds_base.specs.declared.fault.Kind.TheVariants.{Truncated, DuplicateCode}
 use Rattle.ds_base.specs.Spot.{Spot, fault_at}
 use Rattle.ds_base.specs.Reading.{◌>>=◌, refuse_if, uleb_at, ReadsUnlessFull, Gives}
-use Rattle.dwarf_types.specs.declared.entry.Abbrev.{Abbrev}
+use Rattle.dwarf_types.specs.declared.abbrev.Abbrev.{Abbrev}
 use Rattle.abbrev_read.specs.Codes.{is_declared}
 use Rattle.abbrev_read.specs.Reading.{declaration_at, declarations_at}
 

@@ -5,7 +5,7 @@ use Rattle.ds_base.specs.declared.fault.Fault.{Fault}
 use Rattle.ds_base.specs.declared.fault.Kind.TheVariants.{LimitAttributes}
 use Rattle.ds_base.specs.Spot.{Spot, fault_at}
 use Rattle.ds_base.specs.Reading.{◌>>=◌}
-use Rattle.dwarf_types.specs.declared.entry.Field.{Field}
+use Rattle.dwarf_types.specs.declared.abbrev.Field.{Field}
 use Rattle.abbrev_read.specs.Reading.{pair_at, field_at, fields_at}
 
 -- as many more as there may be, and one at least

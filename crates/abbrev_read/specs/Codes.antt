@@ -3,7 +3,7 @@ use Rattle.std.specs.Prelude.{ℕ, ◌&&◌, ◌||◌, Bool, List, nat_eq, nat_l
 use Rattle.std.specs.List.{list_any}
 use Rattle.std.specs.Ordering.{nat_cmp}
 use Rattle.std.specs.BTreeSet.{contains}
-use Rattle.dwarf_types.specs.declared.entry.Abbrev.{Abbrev}
+use Rattle.dwarf_types.specs.declared.abbrev.Abbrev.{Abbrev}
 use Rattle.abbrev_read.specs.declared.codes.Codes.{Codes}
 
 -- some declaration has the code

@@ -7,8 +7,8 @@ use Rattle.ds_base.specs.declared.fault.Kind.TheVariants as kinds
 use Rattle.ds_base.specs.declared.fault.Part.TheVariants as parts
 use Rattle.ds_base.specs.Spot.{Spot, fault_at}
 use Rattle.ds_base.specs.Reading.{◌>>=◌, refuse_if, number_at, uleb_at, sleb_at}
-use Rattle.dwarf_types.specs.declared.entry.Field.{Field}
-use Rattle.dwarf_types.specs.declared.entry.Abbrev.{Abbrev}
+use Rattle.dwarf_types.specs.declared.abbrev.Field.{Field}
+use Rattle.dwarf_types.specs.declared.abbrev.Abbrev.{Abbrev}
 use Rattle.abbrev_read.specs.Codes.{is_declared}
 
 -- A declaration's faults stand at its first byte, where its code is.

@@ -2,8 +2,8 @@
 use Rattle.std.specs.Prelude.{◌≡◌, ◌<◌, ◌≤◌, ◌==◌, ◌++◌, ℕ, pos, Bool, true, false, List, [], ◌∷◌, length, drop}
 use Rattle.ds_base.specs.declared.dwarf.TheConstants.{DW_FORM_implicit_const}
 use Rattle.dwarf_types.specs.Spelled.{InTurn, IsUleb, IsSleb, IsNumber}
-use Rattle.dwarf_types.specs.declared.entry.Field.{Field}
-use Rattle.dwarf_types.specs.declared.entry.Abbrev.{Abbrev}
+use Rattle.dwarf_types.specs.declared.abbrev.Field.{Field}
+use Rattle.dwarf_types.specs.declared.abbrev.Abbrev.{Abbrev}
 use Rattle.abbrev_read.specs.Codes.{is_declared}
 
 -- the value of an implicit constant; any other attribute has none here

@@ -2,7 +2,7 @@
 
 ghost use Rattle.std.specs.Prelude.{◌≡◌, ◌<◌, ℕ, List as Listed, Ok, length};
 ghost use Rattle.dwarf_types.specs.Spelled.{AreBytes};
-ghost use Rattle.dwarf_types.specs.declared.entry.Abbrev.{Abbrev};
+ghost use Rattle.dwarf_types.specs.declared.abbrev.Abbrev.{Abbrev};
 ghost use Rattle.abbrev_read.specs.Reading.{table_at};
 ghost use Rattle.abbrev_read.specs.Spelling.{StandsAt};
 

@@ -6,10 +6,28 @@
 //! project's choices (docs/PROFILE.md, "Bytes written"). Nothing here reads or writes bytes.
 #![tactic(auto)]
 
+mod abbrev;
+mod address;
+mod analysis;
 mod boxed;
 mod entry;
+mod expr;
+mod frames;
 mod graph;
+mod lines;
+mod lists;
+mod sections;
+mod value;
 
+pub use abbrev::{Abbrev, Field};
+pub use address::{Addr, Place, Span};
+pub use analysis::{Analysis, CodeRange};
 pub use boxed::Boxed;
-pub use entry::{Abbrev, Addr, Field, Place, Sections, Span, Value};
+pub use entry::{Attr, Entry, InUnit, RawUnits};
+pub use expr::{Base, Op, PlainOp};
+pub use frames::{OutFrame, RawFrame};
 pub use graph::{Graph, Node, OutAttr, OutUnit, OutValue, Written};
+pub use lines::{FileName, OutLines, RawLines, RawRow, RawSequence, Row, Sequence};
+pub use lists::{Location, RawLocation, RawSpan};
+pub use sections::Sections;
+pub use value::Value;

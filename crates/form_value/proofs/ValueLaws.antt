@@ -7,10 +7,10 @@ use Rattle.ds_base.specs.declared.fault.Kind.TheVariants as kinds
 use Rattle.ds_base.specs.Spot.{Spot, rest, fault_at}
 use Rattle.ds_base.specs.Reading.{◌>>=◌, refuse_if, or_fault, bytes_at, number_at, text_at, sleb_at}
 use Rattle.dwarf_types.specs.Spelled.{IsSleb, IsNumber, IsCopy, IsText}
-use Rattle.dwarf_types.specs.declared.entry.Field.{Field}
-use Rattle.dwarf_types.specs.declared.entry.Sections.{Sections}
-use Rattle.dwarf_types.specs.declared.entry.Value.{Value}
-use Rattle.dwarf_types.specs.declared.entry.Value.TheVariants as values
+use Rattle.dwarf_types.specs.declared.abbrev.Field.{Field}
+use Rattle.dwarf_types.specs.declared.sections.Sections.{Sections}
+use Rattle.dwarf_types.specs.declared.value.Value.{Value}
+use Rattle.dwarf_types.specs.declared.value.Value.TheVariants as values
 use Rattle.dwarf_types.proofs.Readers.{bind_ok, passed, ok_is, found_ok, Stands, Taken, Again, Reader, Both, both_reader, made_reader, nothing_reader, renamed_reader, bytes_reader, number_reader, text_reader, uleb_reader, sleb_reader}
 use Rattle.form_value.specs.declared.form.Coding.{Coding}
 use Rattle.form_value.specs.declared.form.Coding.TheVariants.{One, Two, Three, Four, Eight, Leb}

@@ -7,11 +7,11 @@ use Rattle.ds_base.specs.declared.fault.Fault.{Fault}
 use Rattle.ds_base.specs.declared.fault.Kind.TheVariants as kinds
 use Rattle.ds_base.specs.Spot.{Spot, fault_at}
 use Rattle.ds_base.specs.Reading.{◌>>=◌, refuse_if, or_fault, index_below, bytes_at, number_at, text_at, uleb_at, sleb_at}
-use Rattle.dwarf_types.specs.declared.entry.Addr.TheVariants.{Fixed}
-use Rattle.dwarf_types.specs.declared.entry.Field.{Field}
-use Rattle.dwarf_types.specs.declared.entry.Sections.{Sections}
-use Rattle.dwarf_types.specs.declared.entry.Value.{Value}
-use Rattle.dwarf_types.specs.declared.entry.Value.TheVariants as values
+use Rattle.dwarf_types.specs.declared.address.Addr.TheVariants.{Fixed}
+use Rattle.dwarf_types.specs.declared.abbrev.Field.{Field}
+use Rattle.dwarf_types.specs.declared.sections.Sections.{Sections}
+use Rattle.dwarf_types.specs.declared.value.Value.{Value}
+use Rattle.dwarf_types.specs.declared.value.Value.TheVariants as values
 use Rattle.form_value.specs.declared.form.Coding.{Coding}
 use Rattle.form_value.specs.declared.form.Coding.TheVariants.{One, Two, Three, Four, Eight, Leb}
 use Rattle.form_value.specs.declared.form.FormClass.{FormClass}

@@ -3,10 +3,10 @@ use Rattle.std.specs.Prelude.{◌≡◌, ◌≤◌, ◌++◌, ℕ, List, [], len
 use Rattle.ds_base.specs.declared.dwarf.TheConstants.{DW_FORM_sdata}
 use Rattle.ds_base.specs.Spot.{Spot, rest}
 use Rattle.dwarf_types.specs.Spelled.{InTurn, Made, IsUleb, IsSleb, IsNumber, IsCopy, IsText}
-use Rattle.dwarf_types.specs.declared.entry.Field.{Field}
-use Rattle.dwarf_types.specs.declared.entry.Sections.{Sections}
-use Rattle.dwarf_types.specs.declared.entry.Value.{Value}
-use Rattle.dwarf_types.specs.declared.entry.Value.TheVariants as values
+use Rattle.dwarf_types.specs.declared.abbrev.Field.{Field}
+use Rattle.dwarf_types.specs.declared.sections.Sections.{Sections}
+use Rattle.dwarf_types.specs.declared.value.Value.{Value}
+use Rattle.dwarf_types.specs.declared.value.Value.TheVariants as values
 use Rattle.form_value.specs.declared.form.Coding.{Coding}
 use Rattle.form_value.specs.declared.form.Coding.TheVariants.{One, Two, Three, Four, Eight, Leb}
 use Rattle.form_value.specs.declared.form.FormClass.{FormClass}

@@ -3,9 +3,9 @@
 ghost use Rattle.std.specs.Prelude.{◌≡◌, ◌++◌, ℕ, List as Listed, Ok};
 ghost use Rattle.ds_base.specs.Spot.{Spot, IsSpot, rest};
 ghost use Rattle.dwarf_types.specs.Spelled.{AreBytes};
-ghost use Rattle.dwarf_types.specs.declared.entry.Field.{Field};
-ghost use Rattle.dwarf_types.specs.declared.entry.Sections.{Sections};
-ghost use Rattle.dwarf_types.specs.declared.entry.Value.{Value};
+ghost use Rattle.dwarf_types.specs.declared.abbrev.Field.{Field};
+ghost use Rattle.dwarf_types.specs.declared.sections.Sections.{Sections};
+ghost use Rattle.dwarf_types.specs.declared.value.Value.{Value};
 ghost use Rattle.form_value.specs.Reading.{value_at};
 ghost use Rattle.form_value.specs.Spelling.{SpellsValue, IsSpelled, IsRead};
 

@@ -1,0 +1,29 @@
+//! Addresses of an object, and ranges of them.
+
+/// What an address of an object means, before it moves to the linked program.
+#[derive(Clone, Copy, Debug, PartialEq, Eq)]
+pub enum Addr {
+    /// An address in the object's own address space.
+    Placed(u64),
+    /// So many bytes behind a symbol that another file defines; `symbol` is its index from 0.
+    Named { symbol: u32, addend: u64 },
+    /// A number that no relocation changes.
+    Fixed(u64),
+}
+
+/// An address of an object, and where it went.
+#[derive(Clone, Copy, Debug, PartialEq, Eq)]
+pub struct Place {
+    pub at: Addr,
+    /// The address in the linked program, where the byte there was linked.
+    pub linked: Option<u64>,
+    /// The address in the linked program of an end, which is the first byte behind a range.
+    pub linked_end: Option<u64>,
+}
+
+/// The addresses from `low` up to `high`, which is not one of them.
+#[derive(Clone, Copy, Debug, PartialEq, Eq)]
+pub struct Span {
+    pub low: u64,
+    pub high: u64,
+}
