@@ -63,9 +63,6 @@ fn the_first_fault_is_told_with_its_place(rt: HostRuntime) {
     refuses(&rt, alloc, &[1, 0x11, 0, 3], (Kind::Truncated, 4));
     refuses(&rt, alloc, &[1, 0x11, 0, 3, 0x21], (Kind::Truncated, 5));
     refuses(&rt, alloc, &[1, 0x11, 0, 0, 0], (Kind::Truncated, 5));
-    #[rattlefmt::skip]
-    let wide = [1, 0xff, 0xff, 0xff, 0xff, 0xff, 0xff, 0xff, 0xff, 0xff, 0x02];
-    refuses(&rt, alloc, &wide, (Kind::LebTooWide, 1));
     refuses(&rt, alloc, &[1, 0, 0, 0, 0], (Kind::BadAbbrev, 0));
     refuses(
         &rt,
@@ -98,6 +95,30 @@ fn the_first_fault_is_told_with_its_place(rt: HostRuntime) {
         &[1, 0x11, 1, 0x03, 0, 0, 0, 0],
         (Kind::BadAbbrev, 0),
     );
+}
+
+#[test]
+fn a_number_past_64_bits_is_refused(rt: HostRuntime) -> Result<(), Fail> {
+    // Code, tag and children, attribute and form, and the constant of an attribute.
+    #[rattlefmt::skip]
+    let table: [&[u8]; 5] = [&[], &[1], &[1, 0x11, 0], &[1, 0x11, 0, 0x1c], &[1, 0x11, 0, 0x1c, 0x21]];
+    for before in table {
+        is_too_wide(&rt, rt.alloc(), before)?;
+    }
+    Ok(())
+}
+
+/// Tests a number that is one digit past the greatest, behind what comes before it.
+fn is_too_wide(rt: &impl Abort, alloc: Global, before: &[u8]) -> Result<(), Fail> {
+    let mut bytes = Vec::from_slice(alloc, before)?;
+    bytes.extend_from_slice(&[0xff, 0xff, 0xff, 0xff, 0xff, 0xff, 0xff, 0xff, 0xff, 0x02])?;
+    refuses(
+        rt,
+        alloc,
+        bytes.as_slice(),
+        (Kind::LebTooWide, before.len() as u64),
+    );
+    Ok(())
 }
 
 #[test]

@@ -1,4 +1,5 @@
 //! Tables of values: each form with its least and its greatest, and each fault with its place.
+//! Of blocks whose length takes four bytes or a LEB number, the greatest is one of 65,536 bytes.
 
 use crate::read_value;
 use ds_base::dwarf::{
@@ -44,8 +45,21 @@ fn sections<'a>(strings: &'a [u8], line_str: &'a [u8]) -> Sections<'a> {
     }
 }
 
+fn field_of(form: u16, fixed: i64) -> Field {
+    Field {
+        name: DW_AT_name,
+        form,
+        fixed,
+    }
+}
+
 /// Reads a value of a version 5 unit that begins at the second byte, where one more byte follows it.
 fn value_of(rt: &impl Abort, alloc: Global, form: u16, value: &[u8]) -> Result<Value, Fail> {
+    field_value(rt, alloc, &field_of(form, 0), value)
+}
+
+/// The same, of an attribute of which the table says more.
+fn field_value(rt: &impl Abort, alloc: Global, field: &Field, value: &[u8]) -> Result<Value, Fail> {
     let mut bytes = vec![in alloc; 0xffu8]?;
     bytes.extend_from_slice(value)?;
     bytes.push(0xff)?;
@@ -54,15 +68,10 @@ fn value_of(rt: &impl Abort, alloc: Global, form: u16, value: &[u8]) -> Result<V
         return Ok(Value::Offset(0));
     }
     let mut cursor = Cursor::new(bytes.as_slice(), Part::Info, 1, end);
-    let field = Field {
-        name: DW_AT_name,
-        form,
-        fixed: -7,
-    };
     let read = read_value(
         alloc,
         &mut cursor,
-        &field,
+        field,
         5,
         &sections(b"m.c\0main\0", b"a\0"),
     )?;
@@ -160,18 +169,27 @@ fn constants_and_flags_keep_their_form(rt: HostRuntime) -> Result<(), Fail> {
     for (form, value, wanted) in table {
         is_number(&rt, a, form, value, wanted)?;
     }
-    let implicit = value_of(&rt, a, DW_FORM_implicit_const, &[])?;
-    assert!(rt;
-        matches!(
-            &implicit,
-            Value::Number {
-                form: DW_FORM_sdata,
-                bits: 0xffff_ffff_ffff_fff9
-            }
-        )
-    );
     for wanted in [[0; 16], *b"0123456789abcdef", [0xff; 16]] {
         is_wide(&rt, a, &wanted)?;
+    }
+    Ok(())
+}
+
+#[test]
+fn an_implicit_constant_is_that_of_its_declaration(rt: HostRuntime) -> Result<(), Fail> {
+    #[rattlefmt::skip]
+    let table: [(i64, u64); 4] = [
+        (i64::MIN, 1 << 63),
+        (-7, 0xffff_ffff_ffff_fff9),
+        (0, 0),
+        (i64::MAX, (1 << 63) - 1),
+    ];
+    for (fixed, wanted) in table {
+        let field = field_of(DW_FORM_implicit_const, fixed);
+        let read = field_value(&rt, rt.alloc(), &field, &[])?;
+        assert!(rt;
+            matches!(&read, Value::Number { form: DW_FORM_sdata, bits } if *bits == wanted)
+        );
     }
     Ok(())
 }
@@ -229,41 +247,94 @@ fn references_offsets_and_indices_are_the_stored_numbers(rt: HostRuntime) -> Res
 
 #[test]
 fn blocks_are_the_bytes_behind_their_length(rt: HostRuntime) -> Result<(), Fail> {
-    let a = rt.alloc();
-    is_block(&rt, a, DW_FORM_block1, &[0], &[])?;
-    is_block(&rt, a, DW_FORM_block1, &[2, 8, 9], &[8, 9])?;
-    is_block(&rt, a, DW_FORM_block2, &[1, 0, 9], &[9])?;
-    is_block(&rt, a, DW_FORM_block4, &[1, 0, 0, 0, 9], &[9])?;
-    is_block(&rt, a, DW_FORM_block, &[0x81, 0x00, 9], &[9])?;
-    is_block(&rt, a, DW_FORM_exprloc, &[1, 0x9c], &[0x9c])?;
+    #[rattlefmt::skip]
+    let table: [(u16, &[u8], &[u8]); 12] = [
+        (DW_FORM_block1, &[0], &[]),
+        (DW_FORM_block1, &[2, 8, 9], &[8, 9]),
+        (DW_FORM_block2, &[0, 0], &[]),
+        (DW_FORM_block2, &[1, 0, 9], &[9]),
+        (DW_FORM_block4, &[0, 0, 0, 0], &[]),
+        (DW_FORM_block4, &[1, 0, 0, 0, 9], &[9]),
+        (DW_FORM_block, &[0], &[]),
+        (DW_FORM_block, &[1, 9], &[9]),
+        (DW_FORM_block, &[0x81, 0x00, 9], &[9]),
+        (DW_FORM_exprloc, &[0], &[]),
+        (DW_FORM_exprloc, &[1, 0x9c], &[0x9c]),
+        (DW_FORM_exprloc, &[0x81, 0x00, 0x9c], &[0x9c]),
+    ];
+    for (form, value, wanted) in table {
+        is_block(&rt, rt.alloc(), form, value, wanted)?;
+    }
+    Ok(())
+}
+
+/// Tests a block of so many equal bytes.
+fn is_long(
+    rt: &impl Abort,
+    alloc: Global,
+    form: u16,
+    length: &[u8],
+    count: usize,
+) -> Result<(), Fail> {
+    let block = vec![in alloc; 0xa5u8; count]?;
+    let mut value = Vec::from_slice(alloc, length)?;
+    value.extend_from_slice(block.as_slice())?;
+    is_block(rt, alloc, form, value.as_slice(), block.as_slice())
+}
+
+/// The greatest lengths that one and two bytes tell, and one that needs more.
+#[test]
+fn a_block_is_as_long_as_its_length_says(rt: HostRuntime) -> Result<(), Fail> {
+    #[rattlefmt::skip]
+    let table: [(u16, &[u8], usize); 5] = [
+        (DW_FORM_block1, &[0xff], 0xff),
+        (DW_FORM_block2, &[0xff, 0xff], 0xffff),
+        (DW_FORM_block4, &[0, 0, 1, 0], 0x1_0000),
+        (DW_FORM_block, &[0x80, 0x80, 0x04], 0x1_0000),
+        (DW_FORM_exprloc, &[0x80, 0x80, 0x04], 0x1_0000),
+    ];
+    for (form, length, count) in table {
+        is_long(&rt, rt.alloc(), form, length, count)?;
+    }
     Ok(())
 }
 
 #[test]
 fn texts_are_copied_from_where_they_stand(rt: HostRuntime) -> Result<(), Fail> {
-    let a = rt.alloc();
-    is_text(&rt, a, DW_FORM_string, b"\0", b"")?;
-    is_text(&rt, a, DW_FORM_string, b"ab\0", b"ab")?;
-    is_text(&rt, a, DW_FORM_strp, &[4, 0, 0, 0], b"main")?;
-    is_text(&rt, a, DW_FORM_strp, &[8, 0, 0, 0], b"")?;
-    is_text(&rt, a, DW_FORM_line_strp, &[0, 0, 0, 0], b"a")?;
+    #[rattlefmt::skip]
+    let table: [(u16, &[u8], &[u8]); 8] = [
+        (DW_FORM_string, b"\0", b""),
+        (DW_FORM_string, b"ab\0", b"ab"),
+        (DW_FORM_string, &[1, 0xff, 0], &[1, 0xff]),
+        (DW_FORM_strp, &[0, 0, 0, 0], b"m.c"),
+        (DW_FORM_strp, &[4, 0, 0, 0], b"main"),
+        (DW_FORM_strp, &[8, 0, 0, 0], b""),
+        (DW_FORM_line_strp, &[0, 0, 0, 0], b"a"),
+        (DW_FORM_line_strp, &[1, 0, 0, 0], b""),
+    ];
+    for (form, value, wanted) in table {
+        is_text(&rt, rt.alloc(), form, value, wanted)?;
+    }
     Ok(())
 }
 
 #[test]
 fn an_address_is_fixed_and_has_gone_nowhere(rt: HostRuntime) -> Result<(), Fail> {
-    let read = value_of(
-        &rt,
-        rt.alloc(),
-        DW_FORM_addr,
-        &[0x50, 0x3f, 0, 0, 1, 0, 0, 0],
-    )?;
+    let a = rt.alloc();
+    is_address(&rt, a, &[0; 8], 0)?;
+    is_address(&rt, a, &[0x50, 0x3f, 0, 0, 1, 0, 0, 0], 0x1_0000_3f50)?;
+    is_address(&rt, a, &[0xff; 8], u64::MAX)?;
+    Ok(())
+}
+
+fn is_address(rt: &impl Abort, alloc: Global, value: &[u8], wanted: u64) -> Result<(), Fail> {
+    let read = value_of(rt, alloc, DW_FORM_addr, value)?;
     let Value::Address(place) = &read else {
         assert!(rt; false);
         return Ok(());
     };
     let wanted = Place {
-        at: Addr::Fixed(0x1_0000_3f50),
+        at: Addr::Fixed(wanted),
         linked: None,
         linked_end: None,
     };
@@ -271,10 +342,11 @@ fn an_address_is_fixed_and_has_gone_nowhere(rt: HostRuntime) -> Result<(), Fail>
     Ok(())
 }
 
-/// Tests the fault of a value of a version 4 unit that begins at place 3, and that the cursor stays.
+/// Tests the fault of a value that begins at place 3, and that the cursor stays.
 fn refuses(
     rt: &impl Abort,
     alloc: Global,
+    version: u16,
     form: u16,
     value: &[u8],
     wanted: (Kind, u64),
@@ -286,101 +358,124 @@ fn refuses(
         return Ok(());
     }
     let mut cursor = Cursor::new(bytes.as_slice(), Part::Info, 3, end);
-    let field = Field {
-        name: DW_AT_name,
-        form,
-        fixed: 0,
-    };
     let fault = Fault {
         kind: wanted.0,
         section: Part::Info,
         place: wanted.1,
     };
-    let read = read_value(alloc, &mut cursor, &field, 4, &sections(b"m.c\0main", b""));
+    let read = read_value(
+        alloc,
+        &mut cursor,
+        &field_of(form, 0),
+        version,
+        &sections(b"m.c\0main", b"a\0b"),
+    );
     assert_eq!(rt; read.err(), Some(ReadError::Faulty(fault)));
     assert_eq!(rt; cursor.place(), 3);
     Ok(())
 }
 
+/// Each form one byte short. The bytes behind a length are an item of their own.
 #[test]
 fn a_value_that_is_cut_is_refused(rt: HostRuntime) -> Result<(), Fail> {
-    let a = rt.alloc();
-    let seven = [0; 7];
-    refuses(&rt, a, DW_FORM_addr, &seven, (Kind::Truncated, 3))?;
-    refuses(&rt, a, DW_FORM_data8, &seven, (Kind::Truncated, 3))?;
-    refuses(&rt, a, DW_FORM_data1, &[], (Kind::Truncated, 3))?;
-    refuses(&rt, a, DW_FORM_data2, &[0], (Kind::Truncated, 3))?;
-    refuses(&rt, a, DW_FORM_data4, &[0, 0, 0], (Kind::Truncated, 3))?;
-    refuses(&rt, a, DW_FORM_udata, &[0x80], (Kind::Truncated, 3))?;
-    refuses(&rt, a, DW_FORM_string, b"ab", (Kind::Truncated, 3))?;
-    refuses(&rt, a, DW_FORM_strp, &[0, 0, 0], (Kind::Truncated, 3))?;
-    refuses(&rt, a, DW_FORM_block2, &[1], (Kind::Truncated, 3))?;
-    // The bytes behind a length are an item of their own.
-    refuses(&rt, a, DW_FORM_block2, &[2, 0, 9], (Kind::Truncated, 5))?;
-    refuses(
-        &rt,
-        a,
-        DW_FORM_exprloc,
-        &[0x80, 0x01, 9],
-        (Kind::Truncated, 5),
-    )?;
+    #[rattlefmt::skip]
+    let table: [(u16, &[u8], u64); 41] = [
+        (DW_FORM_addr, &[0; 7], 3),
+        (DW_FORM_data1, &[], 3),
+        (DW_FORM_data2, &[0], 3),
+        (DW_FORM_data4, &[0; 3], 3),
+        (DW_FORM_data8, &[0; 7], 3),
+        (DW_FORM_data16, &[0; 15], 3),
+        (DW_FORM_flag, &[], 3),
+        (DW_FORM_udata, &[0x80], 3),
+        (DW_FORM_sdata, &[0x80], 3),
+        (DW_FORM_string, b"ab", 3),
+        (DW_FORM_strp, &[0; 3], 3),
+        (DW_FORM_line_strp, &[0; 3], 3),
+        (DW_FORM_block1, &[], 3),
+        (DW_FORM_block1, &[2, 9], 4),
+        (DW_FORM_block2, &[1], 3),
+        (DW_FORM_block2, &[2, 0, 9], 5),
+        (DW_FORM_block4, &[0; 3], 3),
+        (DW_FORM_block4, &[0xff, 0xff, 0xff, 0xff, 9], 7),
+        (DW_FORM_block, &[0x80], 3),
+        (DW_FORM_block, &[0xff, 0xff, 0xff, 0xff, 0xff, 0xff, 0xff, 0xff, 0xff, 0x01, 9], 13),
+        (DW_FORM_exprloc, &[0x80], 3),
+        (DW_FORM_exprloc, &[0x80, 0x01, 9], 5),
+        (DW_FORM_ref1, &[], 3),
+        (DW_FORM_ref2, &[0], 3),
+        (DW_FORM_ref4, &[0; 3], 3),
+        (DW_FORM_ref8, &[0; 7], 3),
+        (DW_FORM_ref_udata, &[0x80], 3),
+        (DW_FORM_ref_addr, &[0; 3], 3),
+        (DW_FORM_sec_offset, &[0; 3], 3),
+        (DW_FORM_addrx, &[0x80], 3),
+        (DW_FORM_addrx1, &[], 3),
+        (DW_FORM_addrx2, &[0], 3),
+        (DW_FORM_addrx3, &[0; 2], 3),
+        (DW_FORM_addrx4, &[0; 3], 3),
+        (DW_FORM_strx, &[0x80], 3),
+        (DW_FORM_strx1, &[], 3),
+        (DW_FORM_strx2, &[0], 3),
+        (DW_FORM_strx3, &[0; 2], 3),
+        (DW_FORM_strx4, &[0; 3], 3),
+        (DW_FORM_loclistx, &[0x80], 3),
+        (DW_FORM_rnglistx, &[0x80], 3),
+    ];
+    for (form, value, place) in table {
+        refuses(&rt, rt.alloc(), 5, form, value, (Kind::Truncated, place))?;
+    }
     Ok(())
 }
 
+/// A LEB number that is one digit past the greatest.
 #[test]
 fn a_number_past_64_bits_is_refused(rt: HostRuntime) -> Result<(), Fail> {
-    let a = rt.alloc();
     let wide = [0xff, 0xff, 0xff, 0xff, 0xff, 0xff, 0xff, 0xff, 0xff, 0x02];
-    refuses(&rt, a, DW_FORM_udata, &wide, (Kind::LebTooWide, 3))?;
-    refuses(&rt, a, DW_FORM_sdata, &wide, (Kind::LebTooWide, 3))?;
-    refuses(&rt, a, DW_FORM_block, &wide, (Kind::LebTooWide, 3))?;
+    #[rattlefmt::skip]
+    let table = [
+        DW_FORM_udata, DW_FORM_sdata, DW_FORM_block, DW_FORM_exprloc, DW_FORM_ref_udata,
+        DW_FORM_addrx, DW_FORM_strx, DW_FORM_loclistx, DW_FORM_rnglistx,
+    ];
+    for form in table {
+        refuses(&rt, rt.alloc(), 5, form, &wide, (Kind::LebTooWide, 3))?;
+    }
     Ok(())
 }
 
+/// In a unit of version 4, with no bytes left for the value.
 #[test]
 fn a_form_is_tried_before_its_bytes(rt: HostRuntime) -> Result<(), Fail> {
-    let a = rt.alloc();
-    refuses(&rt, a, 0x02, &[], (Kind::UnknownForm, 3))?;
-    refuses(&rt, a, 0x2d, &[], (Kind::UnknownForm, 3))?;
-    refuses(&rt, a, 0x1f01, &[], (Kind::UnknownForm, 3))?;
-    refuses(&rt, a, DW_FORM_indirect, &[], (Kind::FormOutsideProfile, 3))?;
-    refuses(&rt, a, DW_FORM_ref_sig8, &[], (Kind::FormOutsideProfile, 3))?;
-    refuses(&rt, a, DW_FORM_ref_sup4, &[], (Kind::FormOutsideProfile, 3))?;
-    refuses(&rt, a, DW_FORM_ref_sup8, &[], (Kind::FormOutsideProfile, 3))?;
-    refuses(&rt, a, DW_FORM_strp_sup, &[], (Kind::FormOutsideProfile, 3))?;
-    // Version 5 has these, and the unit has version 4.
-    refuses(&rt, a, DW_FORM_data16, &[], (Kind::FormOutsideProfile, 3))?;
-    refuses(
-        &rt,
-        a,
-        DW_FORM_line_strp,
-        &[],
-        (Kind::FormOutsideProfile, 3),
-    )?;
-    refuses(
-        &rt,
-        a,
-        DW_FORM_implicit_const,
-        &[],
-        (Kind::FormOutsideProfile, 3),
-    )?;
-    refuses(&rt, a, DW_FORM_strx, &[], (Kind::FormOutsideProfile, 3))?;
-    refuses(&rt, a, DW_FORM_rnglistx, &[], (Kind::FormOutsideProfile, 3))?;
+    for form in [0, 0x02, 0x2d, 0x1f01, 0xffff] {
+        refuses(&rt, rt.alloc(), 4, form, &[], (Kind::UnknownForm, 3))?;
+    }
+    #[rattlefmt::skip]
+    let outside = [
+        DW_FORM_indirect, DW_FORM_ref_sig8, DW_FORM_ref_sup4, DW_FORM_ref_sup8, DW_FORM_strp_sup,
+        // Version 5 has these.
+        DW_FORM_data16, DW_FORM_line_strp, DW_FORM_implicit_const, DW_FORM_loclistx, DW_FORM_rnglistx,
+        DW_FORM_addrx, DW_FORM_addrx1, DW_FORM_addrx2, DW_FORM_addrx3, DW_FORM_addrx4,
+        DW_FORM_strx, DW_FORM_strx1, DW_FORM_strx2, DW_FORM_strx3, DW_FORM_strx4,
+    ];
+    for form in outside {
+        refuses(&rt, rt.alloc(), 4, form, &[], (Kind::FormOutsideProfile, 3))?;
+    }
     Ok(())
 }
 
 #[test]
 fn a_text_lies_in_its_section_and_ends_there(rt: HostRuntime) -> Result<(), Fail> {
-    let a = rt.alloc();
-    refuses(&rt, a, DW_FORM_strp, &[8, 0, 0, 0], (Kind::BadOffset, 3))?;
-    refuses(
-        &rt,
-        a,
-        DW_FORM_strp,
-        &[0xff, 0xff, 0xff, 0xff],
-        (Kind::BadOffset, 3),
-    )?;
-    refuses(&rt, a, DW_FORM_strp, &[4, 0, 0, 0], (Kind::BadOffset, 3))?;
+    #[rattlefmt::skip]
+    let table: [(u16, [u8; 4]); 5] = [
+        (DW_FORM_strp, [4, 0, 0, 0]),
+        (DW_FORM_strp, [8, 0, 0, 0]),
+        (DW_FORM_strp, [0xff, 0xff, 0xff, 0xff]),
+        (DW_FORM_line_strp, [2, 0, 0, 0]),
+        (DW_FORM_line_strp, [3, 0, 0, 0]),
+    ];
+    for (form, value) in table {
+        refuses(&rt, rt.alloc(), 5, form, &value, (Kind::BadOffset, 3))?;
+    }
     Ok(())
 }
 
