@@ -9,7 +9,8 @@ ghost use Rattle.link_core.specs.ObjectReading.{function_at, function_seen, unit
 
 use crate::program::read_tables;
 use crate::records::{
-    NOT_BUILT, read_header, read_name_in, read_nlist, read_section, read_segment, read_symtab,
+    NOT_BUILT, names_room, read_header, read_name_in, read_nlist, read_section, read_segment,
+    read_symtab,
 };
 use ds_base::macho::{
     MH_OBJECT, N_EXT, N_SECT, SECT_DEBUG_ABBREV, SECT_DEBUG_INFO, SECT_TEXT, SEG_TEXT,
@@ -162,6 +163,7 @@ fn read_symbol<'a>(cursor: &mut Cursor, strings: &'a [u8]) -> Result<DefinedSymb
     })
 }
 
+/// So many symbols. Where their names would pass the bound, there is no memory for them.
 fn read_symbols<'a>(
     alloc: Global,
     cursor: &mut Cursor,
@@ -171,8 +173,10 @@ fn read_symbols<'a>(
     ensures { ReadsUnlessFull (λ ss. map symbol_seen ss.items) result cursor.new (items_at (symbol_at strings.now) count [] cursor.old) }
 {
     let mut symbols = Vec::new(alloc);
+    let mut room = names_room(count, strings);
     for _ in 0..count {
         let symbol = read_symbol(cursor, strings)?;
+        room = room.checked_sub(symbol.name.len() as u64).ok_or(NoMemory)?;
         symbols.push(symbol)?;
     }
     Ok(symbols)

@@ -9,7 +9,8 @@ ghost use Rattle.link_core.specs.ProgramForm.{Program, SpellsProgram};
 ghost use Rattle.link_core.specs.ProgramReading.{function_at, path_at, tables_at, program_at, program_seen, entry_seen};
 
 use crate::records::{
-    NOT_BUILT, check_strings, read_header, read_name_in, read_nlist, read_segment, read_symtab,
+    NOT_BUILT, check_strings, names_room, read_header, read_name_in, read_nlist, read_segment,
+    read_symtab,
 };
 use ds_base::macho::{
     CPU_TYPE_ARM64, CPU_TYPE_X86_64, MH_EXECUTE, N_FUN, N_OSO, SEG_DWARF, SEGMENT_COMMAND_64_SIZE,
@@ -58,6 +59,7 @@ fn read_function<'a>(cursor: &mut Cursor, strings: &'a [u8]) -> Result<MapFuncti
     })
 }
 
+/// So many functions. Where their names would pass the bound, there is no memory for them.
 fn read_functions<'a>(
     alloc: Global,
     cursor: &mut Cursor,
@@ -67,8 +69,12 @@ fn read_functions<'a>(
     ensures { ReadsUnlessFull (λ fs. map entry_seen fs.items) result cursor.new (items_at (function_at strings.now) count [] cursor.old) }
 {
     let mut functions = Vec::new(alloc);
+    let mut room = names_room(count, strings);
     for _ in 0..count {
         let function = read_function(cursor, strings)?;
+        room = room
+            .checked_sub(function.name.len() as u64)
+            .ok_or(NoMemory)?;
         functions.push(function)?;
     }
     Ok(functions)

@@ -5,7 +5,8 @@ ghost use Rattle.ds_base.specs.Reading.{Reads, bytes_at};
 ghost use Rattle.link_core.specs.RecordReading.{Finds, header_at, segment_at, section_at, symtab_at, nlist_at, strings_in, name_in};
 
 use ds_base::macho::{
-    LC_SEGMENT_64, LC_SYMTAB, MH_MAGIC_64, S_ZEROFILL, SEG_DWARF, SYMTAB_COMMAND_SIZE,
+    LC_SEGMENT_64, LC_SYMTAB, MH_MAGIC_64, NLIST_64_SIZE, S_ZEROFILL, SEG_DWARF,
+    SYMTAB_COMMAND_SIZE,
 };
 use ds_base::{Cursor, Fault, Kind, Part};
 
@@ -236,6 +237,17 @@ pub(crate) fn check_strings(strings: &[u8]) -> Result<(), Fault>
         return Err(NOT_BUILT);
     }
     Ok(())
+}
+
+/// How many bytes of names are looked at for each byte of the tables, at most. Names of real files
+/// share their bytes a few times over. Without a bound, names that overlap one another would take
+/// time by the square of the file.
+const MOST_LOOKS: u64 = 64;
+
+/// How many bytes the names of so many symbols may have together.
+pub(crate) fn names_room(count: u32, strings: &[u8]) -> u64 {
+    let tables = u64::from(NLIST_64_SIZE) * u64::from(count);
+    MOST_LOOKS.saturating_mul(tables.saturating_add(strings.len() as u64))
 }
 
 /// The name at a place of a string table, which is in it and not empty.

@@ -8,8 +8,13 @@ use crate::fields::{count_text, u16_at, u32_at, u64_at};
 use crate::image::Symbol;
 use crate::records::Symtab;
 use ds_base::macho::NLIST_64_SIZE;
-use ds_base::{Bytes, Fault, Kind, List, Part, ReadError, bytes_from, cut};
+use ds_base::{Bytes, Fault, Kind, List, NoMemory, Part, ReadError, bytes_from, cut};
 use std::alloc::Global;
+
+/// How many bytes of names are copied for each byte of the tables, at most. Names of real files share
+/// their bytes a few times over. Without a bound, names that overlap one another would take time and
+/// memory by the square of the file.
+const MOST_COPIES: u64 = 64;
 
 /// All symbols of a file, none where it has no table. Faults are placed at the symbol's index, counted from
 /// 0; that of tables that pass the file at 0.
@@ -45,7 +50,8 @@ fn read_table(alloc: Global, bytes: &[u8], symtab: Symtab) -> Result<List<Symbol
     read_entries(alloc, table, strings, symtab.nsyms)
 }
 
-/// So many symbols of a table, with their names.
+/// So many symbols of a table, with their names. Where the names' copies would pass their bound, there
+/// is no memory for them.
 fn read_entries(
     alloc: Global,
     table: &[u8],
@@ -56,11 +62,20 @@ fn read_entries(
     ensures { Gives (λ symbols. symbols) result (each (λ i. symbol_of strings.now i (drop (16 * i) table.now)) count 0) }
 {
     let mut symbols = List::new(alloc);
+    let mut room = names_room(count, strings);
     for i in 0..count {
         let entry = bytes_from(table, NLIST_64_SIZE as usize * i as usize);
-        symbols.push(read_symbol(alloc, entry, strings, i)?)?;
+        let symbol = read_symbol(alloc, entry, strings, i)?;
+        room = room.checked_sub(symbol.name.len() as u64).ok_or(NoMemory)?;
+        symbols.push(symbol)?;
     }
     Ok(symbols)
+}
+
+/// How many bytes the names of so many symbols may have together.
+fn names_room(count: u32, strings: &[u8]) -> u64 {
+    let tables = u64::from(NLIST_64_SIZE) * u64::from(count);
+    MOST_COPIES.saturating_mul(tables.saturating_add(strings.len() as u64))
 }
 
 /// The symbol of this index, whose entry the bytes begin with.

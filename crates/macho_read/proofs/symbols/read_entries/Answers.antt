@@ -6,9 +6,9 @@ use Rattle.macho_read.proofs.symbols.read_entries.Goals as goal
 
 pub loop-i-preserved : goal.loop-i-preserved
 loop-i-preserved c =
-    rw c.in_ok-push.ensures.ok (each_more (λ i. symbol_of c.args.strings.now i (drop (16 * i) c.args.table.now)) c.args.count c.loop-i.i c.loop-i.symbols c.in_ok-read_symbol.field-0 _ (omega arith) (sym (ap (symbol_of c.args.strings.now c.loop-i.i) c.bytes_from-entry.ensures.is) ∙ c.in_ok-read_symbol.ensures) c.loop-i.invariant)
+    rw c.in_ok-push.ensures.ok (each_more (λ i. symbol_of c.args.strings.now i (drop (16 * i) c.args.table.now)) c.args.count c.loop-i.i c.loop-i.symbols _ _ (omega arith) (sym (ap (symbol_of c.args.strings.now c.loop-i.i) c.bytes_from-entry.ensures.is) ∙ c.in_ok-symbol.ensures) c.loop-i.invariant)
 
-pub returns-in_err-read_symbol : goal.returns-in_err-read_symbol
-returns-in_err-read_symbol c =
+pub returns-in_err-symbol : goal.returns-in_err-symbol
+returns-in_err-symbol c =
     let p = err_from_is_err_and c.from_residual.result c.from_residual.ensures.1 in
-    rw (p.1, p.2) (each_fail (λ i. symbol_of c.args.strings.now i (drop (16 * i) c.args.table.now)) c.args.count c.loop-i.i c.loop-i.symbols c.in_err-read_symbol.field-0.0 _ (omega arith) (rw (← c.bytes_from-entry.ensures.is) c.in_err-read_symbol.ensures) c.loop-i.invariant)
+    rw (p.1, p.2) (each_fail (λ i. symbol_of c.args.strings.now i (drop (16 * i) c.args.table.now)) c.args.count c.loop-i.i c.loop-i.symbols c.in_err-symbol.field-0.0 _ (omega arith) (rw (← c.bytes_from-entry.ensures.is) c.in_err-symbol.ensures) c.loop-i.invariant)
