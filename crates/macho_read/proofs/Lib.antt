@@ -1,3 +1,4 @@
 pub mod Gathering
+pub mod ImageReadBack
 pub mod ReadBack
 pub mod Soundness

@@ -48,7 +48,7 @@ text_padded (b ∷ name) n e =
     let p = or_parts (b == 0) (list_any (λ b. b == 0) name) e in
     rw p.0 (omega (arith, text_padded name n p.1))
 
-length_padded : (name : List ℕ) → length name ≤ 16 → length (padded name) ≡ 16
+pub length_padded : (name : List ℕ) → length name ≤ 16 → length (padded name) ≡ 16
 length_padded name le = omega (arith, length-append name (replicate (16 - length name) 0), length-replicate {A = ℕ} (16 - length name) 0)
 
 -- the name behind some bytes
@@ -125,7 +125,7 @@ records_again = record { segment = segment_again; section = section_again; symta
 
 -- ---- commands
 
-length_command : (c : Command) → length (command_bytes c) ≡ 8 + length c.body
+pub length_command : (c : Command) → length (command_bytes c) ≡ 8 + length c.body
 length_command c =
     omega (
       arith,

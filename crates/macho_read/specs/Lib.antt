@@ -8,3 +8,4 @@ pub mod Kind
 pub mod Debug
 pub mod Sound
 pub mod Spelling
+pub mod ImageSpelling

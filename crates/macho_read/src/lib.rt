@@ -20,7 +20,7 @@ mod symbols;
 pub use debug::{debug_part, is_debug, section_bytes};
 pub use image::{Image, Section, Segment, Symbol, read_image};
 pub use kind::{Role, check_kind};
-pub use law::{commands_read_back, records_read_back};
+pub use law::{commands_read_back, images_read_back, records_read_back};
 
 #[cfg(test)]
 mod tests;
