@@ -1,0 +1,4 @@
+pub mod AddressLemmas
+pub mod Backwards
+pub mod Origins
+pub mod StabPass

@@ -1,0 +1,5 @@
+pub mod Addresses
+pub mod DebugMap
+pub mod Origin
+pub mod Pass
+pub mod Stab

@@ -1,0 +1,20 @@
+//! The debug map: which objects a program was linked from, and where their functions and variables went.
+//!
+//! Layer: files. Reads the stabs in the symbol table of a linked program (mach-o/stab.h). [`debug_map`] gives
+//! `map_of` the image (`specs/DebugMap.antt`): the objects with their entries, the first fault in the order of
+//! the symbols, or that there are too many objects. No object's file is looked at, and the times in the stabs
+//! aren't read.
+#![tactic(auto)]
+
+mod addresses;
+mod map;
+mod object;
+mod origin;
+mod pass;
+mod stab;
+
+pub use map::debug_map;
+pub use object::{MapEntry, MapError, MapObject};
+
+#[cfg(test)]
+mod tests;
