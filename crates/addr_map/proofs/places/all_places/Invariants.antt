@@ -1,0 +1,10 @@
+use Rattle.std.proofs.Common.{◌≡◌, ◌++◌, drop}
+use Rattle.std.specs.List.{filter_map}
+use Rattle.reloc_table.specs.Standings.{standing_of}
+use Rattle.addr_map.specs.Entries.{place_of}
+use Rattle.addr_map.proofs.places.all_places.Given as goal
+
+-- the places so far and those of the other symbols are the places of all
+abbrev pub invariant-loop-symbol : goal.invariant-loop-symbol
+invariant-loop-symbol l =
+    l.all.items ++ filter_map (λ s. place_of (standing_of l.image s) s.value) (drop l.symbol-index l.symbol-items) ≡ filter_map (λ s. place_of (standing_of l.image s) s.value) l.symbol-items

@@ -1,0 +1,5 @@
+pub mod Entries
+pub mod Ranges
+pub mod Moved
+pub mod Sound
+pub mod Tables
