@@ -1,0 +1,6 @@
+use Rattle.std.proofs.Common.{◌≡◌, take}
+use Rattle.expr_walk.specs.Length.{inner_len}
+use Rattle.expr_walk.proofs.length.inner_length.Given as goal
+
+abbrev pub invariant-loop-op : goal.invariant-loop-op
+invariant-loop-op l = l.len ≡ inner_len (take l.op-index l.ops)

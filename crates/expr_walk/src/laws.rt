@@ -1,0 +1,14 @@
+//! What an expression's definition says of its spelling.
+
+ghost use Rattle.std.specs.Prelude.{◌≡◌, ℕ, List as Listed, Ok};
+ghost use Rattle.ds_base.specs.declared.fault.Part.{Part};
+ghost use Rattle.dwarf_types.specs.Spelled.{AreBytes};
+ghost use Rattle.dwarf_types.specs.declared.expr.Op.{Op};
+ghost use Rattle.expr_walk.specs.Reading.{walk_of};
+ghost use Rattle.expr_walk.specs.Spelling.{SpellsExpression};
+
+/// What [`walk`](crate::walk) reads is spelled so, and what is spelled so is read (DWARF 4, section 7.7.1).
+pub fn expressions_are_read_as_spelled()
+    ensures found { (bytes : Listed ℕ) (part : Part) (first : ℕ) (ops : Listed Op) → AreBytes bytes → walk_of bytes part first ≡ Ok ops → SpellsExpression bytes ops }
+    ensures only { (bytes : Listed ℕ) (part : Part) (first : ℕ) (ops : Listed Op) → AreBytes bytes → SpellsExpression bytes ops → walk_of bytes part first ≡ Ok ops }
+{}

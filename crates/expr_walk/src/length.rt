@@ -1,0 +1,94 @@
+//! The length of an expression in the output.
+
+ghost use Rattle.std.specs.Prelude.{◌≡◌, ◌<◌, ◌≤◌, ◌^◌, length, drop};
+ghost use Rattle.expr_walk.specs.Table.{operands_of};
+ghost use Rattle.expr_walk.specs.Length.{front_leb_len, respelled_len, plain_len, inner_len, op_len, ops_len};
+
+use crate::operands::{Operands, operands_after};
+use ds_base::{List, bytes_from, uleb_len};
+use dwarf_types::{Op, PlainOp};
+
+/// The length of an expression in the output, in bytes.
+///
+/// There each base type is spelled in four bytes, whatever they were before, and the length of the
+/// expression inside an entry value in as few as it takes. All else keeps its length, addresses too.
+pub fn new_length(ops: &List<Op>) -> u64
+    requires { ops_len ops.now < 2 ^ 64 }
+    ensures { result ≡ ops_len ops.now }
+{
+    let mut len: u64 = 0;
+    for op in ops.as_slice() {
+        len += op_length(op);
+    }
+    len
+}
+
+/// The length of an operation.
+fn op_length(op: &Op) -> u64
+    requires { op_len (operands_of op.now.code) op.now < 2 ^ 64 }
+    ensures { result ≡ op_len (operands_of op.now.code) op.now }
+{
+    match operands_after(op.code) {
+        Some(Operands::Expression) => {
+            let inner = inner_length(op.inner.as_slice());
+            1 + uleb_len(inner) + inner
+        }
+        other => plain_length(other, op.bytes.as_slice()),
+    }
+}
+
+/// The length of the expression inside an entry value.
+fn inner_length(ops: &[PlainOp]) -> u64
+    requires { inner_len ops.now < 2 ^ 64 }
+    ensures { result ≡ inner_len ops.now }
+{
+    let mut len: u64 = 0;
+    for op in ops {
+        len += plain_length(operands_after(op.code), op.bytes.as_slice());
+    }
+    len
+}
+
+/// The length of an operation that is no entry value, by its operands.
+fn plain_length(operands: Option<Operands>, bytes: &[u8]) -> u64
+    ensures { result ≡ plain_len operands bytes.now }
+{
+    match operands {
+        Some(Operands::Base) => respelled_length(bytes, 1),
+        Some(Operands::BaseBlock) => respelled_length(bytes, 1),
+        Some(Operands::ByteBase) => respelled_length(bytes, 2),
+        Some(Operands::UlebBase) => respelled_length(bytes, 1 + leb_len_at(bytes, 1)),
+        _ => bytes.len() as u64,
+    }
+}
+
+/// The length of the bytes where the LEB number at a place of them is spelled in four.
+fn respelled_length(bytes: &[u8], at: usize) -> u64
+    ensures { result ≡ respelled_len bytes.now at }
+{
+    (bytes.len() - leb_len_at(bytes, at)) as u64 + 4
+}
+
+/// The length of the LEB number at a place of some bytes, 0 where they end before it.
+fn leb_len_at(bytes: &[u8], at: usize) -> usize
+    ensures is { result ≡ front_leb_len (drop at bytes.now) }
+    ensures few { result ≤ length bytes.now }
+{
+    if at >= bytes.len() {
+        return 0;
+    }
+    leb_len(bytes_from(bytes, at))
+}
+
+/// The length of the LEB number at the front of some bytes.
+fn leb_len(bytes: &[u8]) -> usize
+    ensures is { result ≡ front_leb_len bytes.now }
+    ensures few { result ≤ length bytes.now }
+{
+    for (i, b) in bytes.iter().enumerate() {
+        if *b < 128 {
+            return i + 1;
+        }
+    }
+    bytes.len()
+}

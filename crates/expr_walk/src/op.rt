@@ -1,0 +1,251 @@
+//! One operation of an expression.
+
+ghost use Rattle.std.specs.Prelude.{◌≡◌};
+ghost use Rattle.ds_base.specs.Reading.{Gives, Reads, ReadsUnlessFull};
+ghost use Rattle.expr_walk.specs.Reading.{bytes_up_to, block_at, base_block_at, operands_at, address_in, base_of, base_in, code_at, plain_from, plain_at, alone, entry_value_from, op_from, op_at};
+
+use crate::expression::read_inner;
+use crate::operands::{Operands, operands_after};
+use ds_base::{Bytes, Cursor, Fault, Kind, List, Part, ReadError};
+use dwarf_types::{Addr, Base, Op, Place, PlainOp};
+use std::alloc::Global;
+
+/// What the operands of an operation name.
+#[derive(Clone, Copy, Debug, PartialEq, Eq)]
+pub(crate) enum Named {
+    Nothing,
+    /// An address, by its number as stored.
+    Address(u64),
+    /// A base type, by its number as stored: its place in the unit, or 0 for the generic type.
+    BaseType(u64),
+}
+
+/// The next operation of an outermost expression.
+#[tactic(auto, unfolding(crate::specs::Reading::op_at))]
+pub(crate) fn read_op(alloc: Global, cursor: &mut Cursor, part: Part) -> Result<Op, ReadError>
+    ensures { ReadsUnlessFull (λ op. op) result cursor.new (op_at part cursor.old) }
+{
+    let first = cursor.fork();
+    let (code, operands) = read_code(cursor)?;
+    read_op_behind(alloc, cursor, part, &first, code, operands)
+}
+
+/// The operation that begins at `first`, behind its code.
+#[tactic(auto, unfolding(crate::specs::Reading::op_from))]
+fn read_op_behind(
+    alloc: Global,
+    cursor: &mut Cursor,
+    part: Part,
+    first: &Cursor,
+    code: u8,
+    operands: Operands,
+) -> Result<Op, ReadError>
+    ensures { ReadsUnlessFull (λ op. op) result cursor.new (op_from part first.now code operands cursor.old) }
+{
+    match operands {
+        Operands::Expression => read_entry_value(alloc, cursor, part, first, code),
+        other => {
+            let plain = read_plain_behind(alloc, cursor, first, code, other)?;
+            Ok(with_none_inside(alloc, plain))
+        }
+    }
+}
+
+/// The entry value that begins at `first`, behind its code (DWARF 5, section 2.5.1.7).
+#[tactic(auto, unfolding(crate::specs::Reading::entry_value_from))]
+fn read_entry_value(
+    alloc: Global,
+    cursor: &mut Cursor,
+    part: Part,
+    first: &Cursor,
+    code: u8,
+) -> Result<Op, ReadError>
+    ensures { ReadsUnlessFull (λ op. op) result cursor.new (entry_value_from part first.now code cursor.old) }
+{
+    let len = cursor.uleb()?;
+    let place = cursor.place();
+    let inside = cursor.skip(len)?;
+    let end = cursor.place();
+    let inner = read_inner(alloc, inside, part, place)?;
+    let bytes = read_up_to(alloc, end, first)?;
+    Ok(Op {
+        code,
+        bytes,
+        address: None,
+        base: None,
+        inner,
+    })
+}
+
+/// The operation, with no expression inside.
+fn with_none_inside(alloc: Global, plain: PlainOp) -> Op
+    ensures { result ≡ alone plain }
+{
+    Op {
+        code: plain.code,
+        bytes: plain.bytes,
+        address: plain.address,
+        base: plain.base,
+        inner: List::new(alloc),
+    }
+}
+
+/// The next operation of an expression inside an entry value.
+#[tactic(auto, unfolding(crate::specs::Reading::plain_at))]
+pub(crate) fn read_plain_op(alloc: Global, cursor: &mut Cursor) -> Result<PlainOp, ReadError>
+    ensures { ReadsUnlessFull (λ op. op) result cursor.new (plain_at cursor.old) }
+{
+    let first = cursor.fork();
+    let (code, operands) = read_code(cursor)?;
+    read_plain_behind(alloc, cursor, &first, code, operands)
+}
+
+/// The next operation's code and what stands behind it.
+#[tactic(auto, unfolding(crate::specs::Reading::code_at))]
+fn read_code(cursor: &mut Cursor) -> Result<(u8, Operands), Fault>
+    ensures { Reads (λ code. code) result cursor.new (code_at cursor.old) }
+{
+    let unknown = cursor.fault(Kind::UnknownOp);
+    let code = cursor.u8()?;
+    match operands_after(code) {
+        Some(operands) => Ok((code, operands)),
+        None => Err(unknown),
+    }
+}
+
+/// The operation that begins at `first`, behind its code, where it is no entry value.
+#[tactic(auto, unfolding(crate::specs::Reading::plain_from))]
+fn read_plain_behind(
+    alloc: Global,
+    cursor: &mut Cursor,
+    first: &Cursor,
+    code: u8,
+    operands: Operands,
+) -> Result<PlainOp, ReadError>
+    ensures { ReadsUnlessFull (λ op. op) result cursor.new (plain_from first.now code operands cursor.old) }
+{
+    let named = read_operands(cursor, operands, first)?;
+    let bytes = read_up_to(alloc, cursor.place(), first)?;
+    Ok(PlainOp {
+        code,
+        bytes,
+        address: address_named(named),
+        base: base_named(named),
+    })
+}
+
+/// A copy of the bytes up to a place.
+#[tactic(auto, unfolding(crate::specs::Reading::bytes_up_to))]
+fn read_up_to(alloc: Global, end: u64, first: &Cursor) -> Result<Bytes, ReadError>
+    ensures { Gives (λ bytes. bytes) result (bytes_up_to end first.now) }
+{
+    let mut from = first.fork();
+    let bytes = from.skip(end.saturating_sub(first.place()))?;
+    Ok(Bytes::from_slice(alloc, bytes)?)
+}
+
+/// The operands of the operation that begins at `first`, and what they name.
+#[tactic(auto, unfolding(crate::specs::Reading::operands_at))]
+fn read_operands(cursor: &mut Cursor, operands: Operands, first: &Cursor) -> Result<Named, Fault>
+    ensures { Reads (λ named. named) result cursor.new (operands_at operands first.now cursor.old) }
+{
+    match operands {
+        Operands::Empty => Ok(Named::Nothing),
+        Operands::Address => Ok(Named::Address(cursor.u64()?)),
+        Operands::Fixed(width) => {
+            cursor.skip(width)?;
+            Ok(Named::Nothing)
+        }
+        Operands::Uleb => {
+            cursor.uleb()?;
+            Ok(Named::Nothing)
+        }
+        Operands::Sleb => {
+            cursor.sleb()?;
+            Ok(Named::Nothing)
+        }
+        Operands::UlebSleb => {
+            cursor.uleb()?;
+            cursor.sleb()?;
+            Ok(Named::Nothing)
+        }
+        Operands::UlebUleb => {
+            cursor.uleb()?;
+            cursor.uleb()?;
+            Ok(Named::Nothing)
+        }
+        Operands::Block => {
+            read_block(cursor)?;
+            Ok(Named::Nothing)
+        }
+        Operands::BaseBlock => read_base_block(cursor),
+        Operands::UlebBase => {
+            cursor.uleb()?;
+            Ok(Named::BaseType(cursor.uleb()?))
+        }
+        Operands::ByteBase => {
+            cursor.u8()?;
+            Ok(Named::BaseType(cursor.uleb()?))
+        }
+        Operands::Base => Ok(Named::BaseType(cursor.uleb()?)),
+        Operands::Expression => Err(first.fault(Kind::OpOutsideProfile)),
+        Operands::Outside => Err(first.fault(Kind::OpOutsideProfile)),
+    }
+}
+
+/// The bytes behind their length.
+#[tactic(auto, unfolding(crate::specs::Reading::block_at))]
+fn read_block<'a>(cursor: &mut Cursor<'a>) -> Result<&'a [u8], Fault>
+    ensures { Reads (λ bytes. bytes.now) result cursor.new (block_at cursor.old) }
+{
+    let len = cursor.uleb()?;
+    cursor.skip(len)
+}
+
+/// A base type, and a constant of that type behind its length.
+#[tactic(auto, unfolding(crate::specs::Reading::base_block_at))]
+fn read_base_block(cursor: &mut Cursor) -> Result<Named, Fault>
+    ensures { Reads (λ named. named) result cursor.new (base_block_at cursor.old) }
+{
+    let base = cursor.uleb()?;
+    let len = cursor.u8()?;
+    cursor.skip(u64::from(len))?;
+    Ok(Named::BaseType(base))
+}
+
+/// The address that is named, as it is stored.
+fn address_named(named: Named) -> Option<Place>
+    ensures { result ≡ address_in named }
+{
+    match named {
+        Named::Address(n) => Some(Place {
+            at: Addr::Fixed(n),
+            linked: None,
+            linked_end: None,
+        }),
+        Named::Nothing => None,
+        Named::BaseType(_) => None,
+    }
+}
+
+/// The base type that is named.
+fn base_named(named: Named) -> Option<Base>
+    ensures { result ≡ base_in named }
+{
+    match named {
+        Named::BaseType(n) => Some(base_at(n)),
+        Named::Nothing => None,
+        Named::Address(_) => None,
+    }
+}
+
+/// The base type at a place of the unit. A place past 32 bits, where no entry stands, is told as the
+/// last one below, where none stands either.
+fn base_at(n: u64) -> Base
+    ensures { result ≡ base_of n }
+{
+    if n == 0 {
+        return Base::Generic;
+    }
+    Base::Entry(n.min(u64::from(u32::MAX)) as u32)
+}
