@@ -1,0 +1,355 @@
+-- What is read of an entry's attributes is spelled so, and what is spelled so is read.
+use Rattle.std.proofs.Common.{◌≡◌, ℕ, ◌+◌, ◌-◌, ◌^◌, ◌<◌, ◌&&◌, Bool, true, false, not, List, [], ◌∷◌, ◌++◌, length, Option, Some, None, Result, Ok, refl, sym, ap, subst, ◌∙◌, append_assoc, inl, inr, arith}
+use Rattle.std.specs.Prelude.{nat_lt, if◌then◌else◌}
+use Rattle.std.specs.List.{list_all}
+use Rattle.std.specs.Option.{option_to_list}
+use Rattle.std.proofs.lemmas.Bool.{cases_eq, ne_eqb, ltb-true, lt-ltb, not-false}
+use Rattle.std.proofs.lemmas.List.{append-nil}
+use Rattle.ds_base.specs.declared.fault.Fault.{Fault}
+use Rattle.ds_base.specs.declared.fault.Kind.TheVariants.{BadOffset}
+use Rattle.ds_base.specs.Spot.{Spot, rest, fault_at}
+use Rattle.ds_base.specs.Reading.{◌>>=◌}
+use Rattle.dwarf_types.specs.declared.abbrev.Field.{Field}
+use Rattle.dwarf_types.specs.declared.entry.Attr.{Attr}
+use Rattle.dwarf_types.specs.declared.entry.Entry.{Entry}
+use Rattle.dwarf_types.specs.declared.sections.Sections.{Sections}
+use Rattle.dwarf_types.specs.declared.value.Value.{Value}
+use Rattle.dwarf_types.specs.declared.value.Value.TheVariants as values
+use Rattle.dwarf_types.proofs.Readers.{bind_ok, passed, ok_is, Stands}
+use Rattle.dwarf_types.specs.Spelled.{Made}
+use Rattle.form_value.specs.declared.form.FormClass.{FormClass}
+use Rattle.form_value.specs.declared.form.FormClass.TheVariants.{Address, Text, StrText, LineStrText, Number, Signed, Present, Implicit, Wide, Block, Offset, Outside}
+use Rattle.form_value.specs.Reading.{fixed_address, in_64_bits, value_at}
+use Rattle.form_value.specs.Spelling.{SpellsClass}
+use Rattle.form_value.proofs.ValueLaws.{value_spelled, value_read}
+use Rattle.unit_tree.specs.declared.attribute.Home.{Home}
+use Rattle.unit_tree.specs.declared.header.TheConstants.{DWARF_VERSION}
+use Rattle.unit_tree.specs.declared.meaning.Meaning.{Meaning}
+use Rattle.unit_tree.specs.declared.meaning.Meaning.TheVariants.{InUnit, InObject, LineTable, RangeList, LocationList, Other}
+use Rattle.unit_tree.specs.declared.reference.Reference.{Reference}
+use Rattle.unit_tree.specs.Attribute.{led_to, names_lines, offset_in, reference_to, meant_at, value_meant_at, attr_at, Described, attrs_at}
+use Rattle.unit_tree.specs.Meaning.{meaning_of}
+use Rattle.unit_tree.specs.Reference.{leads}
+use Rattle.unit_tree.specs.Spelling.{meant, attr_value, IsBelow, IsInside, SpellsAttr, SpellsAttrs, ValueLeads, AttrsLead, begins_at}
+use Rattle.unit_tree.proofs.Onward.{value_onward, attr_onward}
+use Rattle.unit_tree.proofs.Placed.{Passed, passed_nothing, passed_then, passed_by, stands_on}
+
+-- ---- references that lead to one of all entries, which begin below the last place of 32 bits
+
+-- all lead
+abbrev pub Lead : List Entry → List Reference → Type 0
+Lead all references = list_all (leads all) references ≡ true
+
+-- all begin below a place
+abbrev pub AreLow : List Entry → Type 0
+AreLow [] = Unit {0}
+AreLow (e ∷ es) = (e.place < 2 ^ 32 - 1) × AreLow es
+
+pub both_true : (b c : Bool) → (b && c) ≡ true → (b ≡ true) × (c ≡ true)
+both_true true c e = (refl, e)
+both_true false c e = absurd cc
+
+pub lead_front : (all : List Entry) (xs ys : List Reference) → Lead all (xs ++ ys) → Lead all xs
+lead_front all [] ys h = refl
+lead_front all (x ∷ xs) ys h =
+    let b = both_true (leads all x) (list_all (leads all) (xs ++ ys)) h in
+    rw (b.0, lead_front all xs ys b.1) refl
+
+pub lead_back : (all : List Entry) (xs ys : List Reference) → Lead all (xs ++ ys) → Lead all ys
+lead_back all [] ys h = h
+lead_back all (x ∷ xs) ys h =
+    let b = both_true (leads all x) (list_all (leads all) (xs ++ ys)) h in
+    lead_back all xs ys b.1
+
+pub lead_both : (all : List Entry) (xs ys : List Reference) → Lead all xs → Lead all ys → Lead all (xs ++ ys)
+lead_both all [] ys h k = k
+lead_both all (x ∷ xs) ys h k =
+    let b = both_true (leads all x) (list_all (leads all) xs) h in
+    rw (b.0, lead_both all xs ys b.1 k) refl
+
+later_begins : (x : Entry) (xs : List Entry) (unit : Option ℕ) (place : ℕ) → (x.place ≡ place → ⊥) → begins_at (x ∷ xs) unit place ≡ true → begins_at xs unit place ≡ true
+later_begins x xs unit place ne e =
+    let step : begins_at (x ∷ xs) unit place ≡ begins_at xs unit place = rw (ne_eqb x.place place ne) refl in
+    sym step ∙ e
+
+-- some entry begins at the place, so it is low
+begun_low : (entries : List Entry) (unit : Option ℕ) (place : ℕ) → AreLow entries → begins_at entries unit place ≡ true → place < 2 ^ 32 - 1
+begun_low [] unit place low e = absurd cc
+begun_low (x ∷ xs) unit place low e =
+    elim (cases_eq x.place place) [
+      | inl is ↦ omega (arith, is, low.0)
+      | inr ne ↦ begun_low xs unit place low.1 (later_begins x xs unit place ne e)
+    ]
+
+-- a place that is led to and low is the one that is meant
+not_cut : (place : ℕ) → led_to place < 2 ^ 32 - 1 → led_to place ≡ place
+not_cut place lt = omega (arith, lt)
+
+cut_not : (place : ℕ) → place < 2 ^ 32 - 1 → led_to place ≡ place
+cut_not place lt = omega (arith, lt)
+
+-- ---- what a number means
+
+record MeantTaken (all : List Entry) (sections : Sections) (home : Home) (lines : Bool) (meaning : Meaning) (n : ℕ) (y : Value × Option Reference) : Type 0 where
+  below : IsBelow sections lines meaning n
+  is : y.0 ≡ meant home.place meaning n
+  leads_on : ValueLeads all home.unit meaning y.0
+
+record MeantGoes (all : List Entry) (sections : Sections) (home : Home) (lines : Bool) (meaning : Meaning) (n : ℕ) (s : Spot) : Type 0 where
+  reference : Option Reference
+  reads : meant_at sections home lines meaning n s ≡ Ok (meant home.place meaning n, reference)
+  lead : Lead all (option_to_list reference)
+
+abbrev plain : ℕ → Value × Option Reference
+plain n = (values.Offset n, None)
+
+offset_below : (section : List ℕ) (n : ℕ) (s : Spot) (y : Value × Option Reference) → offset_in section n s ≡ Ok y → (n < length section) × (plain n ≡ y)
+offset_below section n s y e =
+    let p = passed (not (nat_lt n (length section))) (fault_at s BadOffset) (Ok (plain n)) y e in
+    (ltb-true n (length section) (not-false (nat_lt n (length section)) p.0), ok_is (plain n) y p.1)
+
+offset_goes : (section : List ℕ) (n : ℕ) (s : Spot) → n < length section → offset_in section n s ≡ Ok (plain n)
+offset_goes section n s lt = rw (lt-ltb n (length section) lt) refl
+
+lines_below : (lines : Bool) (section : List ℕ) (n : ℕ) (s : Spot) (y : Value × Option Reference) → (if lines then offset_in section n s else Ok (plain n)) ≡ Ok y → (lines ≡ true → n < length section) × (plain n ≡ y)
+lines_below true section n s y e = let o = offset_below section n s y e in (λ t. o.0, o.1)
+lines_below false section n s y e = (λ t. absurd cc, ok_is (plain n) y e)
+
+lines_go : (lines : Bool) (section : List ℕ) (n : ℕ) (s : Spot) → (lines ≡ true → n < length section) → (if lines then offset_in section n s else Ok (plain n)) ≡ Ok (plain n)
+lines_go true section n s below = offset_goes section n s (below refl)
+lines_go false section n s below = refl
+
+-- a reference that leads
+reference_taken : (all : List Entry) (place : ℕ) (unit : Option ℕ) (s : Spot) → AreLow all → Lead all (option_to_list (reference_to place unit s).1) → (led_to place ≡ place) × (begins_at all unit (led_to place) ≡ true)
+reference_taken all place unit s low h =
+    let b = both_true (begins_at all unit (led_to place)) true h in
+    (not_cut place (begun_low all unit (led_to place) low b.0), b.0)
+
+reference_goes : (all : List Entry) (place : ℕ) (unit : Option ℕ) (s : Spot) → AreLow all → begins_at all unit place ≡ true → (led_to place ≡ place) × Lead all (option_to_list (reference_to place unit s).1)
+reference_goes all place unit s low h =
+    let is = cut_not place (begun_low all unit place low h) in
+    (is, rw (is, h) refl)
+
+meant_taken : (all : List Entry) → AreLow all → (sections : Sections) (home : Home) (lines : Bool) (meaning : Meaning) (n : ℕ) (s : Spot) (y : Value × Option Reference) → meant_at sections home lines meaning n s ≡ Ok y → Lead all (option_to_list y.1)
+    → MeantTaken all sections home lines meaning n y
+unfolding meant_at
+meant_taken all low sections home lines InUnit n s y e h =
+    subst (λ (p : Value × Option Reference). Lead all (option_to_list p.1) → MeantTaken all sections home lines InUnit n p) (ok_is (reference_to (home.place + n) (Some home.unit) s) y e)
+    (λ k.
+    let r = reference_taken all (home.place + n) (Some home.unit) s low k in
+    record { below = tt; is = ap (λ (p : ℕ). values.Ref p) r.0; leads_on = r.1 }) h
+meant_taken all low sections home lines InObject n s y e h =
+    subst (λ (p : Value × Option Reference). Lead all (option_to_list p.1) → MeantTaken all sections home lines InObject n p) (ok_is (reference_to n None s) y e)
+    (λ k.
+    let r = reference_taken all n None s low k in
+    record { below = tt; is = ap (λ (p : ℕ). values.Ref p) r.0; leads_on = r.1 }) h
+meant_taken all low sections home lines LineTable n s y e h =
+    let o = lines_below lines sections.line.now n s y e in
+    subst (λ (p : Value × Option Reference). MeantTaken all sections home lines LineTable n p) o.1 (record { below = o.0; is = refl; leads_on = tt })
+meant_taken all low sections home lines RangeList n s y e h =
+    let o = offset_below sections.ranges.now n s y e in
+    subst (λ (p : Value × Option Reference). MeantTaken all sections home lines RangeList n p) o.1 (record { below = o.0; is = refl; leads_on = tt })
+meant_taken all low sections home lines LocationList n s y e h =
+    let o = offset_below sections.loc.now n s y e in
+    subst (λ (p : Value × Option Reference). MeantTaken all sections home lines LocationList n p) o.1 (record { below = o.0; is = refl; leads_on = tt })
+meant_taken all low sections home lines Other n s y e h =
+    subst (λ (p : Value × Option Reference). MeantTaken all sections home lines Other n p) (ok_is (plain n) y e) (record { below = tt; is = refl; leads_on = tt })
+
+meant_goes : (all : List Entry) → AreLow all → (sections : Sections) (home : Home) (lines : Bool) (meaning : Meaning) (n : ℕ) (s : Spot) → IsBelow sections lines meaning n → ValueLeads all home.unit meaning (meant home.place meaning n)
+    → MeantGoes all sections home lines meaning n s
+unfolding meant_at
+meant_goes all low sections home lines InUnit n s below h =
+    let r = reference_goes all (home.place + n) (Some home.unit) s low h in
+    record { reference = (reference_to (home.place + n) (Some home.unit) s).1; reads = ap (λ (p : ℕ). Ok (values.Ref p, (reference_to (home.place + n) (Some home.unit) s).1)) r.0; lead = r.1 }
+meant_goes all low sections home lines InObject n s below h =
+    let r = reference_goes all n None s low h in
+    record { reference = (reference_to n None s).1; reads = ap (λ (p : ℕ). Ok (values.Ref p, (reference_to n None s).1)) r.0; lead = r.1 }
+meant_goes all low sections home lines LineTable n s below h = record { reference = None; reads = lines_go lines sections.line.now n s below; lead = refl }
+meant_goes all low sections home lines RangeList n s below h = record { reference = None; reads = offset_goes sections.ranges.now n s below; lead = refl }
+meant_goes all low sections home lines LocationList n s below h = record { reference = None; reads = offset_goes sections.loc.now n s below; lead = refl }
+meant_goes all low sections home lines Other n s below h = record { reference = None; reads = refl; lead = refl }
+
+-- ---- what a value means
+
+record ValueTaken (all : List Entry) (sections : Sections) (home : Home) (lines : Bool) (field : Field) (value : Value) (y : Value × Option Reference) : Type 0 where
+  inside : IsInside sections lines field value
+  is : y.0 ≡ attr_value home.place field value
+  leads_on : ValueLeads all home.unit (meaning_of field.form field.name) y.0
+
+record ValueGoes (all : List Entry) (sections : Sections) (home : Home) (root : Bool) (field : Field) (before : List Attr) (value : Value) (s : Spot) : Type 0 where
+  reference : Option Reference
+  reads : value_meant_at sections home root field before value s ≡ Ok (attr_value home.place field value, reference)
+  lead : Lead all (option_to_list reference)
+
+-- a value that is neither a reference nor an offset is no reference
+no_reference : (all : List Entry) (unit : ℕ) (meaning : Meaning) (value : Value) → ((place : ℕ) → value ≡ values.Ref place → ⊥) → ValueLeads all unit meaning value
+no_reference all unit InUnit (values.Ref place) ne = absurd (ne place refl)
+no_reference all unit InObject (values.Ref place) ne = absurd (ne place refl)
+no_reference all unit meaning value ne = tt
+
+value_taken : (all : List Entry) → AreLow all → (sections : Sections) (home : Home) (root : Bool) (field : Field) (before : List Attr) (value : Value) (s : Spot) (y : Value × Option Reference) → ((place : ℕ) → value ≡ values.Ref place → ⊥)
+    → value_meant_at sections home root field before value s ≡ Ok y → Lead all (option_to_list y.1) → ValueTaken all sections home (names_lines root before) field value y
+unfolding value_meant_at
+value_taken all low sections home root field before (values.Offset n) s y stored e h =
+    let m = meant_taken all low sections home (names_lines root before) (meaning_of field.form field.name) n s y e h in
+    record { inside = m.below; is = m.is; leads_on = m.leads_on }
+value_taken all low sections home root field before (values.Ref place) s y stored e h = absurd (stored place refl)
+value_taken all low sections home root field before value s y stored e h =
+    subst (λ (p : Value × Option Reference). ValueTaken all sections home (names_lines root before) field value p) (ok_is (value, None) y e)
+    (record { inside = tt; is = refl; leads_on = no_reference all home.unit (meaning_of field.form field.name) value stored })
+
+value_goes : (all : List Entry) → AreLow all → (sections : Sections) (home : Home) (root : Bool) (field : Field) (before : List Attr) (value : Value) (s : Spot) → IsInside sections (names_lines root before) field value
+    → ValueLeads all home.unit (meaning_of field.form field.name) (attr_value home.place field value) → ValueGoes all sections home root field before value s
+unfolding value_meant_at
+value_goes all low sections home root field before (values.Offset n) s inside h =
+    let m = meant_goes all low sections home (names_lines root before) (meaning_of field.form field.name) n s inside h in
+    record { reference = m.reference; reads = m.reads; lead = m.lead }
+value_goes all low sections home root field before value s inside h = record { reference = None; reads = refl; lead = refl }
+
+-- ---- no reference is stored as one
+
+differ : (form bits place : ℕ) (value : Value) → value ≡ values.Number form bits → value ≡ values.Ref place → ⊥
+differ form bits place value m e = cc
+
+not_ref : {A : Type 0} (made : A → Value) (Spells : List ℕ → A → Type 0) (bytes : List ℕ) (value : Value) → Made made Spells bytes value → ((a : A) (place : ℕ) → made a ≡ values.Ref place → ⊥) → (place : ℕ) → value ≡ values.Ref place → ⊥
+not_ref made Spells bytes value m differs place e = differs m.of place (sym m.is ∙ e)
+
+class_not_ref : (class : FormClass) (field : Field) (sections : Sections) (bytes : List ℕ) (value : Value) → SpellsClass class field sections bytes value → (place : ℕ) → value ≡ values.Ref place → ⊥
+class_not_ref Address field sections bytes value m = not_ref fixed_address _ bytes value m (λ a place e. cc)
+class_not_ref Text field sections bytes value m = not_ref (λ text. values.Text text) _ bytes value m (λ a place e. cc)
+class_not_ref StrText field sections bytes value m = not_ref (λ text. values.Text text) _ bytes value m (λ a place e. cc)
+class_not_ref LineStrText field sections bytes value m = not_ref (λ text. values.Text text) _ bytes value m (λ a place e. cc)
+class_not_ref (Number coding) field sections bytes value m = not_ref (λ n. values.Number field.form n) _ bytes value m (λ a place e. cc)
+class_not_ref Signed field sections bytes value m = not_ref (λ n. values.Number field.form (in_64_bits n)) _ bytes value m (λ a place e. cc)
+class_not_ref Present field sections bytes value m = λ place e. differ _ _ place value m.1 e
+class_not_ref Implicit field sections bytes value m = λ place e. differ _ _ place value m.1 e
+class_not_ref Wide field sections bytes value m = not_ref (λ wide. values.Wide wide) _ bytes value m (λ a place e. cc)
+class_not_ref (Block coding) field sections bytes value m = not_ref (λ block. values.Block field.form block) _ bytes value m (λ a place e. cc)
+class_not_ref (Offset coding) field sections bytes value m = not_ref (λ n. values.Offset n) _ bytes value m (λ a place e. cc)
+class_not_ref Outside field sections bytes value m = absurd m
+
+-- ---- one attribute
+
+pub record AttrTaken (all : List Entry) (sections : Sections) (home : Home) (root : Bool) (field : Field) (before : List Attr) (s : Spot) (y : (Attr × Option Reference) × Spot) : Type 0 where
+  pub bytes : List ℕ
+  pub spells : SpellsAttr sections home.place (names_lines root before) field bytes y.0.0
+  pub leads_on : ValueLeads all home.unit (meaning_of field.form field.name) y.0.0.value
+  pub passed : Passed bytes s y.1
+
+attr_taken : (all : List Entry) → AreLow all → (sections : Sections) (home : Home) (root : Bool) (field : Field) (before : List Attr) (s : Spot) (y : (Attr × Option Reference) × Spot) → Stands s
+    → attr_at sections home root field before s ≡ Ok y → Lead all (option_to_list y.0.1) → AttrTaken all sections home root field before s y
+unfolding attr_at
+attr_taken all low sections home root field before s y stands e h =
+    let made : Value × Spot → Value × Option Reference → Result ((Attr × Option Reference) × Spot) Fault = λ read meant. Ok ((record { name = field.name; value = meant.0 }, meant.1), read.1) in
+    let b = bind_ok (value_at field DWARF_VERSION sections s) (λ read. value_meant_at sections home root field before read.0 s >>= made read) y e in
+    let c = bind_ok (value_meant_at sections home root field before b.0.0 s) (made b.0) y b.2 in
+    let place = stands.place in
+    let v = value_spelled field DWARF_VERSION sections s b.0.0 b.0.1 stands b.1 in
+    let w = v.spells in
+    subst (λ (p : (Attr × Option Reference) × Spot). Lead all (option_to_list p.0.1) → AttrTaken all sections home root field before s p) (ok_is _ y c.2)
+    (λ k.
+    let t = value_taken all low sections home root field before b.0.0 s c.0 (class_not_ref w.row.class field sections v.bytes b.0.0 w.spells) c.1 k in
+    record {
+      bytes = v.bytes;
+      spells = record { value = b.0.0; spells = w; inside = t.inside; is = ap (λ (x : Value). record { name = field.name; value = x }) t.is };
+      leads_on = t.leads_on;
+      passed = passed_by v.bytes s b.0.1 stands (value_onward field DWARF_VERSION sections s b.0 b.1) v.parts;
+    }) h
+
+record AttrGoes (all : List Entry) (sections : Sections) (home : Home) (root : Bool) (field : Field) (before : List Attr) (s : Spot) (bytes : List ℕ) (attr : Attr) (more : List ℕ) : Type 0 where
+  reference : Option Reference
+  next : Spot
+  reads : attr_at sections home root field before s ≡ Ok ((attr, reference), next)
+  lead : Lead all (option_to_list reference)
+  passed : Passed bytes s next
+  left : rest next ≡ more
+
+attr_goes : (all : List Entry) → AreLow all → (sections : Sections) (home : Home) (root : Bool) (field : Field) (before : List Attr) (s : Spot) (bytes : List ℕ) (attr : Attr) (more : List ℕ) → Stands s
+    → SpellsAttr sections home.place (names_lines root before) field bytes attr → ValueLeads all home.unit (meaning_of field.form field.name) attr.value → rest s ≡ bytes ++ more
+    → AttrGoes all sections home root field before s bytes attr more
+unfolding attr_at
+attr_goes all low sections home root field before s bytes attr more stands w leads_on parts =
+    let r = value_read field DWARF_VERSION sections s bytes w.value more stands w.spells parts in
+    let value_is : attr.value ≡ attr_value home.place field w.value = ap (λ (a : Attr). a.value) w.is in
+    let g = value_goes all low sections home root field before w.value s w.inside (subst (ValueLeads all home.unit (meaning_of field.form field.name)) value_is leads_on) in
+    record {
+      reference = g.reference;
+      next = r.next;
+      reads = rw (r.reads, g.reads) (ap (λ (a : Attr). Ok ((a, g.reference), r.next)) (sym w.is));
+      lead = g.lead;
+      passed = passed_by bytes s r.next stands (value_onward field DWARF_VERSION sections s (w.value, r.next) r.reads) (parts ∙ ap (λ (xs : List ℕ). bytes ++ xs) (sym r.left));
+      left = r.left;
+    }
+
+-- ---- the attributes of an entry
+
+pub record AttrsTaken (all : List Entry) (sections : Sections) (home : Home) (root : Bool) (fields : List Field) (before : Described) (s : Spot) (y : Described × Spot) : Type 0 where
+  pub own : List Attr
+  pub is : y.0.0 ≡ before.0 ++ own
+  pub references : List Reference
+  pub grown : y.0.1 ≡ before.1 ++ references
+  pub bytes : List ℕ
+  pub spells : SpellsAttrs sections home.place root fields before.0 bytes own
+  pub leads_on : AttrsLead all home.unit fields own
+  pub passed : Passed bytes s y.1
+
+pub attrs_taken : (all : List Entry) → AreLow all → (sections : Sections) (home : Home) (root : Bool) (fields : List Field) (before : Described) (s : Spot) (y : Described × Spot) → Stands s
+    → attrs_at sections home root fields before s ≡ Ok y → Lead all y.0.1 → AttrsTaken all sections home root fields before s y
+unfolding attrs_at
+attrs_taken all low sections home root [] before s y stands e h =
+    subst (λ (p : Described × Spot). AttrsTaken all sections home root [] before s p) (ok_is (before, s) y e)
+    (record { own = []; is = sym (append-nil before.0); references = []; grown = sym (append-nil before.1); bytes = []; spells = refl; leads_on = tt; passed = passed_nothing s stands })
+attrs_taken all low sections home root (field ∷ fields) before s y stands e h =
+    let with_attr : (Attr × Option Reference) × Spot → Described = λ attr. (before.0 ++ attr.0.0 ∷ [], before.1 ++ option_to_list attr.0.1) in
+    let b = bind_ok (attr_at sections home root field before.0 s) (λ attr. attrs_at sections home root fields (with_attr attr) attr.1) y e in
+    let o = attr_onward sections home root field before.0 s b.0 b.1 in
+    let t = attrs_taken all low sections home root fields (with_attr b.0) b.0.1 y (stands_on s b.0.1 stands o) b.2 h in
+    let mine : Lead all (option_to_list b.0.0.1) = lead_back all before.1 _ (lead_front all (before.1 ++ option_to_list b.0.0.1) t.references (subst (Lead all) t.grown h)) in
+    let a = attr_taken all low sections home root field before.0 s b.0 stands b.1 mine in
+    record {
+      own = b.0.0.0 ∷ t.own;
+      is = t.is ∙ append_assoc before.0 (b.0.0.0 ∷ []) t.own;
+      references = option_to_list b.0.0.1 ++ t.references;
+      grown = t.grown ∙ append_assoc before.1 (option_to_list b.0.0.1) t.references;
+      bytes = a.bytes ++ t.bytes;
+      spells = record { front = a.bytes; back = t.bytes; is = refl; first = a.spells; second = t.spells };
+      leads_on = (a.leads_on, t.leads_on);
+      passed = passed_then a.bytes t.bytes s b.0.1 y.1 a.passed t.passed;
+    }
+
+pub record AttrsGo (all : List Entry) (sections : Sections) (home : Home) (root : Bool) (fields : List Field) (before : Described) (s : Spot) (bytes : List ℕ) (own : List Attr) (more : List ℕ) : Type 0 where
+  pub references : List Reference
+  pub next : Spot
+  pub reads : attrs_at sections home root fields before s ≡ Ok ((before.0 ++ own, references), next)
+  pub lead : Lead all references
+  pub passed : Passed bytes s next
+  pub left : rest next ≡ more
+
+pub attrs_go : (all : List Entry) → AreLow all → (sections : Sections) (home : Home) (root : Bool) (fields : List Field) (own : List Attr) (before : Described) (s : Spot) (bytes more : List ℕ) → Stands s
+    → SpellsAttrs sections home.place root fields before.0 bytes own → AttrsLead all home.unit fields own → Lead all before.1 → rest s ≡ bytes ++ more → AttrsGo all sections home root fields before s bytes own more
+unfolding attrs_at
+attrs_go all low sections home root [] [] before s bytes more stands w leads_on lead parts =
+    record {
+      references = before.1;
+      next = s;
+      reads = ap (λ (xs : List Attr). Ok ((xs, before.1), s)) (sym (append-nil before.0));
+      lead = lead;
+      passed = subst (λ (b : List ℕ). Passed b s s) (sym w) (passed_nothing s stands);
+      left = parts ∙ ap (λ (b : List ℕ). b ++ more) w;
+    }
+attrs_go all low sections home root [] (attr ∷ own) before s bytes more stands w leads_on lead parts = absurd w
+attrs_go all low sections home root (field ∷ fields) [] before s bytes more stands w leads_on lead parts = absurd w
+attrs_go all low sections home root (field ∷ fields) (attr ∷ own) before s bytes more stands w leads_on lead parts =
+    let whole : rest s ≡ w.front ++ (w.back ++ more) = parts ∙ ap (λ (b : List ℕ). b ++ more) w.is ∙ append_assoc w.front w.back more in
+    let a = attr_goes all low sections home root field before.0 s w.front attr (w.back ++ more) stands w.first leads_on.0 whole in
+    let p = a.passed in
+    let now : Described = (before.0 ++ attr ∷ [], before.1 ++ option_to_list a.reference) in
+    let t = attrs_go all low sections home root fields own now a.next w.back more p.stands w.second leads_on.1 (lead_both all before.1 (option_to_list a.reference) lead a.lead) a.left in
+    record {
+      references = t.references;
+      next = t.next;
+      reads = rw a.reads t.reads ∙ ap (λ (xs : List Attr). Ok ((xs, t.references), t.next)) (append_assoc before.0 (attr ∷ []) own);
+      lead = t.lead;
+      passed = subst (λ (b : List ℕ). Passed b s t.next) (sym w.is) (passed_then w.front w.back s a.next t.next p t.passed);
+      left = t.left;
+    }

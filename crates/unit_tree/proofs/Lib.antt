@@ -1,0 +1,14 @@
+pub mod AttrLoop
+pub mod AttrLaws
+pub mod ChildLoop
+pub mod Onward
+pub mod Placed
+pub mod Places
+pub mod References
+pub mod Refusals
+pub mod Rising
+pub mod Steps
+pub mod TreeLaws
+pub mod UnitLaws
+pub mod UnitLoop
+pub mod UnitReads

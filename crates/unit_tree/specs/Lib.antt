@@ -1,0 +1,9 @@
+pub mod Attribute
+pub mod Bounds
+pub mod Entry
+pub mod Header
+pub mod Meaning
+pub mod Reference
+pub mod Spelling
+pub mod Table
+pub mod Unit

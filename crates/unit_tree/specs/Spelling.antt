@@ -1,0 +1,241 @@
+-- How the units of an object are spelled (DWARF 4, section 7.5), whoever reads them: a unit is a header, a tree and zero bytes, a tree is
+-- an entry's code and values and, where its declaration has children, the trees of its children and the code 0.
+use Rattle.std.specs.Prelude.{◌≡◌, ◌<◌, ◌≤◌, ◌+◌, ◌++◌, ◌==◌, ◌&&◌, ℕ, suc, Bool, true, false, List, [], ◌∷◌, length, Option, None, Some}
+use Rattle.std.specs.List.{list_all, list_any}
+use Rattle.ds_base.specs.declared.dwarf.TheConstants.{DW_TAG_compile_unit}
+use Rattle.dwarf_types.specs.declared.abbrev.Abbrev.{Abbrev}
+use Rattle.dwarf_types.specs.declared.abbrev.Field.{Field}
+use Rattle.dwarf_types.specs.declared.entry.Attr.{Attr}
+use Rattle.dwarf_types.specs.declared.entry.Entry.{Entry}
+use Rattle.dwarf_types.specs.declared.entry.InUnit.{InUnit}
+use Rattle.dwarf_types.specs.declared.entry.RawUnits.{RawUnits}
+use Rattle.dwarf_types.specs.declared.sections.Sections.{Sections}
+use Rattle.dwarf_types.specs.declared.value.Value.{Value}
+use Rattle.dwarf_types.specs.declared.value.Value.TheVariants as values
+use Rattle.dwarf_types.specs.Spelled.{InTurn, IsUleb, IsNumber}
+use Rattle.abbrev_read.specs.Spelling.{StandsAt}
+use Rattle.form_value.specs.Spelling.{SpellsValue}
+use Rattle.unit_tree.specs.declared.entry.TheConstants.{MOST_ENTRIES, MOST_OPEN}
+use Rattle.unit_tree.specs.declared.header.TheConstants.{LENGTH_RESERVED, DWARF_VERSION, ADDRESS_SIZE}
+use Rattle.unit_tree.specs.declared.meaning.Meaning.{Meaning}
+use Rattle.unit_tree.specs.declared.meaning.Meaning.TheVariants.{InUnit as InTheUnit, InObject, LineTable, RangeList, LocationList, Other}
+use Rattle.unit_tree.specs.Attribute.{names_lines}
+use Rattle.unit_tree.specs.Entry.{is_split}
+use Rattle.unit_tree.specs.Entry.{declared_as}
+use Rattle.unit_tree.specs.Meaning.{meaning_of}
+use Rattle.unit_tree.specs.Reference.{reaches}
+use Rattle.unit_tree.specs.Unit.{language_of, is_zero}
+
+-- ---- trees
+
+-- an entry: its declaration, the place of its first byte, and its attributes
+pub record Node : Type 0 where
+  pub declared : Abbrev
+  pub place : ℕ
+  pub attrs : List Attr
+
+-- trees one after the other: the first one's entry, the trees below it, and those behind it
+pub data Forest : Type 0 where
+  no_more : Forest
+  tree : Node → Forest → Forest → Forest
+
+-- how many entries there are
+abbrev pub size : Forest → ℕ
+size no_more = 0
+size (tree node kids others) = suc (size kids + size others)
+
+-- a unit: the place of its abbreviation table, that table, its root, and the trees below that
+pub record UnitTree : Type 0 where
+  pub offset : ℕ
+  pub table : List Abbrev
+  pub root : Node
+  pub kids : Forest
+
+-- ---- what trees are as entries
+
+abbrev pub entry_of : ℕ → Option ℕ → Node → Entry
+entry_of unit parent node = record { parent = parent; unit = unit; place = node.place; tag = node.declared.tag; attrs = node.attrs }
+
+-- the entries of trees of a unit, each before those below it, the first of which has a number
+abbrev pub preorder : ℕ → Option ℕ → ℕ → Forest → List Entry
+preorder unit parent number no_more = []
+preorder unit parent number (tree node kids others) =
+    entry_of unit parent node ∷ (preorder unit (Some number) (number + 1) kids ++ preorder unit parent (number + 1 + size kids) others)
+
+abbrev pub unit_entries : ℕ → ℕ → UnitTree → List Entry
+unit_entries unit number t = entry_of unit None t.root ∷ preorder unit (Some number) (number + 1) t.kids
+
+-- the entries of units from a number on, the first of which has a number too
+abbrev pub entries_of : ℕ → ℕ → List UnitTree → List Entry
+entries_of unit number [] = []
+entries_of unit number (t ∷ ts) = unit_entries unit number t ++ entries_of (suc unit) (number + 1 + size t.kids) ts
+
+abbrev pub in_unit : ℕ → UnitTree → InUnit
+in_unit number t = record { first = number; count = 1 + size t.kids; version = DWARF_VERSION; language = language_of t.root.attrs; lines = None }
+
+abbrev pub in_units : ℕ → List UnitTree → List InUnit
+in_units number [] = []
+in_units number (t ∷ ts) = in_unit number t ∷ in_units (number + 1 + size t.kids) ts
+
+-- units and entries, numbered from 0
+abbrev pub raw_units : List UnitTree → RawUnits
+raw_units trees = record { units = in_units 0 trees; entries = entries_of 0 0 trees }
+
+-- ---- how trees are spelled
+
+-- first the one, and then the other from where that ends
+pub record InTurnFrom (First Then : ℕ → List ℕ → Type 0) (place : ℕ) (bytes : List ℕ) : Type 0 where
+  pub front : List ℕ
+  pub back : List ℕ
+  pub is : bytes ≡ front ++ back
+  pub first : First place front
+  pub second : Then (place + length front) back
+
+-- what a stored value is as an attribute of a unit that begins at a place: a reference is the place to which it leads
+abbrev pub meant : ℕ → Meaning → ℕ → Value
+meant place InTheUnit n = values.Ref (place + n)
+meant place InObject n = values.Ref n
+meant place LineTable n = values.Offset n
+meant place RangeList n = values.Offset n
+meant place LocationList n = values.Offset n
+meant place Other n = values.Offset n
+
+abbrev pub attr_value : ℕ → Field → Value → Value
+attr_value place field (values.Offset n) = meant place (meaning_of field.form field.name) n
+attr_value place field value = value
+
+-- an offset to a table or list is below the size of its section
+abbrev pub IsBelow : Sections → Bool → Meaning → ℕ → Type 0
+IsBelow sections lines InTheUnit n = Unit {0}
+IsBelow sections lines InObject n = Unit {0}
+IsBelow sections lines LineTable n = lines ≡ true → n < length sections.line.now
+IsBelow sections lines RangeList n = n < length sections.ranges.now
+IsBelow sections lines LocationList n = n < length sections.loc.now
+IsBelow sections lines Other n = Unit {0}
+
+abbrev pub IsInside : Sections → Bool → Field → Value → Type 0
+IsInside sections lines field (values.Offset n) = IsBelow sections lines (meaning_of field.form field.name) n
+IsInside sections lines field _ = Unit {0}
+
+-- bytes spell the attribute of a field of a unit that begins at a place
+pub record SpellsAttr (sections : Sections) (place : ℕ) (lines : Bool) (field : Field) (bytes : List ℕ) (attr : Attr) : Type 0 where
+  pub value : Value
+  pub spells : SpellsValue field DWARF_VERSION sections bytes value
+  pub inside : IsInside sections lines field value
+  pub is : attr ≡ record { name = field.name; value = attr_value place field value }
+
+-- the attributes of fields, behind others of a root or another entry
+abbrev pub SpellsAttrs : Sections → ℕ → Bool → List Field → List Attr → List ℕ → List Attr → Type 0
+SpellsAttrs sections place root [] before bytes [] = bytes ≡ []
+SpellsAttrs sections place root [] before bytes (attr ∷ attrs) = ⊥
+SpellsAttrs sections place root (field ∷ fields) before bytes [] = ⊥
+SpellsAttrs sections place root (field ∷ fields) before bytes (attr ∷ attrs) =
+    InTurn (λ b. SpellsAttr sections place (names_lines root before) field b attr) (λ b. SpellsAttrs sections place root fields (before ++ attr ∷ []) b attrs) bytes
+
+-- a code that is not 0, and a declaration that has it
+pub record SpellsCode (table : List Abbrev) (declared : Abbrev) (bytes : List ℕ) : Type 0 where
+  pub code : ℕ
+  pub some : 0 < code
+  pub spells : IsUleb bytes code
+  pub found : declared_as code table ≡ Some declared
+
+-- an entry that begins at a place: its code and its attributes
+pub record SpellsNode (sections : Sections) (unit : ℕ) (table : List Abbrev) (root : Bool) (node : Node) (place : ℕ) (bytes : List ℕ) : Type 0 where
+  pub there : node.place ≡ place
+  pub spells : InTurn (SpellsCode table node.declared) (λ b. SpellsAttrs sections unit root node.declared.fields [] b node.attrs) bytes
+
+-- the trees below an entry: a list of them, or nothing
+abbrev pub SpellsBelow : Bool → (ℕ → List ℕ → Type 0) → Forest → ℕ → List ℕ → Type 0
+SpellsBelow true Kids kids place bytes = Kids place bytes
+SpellsBelow false Kids no_more place bytes = bytes ≡ []
+SpellsBelow false Kids (tree node more others) place bytes = ⊥
+
+-- trees one after the other from a place, and the code 0
+abbrev pub SpellsTrees : Sections → ℕ → List Abbrev → Forest → ℕ → List ℕ → Type 0
+SpellsTrees sections unit table no_more place bytes = IsUleb bytes 0
+SpellsTrees sections unit table (tree node kids others) place bytes =
+    InTurnFrom (InTurnFrom (SpellsNode sections unit table false node) (SpellsBelow node.declared.children (λ p b. SpellsTrees sections unit table kids p b) kids)) (λ p b. SpellsTrees sections unit table others p b) place bytes
+
+-- the tree of a unit
+abbrev pub SpellsTree : Sections → ℕ → UnitTree → ℕ → List ℕ → Type 0
+SpellsTree sections unit t = InTurnFrom (SpellsNode sections unit t.table true t.root) (SpellsBelow t.root.declared.children (λ p b. SpellsTrees sections unit t.table t.kids p b) t.kids)
+
+-- ---- units
+
+-- zero bytes
+abbrev pub AreZeros : List ℕ → Type 0
+AreZeros bytes = list_all is_zero bytes ≡ true
+
+-- what follows a unit's length: its version, the place of its table, the size of an address, its tree from a place on, and zeros
+abbrev pub SpellsBody : Sections → ℕ → UnitTree → ℕ → List ℕ → Type 0
+SpellsBody sections unit t =
+    InTurnFrom (λ p b. IsNumber 2 b DWARF_VERSION) (InTurnFrom (λ p b. IsNumber 4 b t.offset) (InTurnFrom (λ p b. IsNumber 1 b ADDRESS_SIZE) (InTurnFrom (SpellsTree sections unit t) (λ p b. AreZeros b))))
+
+-- the unit that begins at a place
+pub record SpellsUnit (sections : Sections) (t : UnitTree) (place : ℕ) (bytes : List ℕ) : Type 0 where
+  pub count : List ℕ
+  pub body : List ℕ
+  pub is : bytes ≡ count ++ body
+  pub counts : IsNumber 4 count (length body)
+  pub short : length body < LENGTH_RESERVED
+  pub spells : SpellsBody sections place t (place + 4) body
+  pub inside : t.offset < length sections.abbrev.now
+  pub table : StandsAt sections.abbrev.now t.offset t.table
+  pub is_unit : t.root.declared.tag ≡ DW_TAG_compile_unit
+  pub whole : is_split t.root.declared ≡ false
+
+-- units one after the other from a place
+abbrev pub SpellsUnits : Sections → List UnitTree → ℕ → List ℕ → Type 0
+SpellsUnits sections [] place bytes = bytes ≡ []
+SpellsUnits sections (t ∷ ts) place bytes = InTurnFrom (SpellsUnit sections t) (λ p b. SpellsUnits sections ts p b) place bytes
+
+-- ---- limits and references
+
+-- inside of so many open lists no more are open at once than may be
+abbrev pub IsShallow : ℕ → Forest → Type 0
+IsShallow lists no_more = Unit {0}
+IsShallow lists (tree node kids others) = ((node.declared.children ≡ true → lists < MOST_OPEN) × IsShallow (suc lists) kids) × IsShallow lists others
+
+-- one of the entries begins at a place, and is of a unit where that is said
+abbrev pub begins_at : List Entry → Option ℕ → ℕ → Bool
+begins_at entries unit place = list_any (λ e. e.place == place && reaches unit e.unit) entries
+
+-- a reference of a unit leads to one of the entries
+abbrev pub ValueLeads : List Entry → ℕ → Meaning → Value → Type 0
+ValueLeads entries unit InTheUnit (values.Ref place) = begins_at entries (Some unit) place ≡ true
+ValueLeads entries unit InObject (values.Ref place) = begins_at entries None place ≡ true
+ValueLeads entries unit _ _ = Unit {0}
+
+abbrev pub AttrsLead : List Entry → ℕ → List Field → List Attr → Type 0
+AttrsLead entries unit [] attrs = Unit {0}
+AttrsLead entries unit (field ∷ fields) [] = Unit {0}
+AttrsLead entries unit (field ∷ fields) (attr ∷ attrs) = ValueLeads entries unit (meaning_of field.form field.name) attr.value × AttrsLead entries unit fields attrs
+
+abbrev pub NodeLeads : List Entry → ℕ → Node → Type 0
+NodeLeads entries unit node = AttrsLead entries unit node.declared.fields node.attrs
+
+abbrev pub TreesLead : List Entry → ℕ → Forest → Type 0
+TreesLead entries unit no_more = Unit {0}
+TreesLead entries unit (tree node kids others) = (NodeLeads entries unit node × TreesLead entries unit kids) × TreesLead entries unit others
+
+-- what holds of a unit of a number besides its spelling
+pub record IsSoundUnit (entries : List Entry) (unit : ℕ) (t : UnitTree) : Type 0 where
+  pub shallow : IsShallow 1 t.kids
+  pub root_leads : NodeLeads entries unit t.root
+  pub kids_lead : TreesLead entries unit t.kids
+
+abbrev pub AreSoundUnits : List Entry → ℕ → List UnitTree → Type 0
+AreSoundUnits entries unit [] = Unit {0}
+AreSoundUnits entries unit (t ∷ ts) = IsSoundUnit entries unit t × AreSoundUnits entries (suc unit) ts
+
+-- the sections spell the trees: units fill the section, there are not too many entries, and each reference leads to one of them
+pub record SpellsObject (sections : Sections) (trees : List UnitTree) : Type 0 where
+  pub spells : SpellsUnits sections trees 0 sections.info.now
+  pub few : length (entries_of 0 0 trees) ≤ MOST_ENTRIES
+  pub sound : AreSoundUnits (entries_of 0 0 trees) 0 trees
+
+-- what was read is what the sections spell
+pub record IsSpelled (sections : Sections) (units : RawUnits) : Type 0 where
+  pub trees : List UnitTree
+  pub spells : SpellsObject sections trees
+  pub is : units ≡ raw_units trees

@@ -1,0 +1,71 @@
+-- The units of an object (DWARF 4, section 7.5.1), one after the other, and then the references between their entries.
+use Rattle.std.specs.Prelude.{ℕ, zero, suc, ◌-◌, ◌^◌, ◌==◌, Bool, not, List, [], ◌∷◌, ◌++◌, length, slice_get, None, Result, Ok, nat_lt, if◌then◌else◌}
+use Rattle.std.specs.List.{find, list_all}
+use Rattle.std.specs.Option.{option_map_or}
+use Rattle.ds_base.specs.declared.dwarf.TheConstants.{DW_AT_language}
+use Rattle.ds_base.specs.declared.fault.Fault.{Fault}
+use Rattle.ds_base.specs.declared.fault.Kind.TheVariants as kinds
+use Rattle.ds_base.specs.Spot.{Spot, fault_at}
+use Rattle.ds_base.specs.Reading.{◌>>=◌, refuse_if, bytes_at}
+use Rattle.dwarf_types.specs.declared.entry.Attr.{Attr}
+use Rattle.dwarf_types.specs.declared.entry.Entry.{Entry}
+use Rattle.dwarf_types.specs.declared.entry.InUnit.{InUnit}
+use Rattle.dwarf_types.specs.declared.entry.RawUnits.{RawUnits}
+use Rattle.dwarf_types.specs.declared.sections.Sections.{Sections}
+use Rattle.dwarf_types.specs.declared.value.Value.{Value}
+use Rattle.dwarf_types.specs.declared.value.Value.TheVariants as values
+use Rattle.abbrev_read.specs.Reading.{table_at}
+use Rattle.unit_tree.specs.declared.entry.Parsed.{Parsed}
+use Rattle.unit_tree.specs.declared.header.TheConstants.{DWARF_VERSION}
+use Rattle.unit_tree.specs.Header.{info_at, header_at}
+use Rattle.unit_tree.specs.Entry.{tree_at}
+use Rattle.unit_tree.specs.Reference.{resolved}
+
+-- a constant of 16 bits, or 0
+abbrev pub short_in : Value → ℕ
+short_in (values.Number form bits) = if nat_lt bits (2 ^ 16) then bits else 0
+short_in _ = 0
+
+-- the language of a unit whose root has the attributes
+abbrev pub language_of : List Attr → ℕ
+language_of attrs = option_map_or (λ a. short_in a.value) (find (λ a. a.name == DW_AT_language) attrs) 0
+
+-- the unit whose entries are those from a number on
+abbrev pub unit_from : ℕ → List Entry → InUnit
+unit_from first entries =
+    record { first = first; count = length entries - first; version = DWARF_VERSION; language = option_map_or (λ e. language_of e.attrs) (slice_get entries first) 0; lines = None }
+
+abbrev pub is_zero : ℕ → Bool
+is_zero b = b == 0
+
+-- zero bytes up to the end of the unit that begins at start
+unfoldable pub zeros_at : Spot → Spot → Result (Unit {0}) Fault
+zeros_at start s = do
+  others ← bytes_at (s.end - s.place) s
+  refuse_if (not (list_all is_zero others.0)) (fault_at start kinds.BadUnit)
+
+-- the unit of a number that begins at a place, with its entries behind those before, and the place behind it
+unfoldable pub unit_at : Sections → ℕ → Parsed → ℕ → Result ((InUnit × Parsed) × ℕ) Fault
+unit_at sections number before place = do
+  header ← header_at sections place
+  table ← table_at sections.abbrev.now header.0.table
+  tree ← tree_at (info_at sections place) sections (record { unit = number; place = place }) table before header.1
+  _ ← zeros_at (info_at sections place) tree.1
+  Ok ((unit_from (length before.entries) tree.0.entries, tree.0), header.0.end)
+
+-- Units up to the section's end. Each takes a byte at least, so a count of the bytes that are left bounds them.
+unfoldable pub units_at : Sections → ℕ → List InUnit → Parsed → ℕ → Result (List InUnit × Parsed) Fault
+units_at sections zero units before place = Ok (units, before)
+units_at sections (suc left) units before place =
+    if place == length sections.info.now then Ok (units, before)
+    else (unit_at sections (length units) before place >>= λ read. units_at sections left (units ++ read.0.0 ∷ []) read.0.1 read.1)
+
+abbrev pub nothing : Parsed
+nothing = record { entries = []; references = [] }
+
+-- all units of an object
+unfoldable pub units_of : Sections → Result RawUnits Fault
+units_of sections = do
+  read ← units_at sections (length sections.info.now) [] nothing 0
+  entries ← resolved read.1.entries read.1.references
+  Ok (record { units = read.0; entries = entries })

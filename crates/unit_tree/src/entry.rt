@@ -1,0 +1,288 @@
+//! The entries of a unit.
+
+ghost use Rattle.std.specs.Prelude.{◌≡◌, ◌<◌, ◌-◌, ◌==◌, length, IfOk, OnOk};
+ghost use Rattle.std.specs.List.{list_any};
+ghost use Rattle.ds_base.specs.Reading.{Finds, Moves, ReadsUnlessFull, uleb_at};
+ghost use Rattle.unit_tree.specs.Bounds.{IsSmall};
+ghost use Rattle.unit_tree.specs.Entry.{is_dwo_name, entry_at, root_at, innermost, closed, opened, listed_at, child_at, children_at, tree_at};
+ghost use Rattle.unit_tree.specs.Bounds.{IsFew, NumbersNext};
+
+use crate::attribute::{Home, read_attrs};
+use crate::reference::Reference;
+use crate::table::Table;
+use ds_base::dwarf::{DW_AT_GNU_dwo_name, DW_AT_dwo_name, DW_TAG_compile_unit};
+use ds_base::{Cursor, Fault, Kind, List, NoMemory, ReadError};
+use dwarf_types::{Abbrev, Entry, Field, Sections};
+use std::alloc::Global;
+
+/// The most entries that an object may have.
+const MOST_ENTRIES: usize = 1 << 24;
+
+/// The most lists of children that may be open at once.
+const MOST_OPEN: usize = 1000;
+
+/// What was read of an object.
+#[derive(Drop)]
+pub(crate) struct Parsed {
+    /// The entries in document order.
+    pub(crate) entries: List<Entry>,
+    /// The references of their values, in document order.
+    pub(crate) references: List<Reference>,
+}
+
+/// Reads the tree of the unit that begins at `start`, and puts its entries behind those before. Answers
+/// the number of its root.
+#[tactic(auto, unfolding(crate::specs::Entry::tree_at))]
+pub(crate) fn read_tree(
+    alloc: Global,
+    start: &Cursor,
+    cursor: &mut Cursor,
+    sections: &Sections,
+    home: Home,
+    table: &Table,
+    parsed: &mut Parsed,
+) -> Result<u32, ReadError>
+    requires small { IsSmall cursor.old }
+    ensures read { ReadsUnlessFull (λ _. parsed.new) result cursor.new (tree_at start.now sections.now home table.now parsed.old cursor.old) }
+    ensures number { IfOk result (λ number. number ≡ length parsed.old.entries) }
+    ensures few { OnOk result (IsFew parsed.new) }
+{
+    let (number, children) = read_root(alloc, start, cursor, sections, home, table, parsed)?;
+    let mut lists = List::new(alloc);
+    open_list(&mut lists, children, number)?;
+    read_children(alloc, cursor, sections, home, table, parsed, &mut lists)?;
+    Ok(number)
+}
+
+/// Reads the root of the unit that begins at `start`. Answers its number, and whether it has a list of
+/// children.
+#[tactic(auto, unfolding(crate::specs::Entry::root_at))]
+fn read_root(
+    alloc: Global,
+    start: &Cursor,
+    cursor: &mut Cursor,
+    sections: &Sections,
+    home: Home,
+    table: &Table,
+    parsed: &mut Parsed,
+) -> Result<(u32, bool), ReadError>
+    requires small { IsSmall cursor.old }
+    ensures read { ReadsUnlessFull (λ root. (root.1, parsed.new)) result cursor.new (root_at start.now sections.now home table.now parsed.old cursor.old) }
+    ensures number { IfOk result (λ root. root.0 ≡ length parsed.old.entries) }
+    ensures few { OnOk result (IsFew parsed.new) }
+    ensures small { OnOk result (IsSmall cursor.new) }
+{
+    let first = cursor.fork();
+    let code = read_code(cursor)?;
+    if code == 0 {
+        return Err(ReadError::Faulty(start.fault(Kind::BadUnit)));
+    }
+    let Some(declared) = table.find(code) else {
+        return Err(ReadError::Faulty(first.fault(Kind::UnknownCode)));
+    };
+    if declared.tag != DW_TAG_compile_unit {
+        return Err(ReadError::Faulty(start.fault(Kind::BadUnit)));
+    }
+    if has_dwo_name(declared.fields.as_slice()) {
+        return Err(ReadError::Faulty(first.fault(Kind::SplitUnit)));
+    }
+    let number = next_number(&first, parsed)?;
+    read_entry(
+        alloc,
+        cursor,
+        sections,
+        home,
+        None,
+        first.place() as u32,
+        declared,
+        parsed,
+    )?;
+    Ok((number, declared.children))
+}
+
+/// Reads entries until no list is open.
+fn read_children(
+    alloc: Global,
+    cursor: &mut Cursor,
+    sections: &Sections,
+    home: Home,
+    table: &Table,
+    parsed: &mut Parsed,
+    lists: &mut List<u32>,
+) -> Result<(), ReadError>
+    requires few { IsFew parsed.old }
+    requires small { IsSmall cursor.old }
+    ensures read { ReadsUnlessFull (λ _. parsed.new) result cursor.new (children_at sections.now home table.now (cursor.old.end - cursor.old.place) (parsed.old, lists.old) cursor.old) }
+    ensures few { OnOk result (IsFew parsed.new) }
+{
+    let left = cursor.left();
+    for _ in 0..left {
+        if are_closed(lists) {
+            return Ok(());
+        }
+        if cursor.left() == 0 {
+            return Err(ReadError::Faulty(cursor.fault(Kind::UnclosedSiblings)));
+        }
+        read_child(alloc, cursor, sections, home, table, parsed, lists)?;
+    }
+    if !are_closed(lists) {
+        return Err(ReadError::Faulty(cursor.fault(Kind::UnclosedSiblings)));
+    }
+    Ok(())
+}
+
+/// Whether no list is open.
+fn are_closed(lists: &List<u32>) -> bool
+    ensures { result ≡ (length lists.now == 0) }
+{
+    lists.is_empty()
+}
+
+/// Reads an entry of the innermost list, or the code 0 that closes it.
+#[tactic(auto, unfolding(crate::specs::Entry::child_at))]
+fn read_child(
+    alloc: Global,
+    cursor: &mut Cursor,
+    sections: &Sections,
+    home: Home,
+    table: &Table,
+    parsed: &mut Parsed,
+    lists: &mut List<u32>,
+) -> Result<(), ReadError>
+    requires few { IsFew parsed.old }
+    requires small { IsSmall cursor.old }
+    ensures read { ReadsUnlessFull (λ _. (parsed.new, lists.new)) result cursor.new (child_at sections.now home table.now (parsed.old, lists.old) cursor.old) }
+    ensures few { OnOk result (IsFew parsed.new) }
+{
+    let first = cursor.fork();
+    let code = read_code(cursor)?;
+    if code == 0 {
+        close_list(lists);
+        return Ok(());
+    }
+    let Some(declared) = table.find(code) else {
+        return Err(ReadError::Faulty(first.fault(Kind::UnknownCode)));
+    };
+    read_listed(
+        alloc, cursor, sections, home, &first, declared, parsed, lists,
+    )
+}
+
+/// Reads what is behind the code of an entry of the innermost list that begins at `first`.
+#[tactic(auto, unfolding(crate::specs::Entry::listed_at))]
+fn read_listed(
+    alloc: Global,
+    cursor: &mut Cursor,
+    sections: &Sections,
+    home: Home,
+    first: &Cursor,
+    declared: &Abbrev,
+    parsed: &mut Parsed,
+    lists: &mut List<u32>,
+) -> Result<(), ReadError>
+    requires first { IsSmall first.now }
+    requires small { IsSmall cursor.old }
+    ensures read { ReadsUnlessFull (λ _. (parsed.new, lists.new)) result cursor.new (listed_at sections.now home declared.now (parsed.old, lists.old) first.now cursor.old) }
+    ensures few { OnOk result (IsFew parsed.new) }
+{
+    if declared.children && lists.len() >= MOST_OPEN {
+        return Err(ReadError::Faulty(first.fault(Kind::LimitDepth)));
+    }
+    let number = next_number(first, parsed)?;
+    let parent = innermost_of(lists);
+    let place = first.place() as u32;
+    read_entry(
+        alloc, cursor, sections, home, parent, place, declared, parsed,
+    )?;
+    open_list(lists, declared.children, number)?;
+    Ok(())
+}
+
+/// Reads the entry that begins at `place` and has a declaration, whose values stand at the cursor.
+#[tactic(auto, unfolding(crate::specs::Entry::entry_at))]
+fn read_entry(
+    alloc: Global,
+    cursor: &mut Cursor,
+    sections: &Sections,
+    home: Home,
+    parent: Option<u32>,
+    place: u32,
+    declared: &Abbrev,
+    parsed: &mut Parsed,
+) -> Result<(), ReadError>
+    requires room { length parsed.old.entries < MOST_ENTRIES }
+    requires small { IsSmall cursor.old }
+    ensures read { ReadsUnlessFull (λ _. parsed.new) result cursor.new (entry_at sections.now home parent place declared.now parsed.old cursor.old) }
+    ensures few { OnOk result (IsFew parsed.new) }
+{
+    let fields = declared.fields.as_slice();
+    let root = parent.is_none();
+    let attrs = read_attrs(
+        alloc,
+        cursor,
+        sections,
+        home,
+        root,
+        fields,
+        &mut parsed.references,
+    )?;
+    let entry = Entry {
+        parent,
+        unit: home.unit,
+        place,
+        tag: declared.tag,
+        attrs,
+    };
+    parsed.entries.push(entry)?;
+    Ok(())
+}
+
+/// The number of the next entry, which begins at `first`.
+fn next_number(first: &Cursor, parsed: &Parsed) -> Result<u32, Fault>
+    ensures { NumbersNext result parsed.now first.now }
+{
+    let number = parsed.entries.len();
+    if number >= MOST_ENTRIES {
+        return Err(first.fault(Kind::LimitEntries));
+    }
+    Ok(number as u32)
+}
+
+/// The next code.
+fn read_code(cursor: &mut Cursor) -> Result<u64, Fault>
+    ensures read { Moves (λ code. code) result cursor.old cursor.new (uleb_at cursor.old) }
+    ensures small { IsSmall cursor.old → OnOk result (IsSmall cursor.new) }
+{
+    cursor.uleb()
+}
+
+/// Whether a declaration names the file of a split unit.
+fn has_dwo_name(fields: &[Field]) -> bool
+    ensures { result ≡ list_any is_dwo_name fields.now }
+{
+    fields.iter().any(|field| field.name == DW_AT_dwo_name || field.name == DW_AT_GNU_dwo_name)
+}
+
+/// The entry whose list is the innermost.
+fn innermost_of(lists: &List<u32>) -> Option<u32>
+    ensures { result ≡ innermost lists.now }
+{
+    lists.as_slice().last().copied()
+}
+
+/// Opens the list of an entry, if it has one.
+fn open_list(lists: &mut List<u32>, children: bool, number: u32) -> Result<(), NoMemory>
+    ensures { OnOk result (lists.new ≡ opened children number lists.old) }
+{
+    if children {
+        lists.push(number)?;
+    }
+    Ok(())
+}
+
+/// Closes the innermost list.
+fn close_list(lists: &mut List<u32>)
+    ensures { lists.new ≡ closed lists.old }
+{
+    let _ = lists.pop();
+}

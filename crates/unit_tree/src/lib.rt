@@ -1,0 +1,27 @@
+//! Units and their entries: `__debug_info` of an object.
+//!
+//! Layer: object readers. Reads units of DWARF 4 (section 7.5) in the 32-bit format with addresses of
+//! eight bytes. [`read_units`] is the crate's one reader. It gives `units_of` of the sections
+//! (`specs/Unit.antt`), or the first fault: unit by unit the fields of the header, the abbreviation
+//! table, and the entries with their values from left to right; then the references in document order.
+//! That this is what the bytes spell, a unit being a header, a tree and zero bytes, is said by
+//! [`units_are_read_as_spelled`] over the grammar of `specs/Spelling.antt`.
+//!
+//! Addresses stay the object's, and no relocation is looked at. Of line tables, range lists and location
+//! lists only the offset is tried. Units of version 5 are refused.
+#![tactic(auto)]
+
+mod attribute;
+mod entry;
+mod header;
+mod laws;
+mod meaning;
+mod reference;
+mod table;
+mod unit;
+
+pub use laws::units_are_read_as_spelled;
+pub use unit::read_units;
+
+#[cfg(test)]
+mod tests;

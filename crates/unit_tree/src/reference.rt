@@ -1,0 +1,57 @@
+//! References between entries.
+
+ghost use Rattle.std.specs.Prelude.{◌≡◌};
+ghost use Rattle.ds_base.specs.Reading.{Finds};
+ghost use Rattle.unit_tree.specs.Reference.{reaches, leads, resolved, IsRising};
+
+use ds_base::{Fault, Kind, Part};
+use dwarf_types::Entry;
+
+/// A reference to an entry, which is tried once all entries are known.
+#[derive(Clone, Copy, Debug, PartialEq, Eq)]
+pub(crate) struct Reference {
+    /// The place of the value in `__debug_info`.
+    pub(crate) place: u32,
+    /// The place in `__debug_info` of the entry to which it leads.
+    pub(crate) target: u32,
+    /// The number of the unit of which that entry must be, if it can't be of any.
+    pub(crate) unit: Option<u32>,
+}
+
+/// Tries the references in their order: each leads to the first byte of an entry.
+pub(crate) fn try_references(entries: &[Entry], references: &[Reference]) -> Result<(), Fault>
+    requires rising { IsRising entries.now }
+    ensures exact { Finds (λ _. entries.now) result (resolved entries.now references.now) }
+{
+    for reference in references {
+        if !leads_somewhere(entries, reference) {
+            return Err(Fault {
+                kind: Kind::BadReference,
+                section: Part::Info,
+                place: u64::from(reference.place),
+            });
+        }
+    }
+    Ok(())
+}
+
+/// Whether a reference leads to the first byte of an entry that it may lead to.
+fn leads_somewhere(entries: &[Entry], reference: &Reference) -> bool
+    requires { IsRising entries.now }
+    ensures { result ≡ leads entries.now reference.now }
+{
+    match entries.binary_search_by_key(&reference.target, |entry| entry.place) {
+        Ok(i) => reaches_unit(reference.unit, entries[i].unit),
+        Err(_) => false,
+    }
+}
+
+/// Whether a reference may lead to an entry of the unit.
+fn reaches_unit(own: Option<u32>, unit: u32) -> bool
+    ensures { result ≡ reaches own unit }
+{
+    match own {
+        None => true,
+        Some(own) => own == unit,
+    }
+}

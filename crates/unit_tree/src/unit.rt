@@ -1,0 +1,166 @@
+//! The units of an object.
+
+ghost use Rattle.std.specs.Prelude.{◌≡◌, ◌≤◌, ◌<◌, ◌^◌, ◌==◌, [], length, IfOk};
+ghost use Rattle.std.specs.List.{find, list_all};
+ghost use Rattle.std.specs.Option.{option_copied};
+ghost use Rattle.ds_base.specs.Reading.{Finds, Gives};
+ghost use Rattle.unit_tree.specs.Bounds.{IsFew};
+ghost use Rattle.unit_tree.specs.Table.{AreRead};
+ghost use Rattle.unit_tree.specs.Unit.{short_in, language_of, unit_from, is_zero, zeros_at, unit_at, units_at, units_of, nothing};
+
+use crate::attribute::Home;
+use crate::entry::{Parsed, read_tree};
+use crate::header::{DWARF_VERSION, info_cursor, read_header};
+use crate::reference::try_references;
+use crate::table::{Tables, add_table, kept_table};
+use ds_base::dwarf::DW_AT_language;
+use ds_base::{Cursor, Fault, Kind, List, ReadError};
+use dwarf_types::{Attr, InUnit, RawUnits, Sections, Value};
+use std::alloc::Global;
+use std::collections::BTreeMap;
+
+/// The units of an object and their entries, in document order (DWARF 4, section 7.5).
+///
+/// Units and entries are numbered from 0 over the whole object; an entry stands before those below it.
+/// Places count bytes from the start of `__debug_info`. A reference is `Ref` of the place of its target,
+/// `DW_AT_sibling` too; every other value is as `form_value::read_value` gives it. A unit's language is
+/// its root's where that is a constant below 65536, else 0.
+///
+/// Faults are placed in `__debug_info`, those of an abbreviation table in `__debug_abbrev`. References
+/// are tried after all units. The time is linear in the sections, and `n log n` in the references.
+#[tactic(auto, unfolding(crate::specs::Unit::units_of))]
+pub fn read_units(alloc: Global, sections: &Sections) -> Result<RawUnits, ReadError>
+    requires info { length sections.now.info.now < 2 ^ 32 }
+    ensures exact { Gives (λ units. units) result (units_of sections.now) }
+{
+    let mut parsed = Parsed {
+        entries: List::new(alloc),
+        references: List::new(alloc),
+    };
+    let units = read_each(alloc, sections, &mut parsed)?;
+    try_references(parsed.entries.as_slice(), parsed.references.as_slice())?;
+    Ok(RawUnits {
+        units,
+        entries: parsed.entries,
+    })
+}
+
+/// Reads the units one after the other, and puts their entries behind those before.
+fn read_each(
+    alloc: Global,
+    sections: &Sections,
+    parsed: &mut Parsed,
+) -> Result<List<InUnit>, ReadError>
+    requires info { length sections.now.info.now < 2 ^ 32 }
+    requires nothing { parsed.old ≡ nothing }
+    ensures read { Gives (λ units. (units, parsed.new)) result (units_at sections.now (length sections.now.info.now) [] nothing 0) }
+{
+    let mut tables: Tables = BTreeMap::new(alloc);
+    let mut units = List::new(alloc);
+    let end = sections.info.len() as u64;
+    let mut place = 0u64;
+    for number in 0..end as u32 {
+        if place == end {
+            return Ok(units);
+        }
+        let (unit, next) = read_unit(alloc, sections, &mut tables, number, place, parsed)?;
+        units.push(unit)?;
+        place = next;
+    }
+    Ok(units)
+}
+
+/// Reads the unit of a number that begins at `place`, and puts its entries behind those before. Answers
+/// the place behind it, too.
+#[tactic(auto, unfolding(crate::specs::Unit::unit_at))]
+fn read_unit(
+    alloc: Global,
+    sections: &Sections,
+    tables: &mut Tables,
+    number: u32,
+    place: u64,
+    parsed: &mut Parsed,
+) -> Result<(InUnit, u64), ReadError>
+    requires info { length sections.now.info.now < 2 ^ 32 }
+    requires inside { place ≤ length sections.now.info.now }
+    requires tables { AreRead sections.now.abbrev.now tables.old }
+    ensures read { Gives (λ unit. ((unit.0, parsed.new), unit.1)) result (unit_at sections.now number parsed.old place) }
+    ensures inside { IfOk result (λ unit. unit.1 ≤ length sections.now.info.now) }
+    ensures tables { AreRead sections.now.abbrev.now tables.new }
+{
+    let (header, mut cursor) = read_header(sections, place)?;
+    add_table(alloc, tables, sections.abbrev, header.table)?;
+    let table = kept_table(tables, header.table);
+    let start = info_cursor(sections, place);
+    let home = Home {
+        unit: number,
+        place: place as u32,
+    };
+    let first = read_tree(alloc, &start, &mut cursor, sections, home, table, parsed)?;
+    read_zeros(&start, &mut cursor)?;
+    Ok((unit_of(first, parsed), header.end))
+}
+
+/// Reads the zero bytes up to the end of the unit that begins at `start`.
+#[tactic(auto, unfolding(crate::specs::Unit::zeros_at))]
+fn read_zeros(start: &Cursor, cursor: &mut Cursor) -> Result<(), Fault>
+    ensures { Finds (λ u. u) result (zeros_at start.now cursor.old) }
+{
+    let others = cursor.skip(cursor.left())?;
+    if !are_zeros(others) {
+        return Err(start.fault(Kind::BadUnit));
+    }
+    Ok(())
+}
+
+fn are_zeros(bytes: &[u8]) -> bool
+    ensures { result ≡ list_all is_zero bytes.now }
+{
+    bytes.iter().all(|b| *b == 0)
+}
+
+/// The unit whose entries are those from `first` on.
+fn unit_of(first: u32, parsed: &Parsed) -> InUnit
+    requires { IsFew parsed.now }
+    ensures { result ≡ unit_from first parsed.now.entries }
+{
+    let count = parsed.entries.len() as u32;
+    let language = match parsed.entries.get(first as usize) {
+        Some(root) => language_in(root.attrs.as_slice()),
+        None => 0,
+    };
+    InUnit {
+        first,
+        count: count.saturating_sub(first),
+        version: DWARF_VERSION,
+        language,
+        lines: None,
+    }
+}
+
+/// The language that a root's attributes name, 0 where they name none.
+fn language_in(attrs: &[Attr]) -> u16
+    ensures { result ≡ language_of attrs.now }
+{
+    match language_attr(attrs) {
+        Some(attr) => short_of(&attr.value),
+        None => 0,
+    }
+}
+
+/// The first attribute that names a language.
+fn language_attr(attrs: &[Attr]) -> Option<&Attr>
+    ensures { option_copied result ≡ find (λ a. a.name == DW_AT_language) attrs.now }
+{
+    attrs.iter().find(|attr| attr.name == DW_AT_language)
+}
+
+/// A constant of 16 bits, or 0.
+fn short_of(value: &Value) -> u16
+    ensures { result ≡ short_in value.now }
+{
+    match value {
+        Value::Number { bits, .. } if *bits < 65536 => *bits as u16,
+        _ => 0,
+    }
+}
