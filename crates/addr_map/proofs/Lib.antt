@@ -2,6 +2,5 @@ pub mod Holding
 pub mod Named
 pub mod Next
 pub mod Sections
-pub mod Backwards
 pub mod Order
 pub mod Soundness

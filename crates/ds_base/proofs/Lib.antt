@@ -1,6 +1,9 @@
+pub mod Backwards
 pub mod Items
 pub mod LebLengths
 pub mod LebReading
 pub mod LebShortest
 pub mod LebValues
+pub mod Refusals
 pub mod Rooms
+pub mod Walking

@@ -132,6 +132,9 @@ pub const ARM64_RELOC_UNSIGNED: u8 = 0;
 
 pub const RELOC_LENGTH_8: u8 = 3;
 
+// mach-o/reloc.h: the bit of `r_address` that is set in a scattered relocation.
+pub const R_SCATTERED: u32 = 0x8000_0000;
+
 // ar.h: the bytes an archive begins with, those that end a member's header, and those that a long name's
 // length follows.
 pub const ARMAG: [u8; 8] = *b"!<arch>\n";

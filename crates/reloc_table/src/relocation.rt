@@ -5,7 +5,7 @@ ghost use Rattle.ds_base.specs.Reading.{Finds};
 ghost use Rattle.reloc_table.specs.Relocation.{info_of, reloc_of, reloc_fault};
 
 use byteorder::{ByteOrder, LittleEndian};
-use ds_base::macho::{RELOC_LENGTH_8, X86_64_RELOC_UNSIGNED};
+use ds_base::macho::{R_SCATTERED, RELOC_LENGTH_8, X86_64_RELOC_UNSIGNED};
 use ds_base::{Fault, Kind, List, Part};
 use macho_read::{Image, Section};
 
@@ -34,9 +34,6 @@ impl Reloc {
         u64::from(self.place) + u64::from(ADDRESS_SIZE)
     }
 }
-
-// mach-o/reloc.h: the bit of `r_address` that is set in a scattered relocation.
-pub(crate) const R_SCATTERED: u32 = 0x8000_0000;
 
 /// The size in bytes of the numbers that are read.
 pub(crate) const ADDRESS_SIZE: u32 = 8;

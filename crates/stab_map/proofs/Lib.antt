@@ -1,4 +1,3 @@
 pub mod AddressLemmas
-pub mod Backwards
 pub mod Origins
 pub mod StabPass

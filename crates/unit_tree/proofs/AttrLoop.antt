@@ -12,7 +12,7 @@ use Rattle.dwarf_types.specs.declared.entry.Attr.{Attr}
 use Rattle.dwarf_types.specs.declared.sections.Sections.{Sections}
 use Rattle.unit_tree.specs.declared.attribute.Home.{Home}
 use Rattle.unit_tree.specs.declared.reference.Reference.{Reference}
-use Rattle.unit_tree.proofs.Refusals.{Refused}
+use Rattle.ds_base.proofs.Refusals.{Refused}
 use Rattle.unit_tree.specs.Attribute.{Described, attr_at, attrs_at}
 
 -- the next field is read

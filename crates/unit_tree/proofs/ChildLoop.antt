@@ -11,7 +11,7 @@ use Rattle.dwarf_types.specs.declared.sections.Sections.{Sections}
 use Rattle.unit_tree.specs.declared.attribute.Home.{Home}
 use Rattle.unit_tree.specs.declared.entry.Parsed.{Parsed}
 use Rattle.unit_tree.specs.Entry.{Walk, child_at, children_at}
-use Rattle.unit_tree.proofs.Refusals.{Refused}
+use Rattle.ds_base.proofs.Refusals.{Refused}
 
 -- no list is open
 pub ends : (sections : Sections) (home : Home) (table : List Abbrev) (n : ℕ) (walk : Walk) (s : Spot) → (length walk.1 == 0) ≡ true → children_at sections home table n walk s ≡ Ok (walk.0, s)

@@ -5,7 +5,6 @@ pub mod Onward
 pub mod Placed
 pub mod Places
 pub mod References
-pub mod Refusals
 pub mod Rising
 pub mod Steps
 pub mod TreeLaws

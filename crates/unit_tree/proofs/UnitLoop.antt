@@ -8,7 +8,7 @@ use Rattle.dwarf_types.specs.declared.entry.InUnit.{InUnit}
 use Rattle.dwarf_types.specs.declared.sections.Sections.{Sections}
 use Rattle.unit_tree.specs.declared.entry.Parsed.{Parsed}
 use Rattle.unit_tree.specs.Unit.{unit_at, units_at}
-use Rattle.unit_tree.proofs.Refusals.{Refused}
+use Rattle.ds_base.proofs.Refusals.{Refused}
 
 next_unit : (sections : Sections) (left i : ℕ) (units : List InUnit) (before : Parsed) (place : ℕ) (total : Result (List InUnit × Parsed) Fault) → i < left → (place == length sections.info.now) ≡ false
     → units_at sections (left - i) units before place ≡ total

@@ -1,6 +1,6 @@
 use Rattle.std.proofs.Common.{◌≡◌, map, rules, ap, ◌∙◌}
 use Rattle.addr_map.specs.Ranges.{name_part}
-use Rattle.addr_map.proofs.Backwards.{done_all, done_more}
+use Rattle.ds_base.proofs.Backwards.{done_all, done_more}
 use Rattle.addr_map.proofs.Order.{put_more, values}
 use Rattle.addr_map.proofs.ranges.names_in_order.Goals as goal
 

@@ -1,6 +1,6 @@
 use Rattle.std.proofs.Common.{sym, ◌∙◌}
 use Rattle.std.proofs.lemmas.Map.Text.{hash_map_updates_str}
-use Rattle.stab_map.proofs.Backwards.{done_more}
+use Rattle.ds_base.proofs.Backwards.{done_more}
 use Rattle.stab_map.proofs.AddressLemmas.{address_put, address_passed}
 use Rattle.stab_map.proofs.addresses.addresses_among.Goals as goal
 

@@ -2,7 +2,7 @@ use Rattle.std.proofs.Common.{arith, pos}
 use Rattle.std.proofs.lemmas.Result.{err_from_is_err_and}
 use Rattle.dwarf_types.specs.declared.abbrev.Field.{Field}
 use Rattle.unit_tree.proofs.AttrLoop.{attr_refused, attr_more, attrs_end}
-use Rattle.unit_tree.proofs.Refusals.{refused_is}
+use Rattle.ds_base.proofs.Refusals.{refused_is}
 use Rattle.unit_tree.proofs.Onward.{attr_onward, small_kept}
 use Rattle.unit_tree.proofs.attribute.read_attrs.Goals as goal
 

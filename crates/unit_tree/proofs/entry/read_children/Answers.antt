@@ -5,7 +5,7 @@ use Rattle.unit_tree.specs.Entry.{Walk}
 use Rattle.unit_tree.proofs.ChildLoop.{all_closed, unclosed, turns_end, child_refused, child_more}
 use Rattle.unit_tree.proofs.Onward.{small_kept}
 use Rattle.unit_tree.proofs.Rising.{child_further}
-use Rattle.unit_tree.proofs.Refusals.{refused_is, refused_from}
+use Rattle.ds_base.proofs.Refusals.{refused_is, refused_from}
 use Rattle.unit_tree.proofs.entry.read_children.Goals as goal
 
 pub returns-then-are_closed-clause-read : goal.returns-then-are_closed-clause-read

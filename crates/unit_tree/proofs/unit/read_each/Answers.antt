@@ -4,7 +4,7 @@ use Rattle.std.proofs.lemmas.List.{length-append}
 use Rattle.std.proofs.lemmas.Result.{err_from_is_err_and}
 use Rattle.dwarf_types.specs.declared.entry.InUnit.{InUnit}
 use Rattle.unit_tree.specs.declared.entry.Parsed.{Parsed}
-use Rattle.unit_tree.proofs.Refusals.{refused_gives, refused_from_gives}
+use Rattle.ds_base.proofs.Refusals.{refused_gives, refused_from_gives}
 use Rattle.unit_tree.proofs.UnitLoop.{section_ends, turns_end, unit_refused, unit_more}
 use Rattle.unit_tree.proofs.unit.read_each.Goals as goal
 
