@@ -5,4 +5,5 @@ pub mod Spelled
 pub mod Values
 pub mod Moves
 pub mod Live
+pub mod SectionBytes
 pub mod Sound
