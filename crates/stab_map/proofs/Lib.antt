@@ -1,3 +1,4 @@
 pub mod AddressLemmas
 pub mod Origins
 pub mod StabPass
+pub mod Names

@@ -1,6 +1,8 @@
 //! The map of a program: the one pass over its symbols.
 
-ghost use Rattle.std.specs.Prelude.{◌≡◌};
+ghost use Rattle.std.specs.Prelude.{◌≡◌, true, IfOk};
+ghost use Rattle.std.specs.List.{All};
+ghost use Rattle.std.specs.Str.{is_utf8};
 ghost use Rattle.ds_base.specs.Reading.{Gives};
 ghost use Rattle.macho_read.specs.Sound.{IsSound};
 ghost use Rattle.stab_map.specs.DebugMap.{Answers, map_of};
@@ -25,10 +27,14 @@ const MAX_OBJECTS: usize = 65_536;
 /// which counts from 0; the first in the order of the symbols counts. Without a fault, 65,536 objects or more are
 /// `Objects`.
 ///
+/// The name of each object's file is text.
+///
 /// The names of global variables are looked up by their hash, so the time is linear in the symbols and their names.
+#[tactic(auto, using(crate::proofs::Names::all_are_named))]
 pub fn debug_map(alloc: Global, image: &Image) -> Result<List<MapObject>, MapError>
     requires { IsSound image.now }
     ensures map { Answers result (map_of image.now) }
+    ensures names { IfOk result (All (λ object. is_utf8 object.file ≡ true)) }
 {
     let objects = read_objects(alloc, image)?;
     if objects.len() < MAX_OBJECTS {
