@@ -1,0 +1,4 @@
+pub mod Opened
+pub mod Parts
+pub mod Seen
+pub mod Sound

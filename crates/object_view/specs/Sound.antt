@@ -1,0 +1,14 @@
+-- Sound relocations of an object: every table is.
+use Rattle.macho_read.specs.declared.image.Image.{Image}
+use Rattle.reloc_table.specs.Sound.{IsSound}
+use Rattle.object_view.specs.declared.open.DebugRelocs.{DebugRelocs}
+
+pub record AreSound (image : Image) (relocs : DebugRelocs) : Type 0 where
+  pub info : IsSound image relocs.info
+  pub addr : IsSound image relocs.addr
+  pub line : IsSound image relocs.line
+  pub ranges : IsSound image relocs.ranges
+  pub rnglists : IsSound image relocs.rnglists
+  pub loc : IsSound image relocs.loc
+  pub loclists : IsSound image relocs.loclists
+  pub frame : IsSound image relocs.frame
