@@ -1,0 +1,8 @@
+pub mod Onward
+pub mod NameLoop
+pub mod UlebLoop
+pub mod OperationPlaces
+pub mod ProgramLoop
+pub mod Programs
+pub mod Steps
+pub mod RisingRows

@@ -1,0 +1,35 @@
+-- The loop over operations: the ways out, and the way on.
+use Rattle.std.proofs.Common.{◌≡◌, ℕ, suc, ◌+◌, ◌-◌, ◌<◌, false, eqb, Result, Ok, Err, refl, sym, ◌∙◌, arith}
+use Rattle.ds_base.specs.declared.fault.Fault.{Fault}
+use Rattle.ds_base.specs.declared.fault.ReadError.{ReadError}
+use Rattle.ds_base.specs.declared.fault.ReadError.TheVariants as errors
+use Rattle.ds_base.specs.Spot.{Spot}
+use Rattle.ds_base.specs.Reading.{Gives, ReadsUnlessFull}
+use Rattle.line_read.specs.declared.header.LineHeader.{LineHeader}
+use Rattle.line_read.specs.declared.operation.LineOp.{LineOp}
+use Rattle.line_read.specs.declared.program.Matrix.{Matrix}
+use Rattle.line_read.specs.Pass.{step_of, run_at}
+
+-- one more is run
+pub run_more : (read : Spot → Result (LineOp × Spot) Fault) (header : LineHeader) (left i : ℕ) (m new : Matrix) (s behind : Spot) (op : LineOp) (total : Result Matrix Fault)
+    → i < left → eqb (s.end - s.place) 0 ≡ false → read s ≡ Ok (op, behind) → step_of header s.place op m ≡ Ok new
+    → run_at read header (left - i) m s ≡ total → run_at read header (left - (i + 1)) new behind ≡ total
+run_more read header left i m new s behind op total lt some is step so_far =
+    let more : left - i ≡ suc (left - (i + 1)) = omega arith in
+    sym (rw (more, some, is, step) refl) ∙ so_far
+
+-- one is faulty
+pub read_refused : (read : Spot → Result (LineOp × Spot) Fault) (header : LineHeader) (left i : ℕ) (m : Matrix) (s behind : Spot) (e : ReadError) (total : Result Matrix Fault)
+    → i < left → eqb (s.end - s.place) 0 ≡ false → ReadsUnlessFull {X = LineOp} (λ op. op) (Err e) behind (read s) → run_at read header (left - i) m s ≡ total → Gives {X = Matrix} (λ matrix. matrix) (Err e) total
+read_refused read header left i m s behind (errors.Faulty f) total lt some is so_far =
+    let more : left - i ≡ suc (left - (i + 1)) = omega arith in
+    sym so_far ∙ rw (more, some, is) refl
+read_refused read header left i m s behind errors.NoMemory total lt some is so_far = tt
+
+-- one gives a row that falls
+pub step_refused : (read : Spot → Result (LineOp × Spot) Fault) (header : LineHeader) (left i : ℕ) (m new : Matrix) (s behind : Spot) (op : LineOp) (e : ReadError) (total : Result Matrix Fault)
+    → i < left → eqb (s.end - s.place) 0 ≡ false → read s ≡ Ok (op, behind) → Gives {X = Unit {0}} (λ u. new) (Err e) (step_of header s.place op m) → run_at read header (left - i) m s ≡ total → Gives {X = Matrix} (λ matrix. matrix) (Err e) total
+step_refused read header left i m new s behind op (errors.Faulty f) total lt some is step so_far =
+    let more : left - i ≡ suc (left - (i + 1)) = omega arith in
+    sym so_far ∙ rw (more, some, is, step) refl
+step_refused read header left i m new s behind op errors.NoMemory total lt some is step so_far = tt

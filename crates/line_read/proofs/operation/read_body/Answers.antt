@@ -1,0 +1,5 @@
+use Rattle.line_read.proofs.Onward.{number_onward, small_kept}
+use Rattle.line_read.proofs.operation.read_body.Goals as goal
+
+pub read_filled-requires-clause-small : goal.read_filled-requires-clause-small
+read_filled-requires-clause-small c = small_kept _ _ (number_onward 1 c.args.body _ c.in_ok-code.ensures) c.requires.small

@@ -1,0 +1,69 @@
+-- The header of a line table (DWARF 4, section 6.2.4), from the table's first byte.
+use Rattle.std.specs.Prelude.{ℕ, ◌+◌, ◌-◌, ◌==◌, ◌||◌, not, [], List, length, nat_lt, nat_le, Result, Ok, if◌then◌else◌}
+use Rattle.std.specs.Int.{cast_signed, w8}
+use Rattle.ds_base.specs.declared.fault.Fault.{Fault}
+use Rattle.ds_base.specs.declared.fault.Kind.TheVariants as kinds
+use Rattle.ds_base.specs.declared.fault.Part.TheVariants as parts
+use Rattle.ds_base.specs.Spot.{Spot, after, fault_at}
+use Rattle.ds_base.specs.Reading.{◌>>=◌, refuse_if, number_at, items_at}
+use Rattle.line_read.specs.declared.header.LineHeader.{LineHeader}
+use Rattle.line_read.specs.declared.header.TheConstants.{LENGTH_RESERVED, FIRST_VERSION, LAST_VERSION, MOST_OPERATIONS}
+
+-- a place of the section
+abbrev pub line_at : List ℕ → ℕ → Spot
+line_at bytes place = record { bytes = bytes; part = parts.Line; place = place; end = length bytes }
+
+-- the header of the table that begins at first is wrong
+abbrev pub bad : Spot → Fault
+bad first = fault_at first kinds.BadLineHeader
+
+-- behind unit_length, from where so many bytes are the table's
+unfoldable pub table_at : Spot → Result Spot Fault
+table_at first = do
+  len ← number_at 4 first
+  _ ← refuse_if (nat_le LENGTH_RESERVED len.0 || nat_lt (len.1.end - len.1.place) len.0) (bad first)
+  Ok (record len.1 { end = len.1.place + len.0 })
+
+unfoldable pub version_at : Spot → Result (ℕ × Spot) Fault
+version_at s = do
+  version ← number_at 2 s
+  _ ← refuse_if (nat_lt version.0 FIRST_VERSION || nat_lt LAST_VERSION version.0) (fault_at s kinds.LineVersion)
+  Ok version
+
+-- where the program begins, which header_length tells from behind itself
+unfoldable pub program_at : Spot → Spot → Result (Spot × Spot) Fault
+program_at first s = do
+  len ← number_at 4 s
+  _ ← refuse_if (nat_lt (len.1.end - len.1.place) len.0) (bad first)
+  Ok (after len.1 len.0, len.1)
+
+-- maximum_operations_per_instruction, which only version 4 has
+unfoldable pub operations_at : Spot → ℕ → Spot → Result (Unit {0} × Spot) Fault
+operations_at first version s =
+    if version == LAST_VERSION then
+    (number_at 1 s >>= λ most. refuse_if (nat_lt MOST_OPERATIONS most.0) (fault_at first kinds.VliwLine) >>= λ _. Ok (tt, most.1))
+    else Ok (tt, s)
+
+-- the fields from minimum_instruction_length to standard_opcode_lengths
+unfoldable pub fields_at : Spot → ℕ → Spot → Result (LineHeader × Spot) Fault
+fields_at first version s = do
+  shortest ← number_at 1 s
+  behind ← operations_at first version shortest.1
+  is_stmt ← number_at 1 behind.1
+  line_base ← number_at 1 is_stmt.1
+  line_range ← number_at 1 line_base.1
+  _ ← refuse_if (line_range.0 == 0) (bad first)
+  opcode_base ← number_at 1 line_range.1
+  _ ← refuse_if (opcode_base.0 == 0) (bad first)
+  lengths ← items_at (number_at 1) (opcode_base.0 - 1) [] opcode_base.1
+  Ok (
+    record {
+      minimum_instruction_length = shortest.0;
+      default_is_stmt = not (is_stmt.0 == 0);
+      line_base = cast_signed w8 line_base.0;
+      line_range = line_range.0;
+      opcode_base = opcode_base.0;
+      standard_opcode_lengths = lengths.0;
+    },
+    lengths.1,
+  )

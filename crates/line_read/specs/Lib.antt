@@ -1,0 +1,9 @@
+pub mod Header
+pub mod Names
+pub mod Codes
+pub mod Operation
+pub mod Registers
+pub mod Program
+pub mod Rising
+pub mod Pass
+pub mod Bounds

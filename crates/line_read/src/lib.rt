@@ -1,0 +1,23 @@
+//! Line programs: `__debug_line` of an object, as sequences of rows.
+//!
+//! Layer: object readers. Reads tables of versions 2, 3 and 4 (DWARF 4, section 6.2) in the 32-bit format.
+//! [`read_lines`] is the crate's one call. It gives `lines_of` the section's bytes (`specs/Program.antt`), or the
+//! first fault in the order of the table's items. The definition goes in the standard's order: the header's fields
+//! (`specs/Header.antt`), directories and files (`specs/Names.antt`), one operation from its bytes
+//! (`specs/Operation.antt`), what an operation does to the registers (`specs/Registers.antt`), and the matrix of
+//! rows that the list of operations gives, cut into sequences (`specs/Program.antt`). Addresses stay the object's:
+//! `addr_map` moves them. Tables of version 5 are refused.
+#![tactic(auto)]
+
+mod codes;
+mod header;
+mod names;
+mod operation;
+mod program;
+mod registers;
+mod table;
+
+pub use table::read_lines;
+
+#[cfg(test)]
+mod tests;

@@ -1,0 +1,271 @@
+//! One operation of a line program, from its bytes.
+
+ghost use Rattle.std.specs.Prelude.{◌≡◌, ◌<◌, ◌^◌, length, Some, IfOk};
+ghost use Rattle.ds_base.specs.Reading.{Gives, Reads, ReadsUnlessFull};
+ghost use Rattle.macho_read.specs.Sound.{IsSound as IsSoundImage};
+ghost use Rattle.reloc_table.specs.Sound.{IsSound};
+ghost use Rattle.line_read.specs.Bounds.{IsInside, IsSmall};
+ghost use Rattle.line_read.specs.Codes.{standard_of};
+ghost use Rattle.line_read.specs.Operation.{standard_at, ulebs_at, operand_count, low_at, defined_at, operands_at, filled_at, body_at, fault_inside, part_at, extended_at, op_at};
+
+use crate::codes::{ExtendedOp, StandardOp, extended_op, standard_op};
+use crate::header::LineHeader;
+use ds_base::dwarf::DW_LNS_extended_op;
+use ds_base::{Bytes, Cursor, Fault, Kind, Part, ReadError};
+use dwarf_types::{Addr, FileName};
+use macho_read::Image;
+use reloc_table::{Relocs, resolve};
+use std::alloc::Global;
+
+/// An operation of a line program (DWARF 4, section 6.2.5), with its operands.
+#[derive(Drop)]
+pub(crate) enum LineOp {
+    /// A special operation, by its code less opcode_base.
+    Special(u8),
+    Copy,
+    AdvancePc(u64),
+    AdvanceLine(i64),
+    SetFile(u64),
+    SetColumn(u64),
+    NegateStmt,
+    SetBasicBlock,
+    ConstAddPc,
+    FixedAdvancePc(u16),
+    SetPrologueEnd,
+    SetEpilogueBegin,
+    SetIsa(u64),
+    EndSequence,
+    SetAddress(Addr),
+    DefineFile(FileName),
+    SetDiscriminator(u64),
+    /// One that the standard does not have, which is passed over.
+    Unknown,
+}
+
+/// The next operation. `bytes` is the whole of `__debug_line`, which the cursor reads.
+#[tactic(auto, unfolding(crate::specs::Operation::op_at))]
+pub(crate) fn read_op(
+    alloc: Global,
+    header: &LineHeader,
+    bytes: &[u8],
+    relocs: &Relocs,
+    image: &Image,
+    cursor: &mut Cursor,
+) -> Result<LineOp, ReadError>
+    requires inside { IsInside bytes.now cursor.old }
+    requires small { length bytes.now < 2 ^ 32 }
+    requires sound { IsSound image.now relocs.now }
+    requires sound_image { IsSoundImage image.now }
+    ensures { ReadsUnlessFull (λ op. op) result cursor.new (op_at header.now image.now relocs.now cursor.old) }
+{
+    let first = cursor.fork();
+    let code = cursor.u8()?;
+    if code >= header.opcode_base {
+        return Ok(LineOp::Special(code - header.opcode_base));
+    }
+    if code == DW_LNS_extended_op {
+        return read_extended(alloc, bytes, relocs, image, &first, cursor);
+    }
+    Ok(read_low(cursor, header, code)?)
+}
+
+/// The operation of a code below opcode_base, behind the code. One that is not known is passed over.
+#[tactic(auto, unfolding(crate::specs::Operation::low_at))]
+fn read_low(cursor: &mut Cursor, header: &LineHeader, code: u8) -> Result<LineOp, Fault>
+    ensures { Reads (λ op. op) result cursor.new (low_at header.now code (standard_of code) cursor.old) }
+{
+    match standard_op(code) {
+        Some(op) => read_standard(op, cursor),
+        None => {
+            skip_ulebs(cursor, operands_of(header, code))?;
+            Ok(LineOp::Unknown)
+        }
+    }
+}
+
+/// How many operands an operation has that is not known.
+fn operands_of(header: &LineHeader, code: u8) -> u8
+    ensures { result ≡ operand_count header.now code }
+{
+    let index = usize::from(code).saturating_sub(1);
+    header
+        .standard_opcode_lengths
+        .get(index)
+        .copied()
+        .unwrap_or(0)
+}
+
+/// Passes over so many LEB numbers.
+fn skip_ulebs(cursor: &mut Cursor, count: u8) -> Result<(), Fault>
+    ensures { Reads (λ _. tt) result cursor.new (ulebs_at count cursor.old) }
+{
+    for _ in 0..count {
+        cursor.uleb()?;
+    }
+    Ok(())
+}
+
+/// A standard operation, behind its code.
+#[tactic(auto, unfolding(crate::specs::Operation::standard_at))]
+fn read_standard(op: StandardOp, cursor: &mut Cursor) -> Result<LineOp, Fault>
+    ensures { Reads (λ op. op) result cursor.new (standard_at op cursor.old) }
+{
+    match op {
+        StandardOp::Copy => Ok(LineOp::Copy),
+        StandardOp::AdvancePc => Ok(LineOp::AdvancePc(cursor.uleb()?)),
+        StandardOp::AdvanceLine => Ok(LineOp::AdvanceLine(cursor.sleb()?)),
+        StandardOp::SetFile => Ok(LineOp::SetFile(cursor.uleb()?)),
+        StandardOp::SetColumn => Ok(LineOp::SetColumn(cursor.uleb()?)),
+        StandardOp::NegateStmt => Ok(LineOp::NegateStmt),
+        StandardOp::SetBasicBlock => Ok(LineOp::SetBasicBlock),
+        StandardOp::ConstAddPc => Ok(LineOp::ConstAddPc),
+        StandardOp::FixedAdvancePc => Ok(LineOp::FixedAdvancePc(cursor.u16()?)),
+        StandardOp::SetPrologueEnd => Ok(LineOp::SetPrologueEnd),
+        StandardOp::SetEpilogueBegin => Ok(LineOp::SetEpilogueBegin),
+        StandardOp::SetIsa => Ok(LineOp::SetIsa(cursor.uleb()?)),
+    }
+}
+
+/// The extended operation that begins at `first`, behind its code: the length of the body, and the body.
+#[tactic(auto, unfolding(crate::specs::Operation::extended_at))]
+fn read_extended(
+    alloc: Global,
+    bytes: &[u8],
+    relocs: &Relocs,
+    image: &Image,
+    first: &Cursor,
+    cursor: &mut Cursor,
+) -> Result<LineOp, ReadError>
+    requires inside { IsInside bytes.now cursor.old }
+    requires small { length bytes.now < 2 ^ 32 }
+    requires sound { IsSound image.now relocs.now }
+    requires sound_image { IsSoundImage image.now }
+    ensures { ReadsUnlessFull (λ op. op) result cursor.new (extended_at image.now relocs.now first.now cursor.old) }
+{
+    let len = cursor.uleb()?;
+    if len == 0 {
+        return Err(ReadError::Faulty(first.fault(Kind::BadLineOp)));
+    }
+    let body = read_part(bytes, cursor, len)?;
+    match read_body(alloc, relocs, image, first, body) {
+        Ok(op) => Ok(op),
+        Err(ReadError::Faulty(fault)) => Err(ReadError::Faulty(fault_in_body(first, fault))),
+        Err(ReadError::NoMemory) => Err(ReadError::NoMemory),
+    }
+}
+
+/// The next `len` bytes, as a cursor that ends with them.
+#[tactic(auto, unfolding(crate::specs::Operation::part_at, ds_base::specs::Reading::bytes_at))]
+fn read_part<'a>(bytes: &'a [u8], cursor: &mut Cursor, len: u64) -> Result<Cursor<'a>, Fault>
+    requires inside { IsInside bytes.now cursor.old }
+    requires small { length bytes.now < 2 ^ 32 }
+    ensures read { Reads (λ part. part) result cursor.new (part_at len cursor.old) }
+    ensures small { IfOk result IsSmall }
+{
+    let place = cursor.place();
+    cursor.skip(len)?;
+    Ok(Cursor::new(bytes, Part::Line, place, cursor.place()))
+}
+
+/// The fault of a body, which what does not end in it does not fill.
+fn fault_in_body(first: &Cursor, fault: Fault) -> Fault
+    ensures { result ≡ fault_inside first.now fault.kind fault }
+{
+    match fault.kind {
+        Kind::Truncated => first.fault(Kind::BadLineOp),
+        _ => fault,
+    }
+}
+
+/// The extended operation of a body, with which the cursor ends.
+#[tactic(auto, unfolding(crate::specs::Operation::body_at, crate::specs::Operation::filled_at))]
+fn read_body(
+    alloc: Global,
+    relocs: &Relocs,
+    image: &Image,
+    first: &Cursor,
+    body: Cursor,
+) -> Result<LineOp, ReadError>
+    requires small { IsSmall body }
+    requires sound { IsSound image.now relocs.now }
+    requires sound_image { IsSoundImage image.now }
+    ensures { Gives (λ op. op) result (body_at image.now relocs.now first.now body.entry) }
+{
+    let mut body = body;
+    let code = body.u8()?;
+    match extended_op(code) {
+        Some(op) => read_filled(alloc, relocs, image, first, op, body),
+        None => Ok(LineOp::Unknown),
+    }
+}
+
+/// A known extended operation, behind its code. Its operands fill the body.
+#[tactic(auto, unfolding(crate::specs::Operation::filled_at))]
+fn read_filled(
+    alloc: Global,
+    relocs: &Relocs,
+    image: &Image,
+    first: &Cursor,
+    op: ExtendedOp,
+    body: Cursor,
+) -> Result<LineOp, ReadError>
+    requires small { IsSmall body }
+    requires sound { IsSound image.now relocs.now }
+    requires sound_image { IsSoundImage image.now }
+    ensures { Gives (λ op. op) result (filled_at image.now relocs.now first.now (Some op) body.entry) }
+{
+    let mut body = body;
+    let op = read_operands(alloc, relocs, image, first, op, &mut body)?;
+    if body.left() != 0 {
+        return Err(ReadError::Faulty(first.fault(Kind::BadLineOp)));
+    }
+    Ok(op)
+}
+
+/// The operands of a known extended operation.
+#[tactic(auto, unfolding(crate::specs::Operation::operands_at))]
+fn read_operands(
+    alloc: Global,
+    relocs: &Relocs,
+    image: &Image,
+    first: &Cursor,
+    op: ExtendedOp,
+    body: &mut Cursor,
+) -> Result<LineOp, ReadError>
+    requires small { IsSmall body.old }
+    requires sound { IsSound image.now relocs.now }
+    requires sound_image { IsSoundImage image.now }
+    ensures { ReadsUnlessFull (λ op. op) result body.new (operands_at image.now relocs.now first.now op body.old) }
+{
+    match op {
+        ExtendedOp::EndSequence => Ok(LineOp::EndSequence),
+        ExtendedOp::SetAddress => {
+            let place = body.place() as u32;
+            let stored = body.u64()?;
+            Ok(LineOp::SetAddress(resolve(relocs, image, place, stored)))
+        }
+        ExtendedOp::DefineFile => Ok(LineOp::DefineFile(read_defined(alloc, first, body)?)),
+        ExtendedOp::SetDiscriminator => Ok(LineOp::SetDiscriminator(body.uleb()?)),
+    }
+}
+
+/// The file that an operation defines.
+#[tactic(auto, unfolding(crate::specs::Operation::defined_at))]
+fn read_defined(alloc: Global, first: &Cursor, body: &mut Cursor) -> Result<FileName, ReadError>
+    ensures { ReadsUnlessFull (λ file. file) result body.new (defined_at first.now body.old) }
+{
+    let name = body.text()?;
+    if name.is_empty() {
+        return Err(ReadError::Faulty(first.fault(Kind::BadLineOp)));
+    }
+    let dir = body.uleb()?;
+    let time = body.uleb()?;
+    let size = body.uleb()?;
+    Ok(FileName {
+        name: Bytes::from_slice(alloc, name)?,
+        dir,
+        time,
+        size,
+        digest: None,
+    })
+}

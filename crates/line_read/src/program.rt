@@ -1,0 +1,214 @@
+//! A line program: its operations read and run one after the other.
+
+ghost use Rattle.std.specs.Prelude.{◌≡◌, ◌<◌, ◌-◌, ◌^◌, length, IfOk};
+ghost use Rattle.std.specs.List.{All};
+ghost use Rattle.ds_base.specs.Reading.{Gives};
+ghost use Rattle.macho_read.specs.Sound.{IsSound as IsSoundImage};
+ghost use Rattle.reloc_table.specs.Sound.{IsSound};
+ghost use Rattle.line_read.specs.Bounds.{IsInside};
+ghost use Rattle.line_read.specs.Operation.{op_at};
+ghost use Rattle.line_read.specs.Program;
+ghost use Rattle.line_read.specs.Program.{ops_at, program_of};
+ghost use Rattle.line_read.specs.Rising.{DoesNotFall};
+ghost use Rattle.line_read.specs.Pass.{empty_matrix, row_at, end_at, step_of, run_at, finished};
+
+use crate::header::LineHeader;
+use crate::operation::{LineOp, read_op};
+use crate::registers::{changed, cleared, initial};
+use ds_base::{Bytes, Cursor, Fault, Kind, List, NoMemory, Part, ReadError};
+use dwarf_types::{Addr, FileName, RawLines, RawRow, RawSequence};
+use macho_read::Image;
+use reloc_table::Relocs;
+use std::alloc::Global;
+use std::mem::replace;
+
+/// What has been made of the operations so far.
+#[derive(Drop)]
+pub(crate) struct Matrix {
+    pub(crate) files: List<FileName>,
+    /// The sequences that have ended.
+    pub(crate) sequences: List<RawSequence>,
+    /// The rows of the sequence that has not.
+    pub(crate) rows: List<RawRow>,
+    pub(crate) registers: RawRow,
+    /// The last address of the object in `rows`.
+    pub(crate) last: Option<u64>,
+}
+
+/// The line table of these directories and files, whose program stands at the cursor.
+pub(crate) fn read_sequences(
+    alloc: Global,
+    header: &LineHeader,
+    bytes: &[u8],
+    relocs: &Relocs,
+    image: &Image,
+    program: Cursor,
+    dirs: List<Bytes>,
+    files: List<FileName>,
+) -> Result<RawLines, ReadError>
+    requires inside { IsInside bytes.now program }
+    requires small { length bytes.now < 2 ^ 32 }
+    requires range { 0 < header.now.line_range }
+    requires sound { IsSound image.now relocs.now }
+    requires sound_image { IsSoundImage image.now }
+    ensures exact { Gives (λ lines. lines) result (program_of header.now dirs files (ops_at (op_at header.now image.now relocs.now) (program.entry.end - program.entry.place) program.entry)) }
+    ensures rising { IfOk result (λ lines. All DoesNotFall lines.sequences) }
+{
+    let matrix = run(alloc, header, bytes, relocs, image, program, files)?;
+    Ok(finish(dirs, matrix)?)
+}
+
+/// Runs the program at the cursor. `files` are those of the header.
+fn run(
+    alloc: Global,
+    header: &LineHeader,
+    bytes: &[u8],
+    relocs: &Relocs,
+    image: &Image,
+    program: Cursor,
+    files: List<FileName>,
+) -> Result<Matrix, ReadError>
+    requires inside { IsInside bytes.now program }
+    requires small { length bytes.now < 2 ^ 32 }
+    requires range { 0 < header.now.line_range }
+    requires sound { IsSound image.now relocs.now }
+    requires sound_image { IsSoundImage image.now }
+    ensures { Gives (λ matrix. matrix) result (run_at (op_at header.now image.now relocs.now) header.now (program.entry.end - program.entry.place) (empty_matrix header.now files) program.entry) }
+{
+    let mut cursor = program;
+    let mut matrix = Matrix {
+        files,
+        sequences: List::new(alloc),
+        rows: List::new(alloc),
+        registers: initial(header),
+        last: None,
+    };
+    let left = cursor.left();
+    for _ in 0..left {
+        if cursor.left() == 0 {
+            return Ok(matrix);
+        }
+        let place = cursor.place();
+        let op = read_op(alloc, header, bytes, relocs, image, &mut cursor)?;
+        run_op(alloc, header, place, op, &mut matrix)?;
+    }
+    Ok(matrix)
+}
+
+/// Runs the operation that stands at a place.
+#[tactic(auto, unfolding(crate::specs::Pass::step_of))]
+fn run_op(
+    alloc: Global,
+    header: &LineHeader,
+    place: u64,
+    op: LineOp,
+    matrix: &mut Matrix,
+) -> Result<(), ReadError>
+    requires range { 0 < header.now.line_range }
+    ensures { Gives (λ _. matrix.new) result (step_of header.now place op matrix.old) }
+{
+    let registers = changed(header, &op, matrix.registers);
+    match op {
+        LineOp::Special(_) => append_row(place, registers, matrix),
+        LineOp::Copy => append_row(place, registers, matrix),
+        LineOp::EndSequence => end_sequence(alloc, header, place, matrix),
+        LineOp::DefineFile(file) => {
+            matrix.files.push(file)?;
+            Ok(())
+        }
+        _ => {
+            matrix.registers = registers;
+            Ok(())
+        }
+    }
+}
+
+/// Appends a row.
+#[tactic(auto, unfolding(crate::specs::Pass::row_at))]
+fn append_row(place: u64, registers: RawRow, matrix: &mut Matrix) -> Result<(), ReadError>
+    ensures { Gives (λ _. matrix.new) result (row_at place registers matrix.old) }
+{
+    if falls(matrix.last, registers.at) {
+        return Err(ReadError::Faulty(backwards(place)));
+    }
+    matrix.rows.push(registers)?;
+    matrix.registers = cleared(registers);
+    matrix.last = last_placed(matrix.last, registers.at);
+    Ok(())
+}
+
+/// Ends the sequence where the registers stand.
+#[tactic(auto, unfolding(crate::specs::Pass::end_at))]
+fn end_sequence(
+    alloc: Global,
+    header: &LineHeader,
+    place: u64,
+    matrix: &mut Matrix,
+) -> Result<(), ReadError>
+    ensures { Gives (λ _. matrix.new) result (end_at header.now place matrix.old) }
+{
+    let end = matrix.registers.at;
+    if falls(matrix.last, end) {
+        return Err(ReadError::Faulty(backwards(place)));
+    }
+    let rows = replace(&mut matrix.rows, List::new(alloc));
+    matrix.sequences.push(RawSequence {
+        rows,
+        end: Some(end),
+    })?;
+    matrix.registers = initial(header);
+    matrix.last = None;
+    Ok(())
+}
+
+/// Whether an address is below the last one of the object.
+fn falls(last: Option<u64>, at: Addr) -> bool
+    ensures { result ≡ Program.falls last at }
+{
+    match (last, at) {
+        (Some(last), Addr::Placed(a)) => a < last,
+        _ => false,
+    }
+}
+
+/// The last address of the object, up to one that follows.
+fn last_placed(last: Option<u64>, at: Addr) -> Option<u64>
+    ensures { result ≡ Program.last_placed last at }
+{
+    match at {
+        Addr::Placed(a) => Some(a),
+        Addr::Named { .. } | Addr::Fixed(_) => last,
+    }
+}
+
+/// The fault of an operation whose row falls.
+fn backwards(place: u64) -> Fault
+    ensures { result ≡ Program.backwards place }
+{
+    Fault {
+        kind: Kind::LineBackwards,
+        section: Part::Line,
+        place,
+    }
+}
+
+/// The line table of these directories, once all operations are run.
+fn finish(dirs: List<Bytes>, matrix: Matrix) -> Result<RawLines, NoMemory>
+    ensures { IfOk result (λ lines. lines ≡ finished dirs matrix) }
+{
+    let Matrix {
+        files,
+        mut sequences,
+        rows,
+        registers: _,
+        last: _,
+    } = matrix;
+    if !rows.is_empty() {
+        sequences.push(RawSequence { rows, end: None })?;
+    }
+    Ok(RawLines {
+        dirs,
+        files,
+        sequences,
+    })
+}
