@@ -1,0 +1,4 @@
+mod Standing
+mod Trying
+mod Missing
+mod Telling

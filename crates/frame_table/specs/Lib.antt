@@ -1,0 +1,5 @@
+pub mod Entry
+pub mod Naming
+pub mod Description
+pub mod Frames
+pub mod Order

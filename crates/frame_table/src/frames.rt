@@ -1,0 +1,135 @@
+//! All frame descriptions of the section.
+
+ghost use Rattle.std.specs.Prelude.{◌+◌, ◌≤◌, ◌<◌, ◌^◌, length, take, IfOk, IfSome};
+ghost use Rattle.std.specs.List.{All};
+ghost use Rattle.ds_base.specs.Reading.{Finds, Gives};
+ghost use Rattle.macho_read.specs.Sound.{IsSound as IsSoundImage};
+ghost use Rattle.reloc_table.specs.Sound.{IsSound};
+ghost use Rattle.frame_table.specs.Naming.{all_named};
+ghost use Rattle.frame_table.specs.Frames.{frames_of};
+ghost use Rattle.frame_table.specs.Order.{StandApart, IsFirstMissed, end_of, entry_of, frame_at, frames_among, is_missed};
+
+use crate::description::{content, frame, read_description};
+use crate::entry::{FrameEntry, read_entries};
+use crate::naming::{Missed, find_cie, first_missed};
+use ds_base::{Fault, Kind, List, NoMemory, Part, ReadError};
+use dwarf_types::{RawFrame, Sections};
+use macho_read::Image;
+use reloc_table::Relocs;
+use std::alloc::Global;
+
+/// How many bytes of CIEs' contents are held at most for each byte of the section.
+const COPIES_PER_BYTE: u64 = 64;
+
+/// The frame descriptions of `__debug_frame`, in order (DWARF 4, section 6.4.1).
+///
+/// Each has the content of the CIE that it names, which may stand before it or behind it: the bytes behind the CIE's
+/// id. `relocs` are those of the section, and the initial location is what the stored number means there. Faults are
+/// placed in `__debug_frame`, in bytes from its start; they are `Truncated` and `BadFrame`, in the order of the entries.
+///
+/// Each description holds a copy of its CIE's content. Where these have more than 64 bytes together for each byte of
+/// the section, there is no memory for them.
+#[tactic(auto, unfolding(crate::specs::Frames::frames_of))]
+pub fn read_frames(
+    alloc: Global,
+    sections: &Sections,
+    relocs: &Relocs,
+    image: &Image,
+) -> Result<List<RawFrame>, ReadError>
+    requires size { length sections.now.frame.now < 2 ^ 32 }
+    requires sound { IsSound image.now relocs.now }
+    requires sound_image { IsSoundImage image.now }
+    ensures { Gives (λ frames. frames) result (frames_of image.now relocs.now sections.now.frame.now) }
+{
+    let bytes = sections.frame;
+    let entries = read_entries(alloc, bytes)?;
+    let frames = frames_in(alloc, bytes, relocs, image, &entries.list)?;
+    match entries.stop {
+        Some(fault) => Err(ReadError::Faulty(fault)),
+        None => Ok(frames),
+    }
+}
+
+/// The frames of entries that stand one after the other, or the first fault in them.
+fn frames_in(
+    alloc: Global,
+    bytes: &[u8],
+    relocs: &Relocs,
+    image: &Image,
+    entries: &[FrameEntry],
+) -> Result<List<RawFrame>, ReadError>
+    requires size { length bytes.now < 2 ^ 32 }
+    requires sound { IsSound image.now relocs.now }
+    requires sound_image { IsSoundImage image.now }
+    requires apart { StandApart entries.now }
+    requires within { All (λ e. e.end ≤ length bytes.now) entries.now }
+    ensures { Gives (λ frames. frames) result (frames_among image.now relocs.now bytes.now entries.now) }
+{
+    let missed = first_missed(entries, bytes.len() as u64);
+    let mut frames = List::new(alloc);
+    let mut room = COPIES_PER_BYTE * bytes.len() as u64;
+    for i in 0..entries.len() {
+        check_named(entries, bytes.len() as u64, missed, i)?;
+        if let Some(frame) = read_frame(alloc, bytes, relocs, image, entries, i)? {
+            room = room.checked_sub(frame.cie.len() as u64).ok_or(NoMemory)?;
+            frames.push(frame)?;
+        }
+    }
+    Ok(frames)
+}
+
+/// Tests that no FDE shows at an entry to have no CIE.
+fn check_named(
+    entries: &[FrameEntry],
+    size: u64,
+    missed: Option<Missed>,
+    i: usize,
+) -> Result<(), Fault>
+    requires apart { StandApart entries.now }
+    requires within { All (λ e. e.end ≤ size) entries.now }
+    requires i { i < length entries.now }
+    requires missed { IsFirstMissed (is_missed size entries.now) (length entries.now) (length entries.now) missed }
+    requires behind { IfSome missed (λ m. i ≤ m.at) }
+    ensures named { Finds (λ _. tt) result (all_named size (end_of entries.now i) (take (i + 1) entries.now)) }
+    ensures behind { IfOk result (λ _. IfSome missed (λ m. i < m.at)) }
+{
+    match missed {
+        Some(missed) if missed.at == i => Err(Fault {
+            kind: Kind::BadFrame,
+            section: Part::Frame,
+            place: entries[missed.entry].place,
+        }),
+        _ => Ok(()),
+    }
+}
+
+/// The frame of an entry that is an FDE and names a CIE, or the fault in the entry's values.
+fn read_frame(
+    alloc: Global,
+    bytes: &[u8],
+    relocs: &Relocs,
+    image: &Image,
+    entries: &[FrameEntry],
+    i: usize,
+) -> Result<Option<RawFrame>, ReadError>
+    requires size { length bytes.now < 2 ^ 32 }
+    requires sound { IsSound image.now relocs.now }
+    requires sound_image { IsSoundImage image.now }
+    requires apart { StandApart entries.now }
+    requires within { All (λ e. e.end ≤ length bytes.now) entries.now }
+    requires i { i < length entries.now }
+    ensures { Gives (λ frame. frame) result (frame_at image.now relocs.now bytes.now entries.now (entry_of entries.now i)) }
+{
+    let entry = &entries[i];
+    if entry.is_cie() {
+        return Ok(None);
+    }
+    let description = read_description(bytes, entry)?;
+    match find_cie(entries, u64::from(entry.id)) {
+        None => Ok(None),
+        Some(cie) => {
+            let cie = content(bytes, cie);
+            Ok(Some(frame(alloc, relocs, image, cie, entry, &description)?))
+        }
+    }
+}
