@@ -1,0 +1,87 @@
+-- The loop over the items of a list: what it has, what it still reads, the ways out and the way on.
+use Rattle.std.proofs.Common.{◌≡◌, ℕ, true, false, suc, ◌+◌, ◌-◌, ◌<◌, ◌≤◌, List, [], ◌∷◌, ◌++◌, Result, Ok, Err, refl, sym, ap, ◌∙◌, append_assoc, append-nil, arith}
+use Rattle.ds_base.specs.declared.fault.Fault.{Fault}
+use Rattle.ds_base.specs.declared.fault.Kind.TheVariants as kinds
+use Rattle.ds_base.specs.Spot.{Spot, fault_at}
+use Rattle.ds_base.specs.Reading.{◌>>=◌}
+use Rattle.dwarf_types.specs.declared.address.Addr.{Addr}
+use Rattle.dwarf_types.specs.declared.lists.RawSpan.{RawSpan}
+use Rattle.macho_read.specs.declared.image.Image.{Image}
+use Rattle.reloc_table.specs.declared.relocation.Relocs.{Relocs}
+use Rattle.list_items.specs.declared.item.Item.TheVariants as items
+use Rattle.list_items.specs.Reading.{item_at}
+use Rattle.list_items.specs.Ends.{is_empty}
+use Rattle.list_items.specs.Lists.{Behind, given, list_at}
+
+-- what was read before the rest of the list
+abbrev pub before : {A : Type 0} → List A → Result (List A) Fault → Result (List A) Fault
+before xs (Ok ys) = Ok (xs ++ ys)
+before xs (Err f) = Err f
+
+before_none : {A : Type 0} (r : Result (List A) Fault) → before [] r ≡ r
+before_none (Ok ys) = refl
+before_none (Err f) = refl
+
+before_more : {A : Type 0} (xs here : List A) (r : Result (List A) Fault) → before xs (r >>= λ more. Ok (here ++ more)) ≡ before (xs ++ here) r
+before_more {A = A} xs here (Ok ys) = ap (λ (zs : List A). Ok zs) (sym (append_assoc xs here ys))
+before_more {A = A} xs here (Err f) = refl
+
+-- nothing is read yet
+pub list_starts : {A : Type 0} (image : Image) (relocs : Relocs) (behind : Behind A) (left : ℕ) (base : Addr) (s : Spot)
+    → before [] (list_at image relocs behind (left - 0) base s) ≡ list_at image relocs behind left base s
+list_starts image relocs behind left base s =
+    let all : left - 0 ≡ left = omega arith in
+    before_none (list_at image relocs behind (left - 0) base s) ∙ ap (λ (n : ℕ). list_at image relocs behind n base s) all
+
+-- one more item, whatever it is
+turn : {A : Type 0} (image : Image) (relocs : Relocs) (behind : Behind A) (left i : ℕ) (xs : List A) (base : Addr) (s : Spot) (total : Result (List A) Fault) → i < left
+    → before xs (list_at image relocs behind (left - i) base s) ≡ total
+    → total ≡ before xs (item_at image relocs base s >>= λ item. given behind (list_at image relocs behind (left - (i + 1))) base s item.0 item.1)
+unfolding list_at
+turn image relocs behind left i xs base s total lt so_far =
+    let k : left - i ≡ suc (left - (i + 1)) = omega arith in
+    sym so_far ∙ ap (λ (n : ℕ). before xs (list_at image relocs behind n base s)) k
+
+pub item_refused : {A : Type 0} (image : Image) (relocs : Relocs) (behind : Behind A) (left i : ℕ) (xs : List A) (base : Addr) (s : Spot) (f : Fault) (total : Result (List A) Fault) → i < left
+    → item_at image relocs base s ≡ Err f
+    → before xs (list_at image relocs behind (left - i) base s) ≡ total → total ≡ Err f
+item_refused image relocs behind left i xs base s f total lt item so_far = turn image relocs behind left i xs base s total lt so_far ∙ rw item refl
+
+pub list_ends : {A : Type 0} (image : Image) (relocs : Relocs) (behind : Behind A) (left i : ℕ) (xs : List A) (base : Addr) (s t : Spot) (total : Result (List A) Fault) → i < left
+    → item_at image relocs base s ≡ Ok (items.End, t)
+    → before xs (list_at image relocs behind (left - i) base s) ≡ total → total ≡ Ok xs
+list_ends {A = A} image relocs behind left i xs base s t total lt item so_far = turn image relocs behind left i xs base s total lt so_far ∙ rw item (ap (λ (zs : List A). Ok zs) (append-nil xs))
+
+pub base_selected : {A : Type 0} (image : Image) (relocs : Relocs) (behind : Behind A) (left i : ℕ) (xs : List A) (base selected : Addr) (s t : Spot) (total : Result (List A) Fault) → i < left
+    → item_at image relocs base s ≡ Ok (items.Base selected, t)
+    → before xs (list_at image relocs behind (left - i) base s) ≡ total
+    → before xs (list_at image relocs behind (left - (i + 1)) selected t) ≡ total
+base_selected image relocs behind left i xs base selected s t total lt item so_far = sym (turn image relocs behind left i xs base s total lt so_far ∙ rw item refl)
+
+pub behind_refused : {A : Type 0} (image : Image) (relocs : Relocs) (behind : Behind A) (left i : ℕ) (xs : List A) (base : Addr) (span : RawSpan) (s t : Spot) (f : Fault) (total : Result (List A) Fault) → i < left
+    → item_at image relocs base s ≡ Ok (items.Span span, t) → behind s span t ≡ Err f
+    → before xs (list_at image relocs behind (left - i) base s) ≡ total → total ≡ Err f
+behind_refused image relocs behind left i xs base span s t f total lt item read so_far = turn image relocs behind left i xs base s total lt so_far ∙ rw (item, read) refl
+
+pub span_kept : {A : Type 0} (image : Image) (relocs : Relocs) (behind : Behind A) (left i : ℕ) (xs : List A) (x : A) (base : Addr) (span : RawSpan) (s t u : Spot) (total : Result (List A) Fault) → i < left
+    → item_at image relocs base s ≡ Ok (items.Span span, t) → behind s span t ≡ Ok (x, u) → is_empty span ≡ false
+    → before xs (list_at image relocs behind (left - i) base s) ≡ total
+    → before (xs ++ x ∷ []) (list_at image relocs behind (left - (i + 1)) base u) ≡ total
+span_kept image relocs behind left i xs x base span s t u total lt item read some so_far =
+    sym (turn image relocs behind left i xs base s total lt so_far ∙ rw (item, read, some) (before_more xs (x ∷ []) (list_at image relocs behind (left - (i + 1)) base u)))
+
+pub span_dropped : {A : Type 0} (image : Image) (relocs : Relocs) (behind : Behind A) (left i : ℕ) (xs : List A) (x : A) (base : Addr) (span : RawSpan) (s t u : Spot) (total : Result (List A) Fault) → i < left
+    → item_at image relocs base s ≡ Ok (items.Span span, t) → behind s span t ≡ Ok (x, u) → is_empty span ≡ true
+    → before xs (list_at image relocs behind (left - i) base s) ≡ total
+    → before xs (list_at image relocs behind (left - (i + 1)) base u) ≡ total
+span_dropped {A = A} image relocs behind left i xs x base span s t u total lt item read none so_far =
+    let others : Result (List A) Fault = list_at image relocs behind (left - (i + 1)) base u in
+    sym (turn image relocs behind left i xs base s total lt so_far ∙ rw (item, read, none) (before_more xs [] others ∙ ap (λ (ys : List A). before ys others) (append-nil xs)))
+
+-- no byte is left
+pub bytes_end : {A : Type 0} (image : Image) (relocs : Relocs) (behind : Behind A) (left i : ℕ) (xs : List A) (base : Addr) (s : Spot) (total : Result (List A) Fault) → left ≤ i
+    → before xs (list_at image relocs behind (left - i) base s) ≡ total → total ≡ Err (fault_at s kinds.Truncated)
+unfolding list_at
+bytes_end image relocs behind left i xs base s total le so_far =
+    let none : left - i ≡ 0 = omega arith in
+    sym so_far ∙ ap (λ (n : ℕ). before xs (list_at image relocs behind n base s)) none

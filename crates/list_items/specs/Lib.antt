@@ -1,0 +1,5 @@
+pub mod Ends
+pub mod Reading
+pub mod Lists
+pub mod Bounds
+pub mod Sound

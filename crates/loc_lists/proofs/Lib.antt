@@ -1,0 +1,2 @@
+mod Expressions
+mod Items
