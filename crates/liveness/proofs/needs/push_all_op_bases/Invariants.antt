@@ -1,0 +1,7 @@
+use Rattle.std.proofs.Common.{◌≡◌, ◌++◌, take}
+use Rattle.std.specs.List.{flat_map}
+use Rattle.dwarf_types.specs.Live.{op_bases}
+use Rattle.liveness.proofs.needs.push_all_op_bases.Given as goal
+
+abbrev pub invariant-loop-op : goal.invariant-loop-op
+invariant-loop-op l = l.out.items ≡ l.initial.out.items ++ flat_map op_bases (take l.op-index l.ops)
