@@ -2,3 +2,4 @@ pub mod Number
 pub mod Padding
 pub mod Header
 pub mod Archive
+pub mod Table

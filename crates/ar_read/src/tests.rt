@@ -1,6 +1,6 @@
-//! Tables of archives: the bytes by field, and the member's content or the fault.
+//! Tables of archives: the bytes by field, and of each name the member's content or the fault.
 
-use crate::member;
+use crate::read_members;
 use ds_base::{Bytes, Fault, Kind, NoMemory, Part};
 use std::alloc::Global;
 use std::process::Abort;
@@ -37,12 +37,14 @@ fn a_member_is_found(rt: HostRuntime) -> Result<(), Fail> {
     let content: &[u8] = b"0123456789abcdef0123456789ABCDEF";
     // one member with a long name of 4 bytes and 32 bytes of content
     let long = joined(alloc, &[MAGIC, b"#1/4            ", MIDDLE, b"36        ", MARK, b"x.o\0", content])?;
-    assert_eq!(rt; member(long.as_slice(), b"x.o"), Ok(content));
-    assert_eq!(rt; member(long.as_slice(), b"y.o"), at(Kind::NoMember, 0));
-    assert_eq!(rt; member(long.as_slice(), b"x.o\0"), at(Kind::NoMember, 0));
-    let mut cut = long;
-    cut.pop();
-    assert_eq!(rt; member(cut.as_slice(), b"x.o"), at(Kind::BadMember, 8));
+    let members = read_members(alloc, long.as_slice())?;
+    assert_eq!(rt; members.find(b"x.o"), Ok(content));
+    assert_eq!(rt; members.find(b"x.o"), Ok(content), "once more");
+    assert_eq!(rt; members.find(b"y.o"), at(Kind::NoMember, 0));
+    assert_eq!(rt; members.find(b"x.o\0"), at(Kind::NoMember, 0));
+    // one byte less
+    let cut = joined(alloc, &[MAGIC, b"#1/4            ", MIDDLE, b"36        ", MARK, b"x.o\0", b"0123456789abcdef0123456789ABCDE"])?;
+    assert_eq!(rt; read_members(alloc, cut.as_slice())?.find(b"x.o"), at(Kind::BadMember, 8));
     Ok(())
 }
 
@@ -57,9 +59,30 @@ fn members_stand_at_even_places(rt: HostRuntime) -> Result<(), Fail> {
         b"a.o             ", MIDDLE, b"3         ", MARK, b"two",
     ])?;
     let (one, four): (&[u8], &[u8]) = (b"one", b"four");
-    assert_eq!(rt; member(three.as_slice(), b"a.o"), Ok(one));
-    assert_eq!(rt; member(three.as_slice(), b"b.o"), Ok(four));
-    assert_eq!(rt; member(three.as_slice(), b"c.o"), at(Kind::NoMember, 0));
+    let members = read_members(alloc, three.as_slice())?;
+    assert_eq!(rt; members.find(b"a.o"), Ok(one), "the first of two");
+    assert_eq!(rt; members.find(b"b.o"), Ok(four));
+    assert_eq!(rt; members.find(b"c.o"), at(Kind::NoMember, 0));
+    Ok(())
+}
+
+#[test]
+#[rattlefmt::skip]
+fn a_fault_is_told_for_names_that_no_member_before_it_has(rt: HostRuntime) -> Result<(), Fail> {
+    let alloc = rt.alloc();
+    let three = joined(alloc, &[
+        MAGIC,
+        b"a.o             ", MIDDLE, b"4         ", MARK, b"four",
+        // at 72, with another mark
+        b"b.o             ", MIDDLE, b"4         ", b"`\r", b"five",
+        b"c.o             ", MIDDLE, b"4         ", MARK, b"last",
+    ])?;
+    let four: &[u8] = b"four";
+    let members = read_members(alloc, three.as_slice())?;
+    assert_eq!(rt; members.find(b"a.o"), Ok(four), "before it");
+    assert_eq!(rt; members.find(b"b.o"), at(Kind::BadMember, 72), "its own");
+    assert_eq!(rt; members.find(b"c.o"), at(Kind::BadMember, 72), "behind it");
+    assert_eq!(rt; members.find(b"d.o"), at(Kind::BadMember, 72), "of none");
     Ok(())
 }
 
@@ -72,7 +95,11 @@ fn assert_finds(
     want: Result<&[u8], Fault>,
 ) -> Result<(), Fail> {
     let bytes = joined(alloc, parts)?;
-    assert_eq!(rt; member(bytes.as_slice(), b"a.o"), want, "{label}");
+    assert_eq!(rt;
+        read_members(alloc, bytes.as_slice())?.find(b"a.o"),
+        want,
+        "{label}"
+    );
     Ok(())
 }
 
@@ -114,6 +141,6 @@ fn a_name_of_spaces_is_empty(rt: HostRuntime) -> Result<(), Fail> {
     let alloc = rt.alloc();
     let archive = joined(alloc, &[MAGIC, b"                ", MIDDLE, b"4         ", MARK, b"four"])?;
     let four: &[u8] = b"four";
-    assert_eq!(rt; member(archive.as_slice(), b""), Ok(four));
+    assert_eq!(rt; read_members(alloc, archive.as_slice())?.find(b""), Ok(four));
     Ok(())
 }

@@ -1,11 +1,21 @@
 -- The image of a bundle: a Mach-O file of debugging information alone (mach-o/loader.h).
-use Rattle.std.specs.Prelude.{ℕ, ◌+◌, ◌-◌, ◌*◌, ◌/◌, List, [], ◌∷◌, ◌++◌, length, replicate}
+use Rattle.std.specs.Prelude.{max, ℕ, ◌+◌, ◌-◌, ◌*◌, ◌/◌, List, [], ◌∷◌, ◌++◌, length, replicate}
 use Rattle.std.specs.List.{flat_map}
+use Rattle.byteorder.specs.Endian.{little_bytes}
 use Rattle.ds_base.specs.declared.fault.Part.{Part}
 use Rattle.ds_base.specs.declared.fault.Part.TheVariants as parts
 use Rattle.ds_base.specs.declared.macho.TheConstants.{MH_MAGIC_64, MH_DSYM, LC_SEGMENT_64, SEG_DWARF, SECT_DEBUG_ABBREV, SECT_DEBUG_INFO, SECT_DEBUG_STR, S_ATTR_DEBUG}
 use Rattle.dwarf_types.specs.declared.graph.Written.{Written}
-use Rattle.link_core.specs.Records.{numbers}
+use Rattle.macho_read.specs.declared.image.Segment.{Segment}
+
+-- numbers of one width in bytes, one after the other
+abbrev pub numbers : ℕ → List ℕ → List ℕ
+numbers width ns = flat_map (little_bytes width) ns
+
+-- the place behind the last address of the segments
+abbrev pub end_of : List Segment → ℕ
+end_of [] = 0
+end_of (s ∷ ss) = max (s.vmaddr + s.vmsize) (end_of ss)
 
 -- the next multiple of the size of a page
 abbrev pub page_end : ℕ → ℕ

@@ -1,8 +1,11 @@
 //! The image of the bundle: a Mach-O file of debugging information alone.
 
-ghost use Rattle.std.specs.Prelude.{◌≡◌, ◌+◌, ◌-◌, ◌*◌, ◌/◌, ◌^◌, ◌<◌, ◌≤◌, ◌++◌, ◌∷◌, [], length, replicate, OnOk, IfOk};
-ghost use Rattle.std.specs.List.{flat_map};
-ghost use Rattle.link_core.specs.Records.{numbers};
+ghost use Rattle.std.specs.Prelude.{Ok, IfSome, ◌≡◌, ◌+◌, ◌-◌, ◌*◌, ◌/◌, ◌^◌, ◌<◌, ◌≤◌, ◌++◌, ◌∷◌, [], length, replicate, OnOk, IfOk};
+ghost use Rattle.std.specs.List.{All, flat_map};
+ghost use Rattle.link_core.specs.Image.{numbers};
+ghost use Rattle.macho_read.specs.declared.kind.Role.TheVariants as roles;
+ghost use Rattle.macho_read.specs.Kind.{kind_of};
+ghost use Rattle.macho_read.specs.Sound.{IsSound as IsSoundImage};
 ghost use Rattle.link_core.specs.Image as spec;
 
 use crate::output::{push_u32s, push_u64s};
@@ -12,6 +15,7 @@ use ds_base::macho::{
 };
 use ds_base::{Bytes, NoMemory, Part};
 use dwarf_types::Written;
+use macho_read::{Image, Segment};
 use std::alloc::Global;
 
 /// The next multiple of the size of a page.
@@ -34,15 +38,37 @@ fn section_name(part: Part) -> [u8; 16]
 }
 
 /// The size of all sections together, in bytes.
-fn contents_size(sections: &[Written]) -> u64
-    requires { length (spec.contents sections.now) < 2 ^ 32 }
-    ensures { result ≡ length (spec.contents sections.now) }
+fn contents_size(sections: &[Written]) -> Option<u64>
+    ensures { IfSome result (λ size. size ≡ length (spec.contents sections.now)) }
 {
-    let mut size = 0;
+    let mut size: u64 = 0;
     for section in sections {
-        size += section.bytes.len() as u64;
+        size = size.checked_add(section.bytes.len() as u64)?;
     }
-    size
+    Some(size)
+}
+
+/// The place behind the last address of a program's segments.
+pub(crate) fn end_of(program: &Image) -> u64
+    requires sound { IsSoundImage program.now }
+    requires kind { kind_of program.now roles.Program ≡ Ok tt }
+    ensures end { result ≡ spec.end_of program.now.segments }
+    ensures small { result ≤ 0xfffffffe00000000 }
+{
+    last_end(program.segments.as_slice())
+}
+
+/// The place behind the last address of segments.
+fn last_end(segments: &[Segment]) -> u64
+    requires { All (λ s. s.vmaddr + s.vmsize ≤ 0xfffffffe00000000) segments.now }
+    ensures end { result ≡ spec.end_of segments.now }
+    ensures small { result ≤ 0xfffffffe00000000 }
+{
+    let mut end = 0;
+    for segment in segments {
+        end = u64::max(end, segment.vmaddr + segment.vmsize);
+    }
+    end
 }
 
 /// The record of a section whose bytes stand at an offset of the file.
@@ -89,7 +115,8 @@ fn push_contents(out: &mut Bytes, sections: &[Written]) -> Result<(), NoMemory>
 
 /// The image of a program's sections of debugging information.
 ///
-/// `cpu` and `sub` are the program's, and `end` is the place behind the last address of its segments.
+/// `cpu` and `sub` are the program's, and `end` is the place behind the last address of its segments. Where the
+/// sections have 2^31 bytes or more, there is no memory for them.
 pub(crate) fn image(
     alloc: Global,
     cpu: u32,
@@ -99,13 +126,15 @@ pub(crate) fn image(
 ) -> Result<Bytes, NoMemory>
     requires ends { end ≤ 0xfffffffe00000000 }
     requires few { length sections.now ≤ 3 }
-    requires small { length (spec.contents sections.now) < 2 ^ 31 }
     ensures { IfOk result (λ bytes. bytes ≡ spec.image cpu sub end sections.now) }
 {
     let count = sections.len() as u32;
     let commands = 72 + 80 * count;
     let offset = page_end(32 + u64::from(commands));
-    let size = contents_size(sections);
+    let size = contents_size(sections).ok_or(NoMemory)?;
+    if size >= 1 << 31 {
+        return Err(NoMemory);
+    }
     let vmaddr = page_end(end);
     let mut out = Bytes::new(alloc);
     push_u32s(

@@ -2,7 +2,7 @@
 
 ghost use Rattle.std.specs.Prelude.{◌≡◌, ◌++◌, OnOk};
 ghost use Rattle.byteorder.specs.Endian.{little_bytes};
-ghost use Rattle.link_core.specs.Records.{numbers};
+ghost use Rattle.link_core.specs.Image.{numbers};
 
 use byteorder::{ByteOrder, LittleEndian};
 use ds_base::{Bytes, NoMemory};

@@ -14,6 +14,9 @@ const IMAGE: &str = "a.out.dSYM/Contents/Resources/DWARF/a.out";
 /// The image of an earlier link.
 const EARLIER: &[u8] = b"earlier";
 
+/// The CPU type of arm64.
+const ARM64: &[u8] = b"\x0c\0\0\x01";
+
 /// Parts of a file, one after the other.
 fn joined(alloc: Global, parts: &[&[u8]]) -> Result<Bytes, NoMemory> {
     let mut bytes = Bytes::new(alloc);
@@ -23,13 +26,12 @@ fn joined(alloc: Global, parts: &[&[u8]]) -> Result<Bytes, NoMemory> {
     Ok(bytes)
 }
 
-/// A program whose symbols are the stab of `/tmp/m.o` and `functions`. `count` are all of them, and the strings stand
-/// at `stroff`.
+/// A program with these symbols, of which there are `count`, and these strings, which stand at `stroff`.
 #[rattlefmt::skip]
-fn program_bytes(alloc: Global, count: u8, stroff: u8, functions: &[u8]) -> Result<Bytes, NoMemory> {
+fn program_bytes(alloc: Global, count: &[u8], stroff: &[u8], size: &[u8], symbols: &[u8], strings: &[u8]) -> Result<Bytes, NoMemory> {
     joined(alloc, &[
         // magic, cputype, cpusubtype, filetype, ncmds, sizeofcmds, flags, reserved
-        b"\xcf\xfa\xed\xfe", b"\x0c\0\0\x01", b"\0\0\0\0", b"\x02\0\0\0", b"\x02\0\0\0", b"\x60\0\0\0", b"\0\0\0\0", b"\0\0\0\0",
+        b"\xcf\xfa\xed\xfe", ARM64, b"\0\0\0\0", b"\x02\0\0\0", b"\x02\0\0\0", b"\x60\0\0\0", b"\0\0\0\0", b"\0\0\0\0",
         // cmd, cmdsize, segname
         b"\x19\0\0\0", b"\x48\0\0\0", b"__TEXT\0\0\0\0\0\0\0\0\0\0",
         // vmaddr, vmsize, fileoff, filesize
@@ -37,32 +39,65 @@ fn program_bytes(alloc: Global, count: u8, stroff: u8, functions: &[u8]) -> Resu
         // maxprot, initprot, nsects, flags
         b"\x05\0\0\0", b"\x05\0\0\0", b"\0\0\0\0", b"\0\0\0\0",
         // cmd, cmdsize, symoff, nsyms, stroff, strsize
-        b"\x02\0\0\0", b"\x18\0\0\0", b"\x80\0\0\0", &[count, 0, 0, 0], &[stroff, 0, 0, 0], b"\x10\0\0\0",
-        // n_strx, n_type, n_sect, n_desc, n_value
-        b"\x01\0\0\0", b"\x66", b"\0", b"\x01\0", b"\0\0\0\0\0\0\0\0",
-        functions,
-        // strings, `/tmp/m.o` at 1 and `_main` at 10
-        b"\0/tmp/m.o\0_main\0",
+        b"\x02\0\0\0", b"\x18\0\0\0", b"\x80\0\0\0", count, stroff, size,
+        symbols,
+        strings,
     ])
 }
 
-/// A program of 192 bytes with `_main` of 0x2a bytes at 0x100003f50.
+/// The strings of the programs: `/tmp/m.o` at 1, `_main` at 10, `/tmp/l.a(m.o)` at 16.
+const STRINGS: &[u8] = b"\0/tmp/m.o\0_main\0/tmp/l.a(m.o)\0";
+
+/// The stab of an object whose path stands at `path` of the strings, and those of `_main` at 0x1_0000_0000 and so many
+/// bytes, with 0x2a bytes.
 #[rattlefmt::skip]
-fn program_with_main(alloc: Global) -> Result<Bytes, NoMemory> {
-    let stabs = joined(alloc, &[
+fn stabs(alloc: Global, path: u8, at: &[u8]) -> Result<Bytes, NoMemory> {
+    joined(alloc, &[
         // n_strx, n_type, n_sect, n_desc, n_value
-        b"\x0a\0\0\0", b"\x24", b"\x01", b"\0\0", b"\x50\x3f\0\0\x01\0\0\0",
+        &[path, 0, 0, 0], b"\x66", b"\0", b"\x01\0", b"\0\0\0\0\0\0\0\0",
+        b"\x0a\0\0\0", b"\x24", b"\x01", b"\0\0", at, b"\0\0\x01\0\0\0",
         b"\0\0\0\0", b"\x24", b"\0", b"\0\0", b"\x2a\0\0\0\0\0\0\0",
-    ])?;
-    program_bytes(alloc, 3, 176, stabs.as_slice())
+    ])
 }
 
-/// The program's object, with `main` of 0x2a bytes at 0. `code` is the first byte of its abbreviations.
+/// A program of one object, `/tmp/m.o`, with `_main` of 0x2a bytes at 0x1_0000_3f50.
+fn small_program(alloc: Global) -> Result<Bytes, NoMemory> {
+    let symbols = stabs(alloc, 1, b"\x50\x3f")?;
+    program_bytes(
+        alloc,
+        b"\x03\0\0\0",
+        b"\xb0\0\0\0",
+        b"\x1e\0\0\0",
+        symbols.as_slice(),
+        STRINGS,
+    )
+}
+
+/// A program of three objects: `/tmp/m.o`, `m.o` of the archive `/tmp/l.a`, and the first again.
+fn large_program(alloc: Global) -> Result<Bytes, NoMemory> {
+    let first = stabs(alloc, 1, b"\x50\x3f")?;
+    let second = stabs(alloc, 16, b"\x90\x3f")?;
+    let third = stabs(alloc, 1, b"\xd0\x3f")?;
+    let mut symbols = Bytes::new(alloc);
+    symbols.extend(first.as_slice())?;
+    symbols.extend(second.as_slice())?;
+    symbols.extend(third.as_slice())?;
+    program_bytes(
+        alloc,
+        b"\x09\0\0\0",
+        b"\x10\x01\0\0",
+        b"\x1e\0\0\0",
+        symbols.as_slice(),
+        STRINGS,
+    )
+}
+
+/// An object with `main` of 0x2a bytes at 0, of 457 bytes. `code` is the first byte of its abbreviations.
 #[rattlefmt::skip]
-fn object_bytes(alloc: Global, code: u8) -> Result<Bytes, NoMemory> {
+fn object_bytes(alloc: Global, cpu: &[u8], code: u8) -> Result<Bytes, NoMemory> {
     joined(alloc, &[
         // magic, cputype, cpusubtype, filetype, ncmds, sizeofcmds, flags, reserved
-        b"\xcf\xfa\xed\xfe", b"\x0c\0\0\x01", b"\0\0\0\0", b"\x01\0\0\0", b"\x02\0\0\0", b"\x50\x01\0\0", b"\0\0\0\0", b"\0\0\0\0",
+        b"\xcf\xfa\xed\xfe", cpu, b"\0\0\0\0", b"\x01\0\0\0", b"\x02\0\0\0", b"\x50\x01\0\0", b"\0\0\0\0", b"\0\0\0\0",
         // cmd, cmdsize, segname
         b"\x19\0\0\0", b"\x38\x01\0\0", b"\0\0\0\0\0\0\0\0\0\0\0\0\0\0\0\0",
         // vmaddr, vmsize, fileoff, filesize
@@ -98,41 +133,98 @@ fn object_bytes(alloc: Global, code: u8) -> Result<Bytes, NoMemory> {
     ])
 }
 
-/// The image of the program with `_main`, of 4162 bytes.
+/// An archive of two members of the name `m.o`: this object, and three other bytes.
 #[rattlefmt::skip]
-fn image_with_main(alloc: Global) -> Result<Bytes, NoMemory> {
+fn archive_bytes(alloc: Global, object: &[u8]) -> Result<Bytes, NoMemory> {
+    joined(alloc, &[
+        b"!<arch>\n",
+        // name, time, uid, gid, mode, size, end; a member of odd size has a byte behind it
+        b"m.o             ", b"0           ", b"0     ", b"0     ", b"644     ", b"457       ", b"`\n", object, b"\n",
+        b"m.o             ", b"0           ", b"0     ", b"0     ", b"644     ", b"3         ", b"`\n", b"bad",
+    ])
+}
+
+/// An image whose sections of abbreviations, entries and texts have these addresses, sizes and offsets, and all together
+/// this size.
+#[rattlefmt::skip]
+fn image_bytes(alloc: Global, size: &[u8], abbrev: [&[u8]; 3], info: [&[u8]; 3], texts: [&[u8]; 3], contents: &[u8]) -> Result<Bytes, NoMemory> {
     joined(alloc, &[
         // magic, cputype, cpusubtype, filetype, ncmds, sizeofcmds, flags, reserved
-        b"\xcf\xfa\xed\xfe", b"\x0c\0\0\x01", b"\0\0\0\0", b"\x0a\0\0\0", b"\x01\0\0\0", b"\x38\x01\0\0", b"\0\0\0\0", b"\0\0\0\0",
+        b"\xcf\xfa\xed\xfe", ARM64, b"\0\0\0\0", b"\x0a\0\0\0", b"\x01\0\0\0", b"\x38\x01\0\0", b"\0\0\0\0", b"\0\0\0\0",
         // cmd, cmdsize, segname
         b"\x19\0\0\0", b"\x38\x01\0\0", b"__DWARF\0\0\0\0\0\0\0\0\0",
         // vmaddr, vmsize, fileoff, filesize
-        b"\0\x40\0\0\x01\0\0\0", b"\0\x10\0\0\0\0\0\0", b"\0\x10\0\0\0\0\0\0", b"\x42\0\0\0\0\0\0\0",
+        b"\0\x40\0\0\x01\0\0\0", b"\0\x10\0\0\0\0\0\0", b"\0\x10\0\0\0\0\0\0", size, b"\0\0\0\0\0\0\0",
         // maxprot, initprot, nsects, flags
         b"\x07\0\0\0", b"\x03\0\0\0", b"\x03\0\0\0", b"\0\0\0\0",
         // sectname, segname, addr, size, and offset, align, reloff, nreloc, flags, reserved1 to 3
-        b"__debug_abbrev\0\0", b"__DWARF\0\0\0\0\0\0\0\0\0", b"\0\x40\0\0\x01\0\0\0", b"\x15\0\0\0\0\0\0\0",
-        b"\0\x10\0\0", b"\0\0\0\0", b"\0\0\0\0", b"\0\0\0\0", b"\0\0\0\x02", b"\0\0\0\0", b"\0\0\0\0", b"\0\0\0\0",
-        b"__debug_info\0\0\0\0", b"__DWARF\0\0\0\0\0\0\0\0\0", b"\x15\x40\0\0\x01\0\0\0", b"\x24\0\0\0\0\0\0\0",
-        b"\x15\x10\0\0", b"\0\0\0\0", b"\0\0\0\0", b"\0\0\0\0", b"\0\0\0\x02", b"\0\0\0\0", b"\0\0\0\0", b"\0\0\0\0",
-        b"__debug_str\0\0\0\0\0", b"__DWARF\0\0\0\0\0\0\0\0\0", b"\x39\x40\0\0\x01\0\0\0", b"\x09\0\0\0\0\0\0\0",
-        b"\x39\x10\0\0", b"\0\0\0\0", b"\0\0\0\0", b"\0\0\0\0", b"\0\0\0\x02", b"\0\0\0\0", b"\0\0\0\0", b"\0\0\0\0",
+        b"__debug_abbrev\0\0", b"__DWARF\0\0\0\0\0\0\0\0\0", abbrev[0], b"\0\0\x01\0\0\0", abbrev[1], b"\0\0\0\0\0\0\0",
+        abbrev[2], b"\0\0", b"\0\0\0\0", b"\0\0\0\0", b"\0\0\0\0", b"\0\0\0\x02", b"\0\0\0\0", b"\0\0\0\0", b"\0\0\0\0",
+        b"__debug_info\0\0\0\0", b"__DWARF\0\0\0\0\0\0\0\0\0", info[0], b"\0\0\x01\0\0\0", info[1], b"\0\0\0\0\0\0\0",
+        info[2], b"\0\0", b"\0\0\0\0", b"\0\0\0\0", b"\0\0\0\0", b"\0\0\0\x02", b"\0\0\0\0", b"\0\0\0\0", b"\0\0\0\0",
+        b"__debug_str\0\0\0\0\0", b"__DWARF\0\0\0\0\0\0\0\0\0", texts[0], b"\0\0\x01\0\0\0", texts[1], b"\0\0\0\0\0\0\0",
+        texts[2], b"\0\0", b"\0\0\0\0", b"\0\0\0\0", b"\0\0\0\0", b"\0\0\0\x02", b"\0\0\0\0", b"\0\0\0\0", b"\0\0\0\0",
         // from 344 on, up to 4096
         &[0; 3752],
-        // abbreviations: a unit with a name and a language; a function with low_pc, high_pc and a name
-        b"\x01\x11\x01\x03\x0e\x13\x05\0\0",
-        b"\x02\x2e\0\x11\x01\x12\x06\x03\x0e\0\0",
-        b"\0",
+        contents,
+    ])
+}
+
+/// Two abbreviations: a unit with a name and a language; a function with low_pc, high_pc and a name.
+const TABLE: &[u8] = b"\x01\x11\x01\x03\x0e\x13\x05\0\0\x02\x2e\0\x11\x01\x12\x06\x03\x0e\0\0\0";
+
+/// The unit `m.c` with `main` at 0x1_0000_0000 and so many bytes; its abbreviations stand at `table`.
+#[rattlefmt::skip]
+fn unit_bytes(alloc: Global, table: u8, at: &[u8]) -> Result<Bytes, NoMemory> {
+    joined(alloc, &[
         // unit_length, version, debug_abbrev_offset, address_size
-        b"\x20\0\0\0", b"\x04\0", b"\0\0\0\0", b"\x08",
+        b"\x20\0\0\0", b"\x04\0", &[table, 0, 0, 0], b"\x08",
         // code, name, language
         b"\x01", b"\0\0\0\0", b"\x0c\0",
         // code, low_pc, high_pc, name
-        b"\x02", b"\x50\x3f\0\0\x01\0\0\0", b"\x2a\0\0\0", b"\x04\0\0\0",
+        b"\x02", at, b"\0\0\x01\0\0\0", b"\x2a\0\0\0", b"\x04\0\0\0",
         b"\0",
-        // texts
-        b"m.c\0", b"main\0",
     ])
+}
+
+/// The image of the program of one object, of 4162 bytes.
+fn small_image(alloc: Global) -> Result<Bytes, NoMemory> {
+    let unit = unit_bytes(alloc, 0, b"\x50\x3f")?;
+    let mut contents = Bytes::new(alloc);
+    contents.extend(TABLE)?;
+    contents.extend(unit.as_slice())?;
+    contents.extend(b"m.c\0main\0")?;
+    image_bytes(
+        alloc,
+        b"\x42",
+        [b"\0\x40", b"\x15", b"\0\x10"],
+        [b"\x15\x40", b"\x24", b"\x15\x10"],
+        [b"\x39\x40", b"\x09", b"\x39\x10"],
+        contents.as_slice(),
+    )
+}
+
+/// The image of the program of three objects, of 4276 bytes.
+fn large_image(alloc: Global) -> Result<Bytes, NoMemory> {
+    let first = unit_bytes(alloc, 0, b"\x50\x3f")?;
+    let second = unit_bytes(alloc, 21, b"\x90\x3f")?;
+    let third = unit_bytes(alloc, 42, b"\xd0\x3f")?;
+    let mut contents = Bytes::new(alloc);
+    contents.extend(TABLE)?;
+    contents.extend(TABLE)?;
+    contents.extend(TABLE)?;
+    contents.extend(first.as_slice())?;
+    contents.extend(second.as_slice())?;
+    contents.extend(third.as_slice())?;
+    contents.extend(b"m.c\0main\0")?;
+    image_bytes(
+        alloc,
+        b"\xb4",
+        [b"\0\x40", b"\x3f", b"\0\x10"],
+        [b"\x3f\x40", b"\x6c", b"\x3f\x10"],
+        [b"\xab\x40", b"\x09", b"\xab\x10"],
+        contents.as_slice(),
+    )
 }
 
 /// The image of the program without functions, of 4096 bytes.
@@ -152,16 +244,30 @@ fn empty_image(alloc: Global) -> Result<Bytes, NoMemory> {
     ])
 }
 
-/// The files before a link: a program `a.out` and an object `/tmp/m.o` where they are given, and the image of an earlier
-/// link. The calls of the files with these numbers fail.
+/// The files before a link, where they are given: a program `a.out`, an object `/tmp/m.o`, an archive `/tmp/l.a`; and the
+/// image of an earlier link. The calls of the files with these numbers fail.
 #[derive(Clone, Copy)]
 struct Before<'a> {
     program: Option<&'a [u8]>,
     object: Option<&'a [u8]>,
+    archive: Option<&'a [u8]>,
     failing: &'a [u64],
 }
 
-/// Links by these words: the status is `want`, program and object are as they were, and the image is `image`.
+/// Puts a file, where it is given.
+fn put(
+    alloc: Global,
+    files: &mut MemoryFiles,
+    name: &str,
+    bytes: Option<&[u8]>,
+) -> Result<(), NoMemory> {
+    match bytes {
+        Some(bytes) => files.set(alloc, name, bytes),
+        None => Ok(()),
+    }
+}
+
+/// Links by these words: the status is `want`, program and objects are as they were, and the image is `image`.
 fn assert_links(
     rt: &impl Abort,
     alloc: Global,
@@ -180,12 +286,9 @@ fn assert_links(
     }
     let mut files = MemoryFiles::new(alloc, failing);
     files.set(alloc, IMAGE, EARLIER)?;
-    if let Some(bytes) = before.program {
-        files.set(alloc, "a.out", bytes)?;
-    }
-    if let Some(bytes) = before.object {
-        files.set(alloc, "/tmp/m.o", bytes)?;
-    }
+    put(alloc, &mut files, "a.out", before.program)?;
+    put(alloc, &mut files, "/tmp/m.o", before.object)?;
+    put(alloc, &mut files, "/tmp/l.a", before.archive)?;
     let mut messages = MemorySink::new(alloc, 0, List::new(alloc))?;
     let status = link_main(
         alloc,
@@ -205,80 +308,143 @@ fn assert_links(
         before.object,
         "the object after {want:?}"
     );
+    assert_eq!(rt;
+        files.file("/tmp/l.a"),
+        before.archive,
+        "the archive after {want:?}"
+    );
     assert_eq!(rt; files.file(IMAGE), Some(image), "the image after {want:?}");
     Ok(())
 }
 
-/// The status of a file that is not of the form.
-fn not_built(file: u32) -> Status {
+/// The status of a file with this first fault.
+fn faulty(file: u32, kind: Kind, section: Part, place: u64) -> Status {
     Status::Faulty {
         file,
         fault: Fault {
-            kind: Kind::NotBuilt,
-            section: Part::Header,
-            place: 0,
+            kind,
+            section,
+            place,
         },
     }
 }
 
 #[test]
-fn a_program_is_linked_with_its_object(rt: HostRuntime) -> Result<(), Fail> {
+fn a_program_is_linked_with_its_objects(rt: HostRuntime) -> Result<(), Fail> {
     let alloc = rt.alloc();
-    let object = object_bytes(alloc, 1)?;
-    let with_main = program_with_main(alloc)?;
-    let without = program_bytes(alloc, 1, 144, b"")?;
-    let mut before = Before {
-        program: Some(with_main.as_slice()),
-        object: Some(object.as_slice()),
-        failing: &[],
-    };
-    let image = image_with_main(alloc)?;
-    assert_eq!(rt; (with_main.len(), image.len()), (192, 4162));
-    assert_links(
-        &rt,
-        alloc,
-        &["a.out"],
-        before,
-        Status::Done,
-        image.as_slice(),
-    )?;
-    before.program = Some(without.as_slice());
-    let image = empty_image(alloc)?;
-    assert_eq!(rt; image.len(), 4096);
-    assert_links(
-        &rt,
-        alloc,
-        &["a.out"],
-        before,
-        Status::Done,
-        image.as_slice(),
-    )
+    let object = object_bytes(alloc, ARM64, 1)?;
+    let archive = archive_bytes(alloc, object.as_slice())?;
+    let small = small_program(alloc)?;
+    let large = large_program(alloc)?;
+    let none = program_bytes(alloc, b"\0\0\0\0", b"\x80\0\0\0", b"\0\0\0\0", b"", b"")?;
+    let (small_image, large_image, empty_image) = (
+        small_image(alloc)?,
+        large_image(alloc)?,
+        empty_image(alloc)?,
+    );
+    assert_eq!(rt;
+        (small_image.len(), large_image.len(), empty_image.len()),
+        (4162, 4276, 4096)
+    );
+    let (o, m) = (object.as_slice(), archive.as_slice());
+    let table = [
+        (small.as_slice(), o, m, small_image.as_slice()),
+        (large.as_slice(), o, m, large_image.as_slice()),
+        (none.as_slice(), o, m, empty_image.as_slice()),
+    ];
+    for (program, object, archive, image) in table {
+        let before = Before {
+            program: Some(program),
+            object: Some(object),
+            archive: Some(archive),
+            failing: &[],
+        };
+        assert_links(&rt, alloc, &["a.out"], before, Status::Done, image)?;
+    }
+    Ok(())
 }
 
 #[test]
-fn the_first_file_that_is_not_of_the_form_is_told(rt: HostRuntime) -> Result<(), Fail> {
+fn the_first_fault_of_the_first_faulty_file_is_told(rt: HostRuntime) -> Result<(), Fail> {
     let alloc = rt.alloc();
-    let sound = program_with_main(alloc)?;
-    let object = object_bytes(alloc, 1)?;
-    let mut cut = program_with_main(alloc)?;
-    let last = cut.pop();
-    assert_eq!(rt; (cut.len(), last), (191, Some(0)));
-    let other_code = object_bytes(alloc, 2)?;
+    let program = large_program(alloc)?;
+    let mut cut = small_program(alloc)?;
+    cut.pop();
+    let object = object_bytes(alloc, ARM64, 1)?;
+    let archive = archive_bytes(alloc, object.as_slice())?;
+    let other_cpu = object_bytes(alloc, b"\x07\0\0\x01", 1)?;
+    let other_table = object_bytes(alloc, ARM64, 2)?;
+    let mut no_strings = object_bytes(alloc, ARM64, 1)?;
+    no_strings.pop();
+    let bad_member = archive_bytes(alloc, no_strings.as_slice())?;
+    let (a, o, m) = (program.as_slice(), object.as_slice(), archive.as_slice());
+    let not_built = faulty(1, Kind::NotBuilt, Part::Header, 0);
     let table = [
-        (cut.as_slice(), Some(object.as_slice()), 0),
-        (cut.as_slice(), None, 0),
-        (cut.as_slice(), Some(other_code.as_slice()), 0),
-        (b"".as_slice(), Some(object.as_slice()), 0),
-        (sound.as_slice(), Some(other_code.as_slice()), 1),
-        (sound.as_slice(), Some(b"".as_slice()), 1),
+        (
+            b"".as_slice(),
+            o,
+            m,
+            faulty(0, Kind::Truncated, Part::Header, 0),
+        ),
+        (
+            &[0xcf; 31],
+            o,
+            m,
+            faulty(0, Kind::Truncated, Part::Header, 0),
+        ),
+        (&[0; 32], o, m, faulty(0, Kind::NotMachO, Part::Header, 0)),
+        (
+            cut.as_slice(),
+            o,
+            m,
+            faulty(0, Kind::BadSymbols, Part::Symbols, 0),
+        ),
+        (o, o, m, faulty(0, Kind::BadFileType, Part::Header, 12)),
+        (a, b"", m, faulty(1, Kind::Truncated, Part::Header, 0)),
+        (a, a, m, faulty(1, Kind::BadFileType, Part::Header, 12)),
+        (
+            a,
+            other_cpu.as_slice(),
+            m,
+            faulty(1, Kind::WrongCpu, Part::Header, 4),
+        ),
+        (
+            a,
+            no_strings.as_slice(),
+            m,
+            faulty(1, Kind::BadSymbols, Part::Symbols, 0),
+        ),
+        (a, other_table.as_slice(), m, not_built),
+        // the archive is looked at behind the object of a lower number
+        (a, other_table.as_slice(), b"", not_built),
+        (a, o, b"", faulty(2, Kind::NotArchive, Part::Archive, 0)),
+        (
+            a,
+            o,
+            b"!<arch>\n",
+            faulty(2, Kind::NoMember, Part::Archive, 0),
+        ),
+        (
+            a,
+            o,
+            b"!<arch>\nm.o",
+            faulty(2, Kind::BadMember, Part::Archive, 8),
+        ),
+        (
+            a,
+            o,
+            bad_member.as_slice(),
+            faulty(2, Kind::BadSymbols, Part::Symbols, 0),
+        ),
     ];
-    for (program, object, file) in table {
+    for (program, object, archive, want) in table {
         let before = Before {
             program: Some(program),
-            object,
+            object: Some(object),
+            archive: Some(archive),
             failing: &[],
         };
-        assert_links(&rt, alloc, &["a.out"], before, not_built(file), EARLIER)?;
+        assert_links(&rt, alloc, &["a.out"], before, want, EARLIER)?;
     }
     Ok(())
 }
@@ -286,17 +452,26 @@ fn the_first_file_that_is_not_of_the_form_is_told(rt: HostRuntime) -> Result<(),
 #[test]
 fn the_first_file_that_is_missing_is_told(rt: HostRuntime) -> Result<(), Fail> {
     let alloc = rt.alloc();
-    let program = program_with_main(alloc)?;
-    let object = object_bytes(alloc, 1)?;
+    let program = large_program(alloc)?;
+    let object = object_bytes(alloc, ARM64, 1)?;
+    let mut no_strings = object_bytes(alloc, ARM64, 1)?;
+    no_strings.pop();
+    let archive = archive_bytes(alloc, object.as_slice())?;
+    let (a, o, m) = (program.as_slice(), object.as_slice(), archive.as_slice());
     let table = [
-        (None, Some(object.as_slice()), 0),
-        (None, None, 0),
-        (Some(program.as_slice()), None, 1),
+        (None, Some(o), Some(m), 0),
+        (None, None, None, 0),
+        (Some(a), None, Some(m), 1),
+        (Some(a), None, None, 1),
+        (Some(a), Some(o), None, 2),
+        // though the object of a lower number is faulty
+        (Some(a), Some(no_strings.as_slice()), None, 2),
     ];
-    for (program, object, file) in table {
+    for (program, object, archive, file) in table {
         let before = Before {
             program,
             object,
+            archive,
             failing: &[],
         };
         assert_links(
@@ -311,22 +486,26 @@ fn the_first_file_that_is_missing_is_told(rt: HostRuntime) -> Result<(), Fail> {
     Ok(())
 }
 
+/// The third object lies in the first one's file, which is not read again: the fourth call writes.
 #[test]
 fn each_call_of_the_files_fails_in_turn(rt: HostRuntime) -> Result<(), Fail> {
     let alloc = rt.alloc();
-    let program = program_with_main(alloc)?;
-    let object = object_bytes(alloc, 1)?;
-    let image = image_with_main(alloc)?;
+    let program = large_program(alloc)?;
+    let object = object_bytes(alloc, ARM64, 1)?;
+    let archive = archive_bytes(alloc, object.as_slice())?;
+    let image = large_image(alloc)?;
     let table = [
         (1, Status::ReadFault { file: 0 }, EARLIER),
         (2, Status::ReadFault { file: 1 }, EARLIER),
-        (3, Status::WriteFault { file: 1 }, EARLIER),
-        (4, Status::Done, image.as_slice()),
+        (3, Status::ReadFault { file: 2 }, EARLIER),
+        (4, Status::WriteFault { file: 1 }, EARLIER),
+        (5, Status::Done, image.as_slice()),
     ];
     for (call, want, image) in table {
         let before = Before {
             program: Some(program.as_slice()),
             object: Some(object.as_slice()),
+            archive: Some(archive.as_slice()),
             failing: &[call],
         };
         assert_links(&rt, alloc, &["a.out"], before, want, image)?;
@@ -337,8 +516,8 @@ fn each_call_of_the_files_fails_in_turn(rt: HostRuntime) -> Result<(), Fail> {
 #[test]
 fn words_that_name_no_program_are_refused(rt: HostRuntime) -> Result<(), Fail> {
     let alloc = rt.alloc();
-    let program = program_with_main(alloc)?;
-    let object = object_bytes(alloc, 1)?;
+    let program = small_program(alloc)?;
+    let object = object_bytes(alloc, ARM64, 1)?;
     let table: [&[&str]; 9] = [
         &[],
         &["a.out", "a.out"],
@@ -354,6 +533,7 @@ fn words_that_name_no_program_are_refused(rt: HostRuntime) -> Result<(), Fail> {
         let before = Before {
             program: Some(program.as_slice()),
             object: Some(object.as_slice()),
+            archive: None,
             failing: &[],
         };
         assert_links(&rt, alloc, words, before, Status::Usage, EARLIER)?;
@@ -372,7 +552,7 @@ fn statuses_have_their_codes(rt: HostRuntime) {
         (Status::Usage, 1),
         (Status::Missing { file: 1 }, 2),
         (Status::ReadFault { file: 1 }, 3),
-        (not_built(1), 4),
+        (faulty(1, Kind::NotBuilt, Part::Header, 0), 4),
         (limit, 5),
         (Status::WriteFault { file: 1 }, 6),
         (Status::NoMemory, 7),

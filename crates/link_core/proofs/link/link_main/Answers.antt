@@ -1,5 +1,5 @@
-use Rattle.std.proofs.Common.{sym, refl}
-use Rattle.link_core.specs.Answer.{usage, named}
+use Rattle.std.proofs.Common.{refl, sym}
+use Rattle.link_core.specs.Answer.{named, usage}
 use Rattle.link_core.proofs.link.link_main.Goals as goal
 
 pub returns-in-Some : goal.returns-in-Some

@@ -1,5 +1,5 @@
 use Rattle.std.proofs.Common.{◌≡◌, ◌++◌, take}
-use Rattle.link_core.specs.Records.{numbers}
+use Rattle.link_core.specs.Image.{numbers}
 use Rattle.link_core.proofs.output.push_u64s.Given as goal
 
 abbrev pub invariant-loop-n : goal.invariant-loop-n

@@ -1,0 +1,82 @@
+-- A table of members, and what is still found in the archive.
+use Rattle.std.proofs.Common.{◌≡◌, ℕ, zero, suc, ◌+◌, ◌-◌, ◌<◌, ◌≤◌, ◌==◌, Bool, true, false, List, [], ◌∷◌, ◌++◌, length, drop, Option, Some, None, is_some, Result, Ok, Err, Bor, if◌then◌else◌, refl, sym, ap, ◌∙◌, true≢false, arith}
+use Rattle.std.specs.Map.{lookup}
+use Rattle.std.specs.Option.{option_or}
+use Rattle.std.specs.Str.{bytes_eq}
+use Rattle.std.specs.Cmp.Lexicographic.{nat_list_eq_equiv}
+use Rattle.std.proofs.lemmas.Slice.Eq.{bytes_eq-Decides}
+use Rattle.indexmap.specs.IndexMap.{IndexMap}
+use Rattle.ds_base.specs.declared.fault.Fault.{Fault}
+use Rattle.ds_base.specs.declared.fault.Kind.TheVariants as kinds
+use Rattle.ar_read.specs.Header.{archive_fault, member_at, Named}
+use Rattle.ar_read.specs.Archive.{find_in, member_size}
+use Rattle.ar_read.specs.Table.{or_else, content_in, PutsBehind}
+
+-- ---- one more member in the table
+
+pub none_from : {X : Type 0} (o : Option X) → is_some o ≡ false → o ≡ None
+none_from None e = refl
+none_from (Some x) e = absurd (cc)
+
+lookup-push : {K X : Type 0} (test : K → Bool) (es : List (K × X)) (k : K) (v : X)
+    → lookup test (es ++ (k, v) ∷ []) ≡ option_or (lookup test es) (if test k then Some v else None)
+lookup-push test [] k v = refl
+lookup-push test (e ∷ es) k v = rw (lookup-push test es k v) (by (test e.0))
+  where
+    by : (first : Bool) → (if first then Some e.1 else option_or (lookup test es) (if test k then Some v else None))
+        ≡ option_or (if first then Some e.1 else lookup test es) (if test k then Some v else None)
+    by true = refl
+    by false = refl
+
+module _ {S : Type 0} (old new : IndexMap (Bor (List ℕ)) (Bor (List ℕ)) S) (its content : Bor (List ℕ)) where
+  -- a member of a new name is put last
+  pub puts_last : new.entries ≡ old.entries ++ (its, content) ∷ [] → PutsBehind old new its.now content.now
+  puts_last grown name other =
+      ap (λ (found : Option (Bor (List ℕ))). or_else found other)
+      (ap (lookup (λ k. bytes_eq name k.now)) grown ∙ lookup-push (λ k. bytes_eq name k.now) old.entries its content)
+      ∙ rw (nat_list_eq_equiv.symm name its.now) (by (content_in old name) (bytes_eq its.now name))
+    where
+      by : (before : Option (Bor (List ℕ))) (same : Bool)
+          → or_else (option_or before (if same then Some content else None)) other ≡ or_else before (if same then Ok content.now else other)
+      by (Some found) same = refl
+      by None true = refl
+      by None false = refl
+
+-- one of a known name is not
+pub puts_none : {S : Type 0} (old : IndexMap (Bor (List ℕ)) (Bor (List ℕ)) S) (its content : List ℕ) → is_some (content_in old its) ≡ true → PutsBehind old old its content
+puts_none old its content known name other = by (bytes_eq its name) refl
+  where
+    found : (o : Option (Bor (List ℕ))) → is_some o ≡ true → (x y : Result (List ℕ) Fault) → or_else o x ≡ or_else o y
+    found (Some c) e x y = refl
+    found None e x y = absurd (true≢false (sym e))
+
+    by : (same : Bool) → bytes_eq its name ≡ same → or_else (content_in old name) other ≡ or_else (content_in old name) (if same then Ok content else other)
+    by true e = found (content_in old name) (ap (λ (n : List ℕ). is_some (content_in old n)) (sym ((bytes_eq-Decides its name).0 e)) ∙ known) _ _
+    by false e = refl
+
+-- ---- what is still found
+
+-- at a member it is that, or what is found behind it
+pub find_step : (count i end : ℕ) (name rest : List ℕ) (m : Named) → i < count → (length rest == 0) ≡ false → member_at (end - length rest) rest ≡ Ok m
+    → find_in (count - i) end name rest ≡ (if bytes_eq m.name name then Ok m.content else find_in (count - (i + 1)) end name (drop (member_size m.size) rest))
+find_step count i end name rest m lt some is =
+    let left : count - i ≡ suc (count - (i + 1)) = omega arith in
+    rw (left, some, is) refl
+
+-- at a fault it is that
+pub find_fault : (count i end : ℕ) (name rest : List ℕ) (fault : Fault) → i < count → (length rest == 0) ≡ false → member_at (end - length rest) rest ≡ Err fault
+    → find_in (count - i) end name rest ≡ Err fault
+find_fault count i end name rest fault lt some is =
+    let left : count - i ≡ suc (count - (i + 1)) = omega arith in
+    rw (left, some, is) refl
+
+-- at the archive's end there is none
+pub find_end : (count end : ℕ) (name rest : List ℕ) → (length rest == 0) ≡ true → find_in count end name rest ≡ Err (archive_fault kinds.NoMember 0)
+find_end zero end name rest none = refl
+find_end (suc count) end name rest none = rw none refl
+
+-- nor behind so many bytes
+pub find_last : (count i end : ℕ) (name rest : List ℕ) → count ≤ i → find_in (count - i) end name rest ≡ Err (archive_fault kinds.NoMember 0)
+find_last count i end name rest le =
+    let left : count - i ≡ 0 = omega arith in
+    rw left refl

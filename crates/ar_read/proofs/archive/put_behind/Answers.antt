@@ -1,0 +1,12 @@
+use Rattle.std.proofs.Common.{◌∙◌, sym}
+use Rattle.indexmap.proofs.CallerLemmas.{insert_entry-new}
+use Rattle.ar_read.proofs.Table.{none_from, puts_last, puts_none}
+use Rattle.ar_read.proofs.archive.put_behind.Goals as goal
+
+pub returns-then-contains_key : goal.returns-then-contains_key
+returns-then-contains_key c = puts_none c.args.contents.now c.args.name.now c.args.content.now (sym c.contains_key.ensures ∙ c.if-contains_key.true)
+
+pub returns : goal.returns
+returns c =
+    puts_last c.args.contents.now c.insert.new.self c.args.name c.args.content
+    (c.in_ok-insert.ensures.entries ∙ insert_entry-new _ c.args.contents.now c.args.name c.args.content (none_from _ (sym c.contains_key.ensures ∙ c.if-contains_key.false)))
