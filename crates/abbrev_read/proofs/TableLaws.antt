@@ -13,7 +13,8 @@ use Rattle.ds_base.specs.Reading.{◌>>=◌, refuse_if, number_at, uleb_at, sleb
 use Rattle.dwarf_types.specs.Spelled.{AreBytes, InTurn, IsUleb, IsSleb, IsNumber, Made}
 use Rattle.dwarf_types.specs.declared.abbrev.Field.{Field}
 use Rattle.dwarf_types.specs.declared.abbrev.Abbrev.{Abbrev}
-use Rattle.dwarf_types.proofs.Readers.{bind_ok, passed, ok_is, IsBytes, IsBytes-drop, IsBytes-from, Stands, Taken, Again, Reader, Both, both_reader, tested_reader, checked_reader, made_reader, nothing_reader, renamed_reader, uleb_reader, sleb_reader, number_reader}
+use Rattle.ds_base.proofs.Passing.{bind_ok, passed, ok_is}
+use Rattle.dwarf_types.proofs.Readers.{IsBytes, IsBytes-drop, IsBytes-from, Stands, Taken, Again, Reader, Both, both_reader, tested_reader, checked_reader, made_reader, nothing_reader, renamed_reader, uleb_reader, sleb_reader, number_reader}
 use Rattle.abbrev_read.specs.Codes.{is_declared}
 use Rattle.abbrev_read.specs.Reading.{short_at, one_is_zero, pair_at, field_at, fields_at, declaration_at, declarations_at, table_spot, table_at}
 use Rattle.abbrev_read.specs.Spelling.{constant_in, SpellsField, SpellsFields, children_byte, SpellsTable, IsShort, AreFields, AreDeclarations, StandsAt}

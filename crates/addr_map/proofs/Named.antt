@@ -6,7 +6,7 @@ use Rattle.std.specs.Str.{bytes_eq}
 use Rattle.std.proofs.lemmas.List.{drop_more}
 use Rattle.std.proofs.lemmas.Option.{some_pair_parts}
 use Rattle.macho_read.specs.declared.image.Symbol.{Symbol}
-use Rattle.reloc_table.specs.Standings.{is_stab}
+use Rattle.macho_read.specs.Standings.{is_stab}
 use Rattle.addr_map.specs.Entries.{has_name}
 
 -- the index of the first symbol of a name, of those from an index on

@@ -3,8 +3,8 @@ use Rattle.std.proofs.Common.{◌≡◌, ℕ, ◌^◌, ◌<◌, ◌&&◌, ◌==�
 use Rattle.ds_base.specs.declared.macho.TheConstants.{N_SECT, N_TYPE, N_UNDF}
 use Rattle.macho_read.specs.declared.image.Image.{Image}
 use Rattle.macho_read.specs.declared.image.Symbol.{Symbol}
-use Rattle.reloc_table.specs.declared.symbol.Standing.TheVariants as standings
-use Rattle.reloc_table.specs.Standings.{has_section, is_common, is_stab, standing_of}
+use Rattle.macho_read.specs.declared.standing.Standing.TheVariants as standings
+use Rattle.macho_read.specs.Standings.{has_section, is_common, is_stab, standing_of}
 use Rattle.addr_map.specs.Entries.{end_of, next_among, places, section_end}
 
 -- ---- the section of a symbol

@@ -9,9 +9,9 @@ use Rattle.std.proofs.lemmas.List.Kept.{AllPairs-cons}
 use Rattle.macho_read.specs.declared.image.Image.{Image}
 use Rattle.macho_read.specs.declared.image.Symbol.{Symbol}
 use Rattle.stab_map.specs.declared.object.MapEntry.{MapEntry}
-use Rattle.reloc_table.specs.declared.symbol.Standing.{Standing}
-use Rattle.reloc_table.specs.declared.symbol.Standing.TheVariants as standings
-use Rattle.reloc_table.specs.Standings.{standing_of}
+use Rattle.macho_read.specs.declared.standing.Standing.{Standing}
+use Rattle.macho_read.specs.declared.standing.Standing.TheVariants as standings
+use Rattle.macho_read.specs.Standings.{standing_of}
 use Rattle.addr_map.specs.declared.entry.Given.{Given}
 use Rattle.addr_map.specs.declared.entry.Given.TheVariants as givens
 use Rattle.addr_map.specs.declared.map.MapRange.{MapRange}

@@ -6,9 +6,9 @@ use Rattle.std.specs.Str.{bytes_eq}
 use Rattle.macho_read.specs.declared.image.Image.{Image}
 use Rattle.macho_read.specs.declared.image.Symbol.{Symbol}
 use Rattle.stab_map.specs.declared.object.MapEntry.{MapEntry}
-use Rattle.reloc_table.specs.declared.symbol.Standing.{Standing}
-use Rattle.reloc_table.specs.declared.symbol.Standing.TheVariants as standings
-use Rattle.reloc_table.specs.Standings.{is_stab, standing_of}
+use Rattle.macho_read.specs.declared.standing.Standing.{Standing}
+use Rattle.macho_read.specs.declared.standing.Standing.TheVariants as standings
+use Rattle.macho_read.specs.Standings.{is_stab, standing_of}
 use Rattle.addr_map.specs.declared.map.MapRange.{MapRange}
 use Rattle.addr_map.specs.declared.entry.Given.{Given}
 use Rattle.addr_map.specs.declared.entry.Given.TheVariants as givens

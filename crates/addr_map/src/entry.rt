@@ -3,14 +3,13 @@
 ghost use Rattle.std.specs.Prelude.{◌≡◌, ◌^◌, ◌<◌, ℕ, List as Listed, SomeIff, IsTrue};
 ghost use Rattle.std.specs.List.Sorted.{IsPermutation, IsSorted};
 ghost use Rattle.std.specs.Option.{option_map};
-ghost use Rattle.reloc_table.specs.Standings.{has_section};
+ghost use Rattle.macho_read.specs.Standings.{has_section};
 ghost use Rattle.addr_map.specs.Entries.{end_of, given_of, named, places as places_of, range_from, section_end};
 ghost use Rattle.addr_map.specs.Tables.{index_in, place_cmp};
 
 use crate::map::{MapName, MapRange};
 use crate::places::next_address;
-use macho_read::{Image, Symbol};
-use reloc_table::{Standing, standing_of};
+use macho_read::{Image, Standing, Symbol, standing_of};
 use stab_map::MapEntry;
 use std::collections::HashMap;
 

@@ -3,13 +3,12 @@
 ghost use Rattle.std.specs.Prelude.{◌≡◌, ◌≤◌, true, false, length, IfOk};
 ghost use Rattle.std.specs.List.Sorted.{IsPartitionPoint, IsPermutation, IsSorted};
 ghost use Rattle.std.specs.Ordering.{is_le};
-ghost use Rattle.reloc_table.specs.Standings.{standing_of};
+ghost use Rattle.macho_read.specs.Standings.{standing_of};
 ghost use Rattle.addr_map.specs.Entries.{places, place_of};
 ghost use Rattle.addr_map.specs.Tables.{place_cmp, IsNext};
 
 use ds_base::NoMemory;
-use macho_read::{Image, Symbol};
-use reloc_table::{Standing, standing_of};
+use macho_read::{Image, Standing, Symbol, standing_of};
 use std::alloc::Global;
 
 /// The ordinals of the sections, from 1, and the addresses of the symbols that are defined, in order.

@@ -7,8 +7,7 @@ ghost use Rattle.addr_map.specs.Entries.{has_name};
 ghost use Rattle.addr_map.specs.Tables.{index_in};
 
 use ds_base::NoMemory;
-use macho_read::Symbol;
-use reloc_table::is_stab;
+use macho_read::{Symbol, is_stab};
 use std::alloc::Global;
 use std::collections::HashMap;
 

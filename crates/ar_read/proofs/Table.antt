@@ -8,25 +8,12 @@ use Rattle.std.proofs.lemmas.Slice.Eq.{bytes_eq-Decides}
 use Rattle.indexmap.specs.IndexMap.{IndexMap}
 use Rattle.ds_base.specs.declared.fault.Fault.{Fault}
 use Rattle.ds_base.specs.declared.fault.Kind.TheVariants as kinds
+use Rattle.ds_base.proofs.Lookups.{lookup-push}
 use Rattle.ar_read.specs.Header.{archive_fault, member_at, Named}
 use Rattle.ar_read.specs.Archive.{find_in, member_size}
 use Rattle.ar_read.specs.Table.{or_else, content_in, PutsBehind}
 
 -- ---- one more member in the table
-
-pub none_from : {X : Type 0} (o : Option X) → is_some o ≡ false → o ≡ None
-none_from None e = refl
-none_from (Some x) e = absurd (cc)
-
-lookup-push : {K X : Type 0} (test : K → Bool) (es : List (K × X)) (k : K) (v : X)
-    → lookup test (es ++ (k, v) ∷ []) ≡ option_or (lookup test es) (if test k then Some v else None)
-lookup-push test [] k v = refl
-lookup-push test (e ∷ es) k v = rw (lookup-push test es k v) (by (test e.0))
-  where
-    by : (first : Bool) → (if first then Some e.1 else option_or (lookup test es) (if test k then Some v else None))
-        ≡ option_or (if first then Some e.1 else lookup test es) (if test k then Some v else None)
-    by true = refl
-    by false = refl
 
 module _ {S : Type 0} (old new : IndexMap (Bor (List ℕ)) (Bor (List ℕ)) S) (its content : Bor (List ℕ)) where
   -- a member of a new name is put last

@@ -1,9 +1,13 @@
 pub mod Backwards
+pub mod Finding
 pub mod Items
 pub mod LebLengths
 pub mod LebReading
 pub mod LebShortest
 pub mod LebValues
+pub mod Lookups
+pub mod Onward
+pub mod Passing
 pub mod Refusals
 pub mod Rooms
 pub mod Walking

@@ -1,5 +1,5 @@
 -- Where a cursor stands.
-use Rattle.std.specs.Prelude.{ℕ, ◌+◌, ◌≤◌, List, length, slice_range}
+use Rattle.std.specs.Prelude.{ℕ, ◌+◌, ◌≤◌, ◌<◌, ◌^◌, List, length, slice_range}
 use Rattle.ds_base.specs.declared.fault.Fault.{Fault}
 use Rattle.ds_base.specs.declared.fault.Kind.{Kind}
 use Rattle.ds_base.specs.declared.fault.Part.{Part}
@@ -14,6 +14,11 @@ pub record Spot : Type 0 where
 pub record IsSpot (s : Spot) : Type 0 where
   pub before_end : s.place ≤ s.end
   pub in_bytes : s.end ≤ length s.bytes
+
+-- its places have 32 bits
+pub record IsSmall (s : Spot) : Type 0 where
+  pub before_end : s.place ≤ s.end
+  pub small : s.end < 2 ^ 32
 
 -- the bytes that are left
 abbrev pub rest : Spot → List ℕ

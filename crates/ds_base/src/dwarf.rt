@@ -983,3 +983,11 @@ pub const DW_UT_skeleton: u8 = 0x04;
 pub const DW_UT_split_compile: u8 = 0x05;
 
 pub const DW_UT_split_type: u8 = 0x06;
+
+// DWARF 5, section 7.2.2: lengths.
+/// "The values 0xfffffff0 through 0xffffffff are reserved" for lengths.
+pub const LENGTH_RESERVED: u32 = 0xffff_fff0;
+
+// DWARF 5, section 7.24: call frame information.
+/// The id of a CIE.
+pub const DW_CIE_ID: u32 = 0xffff_ffff;

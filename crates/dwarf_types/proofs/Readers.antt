@@ -12,30 +12,8 @@ use Rattle.ds_base.specs.declared.fault.Kind.TheVariants.{Truncated, LebTooWide}
 use Rattle.ds_base.specs.Spot.{Spot, IsSpot, rest, after, fault_at}
 use Rattle.ds_base.specs.Leb.{uleb_value, sleb_value, fits_i64, IsSpelled}
 use Rattle.ds_base.specs.Reading.{◌>>=◌, refuse_if, or_fault, index_below, bytes_at, number_at, text_at, leb_at, uleb_at, sleb_at}
+use Rattle.ds_base.proofs.Passing.{bind_ok, passed, guard_ok, ok_is, found_ok}
 use Rattle.dwarf_types.specs.Spelled.{AreBytes, AreTextBytes, IsUleb, IsSleb, IsNumber, IsCopy, IsText, Made}
-
--- ---- steps that did not fail
-
--- the value of such a step
-pub bind_ok : {A B : Type 0} (r : Result A Fault) (f : A → Result B Fault) (y : B) → (r >>= f) ≡ Ok y → (x : A) × (r ≡ Ok x) × (f x ≡ Ok y)
-bind_ok (Ok x) f y e = (x, refl, e)
-bind_ok (Err d) f y e = absurd cc
-
--- a test that let through what follows
-pub passed : {A : Type 0} (b : Bool) (f : Fault) (next : Result A Fault) (y : A) → (refuse_if b f >>= λ u. next) ≡ Ok y → (b ≡ false) × (next ≡ Ok y)
-passed true f next y e = absurd cc
-passed false f next y e = (refl, e)
-
--- a test that did not fail
-pub guard_ok : {A : Type 0} (b : Bool) (d : Fault) (x y : A) → cond b (Err d) (Ok x) ≡ Ok y → (b ≡ false) × (x ≡ y)
-guard_ok true d x y e = absurd cc
-guard_ok false d x y e = (refl, cc)
-
-abbrev done : {A : Type 0} → A → Result A Fault
-done x = Ok x
-
-pub ok_is : {A : Type 0} (x y : A) → done x ≡ done y → x ≡ y
-ok_is x y e = cc
 
 -- ---- bytes, by place and by recursion
 
@@ -262,11 +240,6 @@ zero_behind [] more h = refl
 zero_behind (b ∷ text) more h =
     let some : 0 < b = h.0.0 in
     rw (le-ltb b 1 (omega arith), zero_behind text more h.1) refl
-
--- what is there
-pub found_ok : {A : Type 0} (o : Option A) (f : Fault) (x : A) → or_fault o f ≡ Ok x → o ≡ Some x
-found_ok (Some y) f x e = cc
-found_ok None f x e = absurd cc
 
 text_take : (s : Spot) (a : List ℕ) (t : Spot) → Stands s → text_at s ≡ Ok (a, t) → Taken IsText s a t
 unfolding text_at

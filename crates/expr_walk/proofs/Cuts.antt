@@ -6,7 +6,7 @@ use Rattle.std.proofs.Math.Nat.{mul-add}
 use Rattle.std.proofs.lemmas.Bool.{ltb-false, le-ltb, eqb-true}
 use Rattle.std.proofs.lemmas.List.{take-append-drop, drop-take, drop-drop, length-take, flat_map_more, append-nil}
 use Rattle.std.proofs.Math.Seq.{take-length}
-use Rattle.dwarf_types.proofs.Readers.{guard_ok}
+use Rattle.ds_base.proofs.Passing.{guard_ok}
 use Rattle.ds_base.proofs.LebLengths.{few_digits}
 use Rattle.ds_base.specs.declared.fault.Fault.{Fault}
 use Rattle.ds_base.specs.declared.fault.Kind.{Kind}

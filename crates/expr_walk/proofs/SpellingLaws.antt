@@ -13,7 +13,8 @@ use Rattle.ds_base.specs.Reading.{◌>>=◌, or_fault, bytes_at, number_at, uleb
 use Rattle.dwarf_types.specs.Spelled.{Made, IsUleb, IsSleb, IsNumber, IsCopy, AreBytes}
 use Rattle.dwarf_types.specs.declared.expr.Op.{Op}
 use Rattle.dwarf_types.specs.declared.expr.PlainOp.{PlainOp}
-use Rattle.dwarf_types.proofs.Readers.{bind_ok, ok_is, found_ok, IsBytes-from, Stands, Again, Reader, Both, both_reader, made_reader, nothing_reader, renamed_reader, bytes_reader, number_reader, uleb_reader, sleb_reader, length_rest as length_rest_is}
+use Rattle.ds_base.proofs.Passing.{bind_ok, ok_is, found_ok}
+use Rattle.dwarf_types.proofs.Readers.{IsBytes-from, Stands, Again, Reader, Both, both_reader, made_reader, nothing_reader, renamed_reader, bytes_reader, number_reader, uleb_reader, sleb_reader, length_rest as length_rest_is}
 use Rattle.expr_walk.specs.declared.operands.Operands.{Operands}
 use Rattle.expr_walk.specs.declared.operands.Operands.TheVariants as operands
 use Rattle.expr_walk.specs.declared.op.Named.{Named}

@@ -8,10 +8,11 @@ use Rattle.ds_base.specs.Spot.{Spot, rest, fault_at}
 use Rattle.ds_base.specs.Reading.{◌>>=◌, refuse_if, or_fault, bytes_at, number_at, text_at, sleb_at}
 use Rattle.dwarf_types.specs.Spelled.{IsSleb, IsNumber, IsCopy, IsText}
 use Rattle.dwarf_types.specs.declared.abbrev.Field.{Field}
-use Rattle.dwarf_types.specs.declared.sections.Sections.{Sections}
+use Rattle.dwarf_types.specs.SectionBytes.{SectionBytes}
 use Rattle.dwarf_types.specs.declared.value.Value.{Value}
 use Rattle.dwarf_types.specs.declared.value.Value.TheVariants as values
-use Rattle.dwarf_types.proofs.Readers.{bind_ok, passed, ok_is, found_ok, Stands, Taken, Again, Reader, Both, both_reader, made_reader, nothing_reader, renamed_reader, bytes_reader, number_reader, text_reader, uleb_reader, sleb_reader}
+use Rattle.ds_base.proofs.Passing.{bind_ok, passed, ok_is, found_ok}
+use Rattle.dwarf_types.proofs.Readers.{Stands, Taken, Again, Reader, Both, both_reader, made_reader, nothing_reader, renamed_reader, bytes_reader, number_reader, text_reader, uleb_reader, sleb_reader}
 use Rattle.form_value.specs.declared.form.Coding.{Coding}
 use Rattle.form_value.specs.declared.form.Coding.TheVariants.{One, Two, Three, Four, Eight, Leb}
 use Rattle.form_value.specs.declared.form.FormClass.{FormClass}
@@ -67,12 +68,12 @@ place_again section s bytes text more h w parts =
 place_reader : (section : List ℕ) → Reader (placed_text_at section) (SpellsPlace section)
 place_reader section = record { takes = place_take section; again = place_again section }
 
-class_reader : (class : FormClass) (field : Field) (sections : Sections) → Reader (class_at class field sections) (SpellsClass class field sections)
+class_reader : (class : FormClass) (field : Field) (sections : SectionBytes) → Reader (class_at class field sections) (SpellsClass class field sections)
 unfolding class_at
 class_reader Address field sections = made_reader fixed_address (number_at 8) (IsNumber 8) (number_reader 8)
 class_reader Text field sections = made_reader (λ text. values.Text text) text_at IsText text_reader
-class_reader StrText field sections = made_reader (λ text. values.Text text) (placed_text_at sections.strings.now) (SpellsPlace sections.strings.now) (place_reader sections.strings.now)
-class_reader LineStrText field sections = made_reader (λ text. values.Text text) (placed_text_at sections.line_str.now) (SpellsPlace sections.line_str.now) (place_reader sections.line_str.now)
+class_reader StrText field sections = made_reader (λ text. values.Text text) (placed_text_at sections.strings) (SpellsPlace sections.strings) (place_reader sections.strings)
+class_reader LineStrText field sections = made_reader (λ text. values.Text text) (placed_text_at sections.line_str) (SpellsPlace sections.line_str) (place_reader sections.line_str)
 class_reader (Number coding) field sections = made_reader (λ n. values.Number field.form n) (coded_at coding) (SpellsNumber coding) (coded_reader coding)
 class_reader Signed field sections = made_reader (λ n. values.Number field.form (in_64_bits n)) sleb_at IsSleb sleb_reader
 class_reader Present field sections = nothing_reader (values.Number field.form 1)
@@ -82,7 +83,7 @@ class_reader (Block coding) field sections = made_reader (λ block. values.Block
 class_reader (Offset coding) field sections = made_reader (λ n. values.Offset n) (coded_at coding) (SpellsNumber coding) (coded_reader coding)
 class_reader Outside field sections = record { takes = λ s a t h e. absurd cc; again = λ s bytes a more h spells parts. absurd spells }
 
-pub value_spelled : (field : Field) (version : ℕ) (sections : Sections) (s : Spot) (value : Value) (t : Spot) → Stands s → value_at field version sections s ≡ Ok (value, t) → IsSpelled field version sections s value t
+pub value_spelled : (field : Field) (version : ℕ) (sections : SectionBytes) (s : Spot) (value : Value) (t : Spot) → Stands s → value_at field version sections s ≡ Ok (value, t) → IsSpelled field version sections s value t
 unfolding value_at
 value_spelled field version sections s value t h e =
     let b = bind_ok (or_fault (form_row field.form) (fault_at s kinds.UnknownForm)) (λ row. refuse_if (nat_lt version row.since) (fault_at s kinds.FormOutsideProfile) >>= λ u. class_at row.class field sections s) (value, t) e in
@@ -95,7 +96,7 @@ value_spelled field version sections s value t h e =
       parts = f.parts;
     }
 
-pub value_read : (field : Field) (version : ℕ) (sections : Sections) (s : Spot) (bytes : List ℕ) (value : Value) (more : List ℕ) → Stands s → SpellsValue field version sections bytes value → rest s ≡ bytes ++ more
+pub value_read : (field : Field) (version : ℕ) (sections : SectionBytes) (s : Spot) (bytes : List ℕ) (value : Value) (more : List ℕ) → Stands s → SpellsValue field version sections bytes value → rest s ≡ bytes ++ more
     → IsRead field version sections s value more
 unfolding value_at
 value_read field version sections s bytes value more h w parts =

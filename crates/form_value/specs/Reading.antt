@@ -9,7 +9,7 @@ use Rattle.ds_base.specs.Spot.{Spot, fault_at}
 use Rattle.ds_base.specs.Reading.{◌>>=◌, refuse_if, or_fault, index_below, bytes_at, number_at, text_at, uleb_at, sleb_at}
 use Rattle.dwarf_types.specs.declared.address.Addr.TheVariants.{Fixed}
 use Rattle.dwarf_types.specs.declared.abbrev.Field.{Field}
-use Rattle.dwarf_types.specs.declared.sections.Sections.{Sections}
+use Rattle.dwarf_types.specs.SectionBytes.{SectionBytes}
 use Rattle.dwarf_types.specs.declared.value.Value.{Value}
 use Rattle.dwarf_types.specs.declared.value.Value.TheVariants as values
 use Rattle.form_value.specs.declared.form.Coding.{Coding}
@@ -56,11 +56,11 @@ abbrev pub in_64_bits : ℤ → ℕ
 in_64_bits n = cast_unsigned w64 n
 
 -- the value of an attribute, by the class of its form
-unfoldable pub class_at : FormClass → Field → Sections → Spot → Result (Value × Spot) Fault
+unfoldable pub class_at : FormClass → Field → SectionBytes → Spot → Result (Value × Spot) Fault
 class_at Address field sections s = made fixed_address (number_at 8 s)
 class_at Text field sections s = made (λ text. values.Text text) (text_at s)
-class_at StrText field sections s = made (λ text. values.Text text) (placed_text_at sections.strings.now s)
-class_at LineStrText field sections s = made (λ text. values.Text text) (placed_text_at sections.line_str.now s)
+class_at StrText field sections s = made (λ text. values.Text text) (placed_text_at sections.strings s)
+class_at LineStrText field sections s = made (λ text. values.Text text) (placed_text_at sections.line_str s)
 class_at (Number coding) field sections s = made (λ n. values.Number field.form n) (coded_at coding s)
 class_at Signed field sections s = made (λ n. values.Number field.form (in_64_bits n)) (sleb_at s)
 class_at Present field sections s = Ok (values.Number field.form 1, s)
@@ -71,7 +71,7 @@ class_at (Offset coding) field sections s = made (λ n. values.Offset n) (coded_
 class_at Outside field sections s = Err (fault_at s kinds.FormOutsideProfile)
 
 -- The value of an attribute in a unit of a version. Its form is tried before its bytes.
-unfoldable pub value_at : Field → ℕ → Sections → Spot → Result (Value × Spot) Fault
+unfoldable pub value_at : Field → ℕ → SectionBytes → Spot → Result (Value × Spot) Fault
 value_at field version sections s = do
   row ← or_fault (form_row field.form) (fault_at s kinds.UnknownForm)
   _ ← refuse_if (nat_lt version row.since) (fault_at s kinds.FormOutsideProfile)

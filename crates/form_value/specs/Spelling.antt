@@ -4,7 +4,7 @@ use Rattle.ds_base.specs.declared.dwarf.TheConstants.{DW_FORM_sdata}
 use Rattle.ds_base.specs.Spot.{Spot, rest}
 use Rattle.dwarf_types.specs.Spelled.{InTurn, Made, IsUleb, IsSleb, IsNumber, IsCopy, IsText}
 use Rattle.dwarf_types.specs.declared.abbrev.Field.{Field}
-use Rattle.dwarf_types.specs.declared.sections.Sections.{Sections}
+use Rattle.dwarf_types.specs.SectionBytes.{SectionBytes}
 use Rattle.dwarf_types.specs.declared.value.Value.{Value}
 use Rattle.dwarf_types.specs.declared.value.Value.TheVariants as values
 use Rattle.form_value.specs.declared.form.Coding.{Coding}
@@ -33,11 +33,11 @@ pub record SpellsPlace (section bytes text : List ℕ) : Type 0 where
   pub number : IsNumber 4 bytes place
   pub stands : text_of section place ≡ Some text
 
-abbrev pub SpellsClass : FormClass → Field → Sections → List ℕ → Value → Type 0
+abbrev pub SpellsClass : FormClass → Field → SectionBytes → List ℕ → Value → Type 0
 SpellsClass Address field sections bytes value = Made fixed_address (IsNumber 8) bytes value
 SpellsClass Text field sections bytes value = Made (λ text. values.Text text) IsText bytes value
-SpellsClass StrText field sections bytes value = Made (λ text. values.Text text) (SpellsPlace sections.strings.now) bytes value
-SpellsClass LineStrText field sections bytes value = Made (λ text. values.Text text) (SpellsPlace sections.line_str.now) bytes value
+SpellsClass StrText field sections bytes value = Made (λ text. values.Text text) (SpellsPlace sections.strings) bytes value
+SpellsClass LineStrText field sections bytes value = Made (λ text. values.Text text) (SpellsPlace sections.line_str) bytes value
 SpellsClass (Number coding) field sections bytes value = Made (λ n. values.Number field.form n) (SpellsNumber coding) bytes value
 SpellsClass Signed field sections bytes value = Made (λ n. values.Number field.form (in_64_bits n)) IsSleb bytes value
 SpellsClass Present field sections bytes value = (bytes ≡ []) × (value ≡ values.Number field.form 1)
@@ -48,20 +48,20 @@ SpellsClass (Offset coding) field sections bytes value = Made (λ n. values.Offs
 SpellsClass Outside field sections bytes value = ⊥
 
 -- bytes spell the value of an attribute in a unit of a version, which has the form
-pub record SpellsValue (field : Field) (version : ℕ) (sections : Sections) (bytes : List ℕ) (value : Value) : Type 0 where
+pub record SpellsValue (field : Field) (version : ℕ) (sections : SectionBytes) (bytes : List ℕ) (value : Value) : Type 0 where
   pub row : FormRow
   pub known : form_row field.form ≡ Some row
   pub old : row.since ≤ version
   pub spells : SpellsClass row.class field sections bytes value
 
 -- a spelling of the value stands between two spots
-pub record IsSpelled (field : Field) (version : ℕ) (sections : Sections) (s : Spot) (value : Value) (t : Spot) : Type 0 where
+pub record IsSpelled (field : Field) (version : ℕ) (sections : SectionBytes) (s : Spot) (value : Value) (t : Spot) : Type 0 where
   pub bytes : List ℕ
   pub spells : SpellsValue field version sections bytes value
   pub parts : rest s ≡ bytes ++ rest t
 
 -- the value is read, and some bytes are left
-pub record IsRead (field : Field) (version : ℕ) (sections : Sections) (s : Spot) (value : Value) (more : List ℕ) : Type 0 where
+pub record IsRead (field : Field) (version : ℕ) (sections : SectionBytes) (s : Spot) (value : Value) (more : List ℕ) : Type 0 where
   pub next : Spot
   pub reads : value_at field version sections s ≡ Ok (value, next)
   pub left : rest next ≡ more

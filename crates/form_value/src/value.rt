@@ -3,6 +3,7 @@
 ghost use Rattle.std.specs.Prelude.{◌≡◌};
 ghost use Rattle.std.specs.Option.{option_copied};
 ghost use Rattle.ds_base.specs.Reading.{MovesUnlessFull, Reads, ReadsUnlessFull, number_at};
+ghost use Rattle.dwarf_types.specs.SectionBytes.{bytes_in};
 ghost use Rattle.form_value.specs.Reading.{coded_at, block_at, text_of, placed_text_at, class_at, value_at};
 
 use crate::form::{Coding, FormClass, form_class};
@@ -27,7 +28,7 @@ pub fn read_value(
     version: u16,
     sections: &Sections,
 ) -> Result<Value, ReadError>
-    ensures exact { MovesUnlessFull (λ value. value) result cursor.old cursor.new (value_at field.now version sections.now cursor.old) }
+    ensures exact { MovesUnlessFull (λ value. value) result cursor.old cursor.new (value_at field.now version (bytes_in sections.now) cursor.old) }
 {
     let mut next = cursor.fork();
     let value = read_form(alloc, &mut next, field, version, sections)?;
@@ -44,7 +45,7 @@ fn read_form(
     version: u16,
     sections: &Sections,
 ) -> Result<Value, ReadError>
-    ensures { ReadsUnlessFull (λ value. value) result cursor.new (value_at field.now version sections.now cursor.old) }
+    ensures { ReadsUnlessFull (λ value. value) result cursor.new (value_at field.now version (bytes_in sections.now) cursor.old) }
 {
     let Some(row) = form_class(field.form) else {
         return Err(ReadError::Faulty(cursor.fault(Kind::UnknownForm)));
@@ -64,7 +65,7 @@ fn read_class(
     field: &Field,
     sections: &Sections,
 ) -> Result<Value, ReadError>
-    ensures { ReadsUnlessFull (λ value. value) result cursor.new (class_at class field.now sections.now cursor.old) }
+    ensures { ReadsUnlessFull (λ value. value) result cursor.new (class_at class field.now (bytes_in sections.now) cursor.old) }
 {
     let form = field.form;
     match class {

@@ -4,12 +4,12 @@ use Rattle.std.specs.List.{All, find}
 use Rattle.std.proofs.lemmas.Bool.{leb-true, le-leb, lt-leb, lt-ltb, le-ltb, ne_eqb, cases_lt, and_left, and_right, and_from, and_parts, or_left, or_right, or_from}
 use Rattle.std.proofs.lemmas.List.{get_or-take, length-take-le}
 use Rattle.std.proofs.lemmas.List.Recursion.{found_at, found_nowhere}
+use Rattle.ds_base.proofs.Finding.{find_take}
 use Rattle.frame_table.specs.declared.entry.FrameEntry.{FrameEntry}
 use Rattle.frame_table.specs.declared.naming.Missed.{Missed}
 use Rattle.frame_table.specs.Entry.{is_cie}
 use Rattle.frame_table.specs.Naming.{if_cie, is_due, lacks_cie}
 use Rattle.frame_table.specs.Order.{StandApart, IsFirst, IsFirstMissed, IsLeast, earlier_of, end_of, entry_of, is_due_at, is_missed}
-use Rattle.frame_table.proofs.Standing.{find_take}
 
 -- ---- where a CIE is due
 

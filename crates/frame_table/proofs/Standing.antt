@@ -1,5 +1,5 @@
 -- Entries that stand apart: the one that holds a place, and the one that begins there.
-use Rattle.std.proofs.Common.{◌≡◌, ℕ, zero, suc, ◌+◌, ◌<◌, ◌≤◌, ◌==◌, Bool, false, List, [], ◌∷◌, ◌++◌, length, take, get_or, nat_le, cond, Some, None, refl, sym, ap, arith, inl, inr, le_refl, true}
+use Rattle.std.proofs.Common.{◌≡◌, ℕ, ◌+◌, ◌<◌, ◌≤◌, ◌==◌, false, List, [], ◌∷◌, ◌++◌, length, get_or, nat_le, Some, None, refl, arith, inl, inr, le_refl, true}
 use Rattle.std.specs.List.{All, find}
 use Rattle.std.specs.List.Sorted.{IsNonDecreasingBy, IsPartitionedBy, IsPartitionPoint}
 use Rattle.std.proofs.lemmas.Bool.{leb-true, leb-false, eq-eqb, ne_eqb, cases_lt, cases_order}
@@ -54,9 +54,3 @@ apart_push es e apart ends filled = record {
 
 pub ends_push : (es : List FrameEntry) (e : FrameEntry) → All (λ x. x.end ≤ e.place) es → e.place ≤ e.end → All (λ x. x.end ≤ e.end) (es ++ e ∷ [])
 ends_push es e ends le = All-push (λ x. x.end ≤ e.end) es e (λ k d lt. let h = ends k d lt in omega arith) (le_refl _)
-
--- what is found among the first ones is found among all, where none behind is looked for
-pub find_take : {X : Type 0} (p : X → Bool) (n : ℕ) (xs : List X) (d : X) → ((k : ℕ) → n ≤ k → k < length xs → p (get_or xs k d) ≡ false) → find p (take n xs) ≡ find p xs
-find_take p zero xs d none = sym (found_nowhere (find p) p (λ x. Some x) None refl (λ x xs. refl) xs d (λ k lt. none k (omega arith) lt))
-find_take p (suc n) [] d none = refl
-find_take p (suc n) (x ∷ xs) d none = ap (cond (p x) (Some x)) (find_take p n xs d (λ k le lt. none (suc k) (omega arith) (omega arith)))

@@ -6,42 +6,25 @@ use Rattle.std.proofs.lemmas.List.Elements.{All-push}
 use Rattle.ds_base.specs.declared.fault.Fault.{Fault}
 use Rattle.ds_base.specs.Spot.{Spot, after}
 use Rattle.ds_base.specs.Reading.{◌>>=◌, refuse_if, number_at}
+use Rattle.ds_base.proofs.Passing.{bind_ok, ok_is}
+use Rattle.ds_base.proofs.Finding.{none_of}
 use Rattle.macho_read.specs.declared.image.Image.{Image}
 use Rattle.reloc_table.specs.declared.relocation.Relocs.{Relocs}
 use Rattle.frame_table.specs.declared.entry.FrameEntry.{FrameEntry}
 use Rattle.frame_table.specs.Entry.{entry_at, bad_frame, frame_spot, is_cie}
-use Rattle.frame_table.specs.declared.entry.TheConstants.{LENGTH_RESERVED}
+use Rattle.ds_base.specs.declared.dwarf.TheConstants.{LENGTH_RESERVED}
 use Rattle.frame_table.specs.Naming.{cie_at, is_due, lacks_cie, refuse_any, all_named}
 use Rattle.frame_table.specs.Description.{Said, description_at, values_at}
 use Rattle.frame_table.specs.Frames.{tried, entries_from, frame_from, frame_of}
 
 -- ---- parts of what is read
 
-bind_parts : {A B : Type 0} (r : Result A Fault) (f : A → Result B Fault) (y : B) → (r >>= f) ≡ Ok y → (x : A) × (r ≡ Ok x) × (f x ≡ Ok y)
-bind_parts (Ok x) f y is = (x, refl, is)
-bind_parts (Err e) f y is = absurd cc
-
 abbrev made : {A : Type 0} → A → Result A Fault
 made x = Ok x
 
-ok_same : {A : Type 0} (x y : A) → made x ≡ made y → x ≡ y
-ok_same x y is = cc
-
 cond_moves : {A : Type 0} (b : Bool) (f : Fault) (x : A) (behind : Spot) (r : A × Spot) → cond b (Err f) (Ok (x, behind)) ≡ Ok r → behind ≡ r.1
 cond_moves true f x behind r is = absurd cc
-cond_moves false f x behind r is = ap (λ (p : _ × Spot). p.1) (ok_same (x, behind) r is)
-
-cond_none : {A : Type 0} (b : Bool) (x : A) (o : Option A) → cond b (Some x) o ≡ None → (b ≡ false) × (o ≡ None)
-cond_none true x o is = absurd cc
-cond_none false x o is = (refl, is)
-
-all_cons : {A : Type 0} (P : A → Type 0) (x : A) (xs : List A) → P x → All P xs → All P (x ∷ xs)
-all_cons P x xs first others zero d lt = first
-all_cons P x xs first others (suc k) d lt = others k d (omega arith)
-
-none_of : {A : Type 0} (p : A → Bool) (xs : List A) → find p xs ≡ None → All (λ x. p x ≡ false) xs
-none_of p [] is = λ k d lt. absurd (omega arith)
-none_of p (x ∷ xs) is = let parts = cond_none (p x) x (find p xs) is in all_cons (λ x. p x ≡ false) x xs parts.0 (none_of p xs parts.1)
+cond_moves false f x behind r is = ap (λ (p : _ × Spot). p.1) (ok_is (x, behind) r is)
 
 -- ---- an entry ends behind its first byte
 
@@ -53,13 +36,13 @@ number_moves n s r is = cond_moves (nat_lt (s.end - s.place) n) _ _ (after s n) 
 behind_length : (bad : Bool) (f : Fault) (id : Result (ℕ × Spot) Fault) (place end : ℕ) (e : FrameEntry)
     → (refuse_if bad f >>= λ _. id >>= λ n. made (record { place = place; end = end; id = n.0 })) ≡ Ok e → end ≡ e.end
 behind_length true f id place end e is = absurd cc
-behind_length false f (Ok n) place end e is = ap (λ (x : FrameEntry). x.end) (ok_same (record { place = place; end = end; id = n.0 }) e is)
+behind_length false f (Ok n) place end e is = ap (λ (x : FrameEntry). x.end) (ok_is (record { place = place; end = end; id = n.0 }) e is)
 behind_length false f (Err g) place end e is = absurd cc
 
 entry_ends : (bytes : List ℕ) (place : ℕ) (e : FrameEntry) → entry_at bytes place ≡ Ok e → place < e.end
 unfolding entry_at
 entry_ends bytes place e is =
-    let len = bind_parts (number_at 4 (frame_spot bytes place (length bytes))) _ e is in
+    let len = bind_ok (number_at 4 (frame_spot bytes place (length bytes))) _ e is in
     let moved : place + 4 ≡ len.0.1.place = ap (λ (s : Spot). s.place) (number_moves 4 (frame_spot bytes place (length bytes)) len.0 len.1) in
     let end : len.0.1.place + len.0.0 ≡ e.end =
     behind_length (nat_le LENGTH_RESERVED len.0.0 || nat_lt (len.0.1.end - len.0.1.place) len.0.0) (bad_frame place) (number_at 4 (frame_spot bytes len.0.1.place (len.0.1.place + len.0.0)))
@@ -79,7 +62,7 @@ passed (Some e) u is = absurd cc
 
 known_more : (bytes : List ℕ) (before : List FrameEntry) (place : ℕ) (e : FrameEntry) (u : Unit {0}) → tried bytes before e ≡ Ok u → Known bytes before place → Known bytes (before ++ e ∷ []) e.end
 known_more bytes before place e u is known =
-    let parts = bind_parts (all_named (length bytes) e.end (before ++ e ∷ [])) (λ _. values_at bytes e) u is in
+    let parts = bind_ok (all_named (length bytes) e.end (before ++ e ∷ [])) (λ _. values_at bytes e) u is in
     record {
       named = none_of (lacks_cie (length bytes) e.end (before ++ e ∷ [])) (before ++ e ∷ []) (passed (find (lacks_cie (length bytes) e.end (before ++ e ∷ [])) (before ++ e ∷ [])) parts.0 parts.1);
       values = All-push (λ x. values_at bytes x ≡ Ok tt) before e known.values parts.2;
@@ -92,15 +75,15 @@ AllKnown bytes entries = (place : ℕ) × (length bytes ≤ place) × Known byte
 all_known : (left : ℕ) (bytes : List ℕ) (before : List FrameEntry) (place : ℕ) (entries : List FrameEntry) → length bytes ≤ place + left → Known bytes before place
     → entries_from left bytes before place ≡ Ok entries → AllKnown bytes entries
 all_known zero bytes before place entries enough known is =
-    let same : before ≡ entries = ok_same before entries is in
+    let same : before ≡ entries = ok_is before entries is in
     rw (← same) (place, omega arith, known)
 all_known (suc left) bytes before place entries enough known is = elim (cases_eq place (length bytes)) [
   | inl end ↦
-      let same : before ≡ entries = ok_same before entries (rw (eq-eqb place (length bytes) end) at is) in
+      let same : before ≡ entries = ok_is before entries (rw (eq-eqb place (length bytes) end) at is) in
       rw (← same) (place, omega arith, known)
   | inr inside ↦
-      let one = bind_parts (entry_at bytes place) _ entries (rw (ne_eqb place (length bytes) inside) at is) in
-      let two = bind_parts (tried bytes before one.0) _ entries one.2 in
+      let one = bind_ok (entry_at bytes place) _ entries (rw (ne_eqb place (length bytes) inside) at is) in
+      let two = bind_ok (tried bytes before one.0) _ entries one.2 in
       let lt : place < one.0.end = entry_ends bytes place one.0 one.1 in
       all_known left bytes (before ++ one.0 ∷ []) one.0.end entries (omega arith) (known_more bytes before place one.0 two.0 two.1 known) two.2
 ]

@@ -6,14 +6,9 @@ ghost use Rattle.ds_base.specs.Reading.{Finds};
 ghost use Rattle.frame_table.specs.Entry.{entry_at};
 ghost use Rattle.frame_table.specs.Order.{StandApart, AreAllEntries};
 
+use ds_base::dwarf::{DW_CIE_ID, LENGTH_RESERVED};
 use ds_base::{Cursor, Fault, Kind, NoMemory, Part};
 use std::alloc::Global;
-
-/// "The values 0xfffffff0 through 0xffffffff are reserved" for lengths (DWARF 4, section 7.2.2).
-const LENGTH_RESERVED: u32 = 0xffff_fff0;
-
-/// The id of a CIE (DWARF 4, section 7.23).
-const DW_CIE_ID: u32 = 0xffff_ffff;
 
 /// An entry of the section, by where it stands and what it begins with. Places count bytes from the section's start.
 #[derive(Clone, Copy, Debug, PartialEq, Eq)]

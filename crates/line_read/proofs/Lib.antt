@@ -1,4 +1,4 @@
-pub mod Onward
+pub mod Inside
 pub mod NameLoop
 pub mod UlebLoop
 pub mod OperationPlaces

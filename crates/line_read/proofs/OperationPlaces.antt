@@ -7,7 +7,7 @@ use Rattle.ds_base.specs.declared.fault.Fault.{Fault}
 use Rattle.ds_base.specs.declared.fault.Kind.TheVariants as kinds
 use Rattle.ds_base.specs.Spot.{Spot, after, fault_at}
 use Rattle.ds_base.specs.Reading.{bytes_at, number_at, uleb_at, sleb_at}
-use Rattle.dwarf_types.proofs.Readers.{bind_ok, passed, ok_is}
+use Rattle.ds_base.proofs.Passing.{bind_ok, passed, ok_is}
 use Rattle.macho_read.specs.declared.image.Image.{Image}
 use Rattle.reloc_table.specs.declared.relocation.Relocs.{Relocs}
 use Rattle.line_read.specs.declared.header.LineHeader.{LineHeader}
@@ -19,7 +19,7 @@ use Rattle.line_read.specs.declared.operation.LineOp.TheVariants as ops
 use Rattle.line_read.specs.Codes.{standard_of}
 use Rattle.line_read.specs.Header.{bad, version_at, program_at}
 use Rattle.line_read.specs.Operation.{made, standard_at, ulebs_at, operand_count, low_at, bad_op, body_at, inside, part_at, extended_at, op_at}
-use Rattle.line_read.proofs.Onward.{Onward, stays, onward_then, number_onward, bytes_onward, uleb_onward, sleb_onward}
+use Rattle.ds_base.proofs.Onward.{Onward, stays, onward_then, number_onward, bytes_onward, uleb_onward, sleb_onward}
 
 -- ---- an operation
 

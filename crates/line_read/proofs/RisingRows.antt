@@ -7,7 +7,7 @@ use Rattle.std.proofs.lemmas.Bool.{ltb-false}
 use Rattle.std.proofs.lemmas.List.Elements.{All-nil, All-cons}
 use Rattle.std.proofs.lemmas.List.Kept.{AllPairs-cons}
 use Rattle.ds_base.specs.declared.fault.Fault.{Fault}
-use Rattle.dwarf_types.proofs.Readers.{bind_ok, passed, ok_is}
+use Rattle.ds_base.proofs.Passing.{bind_ok, passed, ok_is}
 use Rattle.dwarf_types.specs.declared.address.Addr.{Addr}
 use Rattle.dwarf_types.specs.declared.address.Addr.TheVariants as addrs
 use Rattle.dwarf_types.specs.declared.lines.FileName.{FileName}

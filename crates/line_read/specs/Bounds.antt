@@ -1,12 +1,7 @@
 -- Bounds that a cursor in the section keeps to.
-use Rattle.std.specs.Prelude.{◌≡◌, ℕ, ◌<◌, ◌≤◌, ◌^◌, List, length}
+use Rattle.std.specs.Prelude.{◌≡◌, ℕ, ◌≤◌, List, length}
 use Rattle.ds_base.specs.declared.fault.Part.TheVariants as parts
 use Rattle.ds_base.specs.Spot.{Spot}
-
--- its places have 32 bits
-pub record IsSmall (s : Spot) : Type 0 where
-  pub before_end : s.place ≤ s.end
-  pub small : s.end < 2 ^ 32
 
 -- it stands in these bytes of `__debug_line`
 pub record IsInside (bytes : List ℕ) (s : Spot) : Type 0 where

@@ -7,7 +7,8 @@ use Rattle.ds_base.specs.declared.fault.Part.TheVariants as parts
 use Rattle.ds_base.specs.Spot.{Spot, after, fault_at}
 use Rattle.ds_base.specs.Reading.{◌>>=◌, refuse_if, number_at, items_at}
 use Rattle.line_read.specs.declared.header.LineHeader.{LineHeader}
-use Rattle.line_read.specs.declared.header.TheConstants.{LENGTH_RESERVED, FIRST_VERSION, LAST_VERSION, MOST_OPERATIONS}
+use Rattle.ds_base.specs.declared.dwarf.TheConstants.{LENGTH_RESERVED}
+use Rattle.line_read.specs.declared.header.TheConstants.{FIRST_VERSION, LAST_VERSION, MOST_OPERATIONS}
 
 -- a place of the section
 abbrev pub line_at : List ℕ → ℕ → Spot

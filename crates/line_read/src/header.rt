@@ -5,11 +5,9 @@ ghost use Rattle.ds_base.specs.Reading.{Finds, Reads, ReadsUnlessFull, items_at,
 ghost use Rattle.line_read.specs.Bounds.{IsInside};
 ghost use Rattle.line_read.specs.Header.{line_at, table_at, version_at, program_at, operations_at, fields_at};
 
+use ds_base::dwarf::LENGTH_RESERVED;
 use ds_base::{Cursor, Fault, Kind, List, Part, ReadError};
 use std::alloc::Global;
-
-/// "The values 0xfffffff0 through 0xffffffff are reserved" for lengths (DWARF 4, section 7.2.2).
-const LENGTH_RESERVED: u32 = 0xffff_fff0;
 
 /// The version of the tables of DWARF 2, the first.
 const FIRST_VERSION: u16 = 2;

@@ -2,9 +2,10 @@
 
 ghost use Rattle.std.specs.Prelude.{◌≡◌, ◌<◌, ◌^◌, length, Some, IfOk};
 ghost use Rattle.ds_base.specs.Reading.{Gives, Reads, ReadsUnlessFull};
+ghost use Rattle.ds_base.specs.Spot.{IsSmall};
 ghost use Rattle.macho_read.specs.Sound.{IsSound as IsSoundImage};
 ghost use Rattle.reloc_table.specs.Sound.{IsSound};
-ghost use Rattle.line_read.specs.Bounds.{IsInside, IsSmall};
+ghost use Rattle.line_read.specs.Bounds.{IsInside};
 ghost use Rattle.line_read.specs.Codes.{standard_of};
 ghost use Rattle.line_read.specs.Operation.{standard_at, ulebs_at, operand_count, low_at, defined_at, operands_at, filled_at, body_at, fault_inside, part_at, extended_at, op_at};
 

@@ -1,5 +1,5 @@
 -- The encoding of units of flat functions.
-use Rattle.std.proofs.Common.{◌≤◌, Bool, cond, ◌≡◌, ℕ, zero, suc, ◌+◌, ◌*◌, ◌<◌, true, false, not, eqb, nat_eq, List, [], ◌∷◌, ◌++◌, length, map, replicate, refl, sym, ap, ◌∙◌, arith, add-one, append_assoc, length-append}
+use Rattle.std.proofs.Common.{◌≤◌, Bool, cond, ◌≡◌, ℕ, zero, suc, ◌+◌, ◌*◌, true, false, not, eqb, nat_eq, List, [], ◌∷◌, ◌++◌, length, map, replicate, refl, sym, ap, ◌∙◌, arith, add-one, append_assoc, length-append}
 use Rattle.std.specs.List.{filter, flat_map, list_any}
 use Rattle.std.specs.Str.{bytes_eq}
 use Rattle.std.proofs.lemmas.Bool.{ne_eqb}
@@ -9,14 +9,13 @@ use Rattle.ds_base.specs.declared.dwarf.TheConstants.{DW_TAG_compile_unit, DW_TA
 use Rattle.byteorder.specs.Endian.{little_bytes}
 use Rattle.ds_base.specs.declared.fault.Part.TheVariants as parts
 use Rattle.ds_base.specs.Texts.{section_of}
-use Rattle.text_pool.proofs.Places.{length-section_of}
 use Rattle.dwarf_types.specs.declared.graph.Written.{Written}
 use Rattle.ds_base.specs.FirstUse.{once}
 use Rattle.ds_base.specs.Leb.{uleb}
 use Rattle.dwarf_types.specs.declared.graph.OutUnit.{OutUnit}
 use Rattle.dwarf_types.specs.Abbreviations.{Declaration, same_declaration, is_number, declaration_of, declarations_from, table_of, declarations_bytes, table_bytes}
 use Rattle.dwarf_types.specs.Entries.{depths_after, depths_of, lists_ended, entry_bytes, entries_bytes, body_bytes, unit_bytes}
-use Rattle.dwarf_types.specs.Encode.{texts_of_node, texts_of, units_bytes, abbrev_section, info_section, str_section, has_bytes, encode}
+use Rattle.dwarf_types.specs.Encode.{texts_of_node, texts_of, units_bytes, info_section, str_section, has_bytes, encode}
 use Rattle.link_core.specs.Linked.{LiveFunction, LiveUnit, root_of, node_of, when_live, out_units, graph_of}
 use Rattle.link_core.specs.FlatUnit.{flat_abbreviations, text_place, flat_texts, flat_function, flat_unit, flat_units, flat_sections, unit_table, unit_texts}
 

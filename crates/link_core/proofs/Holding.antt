@@ -2,8 +2,6 @@
 use Rattle.std.proofs.Common.{◌≡◌, ℕ, ◌+◌, ◌-◌, ◌≤◌, Bool, true, false, is_some, List, [], ◌∷◌, ◌++◌, length, map, drop, Option, Some, None, Result, Ok, Err, Bor, refl, sym, ap, subst, ◌∙◌}
 use Rattle.std.specs.HashMap.{HashMap, get_by}
 use Rattle.std.specs.Map.{lookup}
-use Rattle.std.specs.Option.{option_map}
-use Rattle.std.specs.List.{find}
 use Rattle.std.specs.Str.{bytes_eq}
 use Rattle.std.specs.FinMap as fin
 use Rattle.std.proofs.lemmas.List.{map_push, drop_all}
@@ -11,8 +9,7 @@ use Rattle.ds_files.specs.Outside.{Contents, Counts, IsLater, Told, ReadFails}
 use Rattle.ds_files.specs.declared.files.FileError.{FileError}
 use Rattle.stab_map.specs.declared.object.MapObject.{MapObject}
 use Rattle.link_core.specs.declared.status.Status.{Status}
-use Rattle.link_core.specs.declared.status.Status.TheVariants as statuses
-use Rattle.link_core.specs.Files.{World, world, HeldFile, content_in, ReadsFile, MissesFile, ReadsFiles, all_held, is_held, is_read, is_unread, no_memory, unread_status}
+use Rattle.link_core.specs.Files.{World, world, HeldFile, content_in, ReadsFiles, all_held, is_held, is_read, is_unread, unread_status}
 use Rattle.link_core.specs.Seen.{held_seen}
 
 abbrev file_seen : Bor (List ℕ) × List ℕ → HeldFile
@@ -72,10 +69,6 @@ pub held_more : {S : Type 0} (old new : HashMap (Bor (List ℕ)) (List ℕ) S) (
     → held_seen new ≡ held_seen old ++ record { name = name; bytes = bytes } ∷ []
 held_more old new key name bytes is grown =
     ap (map file_seen) grown ∙ map_push file_seen old.entries (key, bytes) ∙ ap (λ (n : List ℕ). held_seen old ++ record { name = n; bytes = bytes } ∷ []) is
-
-pub none_from : {X : Type 0} (o : Option X) → is_some o ≡ false → o ≡ None
-none_from None e = refl
-none_from (Some x) e = absurd (cc)
 
 -- no object is left
 pub ends_held : (number k : ℕ) (objects : List MapObject) (held : List HeldFile) (most : ℕ) (now : World) → length objects ≤ k → ReadsFiles number (drop k objects) held most now now (Ok held)

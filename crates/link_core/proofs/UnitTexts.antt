@@ -1,5 +1,5 @@
 -- The texts of units, one unit after the other.
-use Rattle.std.proofs.Common.{◌≡◌, ℕ, ◌+◌, ◌<◌, List, [], ◌∷◌, ◌++◌, length, map, take, get_or, fold, refl, sym, ap, ◌∙◌}
+use Rattle.std.proofs.Common.{◌≡◌, ℕ, ◌+◌, ◌<◌, List, [], ◌∷◌, ◌++◌, length, map, take, get_or, fold, sym, ap, ◌∙◌}
 use Rattle.std.specs.List.{flat_map}
 use Rattle.std.specs.Str.{bytes_eq}
 use Rattle.std.proofs.lemmas.List.{append-nil, map_push}
@@ -10,7 +10,6 @@ use Rattle.ds_base.proofs.Walking.{take_one}
 use Rattle.text_pool.proofs.FirstUses.{once-append}
 use Rattle.link_core.specs.declared.live.LiveUnit.{LiveUnit as Found}
 use Rattle.link_core.specs.FlatUnit.{unit_texts, flat_texts}
-use Rattle.link_core.specs.Linked.{LiveUnit}
 use Rattle.link_core.specs.Seen.{live_unit_seen}
 
 texts : List Found → List (List ℕ)

@@ -1,5 +1,5 @@
 -- The answer of a link: its status with its cause, and what stands in the files then. The cases of each step stand in the order of the work, so that of two refusals the first one comes.
-use Rattle.std.specs.Prelude.{◌≡◌, ℕ, ◌-◌, List, [], length, Option, Some, None, Result, Ok, Err}
+use Rattle.std.specs.Prelude.{◌≡◌, ℕ, ◌-◌, List, [], length, Some, None, Ok, Err}
 use Rattle.std.specs.Option.{option_map}
 use Rattle.std.specs.FinMap as map
 use Rattle.ds_files.specs.Outside.{ReplaceFails}

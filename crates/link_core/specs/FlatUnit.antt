@@ -1,5 +1,5 @@
 -- The sections of units of flat functions, each byte of them.
-use Rattle.std.specs.Prelude.{ℕ, ◌+◌, ◌*◌, ◌==◌, List, [], ◌∷◌, ◌++◌, length, map, if◌then◌else◌}
+use Rattle.std.specs.Prelude.{ℕ, ◌+◌, ◌*◌, List, [], ◌∷◌, ◌++◌, length, map}
 use Rattle.std.specs.Option.{unwrap_or}
 use Rattle.std.specs.List.{filter, flat_map}
 use Rattle.std.specs.Str.{bytes_eq}

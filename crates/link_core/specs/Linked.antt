@@ -1,6 +1,6 @@
 -- The linked graph: of each object the functions whose address moved, in their unit.
-use Rattle.std.specs.Prelude.{ℕ, ◌+◌, ◌==◌, List, [], ◌∷◌, ◌++◌, length, map, Option, Some, None, Result, Ok, Err, if◌then◌else◌}
-use Rattle.std.specs.Option.{option_map, option_to_list}
+use Rattle.std.specs.Prelude.{ℕ, ◌==◌, List, [], ◌∷◌, length, map, Option, Some, None, Result, Ok, if◌then◌else◌}
+use Rattle.std.specs.Option.{option_map}
 use Rattle.std.specs.List.{filter_map, flat_map}
 use Rattle.ds_base.specs.declared.dwarf.TheConstants.{DW_TAG_compile_unit, DW_TAG_subprogram, DW_AT_name, DW_AT_language, DW_AT_low_pc, DW_AT_high_pc, DW_FORM_data2, DW_FORM_data4}
 use Rattle.ds_base.specs.declared.fault.Fault.{Fault}

@@ -7,7 +7,7 @@ use Rattle.std.proofs.lemmas.List.Elements.{All-append, All-cons, All-nil}
 use Rattle.ds_base.specs.declared.fault.Fault.{Fault}
 use Rattle.ds_base.specs.Spot.{Spot, after}
 use Rattle.ds_base.specs.Reading.{number_at}
-use Rattle.dwarf_types.proofs.Readers.{bind_ok, passed, guard_ok, ok_is}
+use Rattle.ds_base.proofs.Passing.{bind_ok, passed, guard_ok, ok_is}
 use Rattle.dwarf_types.specs.declared.address.Addr.{Addr}
 use Rattle.dwarf_types.specs.declared.address.Addr.TheVariants as addrs
 use Rattle.dwarf_types.specs.declared.lists.RawSpan.{RawSpan}

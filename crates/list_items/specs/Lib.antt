@@ -1,5 +1,4 @@
 pub mod Ends
 pub mod Reading
 pub mod Lists
-pub mod Bounds
 pub mod Sound

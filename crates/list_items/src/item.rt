@@ -2,9 +2,9 @@
 
 ghost use Rattle.std.specs.Prelude.{◌≡◌, OnOk};
 ghost use Rattle.ds_base.specs.Reading.{Reads};
+ghost use Rattle.ds_base.specs.Spot.{IsSmall};
 ghost use Rattle.macho_read.specs.Sound.{IsSound as IsSoundImage};
 ghost use Rattle.reloc_table.specs.Sound.{IsSound};
-ghost use Rattle.list_items.specs.Bounds.{IsSmall};
 ghost use Rattle.list_items.specs.Reading.{word_at, item_at};
 
 use crate::ends::{belong_together, from_base};

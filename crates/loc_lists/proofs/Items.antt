@@ -5,10 +5,10 @@ use Rattle.std.proofs.lemmas.Bool.{ltb-false}
 use Rattle.std.proofs.lemmas.List.{length-take}
 use Rattle.ds_base.specs.Spot.{Spot, rest}
 use Rattle.ds_base.specs.Reading.{number_at, bytes_at}
-use Rattle.dwarf_types.proofs.Readers.{bind_ok, guard_ok, ok_is}
+use Rattle.ds_base.proofs.Passing.{bind_ok, guard_ok, ok_is}
 use Rattle.dwarf_types.specs.declared.address.Addr.{Addr}
 use Rattle.dwarf_types.specs.declared.lists.RawLocation.{RawLocation}
-use Rattle.dwarf_types.specs.declared.sections.Sections.{Sections}
+use Rattle.dwarf_types.specs.SectionBytes.{SectionBytes}
 use Rattle.macho_read.specs.declared.image.Image.{Image}
 use Rattle.reloc_table.specs.declared.relocation.Relocs.{Relocs}
 use Rattle.list_items.proofs.Soundness.{KeepsEnd, Keeps, list_sound, number_fits}
@@ -52,7 +52,7 @@ item_kept end first span s x t at sound e =
     let made : IsSoundLocation end (location first span p.0.0) = record { span = sound; inside = inside } in
     subst (IsSoundLocation end) (ap (λ (r : RawLocation × Spot). r.0) (ok_is (location first span p.0.0, p.0.1) (x, t) p.2)) made
 
-pub locations_sound : (sections : Sections) (relocs : Relocs) (image : Image) (offset : ℕ) (base : Addr) (locations : List RawLocation)
-    → locations_of sections relocs image offset base ≡ Ok locations → All (IsSoundLocation (length sections.loc.now)) locations
+pub locations_sound : (sections : SectionBytes) (relocs : Relocs) (image : Image) (offset : ℕ) (base : Addr) (locations : List RawLocation)
+    → locations_of sections relocs image offset base ≡ Ok locations → All (IsSoundLocation (length sections.loc)) locations
 unfolding locations_of
-locations_sound sections relocs image offset base locations e = list_sound (IsSoundLocation (length sections.loc.now)) _ image relocs location_at end_kept (item_kept _) _ base _ locations refl e
+locations_sound sections relocs image offset base locations e = list_sound (IsSoundLocation (length sections.loc)) _ image relocs location_at end_kept (item_kept _) _ base _ locations refl e

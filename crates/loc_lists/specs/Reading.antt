@@ -7,7 +7,7 @@ use Rattle.ds_base.specs.Reading.{◌>>=◌, number_at, bytes_at}
 use Rattle.dwarf_types.specs.declared.address.Addr.{Addr}
 use Rattle.dwarf_types.specs.declared.lists.RawLocation.{RawLocation}
 use Rattle.dwarf_types.specs.declared.lists.RawSpan.{RawSpan}
-use Rattle.dwarf_types.specs.declared.sections.Sections.{Sections}
+use Rattle.dwarf_types.specs.SectionBytes.{SectionBytes}
 use Rattle.macho_read.specs.declared.image.Image.{Image}
 use Rattle.reloc_table.specs.declared.relocation.Relocs.{Relocs}
 use Rattle.list_items.specs.Lists.{list_in}
@@ -26,5 +26,5 @@ location_at first span s = do
   Ok (record { span = span; place = first.place; first = expression.0.0; bytes = expression.0.1 }, expression.1)
 
 -- the items of the list at a place, whose base at first is the unit's
-unfoldable pub locations_of : Sections → Relocs → Image → ℕ → Addr → Result (List RawLocation) Fault
-locations_of sections relocs image offset base = list_in parts.Loc sections.loc.now image relocs location_at offset base
+unfoldable pub locations_of : SectionBytes → Relocs → Image → ℕ → Addr → Result (List RawLocation) Fault
+locations_of sections relocs image offset base = list_in parts.Loc sections.loc image relocs location_at offset base

@@ -3,7 +3,8 @@
 ghost use Rattle.std.specs.Prelude.{◌≡◌, ◌<◌, ◌^◌, length, IfOk, OnOk};
 ghost use Rattle.std.specs.List.{All};
 ghost use Rattle.ds_base.specs.Reading.{Gives, Reads};
-ghost use Rattle.list_items.specs.Bounds.{IsSmall};
+ghost use Rattle.ds_base.specs.Spot.{IsSmall};
+ghost use Rattle.dwarf_types.specs.SectionBytes.{bytes_in};
 ghost use Rattle.macho_read.specs.Sound.{IsSound as IsSoundImage};
 ghost use Rattle.reloc_table.specs.Sound.{IsSound};
 ghost use Rattle.loc_lists.specs.Reading.{expression_at, locations_of};
@@ -35,7 +36,7 @@ pub fn read_locations(
     requires small { length sections.now.loc.now < 2 ^ 32 }
     requires sound { IsSound image.now relocs.now }
     requires sound_image { IsSoundImage image.now }
-    ensures exact { Gives (λ locations. locations) result (locations_of sections.now relocs.now image.now offset base.now) }
+    ensures exact { Gives (λ locations. locations) result (locations_of (bytes_in sections.now) relocs.now image.now offset base.now) }
 
     // The ends of each span are of one class, the low one is below the high one, and each expression ends in the section.
     ensures sound { IfOk result (All (IsSoundLocation (length sections.now.loc.now))) }

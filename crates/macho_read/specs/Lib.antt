@@ -7,5 +7,6 @@ pub mod Image
 pub mod Kind
 pub mod Debug
 pub mod Sound
+pub mod Standings
 pub mod Spelling
 pub mod ImageSpelling

@@ -2,9 +2,10 @@
 //!
 //! Layer: files. Reads 64-bit little-endian files for x86_64 and arm64 (mach-o/loader.h, mach-o/nlist.h).
 //! [`read_image`] gives `image_of` the bytes (`specs/Image.antt`), or the first fault in the order header,
-//! commands, symbols. [`check_kind`] tests that an image can be the program or one of its objects, and
-//! [`section_bytes`] cuts the bytes of a debug section. Nothing here looks into the debug sections, and
-//! other load commands are passed over by their size.
+//! commands, symbols. [`check_kind`] tests that an image can be the program or one of its objects,
+//! [`section_bytes`] cuts the bytes of a debug section, and [`standing_of`] says what a symbol stands for
+//! (`specs/Standings.antt`). Nothing here looks into the debug sections, and other load commands are passed
+//! over by their size.
 #![tactic(auto)]
 
 mod commands;
@@ -15,12 +16,14 @@ mod image;
 mod kind;
 mod law;
 mod records;
+mod standing;
 mod symbols;
 
 pub use debug::{debug_part, is_debug, section_bytes};
 pub use image::{Image, Section, Segment, Symbol, read_image};
 pub use kind::{Role, check_kind};
 pub use law::{commands_read_back, images_read_back, records_read_back};
+pub use standing::{Standing, is_defined, is_stab, standing_of};
 
 #[cfg(test)]
 mod tests;

@@ -5,7 +5,7 @@ use Rattle.ds_base.specs.declared.fault.Part.TheVariants as parts
 use Rattle.ds_base.specs.Spot.{Spot}
 use Rattle.dwarf_types.specs.declared.address.Addr.{Addr}
 use Rattle.dwarf_types.specs.declared.lists.RawSpan.{RawSpan}
-use Rattle.dwarf_types.specs.declared.sections.Sections.{Sections}
+use Rattle.dwarf_types.specs.SectionBytes.{SectionBytes}
 use Rattle.macho_read.specs.declared.image.Image.{Image}
 use Rattle.reloc_table.specs.declared.relocation.Relocs.{Relocs}
 use Rattle.list_items.specs.Lists.{list_in}
@@ -15,5 +15,5 @@ abbrev pub range_at : Spot → RawSpan → Spot → Result (RawSpan × Spot) Fau
 range_at first span s = Ok (span, s)
 
 -- the spans of the list at a place, whose base at first is the unit's
-unfoldable pub ranges_of : Sections → Relocs → Image → ℕ → Addr → Result (List RawSpan) Fault
-ranges_of sections relocs image offset base = list_in parts.Ranges sections.ranges.now image relocs range_at offset base
+unfoldable pub ranges_of : SectionBytes → Relocs → Image → ℕ → Addr → Result (List RawSpan) Fault
+ranges_of sections relocs image offset base = list_in parts.Ranges sections.ranges image relocs range_at offset base

@@ -3,6 +3,7 @@
 ghost use Rattle.std.specs.Prelude.{◌≡◌, ◌<◌, ◌^◌, length, IfOk};
 ghost use Rattle.std.specs.List.{All};
 ghost use Rattle.ds_base.specs.Reading.{Gives};
+ghost use Rattle.dwarf_types.specs.SectionBytes.{bytes_in};
 ghost use Rattle.list_items.specs.Sound.{IsSoundSpan};
 ghost use Rattle.macho_read.specs.Sound.{IsSound as IsSoundImage};
 ghost use Rattle.reloc_table.specs.Sound.{IsSound};
@@ -33,7 +34,7 @@ pub fn read_ranges(
     requires small { length sections.now.ranges.now < 2 ^ 32 }
     requires sound { IsSound image.now relocs.now }
     requires sound_image { IsSoundImage image.now }
-    ensures exact { Gives (λ spans. spans) result (ranges_of sections.now relocs.now image.now offset base.now) }
+    ensures exact { Gives (λ spans. spans) result (ranges_of (bytes_in sections.now) relocs.now image.now offset base.now) }
 
     // The ends of each span are of one class, and the low one is below the high one.
     ensures sound { IfOk result (All IsSoundSpan) }

@@ -7,9 +7,9 @@ use Rattle.macho_read.specs.declared.image.Image.{Image}
 use Rattle.macho_read.specs.declared.image.Symbol.{Symbol}
 use Rattle.reloc_table.specs.declared.relocation.Reloc.{Reloc}
 use Rattle.reloc_table.specs.declared.relocation.Relocs.{Relocs}
-use Rattle.reloc_table.specs.declared.symbol.Standing.{Standing}
-use Rattle.reloc_table.specs.declared.symbol.Standing.TheVariants as standings
-use Rattle.reloc_table.specs.Standings.{standing_of}
+use Rattle.macho_read.specs.declared.standing.Standing.{Standing}
+use Rattle.macho_read.specs.declared.standing.Standing.TheVariants as standings
+use Rattle.macho_read.specs.Standings.{standing_of}
 
 -- the sum in 64 bits
 abbrev pub sum64 : ℕ → ℕ → ℕ

@@ -1,4 +1,3 @@
-pub mod Standings
 pub mod Relocation
 pub mod Table
 pub mod Sound

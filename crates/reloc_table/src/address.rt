@@ -8,9 +8,8 @@ ghost use Rattle.reloc_table.specs.Address.{address_of, behind_symbol, reloc_at}
 ghost use Rattle.reloc_table.specs.Sound.{IsSound};
 
 use crate::relocation::{Reloc, Relocs};
-use crate::symbol::{Standing, standing_of};
 use dwarf_types::Addr;
-use macho_read::Image;
+use macho_read::{Image, Standing, standing_of};
 
 /// What the number `stored` means that stands `place` bytes from the section's start, where an address is expected.
 ///

@@ -2,18 +2,16 @@
 //!
 //! Layer: addresses. Reads plain relocations of 8 bytes (mach-o/reloc.h). [`relocs`] gives `relocs_of` a section
 //! (`specs/Table.antt`), or the first fault in its relocations. [`resolve`] is `address_of` a number that stands in
-//! the section (`specs/Address.antt`), and [`standing_of`] what a symbol stands for (`specs/Standings.antt`). Where an
-//! address went in the linked program is not said here: `addr_map` moves it.
+//! the section (`specs/Address.antt`). Where an address went in the linked program is not said here: `addr_map` moves
+//! it.
 #![tactic(auto)]
 
 mod address;
 mod relocation;
-mod symbol;
 mod table;
 
 pub use address::resolve;
 pub use relocation::{Reloc, Relocs};
-pub use symbol::{Standing, is_stab, standing_of};
 pub use table::{is_part, relocs};
 
 #[cfg(test)]

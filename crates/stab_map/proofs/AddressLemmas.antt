@@ -3,8 +3,10 @@ use Rattle.std.proofs.Common.{◌≡◌, ℕ, Bool, true, false, cond, ◌&&◌,
 use Rattle.std.specs.List.{find}
 use Rattle.std.specs.Option.{option_map}
 use Rattle.std.specs.Str.{bytes_eq}
+use Rattle.macho_read.specs.declared.image.Image.{Image}
 use Rattle.macho_read.specs.declared.image.Symbol.{Symbol}
-use Rattle.stab_map.specs.Addresses.{is_defined, address_among}
+use Rattle.macho_read.specs.Standings.{is_defined}
+use Rattle.stab_map.specs.Addresses.{address_among}
 
 -- the symbol before the others, by the two tests on it
 by_tests : (s : Symbol) (found : Option Symbol) (defined same : Bool)
@@ -13,15 +15,15 @@ by_tests s found true true = refl
 by_tests s found true false = refl
 by_tests s found false same = refl
 
-module _ (sections : ℕ) (s : Symbol) (others : List Symbol) (name : List ℕ) (before : Option ℕ) where
+module _ (image : Image) (s : Symbol) (others : List Symbol) (name : List ℕ) (before : Option ℕ) where
   -- a defined one is put in the table
-  pub address_put : (key : List ℕ) (after : Option ℕ) → is_defined sections s ≡ true → key ≡ s.name → after ≡ cond (bytes_eq key name) (Some s.value) before → before ≡ address_among sections others name
-      → after ≡ address_among sections (s ∷ others) name
+  pub address_put : (key : List ℕ) (after : Option ℕ) → is_defined image s ≡ true → key ≡ s.name → after ≡ cond (bytes_eq key name) (Some s.value) before → before ≡ address_among image others name
+      → after ≡ address_among image (s ∷ others) name
   address_put key after defined is put so_far =
       put ∙ ap (λ (k : List ℕ). cond (bytes_eq k name) (Some s.value) before) is ∙ ap (cond (bytes_eq s.name name) (Some s.value)) so_far
-      ∙ rw (by_tests s (find (λ s. is_defined sections s && bytes_eq s.name name) others) (is_defined sections s) (bytes_eq s.name name), defined) refl
+      ∙ rw (by_tests s (find (λ s. is_defined image s && bytes_eq s.name name) others) (is_defined image s) (bytes_eq s.name name), defined) refl
 
   -- another one is passed over
-  pub address_passed : is_defined sections s ≡ false → before ≡ address_among sections others name → before ≡ address_among sections (s ∷ others) name
+  pub address_passed : is_defined image s ≡ false → before ≡ address_among image others name → before ≡ address_among image (s ∷ others) name
   address_passed not_defined so_far =
-      so_far ∙ rw (by_tests s (find (λ s. is_defined sections s && bytes_eq s.name name) others) (is_defined sections s) (bytes_eq s.name name), not_defined) refl
+      so_far ∙ rw (by_tests s (find (λ s. is_defined image s && bytes_eq s.name name) others) (is_defined image s) (bytes_eq s.name name), not_defined) refl

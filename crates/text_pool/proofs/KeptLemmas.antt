@@ -1,7 +1,6 @@
 -- A pool's entries after one more.
-use Rattle.std.proofs.Common.{◌≡◌, ℕ, ◌+◌, ◌-◌, ◌^◌, ◌<◌, Bool, true, false, List, [], ◌∷◌, ◌++◌, length, map, Option, None, Some, is_some, if◌then◌else◌, refl, sym, ap, ◌∙◌, arith, length-append}
-use Rattle.std.specs.Map.{keys_of, lookup}
-use Rattle.std.specs.Option.{option_or}
+use Rattle.std.proofs.Common.{◌≡◌, ℕ, ◌+◌, ◌-◌, ◌^◌, ◌<◌, false, List, [], ◌∷◌, ◌++◌, length, map, None, is_some, refl, sym, ap, ◌∙◌, arith, length-append}
+use Rattle.std.specs.Map.{keys_of}
 use Rattle.std.specs.Str.{bytes_eq}
 use Rattle.std.specs.Cmp.Lexicographic.{nat_list_eq_equiv}
 use Rattle.std.specs.declared.vec.Vec.{Vec}
@@ -10,22 +9,9 @@ use Rattle.std.proofs.lemmas.List.{map_push}
 use Rattle.std.proofs.lemmas.Grind.{flat_map-append}
 use Rattle.indexmap.specs.IndexMap.{IndexMap, keys, get_by}
 use Rattle.ds_base.specs.Texts.{ended, place_of, with_text}
+use Rattle.ds_base.proofs.Lookups.{lookup-push}
 use Rattle.text_pool.specs.Kept.{texts_of, IsKept}
 use Rattle.text_pool.proofs.Places.{place_of-push}
-
-pub lookup-push : {K X : Type 0} (test : K → Bool) (es : List (K × X)) (k : K) (v : X)
-    → lookup test (es ++ (k, v) ∷ []) ≡ option_or (lookup test es) (if test k then Some v else None)
-lookup-push test [] k v = refl
-lookup-push test (e ∷ es) k v = rw (lookup-push test es k v) (by (test e.0))
-  where
-    by : (first : Bool) → (if first then Some e.1 else option_or (lookup test es) (if test k then Some v else None))
-        ≡ option_or (if first then Some e.1 else lookup test es) (if test k then Some v else None)
-    by true = refl
-    by false = refl
-
-pub none_from_is_some : {X : Type 0} (o : Option X) → is_some o ≡ false → o ≡ None
-none_from_is_some None e = refl
-none_from_is_some (Some x) e = cc
 
 module _ {A S : Type 0} (old new : IndexMap (Vec ℕ A) ℕ S) (size : ℕ) (k : Vec ℕ A) (grown : new.entries ≡ old.entries ++ (k, size) ∷ []) where
   pub texts_of-push : texts_of new ≡ texts_of old ++ k.items ∷ []

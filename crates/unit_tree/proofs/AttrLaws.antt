@@ -12,10 +12,11 @@ use Rattle.ds_base.specs.Reading.{◌>>=◌}
 use Rattle.dwarf_types.specs.declared.abbrev.Field.{Field}
 use Rattle.dwarf_types.specs.declared.entry.Attr.{Attr}
 use Rattle.dwarf_types.specs.declared.entry.Entry.{Entry}
-use Rattle.dwarf_types.specs.declared.sections.Sections.{Sections}
+use Rattle.dwarf_types.specs.SectionBytes.{SectionBytes}
 use Rattle.dwarf_types.specs.declared.value.Value.{Value}
 use Rattle.dwarf_types.specs.declared.value.Value.TheVariants as values
-use Rattle.dwarf_types.proofs.Readers.{bind_ok, passed, ok_is, Stands}
+use Rattle.ds_base.proofs.Passing.{bind_ok, passed, ok_is}
+use Rattle.dwarf_types.proofs.Readers.{Stands}
 use Rattle.dwarf_types.specs.Spelled.{Made}
 use Rattle.form_value.specs.declared.form.FormClass.{FormClass}
 use Rattle.form_value.specs.declared.form.FormClass.TheVariants.{Address, Text, StrText, LineStrText, Number, Signed, Present, Implicit, Wide, Block, Offset, Outside}
@@ -90,12 +91,12 @@ cut_not place lt = omega (arith, lt)
 
 -- ---- what a number means
 
-record MeantTaken (all : List Entry) (sections : Sections) (home : Home) (lines : Bool) (meaning : Meaning) (n : ℕ) (y : Value × Option Reference) : Type 0 where
+record MeantTaken (all : List Entry) (sections : SectionBytes) (home : Home) (lines : Bool) (meaning : Meaning) (n : ℕ) (y : Value × Option Reference) : Type 0 where
   below : IsBelow sections lines meaning n
   is : y.0 ≡ meant home.place meaning n
   leads_on : ValueLeads all home.unit meaning y.0
 
-record MeantGoes (all : List Entry) (sections : Sections) (home : Home) (lines : Bool) (meaning : Meaning) (n : ℕ) (s : Spot) : Type 0 where
+record MeantGoes (all : List Entry) (sections : SectionBytes) (home : Home) (lines : Bool) (meaning : Meaning) (n : ℕ) (s : Spot) : Type 0 where
   reference : Option Reference
   reads : meant_at sections home lines meaning n s ≡ Ok (meant home.place meaning n, reference)
   lead : Lead all (option_to_list reference)
@@ -130,7 +131,7 @@ reference_goes all place unit s low h =
     let is = cut_not place (begun_low all unit place low h) in
     (is, rw (is, h) refl)
 
-meant_taken : (all : List Entry) → AreLow all → (sections : Sections) (home : Home) (lines : Bool) (meaning : Meaning) (n : ℕ) (s : Spot) (y : Value × Option Reference) → meant_at sections home lines meaning n s ≡ Ok y → Lead all (option_to_list y.1)
+meant_taken : (all : List Entry) → AreLow all → (sections : SectionBytes) (home : Home) (lines : Bool) (meaning : Meaning) (n : ℕ) (s : Spot) (y : Value × Option Reference) → meant_at sections home lines meaning n s ≡ Ok y → Lead all (option_to_list y.1)
     → MeantTaken all sections home lines meaning n y
 unfolding meant_at
 meant_taken all low sections home lines InUnit n s y e h =
@@ -144,18 +145,18 @@ meant_taken all low sections home lines InObject n s y e h =
     let r = reference_taken all n None s low k in
     record { below = tt; is = ap (λ (p : ℕ). values.Ref p) r.0; leads_on = r.1 }) h
 meant_taken all low sections home lines LineTable n s y e h =
-    let o = lines_below lines sections.line.now n s y e in
+    let o = lines_below lines sections.line n s y e in
     subst (λ (p : Value × Option Reference). MeantTaken all sections home lines LineTable n p) o.1 (record { below = o.0; is = refl; leads_on = tt })
 meant_taken all low sections home lines RangeList n s y e h =
-    let o = offset_below sections.ranges.now n s y e in
+    let o = offset_below sections.ranges n s y e in
     subst (λ (p : Value × Option Reference). MeantTaken all sections home lines RangeList n p) o.1 (record { below = o.0; is = refl; leads_on = tt })
 meant_taken all low sections home lines LocationList n s y e h =
-    let o = offset_below sections.loc.now n s y e in
+    let o = offset_below sections.loc n s y e in
     subst (λ (p : Value × Option Reference). MeantTaken all sections home lines LocationList n p) o.1 (record { below = o.0; is = refl; leads_on = tt })
 meant_taken all low sections home lines Other n s y e h =
     subst (λ (p : Value × Option Reference). MeantTaken all sections home lines Other n p) (ok_is (plain n) y e) (record { below = tt; is = refl; leads_on = tt })
 
-meant_goes : (all : List Entry) → AreLow all → (sections : Sections) (home : Home) (lines : Bool) (meaning : Meaning) (n : ℕ) (s : Spot) → IsBelow sections lines meaning n → ValueLeads all home.unit meaning (meant home.place meaning n)
+meant_goes : (all : List Entry) → AreLow all → (sections : SectionBytes) (home : Home) (lines : Bool) (meaning : Meaning) (n : ℕ) (s : Spot) → IsBelow sections lines meaning n → ValueLeads all home.unit meaning (meant home.place meaning n)
     → MeantGoes all sections home lines meaning n s
 unfolding meant_at
 meant_goes all low sections home lines InUnit n s below h =
@@ -164,19 +165,19 @@ meant_goes all low sections home lines InUnit n s below h =
 meant_goes all low sections home lines InObject n s below h =
     let r = reference_goes all n None s low h in
     record { reference = (reference_to n None s).1; reads = ap (λ (p : ℕ). Ok (values.Ref p, (reference_to n None s).1)) r.0; lead = r.1 }
-meant_goes all low sections home lines LineTable n s below h = record { reference = None; reads = lines_go lines sections.line.now n s below; lead = refl }
-meant_goes all low sections home lines RangeList n s below h = record { reference = None; reads = offset_goes sections.ranges.now n s below; lead = refl }
-meant_goes all low sections home lines LocationList n s below h = record { reference = None; reads = offset_goes sections.loc.now n s below; lead = refl }
+meant_goes all low sections home lines LineTable n s below h = record { reference = None; reads = lines_go lines sections.line n s below; lead = refl }
+meant_goes all low sections home lines RangeList n s below h = record { reference = None; reads = offset_goes sections.ranges n s below; lead = refl }
+meant_goes all low sections home lines LocationList n s below h = record { reference = None; reads = offset_goes sections.loc n s below; lead = refl }
 meant_goes all low sections home lines Other n s below h = record { reference = None; reads = refl; lead = refl }
 
 -- ---- what a value means
 
-record ValueTaken (all : List Entry) (sections : Sections) (home : Home) (lines : Bool) (field : Field) (value : Value) (y : Value × Option Reference) : Type 0 where
+record ValueTaken (all : List Entry) (sections : SectionBytes) (home : Home) (lines : Bool) (field : Field) (value : Value) (y : Value × Option Reference) : Type 0 where
   inside : IsInside sections lines field value
   is : y.0 ≡ attr_value home.place field value
   leads_on : ValueLeads all home.unit (meaning_of field.form field.name) y.0
 
-record ValueGoes (all : List Entry) (sections : Sections) (home : Home) (root : Bool) (field : Field) (before : List Attr) (value : Value) (s : Spot) : Type 0 where
+record ValueGoes (all : List Entry) (sections : SectionBytes) (home : Home) (root : Bool) (field : Field) (before : List Attr) (value : Value) (s : Spot) : Type 0 where
   reference : Option Reference
   reads : value_meant_at sections home root field before value s ≡ Ok (attr_value home.place field value, reference)
   lead : Lead all (option_to_list reference)
@@ -187,7 +188,7 @@ no_reference all unit InUnit (values.Ref place) ne = absurd (ne place refl)
 no_reference all unit InObject (values.Ref place) ne = absurd (ne place refl)
 no_reference all unit meaning value ne = tt
 
-value_taken : (all : List Entry) → AreLow all → (sections : Sections) (home : Home) (root : Bool) (field : Field) (before : List Attr) (value : Value) (s : Spot) (y : Value × Option Reference) → ((place : ℕ) → value ≡ values.Ref place → ⊥)
+value_taken : (all : List Entry) → AreLow all → (sections : SectionBytes) (home : Home) (root : Bool) (field : Field) (before : List Attr) (value : Value) (s : Spot) (y : Value × Option Reference) → ((place : ℕ) → value ≡ values.Ref place → ⊥)
     → value_meant_at sections home root field before value s ≡ Ok y → Lead all (option_to_list y.1) → ValueTaken all sections home (names_lines root before) field value y
 unfolding value_meant_at
 value_taken all low sections home root field before (values.Offset n) s y stored e h =
@@ -198,7 +199,7 @@ value_taken all low sections home root field before value s y stored e h =
     subst (λ (p : Value × Option Reference). ValueTaken all sections home (names_lines root before) field value p) (ok_is (value, None) y e)
     (record { inside = tt; is = refl; leads_on = no_reference all home.unit (meaning_of field.form field.name) value stored })
 
-value_goes : (all : List Entry) → AreLow all → (sections : Sections) (home : Home) (root : Bool) (field : Field) (before : List Attr) (value : Value) (s : Spot) → IsInside sections (names_lines root before) field value
+value_goes : (all : List Entry) → AreLow all → (sections : SectionBytes) (home : Home) (root : Bool) (field : Field) (before : List Attr) (value : Value) (s : Spot) → IsInside sections (names_lines root before) field value
     → ValueLeads all home.unit (meaning_of field.form field.name) (attr_value home.place field value) → ValueGoes all sections home root field before value s
 unfolding value_meant_at
 value_goes all low sections home root field before (values.Offset n) s inside h =
@@ -214,7 +215,7 @@ differ form bits place value m e = cc
 not_ref : {A : Type 0} (made : A → Value) (Spells : List ℕ → A → Type 0) (bytes : List ℕ) (value : Value) → Made made Spells bytes value → ((a : A) (place : ℕ) → made a ≡ values.Ref place → ⊥) → (place : ℕ) → value ≡ values.Ref place → ⊥
 not_ref made Spells bytes value m differs place e = differs m.of place (sym m.is ∙ e)
 
-class_not_ref : (class : FormClass) (field : Field) (sections : Sections) (bytes : List ℕ) (value : Value) → SpellsClass class field sections bytes value → (place : ℕ) → value ≡ values.Ref place → ⊥
+class_not_ref : (class : FormClass) (field : Field) (sections : SectionBytes) (bytes : List ℕ) (value : Value) → SpellsClass class field sections bytes value → (place : ℕ) → value ≡ values.Ref place → ⊥
 class_not_ref Address field sections bytes value m = not_ref fixed_address _ bytes value m (λ a place e. cc)
 class_not_ref Text field sections bytes value m = not_ref (λ text. values.Text text) _ bytes value m (λ a place e. cc)
 class_not_ref StrText field sections bytes value m = not_ref (λ text. values.Text text) _ bytes value m (λ a place e. cc)
@@ -230,13 +231,13 @@ class_not_ref Outside field sections bytes value m = absurd m
 
 -- ---- one attribute
 
-pub record AttrTaken (all : List Entry) (sections : Sections) (home : Home) (root : Bool) (field : Field) (before : List Attr) (s : Spot) (y : (Attr × Option Reference) × Spot) : Type 0 where
+pub record AttrTaken (all : List Entry) (sections : SectionBytes) (home : Home) (root : Bool) (field : Field) (before : List Attr) (s : Spot) (y : (Attr × Option Reference) × Spot) : Type 0 where
   pub bytes : List ℕ
   pub spells : SpellsAttr sections home.place (names_lines root before) field bytes y.0.0
   pub leads_on : ValueLeads all home.unit (meaning_of field.form field.name) y.0.0.value
   pub passed : Passed bytes s y.1
 
-attr_taken : (all : List Entry) → AreLow all → (sections : Sections) (home : Home) (root : Bool) (field : Field) (before : List Attr) (s : Spot) (y : (Attr × Option Reference) × Spot) → Stands s
+attr_taken : (all : List Entry) → AreLow all → (sections : SectionBytes) (home : Home) (root : Bool) (field : Field) (before : List Attr) (s : Spot) (y : (Attr × Option Reference) × Spot) → Stands s
     → attr_at sections home root field before s ≡ Ok y → Lead all (option_to_list y.0.1) → AttrTaken all sections home root field before s y
 unfolding attr_at
 attr_taken all low sections home root field before s y stands e h =
@@ -256,7 +257,7 @@ attr_taken all low sections home root field before s y stands e h =
       passed = passed_by v.bytes s b.0.1 stands (value_onward field DWARF_VERSION sections s b.0 b.1) v.parts;
     }) h
 
-record AttrGoes (all : List Entry) (sections : Sections) (home : Home) (root : Bool) (field : Field) (before : List Attr) (s : Spot) (bytes : List ℕ) (attr : Attr) (more : List ℕ) : Type 0 where
+record AttrGoes (all : List Entry) (sections : SectionBytes) (home : Home) (root : Bool) (field : Field) (before : List Attr) (s : Spot) (bytes : List ℕ) (attr : Attr) (more : List ℕ) : Type 0 where
   reference : Option Reference
   next : Spot
   reads : attr_at sections home root field before s ≡ Ok ((attr, reference), next)
@@ -264,7 +265,7 @@ record AttrGoes (all : List Entry) (sections : Sections) (home : Home) (root : B
   passed : Passed bytes s next
   left : rest next ≡ more
 
-attr_goes : (all : List Entry) → AreLow all → (sections : Sections) (home : Home) (root : Bool) (field : Field) (before : List Attr) (s : Spot) (bytes : List ℕ) (attr : Attr) (more : List ℕ) → Stands s
+attr_goes : (all : List Entry) → AreLow all → (sections : SectionBytes) (home : Home) (root : Bool) (field : Field) (before : List Attr) (s : Spot) (bytes : List ℕ) (attr : Attr) (more : List ℕ) → Stands s
     → SpellsAttr sections home.place (names_lines root before) field bytes attr → ValueLeads all home.unit (meaning_of field.form field.name) attr.value → rest s ≡ bytes ++ more
     → AttrGoes all sections home root field before s bytes attr more
 unfolding attr_at
@@ -283,7 +284,7 @@ attr_goes all low sections home root field before s bytes attr more stands w lea
 
 -- ---- the attributes of an entry
 
-pub record AttrsTaken (all : List Entry) (sections : Sections) (home : Home) (root : Bool) (fields : List Field) (before : Described) (s : Spot) (y : Described × Spot) : Type 0 where
+pub record AttrsTaken (all : List Entry) (sections : SectionBytes) (home : Home) (root : Bool) (fields : List Field) (before : Described) (s : Spot) (y : Described × Spot) : Type 0 where
   pub own : List Attr
   pub is : y.0.0 ≡ before.0 ++ own
   pub references : List Reference
@@ -293,7 +294,7 @@ pub record AttrsTaken (all : List Entry) (sections : Sections) (home : Home) (ro
   pub leads_on : AttrsLead all home.unit fields own
   pub passed : Passed bytes s y.1
 
-pub attrs_taken : (all : List Entry) → AreLow all → (sections : Sections) (home : Home) (root : Bool) (fields : List Field) (before : Described) (s : Spot) (y : Described × Spot) → Stands s
+pub attrs_taken : (all : List Entry) → AreLow all → (sections : SectionBytes) (home : Home) (root : Bool) (fields : List Field) (before : Described) (s : Spot) (y : Described × Spot) → Stands s
     → attrs_at sections home root fields before s ≡ Ok y → Lead all y.0.1 → AttrsTaken all sections home root fields before s y
 unfolding attrs_at
 attrs_taken all low sections home root [] before s y stands e h =
@@ -317,7 +318,7 @@ attrs_taken all low sections home root (field ∷ fields) before s y stands e h 
       passed = passed_then a.bytes t.bytes s b.0.1 y.1 a.passed t.passed;
     }
 
-pub record AttrsGo (all : List Entry) (sections : Sections) (home : Home) (root : Bool) (fields : List Field) (before : Described) (s : Spot) (bytes : List ℕ) (own : List Attr) (more : List ℕ) : Type 0 where
+pub record AttrsGo (all : List Entry) (sections : SectionBytes) (home : Home) (root : Bool) (fields : List Field) (before : Described) (s : Spot) (bytes : List ℕ) (own : List Attr) (more : List ℕ) : Type 0 where
   pub references : List Reference
   pub next : Spot
   pub reads : attrs_at sections home root fields before s ≡ Ok ((before.0 ++ own, references), next)
@@ -325,7 +326,7 @@ pub record AttrsGo (all : List Entry) (sections : Sections) (home : Home) (root 
   pub passed : Passed bytes s next
   pub left : rest next ≡ more
 
-pub attrs_go : (all : List Entry) → AreLow all → (sections : Sections) (home : Home) (root : Bool) (fields : List Field) (own : List Attr) (before : Described) (s : Spot) (bytes more : List ℕ) → Stands s
+pub attrs_go : (all : List Entry) → AreLow all → (sections : SectionBytes) (home : Home) (root : Bool) (fields : List Field) (own : List Attr) (before : Described) (s : Spot) (bytes more : List ℕ) → Stands s
     → SpellsAttrs sections home.place root fields before.0 bytes own → AttrsLead all home.unit fields own → Lead all before.1 → rest s ≡ bytes ++ more → AttrsGo all sections home root fields before s bytes own more
 unfolding attrs_at
 attrs_go all low sections home root [] [] before s bytes more stands w leads_on lead parts =

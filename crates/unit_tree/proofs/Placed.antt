@@ -6,7 +6,7 @@ use Rattle.ds_base.specs.Spot.{Spot, rest}
 use Rattle.ds_base.specs.Reading.{number_at, uleb_at}
 use Rattle.dwarf_types.specs.Spelled.{IsUleb, IsNumber}
 use Rattle.dwarf_types.proofs.Readers.{Stands, Reader, length_rest, stands_after, number_reader, uleb_reader}
-use Rattle.unit_tree.proofs.Onward.{Onward, end_kept, number_onward, uleb_onward}
+use Rattle.ds_base.proofs.Onward.{Onward, end_kept, number_onward, uleb_onward}
 
 -- from s to t stand some bytes
 pub record Passed (bytes : List ℕ) (s t : Spot) : Type 0 where

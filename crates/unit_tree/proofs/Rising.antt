@@ -8,16 +8,17 @@ use Rattle.ds_base.specs.Spot.{Spot}
 use Rattle.dwarf_types.specs.declared.abbrev.Abbrev.{Abbrev}
 use Rattle.dwarf_types.specs.declared.entry.Entry.{Entry}
 use Rattle.dwarf_types.specs.declared.entry.InUnit.{InUnit}
-use Rattle.dwarf_types.specs.declared.sections.Sections.{Sections}
+use Rattle.dwarf_types.specs.SectionBytes.{SectionBytes}
 use Rattle.unit_tree.specs.declared.attribute.Home.{Home}
 use Rattle.unit_tree.specs.declared.entry.Parsed.{Parsed}
 use Rattle.unit_tree.specs.declared.header.Header.{Header}
 use Rattle.unit_tree.specs.Entry.{entry_at, root_at, Walk, child_at, children_at, tree_at}
 use Rattle.unit_tree.specs.Header.{info_at, behind_length, header_at}
-use Rattle.unit_tree.specs.declared.header.TheConstants.{LENGTH_RESERVED}
+use Rattle.ds_base.specs.declared.dwarf.TheConstants.{LENGTH_RESERVED}
 use Rattle.unit_tree.specs.Reference.{IsRising}
 use Rattle.unit_tree.specs.Unit.{nothing, unit_at, units_at}
-use Rattle.unit_tree.proofs.Onward.{Onward, Further, stays, onward_then, further_then, end_kept, place_rises, number_fits, number_onward, uleb_further, attrs_onward}
+use Rattle.ds_base.proofs.Onward.{Onward, Further, stays, onward_then, further_then, end_kept, place_rises, number_fits, number_onward, uleb_further}
+use Rattle.unit_tree.proofs.Onward.{attrs_onward}
 use Rattle.unit_tree.proofs.Steps.{entry_steps, root_steps, listed_steps, child_steps, children_end, children_steps, tree_steps, header_steps, unit_steps, units_end, units_steps}
 
 -- entries in order, all of which begin below a place
@@ -47,12 +48,12 @@ pushed entries e p q h le lt =
 
 -- ---- entries
 
-pub entry_onward : (sections : Sections) (home : Home) (parent : Option ℕ) (place : ℕ) (declared : Abbrev) (before : Parsed) (s : Spot) (y : Parsed × Spot) → entry_at sections home parent place declared before s ≡ Ok y → Onward s y.1
+pub entry_onward : (sections : SectionBytes) (home : Home) (parent : Option ℕ) (place : ℕ) (declared : Abbrev) (before : Parsed) (s : Spot) (y : Parsed × Spot) → entry_at sections home parent place declared before s ≡ Ok y → Onward s y.1
 entry_onward sections home parent place declared before s y e =
     let w = entry_steps sections home parent place declared before s y e in
     subst (λ (p : Parsed × Spot). Onward s p.1) w.is (attrs_onward sections home (is_none parent) declared.fields ([], before.references) s w.read w.attrs)
 
-entry_rises : (sections : Sections) (home : Home) (parent : Option ℕ) (place : ℕ) (declared : Abbrev) (before : Parsed) (s : Spot) (y : Parsed × Spot) → entry_at sections home parent place declared before s ≡ Ok y
+entry_rises : (sections : SectionBytes) (home : Home) (parent : Option ℕ) (place : ℕ) (declared : Abbrev) (before : Parsed) (s : Spot) (y : Parsed × Spot) → entry_at sections home parent place declared before s ≡ Ok y
     → RisesBelow before.entries place → place < s.place → RisesBelow y.0.entries y.1.place
 entry_rises sections home parent place declared before s y e h lt =
     let w = entry_steps sections home parent place declared before s y e in
@@ -64,7 +65,7 @@ pub record Reaches (s : Spot) (entries : List Entry) (t : Spot) : Type 0 where
   pub further : Further s t
   pub rises : RisesBelow entries t.place
 
-root_reaches : (start : Spot) (sections : Sections) (home : Home) (table : List Abbrev) (before : Parsed) (s : Spot) (y : (Bool × Parsed) × Spot) → root_at start sections home table before s ≡ Ok y
+root_reaches : (start : Spot) (sections : SectionBytes) (home : Home) (table : List Abbrev) (before : Parsed) (s : Spot) (y : (Bool × Parsed) × Spot) → root_at start sections home table before s ≡ Ok y
     → RisesBelow before.entries s.place → Reaches s y.0.1.entries y.1
 root_reaches start sections home table before s y e h =
     let w = root_steps start sections home table before s y e in
@@ -73,7 +74,7 @@ root_reaches start sections home table before s y e h =
     let r = entry_rises sections home _ s.place w.declared before w.code.1 w.read w.entry h f.some in
     subst (λ (p : (Bool × Parsed) × Spot). Reaches s p.0.1.entries p.1) w.is (record { further = further_then s w.code.1 w.read.1 f o; rises = r })
 
-pub child_further : (sections : Sections) (home : Home) (table : List Abbrev) (walk : Walk) (s : Spot) (y : Walk × Spot) → child_at sections home table walk s ≡ Ok y → Further s y.1
+pub child_further : (sections : SectionBytes) (home : Home) (table : List Abbrev) (walk : Walk) (s : Spot) (y : Walk × Spot) → child_at sections home table walk s ≡ Ok y → Further s y.1
 child_further sections home table walk s y e =
     elim (child_steps sections home table walk s y e) [
       | inl w ↦ subst (λ (p : Walk × Spot). Further s p.1) w.is (uleb_further s w.code w.coded)
@@ -83,7 +84,7 @@ child_further sections home table walk s y e =
           subst (λ (p : Walk × Spot). Further s p.1) l.is (further_then s w.code.1 l.read.1 (uleb_further s w.code w.coded) o)
     ]
 
-child_rises : (sections : Sections) (home : Home) (table : List Abbrev) (walk : Walk) (s : Spot) (y : Walk × Spot) → child_at sections home table walk s ≡ Ok y → RisesBelow walk.0.entries s.place → RisesBelow y.0.0.entries y.1.place
+child_rises : (sections : SectionBytes) (home : Home) (table : List Abbrev) (walk : Walk) (s : Spot) (y : Walk × Spot) → child_at sections home table walk s ≡ Ok y → RisesBelow walk.0.entries s.place → RisesBelow y.0.0.entries y.1.place
 child_rises sections home table walk s y e h =
     elim (child_steps sections home table walk s y e) [
       | inl w ↦
@@ -100,7 +101,7 @@ record Stretches (s : Spot) (entries : List Entry) (t : Spot) : Type 0 where
   onward : Onward s t
   rises : RisesBelow entries t.place
 
-children_reach : (sections : Sections) (home : Home) (table : List Abbrev) (left : ℕ) (walk : Walk) (s : Spot) (y : Parsed × Spot) → children_at sections home table left walk s ≡ Ok y → RisesBelow walk.0.entries s.place
+children_reach : (sections : SectionBytes) (home : Home) (table : List Abbrev) (left : ℕ) (walk : Walk) (s : Spot) (y : Parsed × Spot) → children_at sections home table left walk s ≡ Ok y → RisesBelow walk.0.entries s.place
     → Stretches s y.0.entries y.1
 children_reach sections home table zero walk s y e h =
     let w = children_end sections home table walk s y e in
@@ -114,7 +115,7 @@ children_reach sections home table (suc left) walk s y e h =
           record { onward = onward_then s w.read.1 y.1 f.onward r.onward; rises = r.rises }
     ]
 
-pub tree_reaches : (start : Spot) (sections : Sections) (home : Home) (table : List Abbrev) (before : Parsed) (s : Spot) (y : Parsed × Spot) → tree_at start sections home table before s ≡ Ok y → RisesBelow before.entries s.place
+pub tree_reaches : (start : Spot) (sections : SectionBytes) (home : Home) (table : List Abbrev) (before : Parsed) (s : Spot) (y : Parsed × Spot) → tree_at start sections home table before s ≡ Ok y → RisesBelow before.entries s.place
     → Reaches s y.0.entries y.1
 tree_reaches start sections home table before s y e h =
     let w = tree_steps start sections home table before s y e in
@@ -125,9 +126,9 @@ tree_reaches start sections home table before s y e h =
 -- ---- units
 
 -- behind the header of a unit that begins at a place
-pub record Opened (sections : Sections) (place : ℕ) (header : Header) (s : Spot) : Type 0 where
+pub record Opened (sections : SectionBytes) (place : ℕ) (header : Header) (s : Spot) : Type 0 where
   pub behind : place < s.place
-  pub inside : header.end ≤ length sections.info.now
+  pub inside : header.end ≤ length sections.info
   pub end : s.end ≡ header.end
   pub before_end : s.place ≤ s.end
 
@@ -135,7 +136,7 @@ pub both_false : (b c : Bool) → (b || c) ≡ false → (b ≡ false) × (c ≡
 both_false true c e = absurd cc
 both_false false c e = (refl, e)
 
-pub header_opens : (sections : Sections) (place : ℕ) (y : Header × Spot) → header_at sections place ≡ Ok y → Opened sections place y.0 y.1
+pub header_opens : (sections : SectionBytes) (place : ℕ) (y : Header × Spot) → header_at sections place ≡ Ok y → Opened sections place y.0 y.1
 header_opens sections place y e =
     let w = header_steps sections place y e in
     let s : Spot = behind_length sections place w.len.0 in
@@ -143,18 +144,18 @@ header_opens sections place y e =
     let end = end_kept s w.size.1 o in
     let rise = place_rises s w.size.1 o in
     let there : w.size.1.place ≡ place + 4 + o.by = ap (λ (x : Spot). x.place) o.is in
-    let sound = both_false (not (nat_lt w.len.0 LENGTH_RESERVED)) (nat_lt (length sections.info.now - (place + 4)) w.len.0) w.sound in
+    let sound = both_false (not (nat_lt w.len.0 LENGTH_RESERVED)) (nat_lt (length sections.info - (place + 4)) w.len.0) w.sound in
     let four = number_fits 4 (info_at sections place) w.len w.length_is in
-    let inside : place + 4 + w.len.0 ≤ length sections.info.now = omega (arith, four, ltb-false _ _ sound.1) in
+    let inside : place + 4 + w.len.0 ≤ length sections.info = omega (arith, four, ltb-false _ _ sound.1) in
     subst (λ (p : Header × Spot). Opened sections place p.0 p.1) w.is (record { behind = omega (arith, rise); inside = inside; end = end; before_end = omega (arith, there, end, o.fits) })
 
 -- a unit takes bytes of the section, and its entries begin inside of it
-record UnitReaches (sections : Sections) (place : ℕ) (y : (InUnit × Parsed) × ℕ) : Type 0 where
+record UnitReaches (sections : SectionBytes) (place : ℕ) (y : (InUnit × Parsed) × ℕ) : Type 0 where
   some : place < y.1
-  inside : y.1 ≤ length sections.info.now
+  inside : y.1 ≤ length sections.info
   rises : RisesBelow y.0.1.entries y.1
 
-unit_reaches : (sections : Sections) (number : ℕ) (before : Parsed) (place : ℕ) (y : (InUnit × Parsed) × ℕ) → unit_at sections number before place ≡ Ok y → RisesBelow before.entries place → UnitReaches sections place y
+unit_reaches : (sections : SectionBytes) (number : ℕ) (before : Parsed) (place : ℕ) (y : (InUnit × Parsed) × ℕ) → unit_at sections number before place ≡ Ok y → RisesBelow before.entries place → UnitReaches sections place y
 unit_reaches sections number before place y e h =
     let w = unit_steps sections number before place y e in
     let o = header_opens sections place w.header w.header_is in
@@ -168,27 +169,27 @@ unit_reaches sections number before place y e h =
     })
 
 -- a unit's place rises, whatever is before it
-pub record UnitPasses (sections : Sections) (place : ℕ) (y : (InUnit × Parsed) × ℕ) : Type 0 where
+pub record UnitPasses (sections : SectionBytes) (place : ℕ) (y : (InUnit × Parsed) × ℕ) : Type 0 where
   pub some : place < y.1
-  pub inside : y.1 ≤ length sections.info.now
+  pub inside : y.1 ≤ length sections.info
 
-pub unit_passes : (sections : Sections) (number : ℕ) (before : Parsed) (place : ℕ) (y : (InUnit × Parsed) × ℕ) → unit_at sections number before place ≡ Ok y → UnitPasses sections place y
+pub unit_passes : (sections : SectionBytes) (number : ℕ) (before : Parsed) (place : ℕ) (y : (InUnit × Parsed) × ℕ) → unit_at sections number before place ≡ Ok y → UnitPasses sections place y
 unit_passes sections number before place y e =
     let w = unit_steps sections number before place y e in
     let o = header_opens sections place w.header w.header_is in
     subst (UnitPasses sections place) w.is (record { some = omega (arith, o.behind, o.end, o.before_end); inside = o.inside })
 
-units_rise_from : (sections : Sections) (left : ℕ) (units : List InUnit) (before : Parsed) (place : ℕ) (y : List InUnit × Parsed) → units_at sections left units before place ≡ Ok y → place ≤ length sections.info.now → RisesBelow before.entries place
-    → RisesBelow y.1.entries (length sections.info.now)
+units_rise_from : (sections : SectionBytes) (left : ℕ) (units : List InUnit) (before : Parsed) (place : ℕ) (y : List InUnit × Parsed) → units_at sections left units before place ≡ Ok y → place ≤ length sections.info → RisesBelow before.entries place
+    → RisesBelow y.1.entries (length sections.info)
 units_rise_from sections zero units before place y e le h =
-    subst (λ (p : List InUnit × Parsed). RisesBelow p.1.entries (length sections.info.now)) (units_end sections units before place y e) (higher before.entries place (length sections.info.now) le h)
+    subst (λ (p : List InUnit × Parsed). RisesBelow p.1.entries (length sections.info)) (units_end sections units before place y e) (higher before.entries place (length sections.info) le h)
 units_rise_from sections (suc left) units before place y e le h =
     elim (units_steps sections left units before place y e) [
-      | inl w ↦ subst (λ (p : List InUnit × Parsed). RisesBelow p.1.entries (length sections.info.now)) w.1 (higher before.entries place (length sections.info.now) le h)
+      | inl w ↦ subst (λ (p : List InUnit × Parsed). RisesBelow p.1.entries (length sections.info)) w.1 (higher before.entries place (length sections.info) le h)
       | inr w ↦
           let u = unit_reaches sections (length units) before place w.read w.unit h in
           units_rise_from sections left _ w.read.0.1 w.read.1 y w.others u.inside u.rises
     ]
 
-pub units_rise : (sections : Sections) (left : ℕ) (y : List InUnit × Parsed) → units_at sections left [] nothing 0 ≡ Ok y → RisesBelow y.1.entries (length sections.info.now)
+pub units_rise : (sections : SectionBytes) (left : ℕ) (y : List InUnit × Parsed) → units_at sections left [] nothing 0 ≡ Ok y → RisesBelow y.1.entries (length sections.info)
 units_rise sections left y e = units_rise_from sections left [] nothing 0 y e (omega arith) (record { rising = λ i j d lt within. absurd (omega (arith, within)); below = λ i d lt. absurd (omega (arith, lt)) })

@@ -10,8 +10,8 @@ use Rattle.ds_base.specs.Spot.{Spot, fault_at}
 use Rattle.ds_base.specs.Reading.{◌>>=◌, refuse_if, or_fault, bytes_at, number_at, uleb_at}
 use Rattle.dwarf_types.specs.declared.abbrev.Abbrev.{Abbrev}
 use Rattle.dwarf_types.specs.declared.entry.InUnit.{InUnit}
-use Rattle.dwarf_types.specs.declared.sections.Sections.{Sections}
-use Rattle.dwarf_types.proofs.Readers.{bind_ok, passed, ok_is, found_ok}
+use Rattle.dwarf_types.specs.SectionBytes.{SectionBytes}
+use Rattle.ds_base.proofs.Passing.{bind_ok, passed, ok_is, found_ok}
 use Rattle.abbrev_read.specs.Reading.{table_at}
 use Rattle.unit_tree.specs.declared.attribute.Home.{Home}
 use Rattle.unit_tree.specs.declared.entry.Parsed.{Parsed}
@@ -25,12 +25,12 @@ use Rattle.unit_tree.specs.Entry.{declared_as}
 use Rattle.unit_tree.specs.Unit.{is_zero, zeros_at, unit_from, unit_at, units_at}
 
 -- an entry
-pub record EntrySteps (sections : Sections) (home : Home) (parent : Option ℕ) (place : ℕ) (declared : Abbrev) (before : Parsed) (s : Spot) (y : Parsed × Spot) : Type 0 where
+pub record EntrySteps (sections : SectionBytes) (home : Home) (parent : Option ℕ) (place : ℕ) (declared : Abbrev) (before : Parsed) (s : Spot) (y : Parsed × Spot) : Type 0 where
   pub read : Described × Spot
   pub attrs : attrs_at sections home (is_none parent) declared.fields ([], before.references) s ≡ Ok read
   pub is : (with_entry home parent place declared before read.0, read.1) ≡ y
 
-pub entry_steps : (sections : Sections) (home : Home) (parent : Option ℕ) (place : ℕ) (declared : Abbrev) (before : Parsed) (s : Spot) (y : Parsed × Spot) → entry_at sections home parent place declared before s ≡ Ok y
+pub entry_steps : (sections : SectionBytes) (home : Home) (parent : Option ℕ) (place : ℕ) (declared : Abbrev) (before : Parsed) (s : Spot) (y : Parsed × Spot) → entry_at sections home parent place declared before s ≡ Ok y
     → EntrySteps sections home parent place declared before s y
 unfolding entry_at
 entry_steps sections home parent place declared before s y e =
@@ -38,7 +38,7 @@ entry_steps sections home parent place declared before s y e =
     record { read = b.0; attrs = b.1; is = ok_is _ y b.2 }
 
 -- a root
-pub record RootSteps (start : Spot) (sections : Sections) (home : Home) (table : List Abbrev) (before : Parsed) (s : Spot) (y : (Bool × Parsed) × Spot) : Type 0 where
+pub record RootSteps (start : Spot) (sections : SectionBytes) (home : Home) (table : List Abbrev) (before : Parsed) (s : Spot) (y : (Bool × Parsed) × Spot) : Type 0 where
   pub code : ℕ × Spot
   pub coded : uleb_at s ≡ Ok code
   pub some : (code.0 == 0) ≡ false
@@ -51,7 +51,7 @@ pub record RootSteps (start : Spot) (sections : Sections) (home : Home) (table :
   pub entry : entry_at sections home None s.place declared before code.1 ≡ Ok read
   pub is : ((declared.children, read.0), read.1) ≡ y
 
-pub root_steps : (start : Spot) (sections : Sections) (home : Home) (table : List Abbrev) (before : Parsed) (s : Spot) (y : (Bool × Parsed) × Spot) → root_at start sections home table before s ≡ Ok y
+pub root_steps : (start : Spot) (sections : SectionBytes) (home : Home) (table : List Abbrev) (before : Parsed) (s : Spot) (y : (Bool × Parsed) × Spot) → root_at start sections home table before s ≡ Ok y
     → RootSteps start sections home table before s y
 unfolding root_at
 root_steps start sections home table before s y e =
@@ -71,14 +71,14 @@ root_steps start sections home table before s y e =
     record { code = a.0; coded = a.1; some = b.0; declared = c.0; found = found_ok (declared_as a.0.0 table) (fault_at s kinds.UnknownCode) c.0 c.1; unit = d.0; whole = f.0; room = g.0; read = h.0; entry = h.1; is = ok_is _ y h.2 }
 
 -- an entry of an open list, behind its code
-pub record ListedSteps (sections : Sections) (home : Home) (declared : Abbrev) (walk : Walk) (first s : Spot) (y : Walk × Spot) : Type 0 where
+pub record ListedSteps (sections : SectionBytes) (home : Home) (declared : Abbrev) (walk : Walk) (first s : Spot) (y : Walk × Spot) : Type 0 where
   pub depth : (declared.children && not (nat_lt (length walk.1) MOST_OPEN)) ≡ false
   pub room : is_full walk.0 ≡ false
   pub read : Parsed × Spot
   pub entry : entry_at sections home (innermost walk.1) first.place declared walk.0 s ≡ Ok read
   pub is : ((read.0, opened declared.children (length walk.0.entries) walk.1), read.1) ≡ y
 
-pub listed_steps : (sections : Sections) (home : Home) (declared : Abbrev) (walk : Walk) (first s : Spot) (y : Walk × Spot) → listed_at sections home declared walk first s ≡ Ok y → ListedSteps sections home declared walk first s y
+pub listed_steps : (sections : SectionBytes) (home : Home) (declared : Abbrev) (walk : Walk) (first s : Spot) (y : Walk × Spot) → listed_at sections home declared walk first s ≡ Ok y → ListedSteps sections home declared walk first s y
 unfolding listed_at
 listed_steps sections home declared walk first s y e =
     let last : Parsed × Spot → Result (Walk × Spot) Fault = λ read. Ok ((read.0, opened declared.children (length walk.0.entries) walk.1), read.1) in
@@ -95,7 +95,7 @@ pub record ClosingSteps (walk : Walk) (s : Spot) (y : Walk × Spot) : Type 0 whe
   pub zero_is : code.0 ≡ 0
   pub is : ((walk.0, closed walk.1), code.1) ≡ y
 
-pub record OpeningSteps (sections : Sections) (home : Home) (table : List Abbrev) (walk : Walk) (s : Spot) (y : Walk × Spot) : Type 0 where
+pub record OpeningSteps (sections : SectionBytes) (home : Home) (table : List Abbrev) (walk : Walk) (s : Spot) (y : Walk × Spot) : Type 0 where
   pub code : ℕ × Spot
   pub coded : uleb_at s ≡ Ok code
   pub some : (code.0 == 0) ≡ false
@@ -103,11 +103,11 @@ pub record OpeningSteps (sections : Sections) (home : Home) (table : List Abbrev
   pub found : declared_as code.0 table ≡ Some declared
   pub listed : listed_at sections home declared walk s code.1 ≡ Ok y
 
-abbrev after_code : Sections → Home → List Abbrev → Walk → Spot → ℕ × Spot → Result (Walk × Spot) Fault
+abbrev after_code : SectionBytes → Home → List Abbrev → Walk → Spot → ℕ × Spot → Result (Walk × Spot) Fault
 after_code sections home table walk s code =
     if code.0 == 0 then Ok ((walk.0, closed walk.1), code.1) else (or_fault (declared_as code.0 table) (fault_at s kinds.UnknownCode) >>= λ declared. listed_at sections home declared walk s code.1)
 
-pub child_steps : (sections : Sections) (home : Home) (table : List Abbrev) (walk : Walk) (s : Spot) (y : Walk × Spot) → child_at sections home table walk s ≡ Ok y
+pub child_steps : (sections : SectionBytes) (home : Home) (table : List Abbrev) (walk : Walk) (s : Spot) (y : Walk × Spot) → child_at sections home table walk s ≡ Ok y
     → ClosingSteps walk s y ⊎ OpeningSteps sections home table walk s y
 unfolding child_at
 child_steps sections home table walk s y e =
@@ -123,7 +123,7 @@ child_steps sections home table walk s y e =
     ]
 
 -- no list is open, or one is and an entry of it is read
-pub record ChildrenSteps (sections : Sections) (home : Home) (table : List Abbrev) (left : ℕ) (walk : Walk) (s : Spot) (y : Parsed × Spot) : Type 0 where
+pub record ChildrenSteps (sections : SectionBytes) (home : Home) (table : List Abbrev) (left : ℕ) (walk : Walk) (s : Spot) (y : Parsed × Spot) : Type 0 where
   pub still_open : (length walk.1 == 0) ≡ false
   pub read : Walk × Spot
   pub child : child_at sections home table walk s ≡ Ok read
@@ -138,11 +138,11 @@ either_is true c x y f next e = inl (refl, cc)
 either_is false true x y f next e = absurd cc
 either_is false false x y f next e = inr (refl, e)
 
-pub children_end : (sections : Sections) (home : Home) (table : List Abbrev) (walk : Walk) (s : Spot) (y : Parsed × Spot) → children_at sections home table zero walk s ≡ Ok y → ((length walk.1 == 0) ≡ true) × ((walk.0, s) ≡ y)
+pub children_end : (sections : SectionBytes) (home : Home) (table : List Abbrev) (walk : Walk) (s : Spot) (y : Parsed × Spot) → children_at sections home table zero walk s ≡ Ok y → ((length walk.1 == 0) ≡ true) × ((walk.0, s) ≡ y)
 unfolding children_at
 children_end sections home table walk s y e = end_is (length walk.1 == 0) (walk.0, s) y (fault_at s kinds.UnclosedSiblings) e
 
-pub children_steps : (sections : Sections) (home : Home) (table : List Abbrev) (left : ℕ) (walk : Walk) (s : Spot) (y : Parsed × Spot) → children_at sections home table (suc left) walk s ≡ Ok y
+pub children_steps : (sections : SectionBytes) (home : Home) (table : List Abbrev) (left : ℕ) (walk : Walk) (s : Spot) (y : Parsed × Spot) → children_at sections home table (suc left) walk s ≡ Ok y
     → (((length walk.1 == 0) ≡ true) × ((walk.0, s) ≡ y)) ⊎ ChildrenSteps sections home table left walk s y
 unfolding children_at
 children_steps sections home table left walk s y e =
@@ -155,19 +155,19 @@ children_steps sections home table left walk s y e =
     ]
 
 -- a tree
-pub record TreeSteps (start : Spot) (sections : Sections) (home : Home) (table : List Abbrev) (before : Parsed) (s : Spot) (y : Parsed × Spot) : Type 0 where
+pub record TreeSteps (start : Spot) (sections : SectionBytes) (home : Home) (table : List Abbrev) (before : Parsed) (s : Spot) (y : Parsed × Spot) : Type 0 where
   pub root : (Bool × Parsed) × Spot
   pub first : root_at start sections home table before s ≡ Ok root
   pub others : children_at sections home table (root.1.end - root.1.place) (root.0.1, opened root.0.0 (length before.entries) []) root.1 ≡ Ok y
 
-pub tree_steps : (start : Spot) (sections : Sections) (home : Home) (table : List Abbrev) (before : Parsed) (s : Spot) (y : Parsed × Spot) → tree_at start sections home table before s ≡ Ok y → TreeSteps start sections home table before s y
+pub tree_steps : (start : Spot) (sections : SectionBytes) (home : Home) (table : List Abbrev) (before : Parsed) (s : Spot) (y : Parsed × Spot) → tree_at start sections home table before s ≡ Ok y → TreeSteps start sections home table before s y
 unfolding tree_at
 tree_steps start sections home table before s y e =
     let a = bind_ok (root_at start sections home table before s) (λ root. children_at sections home table (root.1.end - root.1.place) (root.0.1, opened root.0.0 (length before.entries) []) root.1) y e in
     record { root = a.0; first = a.1; others = a.2 }
 
 -- a header
-pub record HeaderSteps (sections : Sections) (place : ℕ) (y : Header × Spot) : Type 0 where
+pub record HeaderSteps (sections : SectionBytes) (place : ℕ) (y : Header × Spot) : Type 0 where
   pub len : ℕ × Spot
   pub length_is : number_at 4 (info_at sections place) ≡ Ok len
   pub sound : is_bad_length sections place len.0 ≡ false
@@ -176,20 +176,20 @@ pub record HeaderSteps (sections : Sections) (place : ℕ) (y : Header × Spot) 
   pub supported : not (version.0 == DWARF_VERSION) ≡ false
   pub table : ℕ × Spot
   pub table_is : number_at 4 version.1 ≡ Ok table
-  pub inside : not (nat_lt table.0 (length sections.abbrev.now)) ≡ false
+  pub inside : not (nat_lt table.0 (length sections.abbrev_)) ≡ false
   pub size : ℕ × Spot
   pub size_is : number_at 1 table.1 ≡ Ok size
   pub eight : not (size.0 == ADDRESS_SIZE) ≡ false
   pub is : (record { table = table.0; end = place + 4 + len.0 }, size.1) ≡ y
 
-pub header_steps : (sections : Sections) (place : ℕ) (y : Header × Spot) → header_at sections place ≡ Ok y → HeaderSteps sections place y
+pub header_steps : (sections : SectionBytes) (place : ℕ) (y : Header × Spot) → header_at sections place ≡ Ok y → HeaderSteps sections place y
 unfolding header_at fields_at
 header_steps sections place y e =
     let first : Spot = info_at sections place in
     let last : ℕ → ℕ × Spot → ℕ × Spot → Result (Header × Spot) Fault = λ len table size. Ok (record { table = table.0; end = place + 4 + len }, size.1) in
     let eight : ℕ → ℕ × Spot → ℕ × Spot → Result (Header × Spot) Fault = λ len table size. refuse_if (not (size.0 == ADDRESS_SIZE)) (fault_at first kinds.BadUnit) >>= λ u. last len table size in
     let size : ℕ → ℕ × Spot → Result (Header × Spot) Fault = λ len table. number_at 1 table.1 >>= λ n. eight len table n in
-    let inside : ℕ → ℕ × Spot → ℕ × Spot → Result (Header × Spot) Fault = λ len version table. refuse_if (not (nat_lt table.0 (length sections.abbrev.now))) (fault_at version.1 kinds.BadOffset) >>= λ u. size len table in
+    let inside : ℕ → ℕ × Spot → ℕ × Spot → Result (Header × Spot) Fault = λ len version table. refuse_if (not (nat_lt table.0 (length sections.abbrev_))) (fault_at version.1 kinds.BadOffset) >>= λ u. size len table in
     let table : ℕ → ℕ × Spot → Result (Header × Spot) Fault = λ len version. number_at 4 version.1 >>= λ n. inside len version n in
     let supported : ℕ → ℕ × Spot → Result (Header × Spot) Fault = λ len version. refuse_if (not (version.0 == DWARF_VERSION)) (fault_at (behind_length sections place len) kinds.UnsupportedVersion) >>= λ u. table len version in
     let version : ℕ → Result (Header × Spot) Fault = λ len. number_at 2 (behind_length sections place len) >>= λ n. supported len n in
@@ -198,7 +198,7 @@ header_steps sections place y e =
     let c = bind_ok (number_at 2 (behind_length sections place a.0.0)) (supported a.0.0) y b.1 in
     let d = passed (not (c.0.0 == DWARF_VERSION)) (fault_at (behind_length sections place a.0.0) kinds.UnsupportedVersion) (table a.0.0 c.0) y c.2 in
     let f = bind_ok (number_at 4 c.0.1) (inside a.0.0 c.0) y d.1 in
-    let g = passed (not (nat_lt f.0.0 (length sections.abbrev.now))) (fault_at c.0.1 kinds.BadOffset) (size a.0.0 f.0) y f.2 in
+    let g = passed (not (nat_lt f.0.0 (length sections.abbrev_))) (fault_at c.0.1 kinds.BadOffset) (size a.0.0 f.0) y f.2 in
     let h = bind_ok (number_at 1 f.0.1) (eight a.0.0 f.0) y g.1 in
     let i = passed (not (h.0.0 == ADDRESS_SIZE)) (fault_at first kinds.BadUnit) (last a.0.0 f.0 h.0) y h.2 in
     record { len = a.0; length_is = a.1; sound = b.0; version = c.0; version_is = c.1; supported = d.0; table = f.0; table_is = f.1; inside = g.0; size = h.0; size_is = h.1; eight = i.0; is = ok_is _ y i.1 }
@@ -208,11 +208,11 @@ refused_not true f u e = absurd cc
 refused_not false f u e = refl
 
 -- a unit
-pub record UnitSteps (sections : Sections) (number : ℕ) (before : Parsed) (place : ℕ) (y : (InUnit × Parsed) × ℕ) : Type 0 where
+pub record UnitSteps (sections : SectionBytes) (number : ℕ) (before : Parsed) (place : ℕ) (y : (InUnit × Parsed) × ℕ) : Type 0 where
   pub header : Header × Spot
   pub header_is : header_at sections place ≡ Ok header
   pub table : List Abbrev
-  pub table_is : table_at sections.abbrev.now header.0.table ≡ Ok table
+  pub table_is : table_at sections.abbrev_ header.0.table ≡ Ok table
   pub tree : Parsed × Spot
   pub tree_is : tree_at (info_at sections place) sections (record { unit = number; place = place }) table before header.1 ≡ Ok tree
   pub others : List ℕ × Spot
@@ -220,7 +220,7 @@ pub record UnitSteps (sections : Sections) (number : ℕ) (before : Parsed) (pla
   pub zeros : not (list_all is_zero others.0) ≡ false
   pub is : ((unit_from (length before.entries) tree.0.entries, tree.0), header.0.end) ≡ y
 
-pub unit_steps : (sections : Sections) (number : ℕ) (before : Parsed) (place : ℕ) (y : (InUnit × Parsed) × ℕ) → unit_at sections number before place ≡ Ok y → UnitSteps sections number before place y
+pub unit_steps : (sections : SectionBytes) (number : ℕ) (before : Parsed) (place : ℕ) (y : (InUnit × Parsed) × ℕ) → unit_at sections number before place ≡ Ok y → UnitSteps sections number before place y
 unfolding unit_at zeros_at
 unit_steps sections number before place y e =
     let home : Home = record { unit = number; place = place } in
@@ -228,16 +228,16 @@ unit_steps sections number before place y e =
     let last : Header × Spot → Parsed × Spot → Result ((InUnit × Parsed) × ℕ) Fault = λ header tree. Ok ((unit_from (length before.entries) tree.0.entries, tree.0), header.0.end) in
     let zeros : Parsed × Spot → Result (Unit {0}) Fault = λ tree. bytes_at (tree.1.end - tree.1.place) tree.1 >>= λ others. refuse_if (not (list_all is_zero others.0)) (fault_at start kinds.BadUnit) in
     let tree : Header × Spot → List Abbrev → Result ((InUnit × Parsed) × ℕ) Fault = λ header table. tree_at start sections home table before header.1 >>= λ tree. zeros tree >>= λ u. last header tree in
-    let a = bind_ok (header_at sections place) (λ header. table_at sections.abbrev.now header.0.table >>= λ table. tree header table) y e in
-    let b = bind_ok (table_at sections.abbrev.now a.0.0.table) (λ table. tree a.0 table) y a.2 in
+    let a = bind_ok (header_at sections place) (λ header. table_at sections.abbrev_ header.0.table >>= λ table. tree header table) y e in
+    let b = bind_ok (table_at sections.abbrev_ a.0.0.table) (λ table. tree a.0 table) y a.2 in
     let c = bind_ok (tree_at start sections home b.0 before a.0.1) (λ tree. zeros tree >>= λ u. last a.0 tree) y b.2 in
     let d = bind_ok (zeros c.0) (λ u. last a.0 c.0) y c.2 in
     let f = bind_ok (bytes_at (c.0.1.end - c.0.1.place) c.0.1) (λ others. refuse_if (not (list_all is_zero others.0)) (fault_at start kinds.BadUnit)) d.0 d.1 in
     record { header = a.0; header_is = a.1; table = b.0; table_is = b.1; tree = c.0; tree_is = c.1; others = f.0; others_is = f.1; zeros = refused_not (not (list_all is_zero f.0.0)) (fault_at start kinds.BadUnit) d.0 f.2; is = ok_is _ y d.2 }
 
 -- units
-pub record UnitsSteps (sections : Sections) (left : ℕ) (units : List InUnit) (before : Parsed) (place : ℕ) (y : List InUnit × Parsed) : Type 0 where
-  pub more : (place == length sections.info.now) ≡ false
+pub record UnitsSteps (sections : SectionBytes) (left : ℕ) (units : List InUnit) (before : Parsed) (place : ℕ) (y : List InUnit × Parsed) : Type 0 where
+  pub more : (place == length sections.info) ≡ false
   pub read : (InUnit × Parsed) × ℕ
   pub unit : unit_at sections (length units) before place ≡ Ok read
   pub others : units_at sections left (units ++ read.0.0 ∷ []) read.0.1 read.1 ≡ Ok y
@@ -246,16 +246,16 @@ choice_is : {A : Type 0} (b : Bool) (x y : A) (next : Result A Fault) → (if b 
 choice_is true x y next e = inl (refl, cc)
 choice_is false x y next e = inr (refl, e)
 
-pub units_end : (sections : Sections) (units : List InUnit) (before : Parsed) (place : ℕ) (y : List InUnit × Parsed) → units_at sections zero units before place ≡ Ok y → (units, before) ≡ y
+pub units_end : (sections : SectionBytes) (units : List InUnit) (before : Parsed) (place : ℕ) (y : List InUnit × Parsed) → units_at sections zero units before place ≡ Ok y → (units, before) ≡ y
 unfolding units_at
 units_end sections units before place y e = ok_is (units, before) y e
 
-pub units_steps : (sections : Sections) (left : ℕ) (units : List InUnit) (before : Parsed) (place : ℕ) (y : List InUnit × Parsed) → units_at sections (suc left) units before place ≡ Ok y
-    → (((place == length sections.info.now) ≡ true) × ((units, before) ≡ y)) ⊎ UnitsSteps sections left units before place y
+pub units_steps : (sections : SectionBytes) (left : ℕ) (units : List InUnit) (before : Parsed) (place : ℕ) (y : List InUnit × Parsed) → units_at sections (suc left) units before place ≡ Ok y
+    → (((place == length sections.info) ≡ true) × ((units, before) ≡ y)) ⊎ UnitsSteps sections left units before place y
 unfolding units_at
 units_steps sections left units before place y e =
     let next : Result (List InUnit × Parsed) Fault = unit_at sections (length units) before place >>= λ read. units_at sections left (units ++ read.0.0 ∷ []) read.0.1 read.1 in
-    elim (choice_is (place == length sections.info.now) (units, before) y next e) [
+    elim (choice_is (place == length sections.info) (units, before) y next e) [
       | inl ended ↦ inl ended
       | inr more ↦
           let b = bind_ok (unit_at sections (length units) before place) (λ read. units_at sections left (units ++ read.0.0 ∷ []) read.0.1 read.1) y more.1 in

@@ -10,7 +10,7 @@ use Rattle.dwarf_types.specs.Spelled.{IsUleb}
 use Rattle.dwarf_types.specs.declared.abbrev.Abbrev.{Abbrev}
 use Rattle.dwarf_types.specs.declared.entry.Attr.{Attr}
 use Rattle.dwarf_types.specs.declared.entry.Entry.{Entry}
-use Rattle.dwarf_types.specs.declared.sections.Sections.{Sections}
+use Rattle.dwarf_types.specs.SectionBytes.{SectionBytes}
 use Rattle.dwarf_types.proofs.Readers.{Stands, length_rest}
 use Rattle.unit_tree.specs.declared.attribute.Home.{Home}
 use Rattle.unit_tree.specs.declared.entry.Parsed.{Parsed}
@@ -22,7 +22,7 @@ use Rattle.unit_tree.specs.Spelling.{Node, Forest, size, entry_of, preorder, InT
 use Rattle.unit_tree.specs.Spelling.Forest.{no_more, tree}
 use Rattle.unit_tree.proofs.AttrLaws.{Lead, AreLow, lead_front, attrs_taken, attrs_go}
 use Rattle.unit_tree.proofs.Placed.{Passed, passed_nothing, passed_then, stands_on, uleb_taken, uleb_goes}
-use Rattle.unit_tree.proofs.Onward.{uleb_onward}
+use Rattle.ds_base.proofs.Onward.{uleb_onward}
 use Rattle.unit_tree.proofs.Rising.{entry_onward}
 use Rattle.unit_tree.proofs.Steps.{entry_steps, listed_steps, child_steps, ChildrenSteps, children_end, children_steps}
 
@@ -37,7 +37,7 @@ room_for before lt = rw (lt-ltb (length before.entries) MOST_ENTRIES lt) refl
 abbrev pub node_of : Abbrev → ℕ → List Attr → Node
 node_of declared place attrs = record { declared = declared; place = place; attrs = attrs }
 
-pub record NodeTaken (all : List Entry) (sections : Sections) (home : Home) (table : List Abbrev) (parent : Option ℕ) (declared : Abbrev) (before : Parsed) (s : Spot) (y : Parsed × Spot) : Type 0 where
+pub record NodeTaken (all : List Entry) (sections : SectionBytes) (home : Home) (table : List Abbrev) (parent : Option ℕ) (declared : Abbrev) (before : Parsed) (s : Spot) (y : Parsed × Spot) : Type 0 where
   pub attrs : List Attr
   pub bytes : List ℕ
   pub spells : SpellsNode sections home.place table (is_none parent) (node_of declared s.place attrs) s.place bytes
@@ -51,7 +51,7 @@ code_some : (code : ℕ) → (code == 0) ≡ false → 0 < code
 code_some zero e = absurd cc
 code_some (suc code) e = omega arith
 
-pub node_taken : (all : List Entry) → AreLow all → (sections : Sections) (home : Home) (table : List Abbrev) (parent : Option ℕ) (declared : Abbrev) (before : Parsed) (s : Spot) (code : ℕ × Spot) (y : Parsed × Spot) → Stands s
+pub node_taken : (all : List Entry) → AreLow all → (sections : SectionBytes) (home : Home) (table : List Abbrev) (parent : Option ℕ) (declared : Abbrev) (before : Parsed) (s : Spot) (code : ℕ × Spot) (y : Parsed × Spot) → Stands s
     → uleb_at s ≡ Ok code → (code.0 == 0) ≡ false → declared_as code.0 table ≡ Some declared → entry_at sections home parent s.place declared before code.1 ≡ Ok y → Lead all y.0.references
     → NodeTaken all sections home table parent declared before s y
 node_taken all low sections home table parent declared before s code y stands coded some found e h =
@@ -72,7 +72,7 @@ node_taken all low sections home table parent declared before s code y stands co
       passed = passed_then c.bytes a.bytes s code.1 w.read.1 p a.passed;
     }) h
 
-pub record NodeGoes (all : List Entry) (sections : Sections) (home : Home) (table : List Abbrev) (parent : Option ℕ) (node : Node) (before : Parsed) (s : Spot) (bytes more : List ℕ) : Type 0 where
+pub record NodeGoes (all : List Entry) (sections : SectionBytes) (home : Home) (table : List Abbrev) (parent : Option ℕ) (node : Node) (before : Parsed) (s : Spot) (bytes more : List ℕ) : Type 0 where
   pub code : ℕ × Spot
   pub coded : uleb_at s ≡ Ok code
   pub some : (code.0 == 0) ≡ false
@@ -84,7 +84,7 @@ pub record NodeGoes (all : List Entry) (sections : Sections) (home : Home) (tabl
   pub passed : Passed bytes s next
   pub left : rest next ≡ more
 
-pub node_goes : (all : List Entry) → AreLow all → (sections : Sections) (home : Home) (table : List Abbrev) (parent : Option ℕ) (node : Node) (before : Parsed) (s : Spot) (bytes more : List ℕ) → Stands s
+pub node_goes : (all : List Entry) → AreLow all → (sections : SectionBytes) (home : Home) (table : List Abbrev) (parent : Option ℕ) (node : Node) (before : Parsed) (s : Spot) (bytes more : List ℕ) → Stands s
     → SpellsNode sections home.place table (is_none parent) node s.place bytes → NodeLeads all home.unit node → Lead all before.references → rest s ≡ bytes ++ more
     → NodeGoes all sections home table parent node before s bytes more
 unfolding entry_at
@@ -139,19 +139,19 @@ some_open stack p = ne_eqb (length (back stack ++ p ∷ [])) 0 (λ z. absurd (om
 
 -- ---- trees, where so many lists are open
 
-pub record TreesThere (all : List Entry) (sections : Sections) (home : Home) (table : List Abbrev) (lists : ℕ) (trees : Forest) (place : ℕ) (bytes : List ℕ) : Type 0 where
+pub record TreesThere (all : List Entry) (sections : SectionBytes) (home : Home) (table : List Abbrev) (lists : ℕ) (trees : Forest) (place : ℕ) (bytes : List ℕ) : Type 0 where
   pub spells : SpellsTrees sections home.place table trees place bytes
   pub shallow : IsShallow lists trees
   pub leads_on : TreesLead all home.unit trees
 
 -- what is below an entry
-pub record KidsThere (all : List Entry) (sections : Sections) (home : Home) (table : List Abbrev) (lists : ℕ) (children : Bool) (kids : Forest) (place : ℕ) (bytes : List ℕ) : Type 0 where
+pub record KidsThere (all : List Entry) (sections : SectionBytes) (home : Home) (table : List Abbrev) (lists : ℕ) (children : Bool) (kids : Forest) (place : ℕ) (bytes : List ℕ) : Type 0 where
   pub spells : SpellsBelow children (λ p b. SpellsTrees sections home.place table kids p b) kids place bytes
   pub shallow : IsShallow lists kids
   pub leads_on : TreesLead all home.unit kids
 
 -- the rest of each open list, the innermost first
-abbrev pub OpenThere : List Entry → Sections → Home → List Abbrev → List ℕ → List Forest → ℕ → List ℕ → Type 0
+abbrev pub OpenThere : List Entry → SectionBytes → Home → List Abbrev → List ℕ → List Forest → ℕ → List ℕ → Type 0
 OpenThere all sections home table [] [] place bytes = bytes ≡ []
 OpenThere all sections home table [] (trees ∷ forests) place bytes = ⊥
 OpenThere all sections home table (p ∷ stack) [] place bytes = ⊥
@@ -162,7 +162,7 @@ open_entries unit number [] forests = []
 open_entries unit number (p ∷ stack) [] = []
 open_entries unit number (p ∷ stack) (trees ∷ forests) = preorder unit (Some p) number trees ++ open_entries unit (number + size trees) stack forests
 
-pub record ChildrenTaken (all : List Entry) (sections : Sections) (home : Home) (table : List Abbrev) (stack : List ℕ) (before : Parsed) (s : Spot) (y : Parsed × Spot) : Type 0 where
+pub record ChildrenTaken (all : List Entry) (sections : SectionBytes) (home : Home) (table : List Abbrev) (stack : List ℕ) (before : Parsed) (s : Spot) (y : Parsed × Spot) : Type 0 where
   pub forests : List Forest
   pub bytes : List ℕ
   pub there : OpenThere all sections home table stack forests s.place bytes
@@ -173,7 +173,7 @@ pub record ChildrenTaken (all : List Entry) (sections : Sections) (home : Home) 
   pub few : length before.entries ≤ MOST_ENTRIES → length y.0.entries ≤ MOST_ENTRIES
 
 -- no list is open
-none_taken : (all : List Entry) (sections : Sections) (home : Home) (table : List Abbrev) (stack : List ℕ) (before : Parsed) (s : Spot) (y : Parsed × Spot) → Stands s → (length (back stack) == 0) ≡ true → (before, s) ≡ y
+none_taken : (all : List Entry) (sections : SectionBytes) (home : Home) (table : List Abbrev) (stack : List ℕ) (before : Parsed) (s : Spot) (y : Parsed × Spot) → Stands s → (length (back stack) == 0) ≡ true → (before, s) ≡ y
     → ChildrenTaken all sections home table stack before s y
 none_taken all sections home table [] before s y stands none is =
     subst (λ (z : Parsed × Spot). ChildrenTaken all sections home table [] before s z) is
@@ -181,7 +181,7 @@ none_taken all sections home table [] before s y stands none is =
 none_taken all sections home table (p ∷ stack) before s y stands none is = absurd (omega (arith, eqb-true _ _ none, length-append (back stack) (p ∷ [])))
 
 -- the innermost list is closed
-closing_taken : (all : List Entry) (sections : Sections) (home : Home) (table : List Abbrev) (p : ℕ) (stack : List ℕ) (before : Parsed) (s : Spot) (code : ℕ × Spot) (y : Parsed × Spot) → Stands s → uleb_at s ≡ Ok code → code.0 ≡ 0
+closing_taken : (all : List Entry) (sections : SectionBytes) (home : Home) (table : List Abbrev) (p : ℕ) (stack : List ℕ) (before : Parsed) (s : Spot) (code : ℕ × Spot) (y : Parsed × Spot) → Stands s → uleb_at s ≡ Ok code → code.0 ≡ 0
     → (Stands code.1 → ChildrenTaken all sections home table stack before code.1 y) → ChildrenTaken all sections home table (p ∷ stack) before s y
 closing_taken all sections home table p stack before s code y stands coded zero_is others =
     let c = uleb_taken s code stands coded in
@@ -206,7 +206,7 @@ closing_taken all sections home table p stack before s code y stands coded zero_
     }
 
 -- an entry with what is below it and behind it
-with_node : (all : List Entry) (sections : Sections) (home : Home) (table : List Abbrev) (lists : ℕ) (node : Node) (kids others : Forest) (place : ℕ) (a b c : List ℕ) → (node.declared.children ≡ true → lists < MOST_OPEN)
+with_node : (all : List Entry) (sections : SectionBytes) (home : Home) (table : List Abbrev) (lists : ℕ) (node : Node) (kids others : Forest) (place : ℕ) (a b c : List ℕ) → (node.declared.children ≡ true → lists < MOST_OPEN)
     → SpellsNode sections home.place table false node place a → NodeLeads all home.unit node → KidsThere all sections home table (suc lists) node.declared.children kids (place + length a) b
     → TreesThere all sections home table lists others (place + length a + length b) c → TreesThere all sections home table lists (tree node kids others) place ((a ++ b) ++ c)
 with_node all sections home table lists node kids others place a b c depth spells leads_on k o =
@@ -218,13 +218,13 @@ with_node all sections home table lists node kids others place a b c depth spell
     }
 
 -- what is open with a node in front of it
-record OpenWith (all : List Entry) (sections : Sections) (home : Home) (table : List Abbrev) (p : ℕ) (stack : List ℕ) (place : ℕ) (bytes : List ℕ) (number : ℕ) (entries : List Entry) : Type 0 where
+record OpenWith (all : List Entry) (sections : SectionBytes) (home : Home) (table : List Abbrev) (p : ℕ) (stack : List ℕ) (place : ℕ) (bytes : List ℕ) (number : ℕ) (entries : List Entry) : Type 0 where
   forests : List Forest
   there : OpenThere all sections home table (p ∷ stack) forests place bytes
   entries_are : entries ≡ open_entries home.unit number (p ∷ stack) forests
 
 -- the node has a list, which is open too
-with_list : (all : List Entry) (sections : Sections) (home : Home) (table : List Abbrev) (p : ℕ) (stack : List ℕ) (place : ℕ) (node : Node) (a r : List ℕ) (number : ℕ) → node.declared.children ≡ true → suc (length stack) < MOST_OPEN
+with_list : (all : List Entry) (sections : SectionBytes) (home : Home) (table : List Abbrev) (p : ℕ) (stack : List ℕ) (place : ℕ) (node : Node) (a r : List ℕ) (number : ℕ) → node.declared.children ≡ true → suc (length stack) < MOST_OPEN
     → SpellsNode sections home.place table false node place a → NodeLeads all home.unit node → (forests : List Forest) → OpenThere all sections home table (number ∷ p ∷ stack) forests (place + length a) r
     → OpenWith all sections home table p stack place (a ++ r) number (entry_of home.unit (Some p) node ∷ open_entries home.unit (number + 1) (number ∷ p ∷ stack) forests)
 with_list all sections home table p stack place node a r number has depth spells leads_on [] there = absurd there
@@ -256,7 +256,7 @@ differs : {b : Bool} → b ≡ true → b ≡ false → ⊥
 differs e f = cc
 
 -- the node has none
-with_none : (all : List Entry) (sections : Sections) (home : Home) (table : List Abbrev) (p : ℕ) (stack : List ℕ) (place : ℕ) (node : Node) (a r : List ℕ) (number : ℕ) → node.declared.children ≡ false
+with_none : (all : List Entry) (sections : SectionBytes) (home : Home) (table : List Abbrev) (p : ℕ) (stack : List ℕ) (place : ℕ) (node : Node) (a r : List ℕ) (number : ℕ) → node.declared.children ≡ false
     → SpellsNode sections home.place table false node place a → NodeLeads all home.unit node → (forests : List Forest) → OpenThere all sections home table (p ∷ stack) forests (place + length a) r
     → OpenWith all sections home table p stack place (a ++ r) number (entry_of home.unit (Some p) node ∷ open_entries home.unit (number + 1) (p ∷ stack) forests)
 with_none all sections home table p stack place node a r number has spells leads_on [] there = absurd there
@@ -287,7 +287,7 @@ depth_below n true has e = ltb-true n MOST_OPEN (not-false (nat_lt n MOST_OPEN) 
 depth_below n false has e = absurd cc
 
 -- an entry of the innermost list
-opening_taken : (all : List Entry) → AreLow all → (sections : Sections) (home : Home) (table : List Abbrev) (left p : ℕ) (stack : List ℕ) (before : Parsed) (s : Spot) (code : ℕ × Spot) (declared : Abbrev) (read y : Parsed × Spot) → Stands s
+opening_taken : (all : List Entry) → AreLow all → (sections : SectionBytes) (home : Home) (table : List Abbrev) (left p : ℕ) (stack : List ℕ) (before : Parsed) (s : Spot) (code : ℕ × Spot) (declared : Abbrev) (read y : Parsed × Spot) → Stands s
     → uleb_at s ≡ Ok code → (code.0 == 0) ≡ false → declared_as code.0 table ≡ Some declared → entry_at sections home (innermost (back (p ∷ stack))) s.place declared before code.1 ≡ Ok read
     → (declared.children && not (nat_lt (length (back (p ∷ stack))) MOST_OPEN)) ≡ false → is_full before ≡ false
     → children_at sections home table left (read.0, opened declared.children (length before.entries) (back (p ∷ stack))) read.1 ≡ Ok y → Lead all y.0.references
@@ -344,7 +344,7 @@ opening_taken all low sections home table left p stack before s code declared re
         joined (p ∷ stack) r (λ nd there. with_none all sections home table p stack s.place (node_of declared s.place nd.attrs) nd.bytes r.bytes number has nd.spells nd.leads_on r.forests there)
 
 -- an entry of the innermost list, or its end
-step_taken : (all : List Entry) → AreLow all → (sections : Sections) (home : Home) (table : List Abbrev) (left : ℕ) (stack : List ℕ) (before : Parsed) (s : Spot) (y : Parsed × Spot) → Stands s → Lead all y.0.references
+step_taken : (all : List Entry) → AreLow all → (sections : SectionBytes) (home : Home) (table : List Abbrev) (left : ℕ) (stack : List ℕ) (before : Parsed) (s : Spot) (y : Parsed × Spot) → Stands s → Lead all y.0.references
     → ChildrenSteps sections home table left (before, back stack) s y
     → ((more : List ℕ) (now : Parsed) (t : Spot) → Stands t → children_at sections home table left (now, back more) t ≡ Ok y → ChildrenTaken all sections home table more now t y)
     → ChildrenTaken all sections home table stack before s y
@@ -362,7 +362,7 @@ step_taken all low sections home table left (p ∷ stack) before s y stands h w 
           opening_taken all low sections home table left p stack before s c.code c.declared l.read y stands c.coded c.some c.found l.entry l.depth l.room e h known
     ]
 
-pub children_taken : (all : List Entry) → AreLow all → (sections : Sections) (home : Home) (table : List Abbrev) (left : ℕ) (stack : List ℕ) (before : Parsed) (s : Spot) (y : Parsed × Spot) → Stands s
+pub children_taken : (all : List Entry) → AreLow all → (sections : SectionBytes) (home : Home) (table : List Abbrev) (left : ℕ) (stack : List ℕ) (before : Parsed) (s : Spot) (y : Parsed × Spot) → Stands s
     → children_at sections home table left (before, back stack) s ≡ Ok y → Lead all y.0.references → ChildrenTaken all sections home table stack before s y
 children_taken all low sections home table zero stack before s y stands e h =
     let w = children_end sections home table (before, back stack) s y e in
@@ -392,12 +392,12 @@ leb_some _ (IsSpelled.more b bs le lt h) = omega arith
 bytes_left : (s : Spot) (bytes more : List ℕ) → Stands s → rest s ≡ bytes ++ more → 0 < length bytes → (s.end - s.place == 0) ≡ false
 bytes_left s bytes more stands parts some = ne_eqb (s.end - s.place) 0 (λ z. absurd (omega (arith, length_rest s stands, ap length parts, length-append bytes more, some, z)))
 
-one_turn : (sections : Sections) (home : Home) (table : List Abbrev) (n : ℕ) (walk : Walk) (s : Spot) (read : Walk × Spot) → (length walk.1 == 0) ≡ false → (s.end - s.place == 0) ≡ false → child_at sections home table walk s ≡ Ok read
+one_turn : (sections : SectionBytes) (home : Home) (table : List Abbrev) (n : ℕ) (walk : Walk) (s : Spot) (read : Walk × Spot) → (length walk.1 == 0) ≡ false → (s.end - s.place == 0) ≡ false → child_at sections home table walk s ≡ Ok read
     → children_at sections home table (suc n) walk s ≡ children_at sections home table n read.0 read.1
 unfolding children_at
 one_turn sections home table n walk s read unclosed some child = rw (unclosed, some, child) refl
 
-pub record TreesGo (all : List Entry) (sections : Sections) (home : Home) (table : List Abbrev) (p : ℕ) (stack : List ℕ) (trees : Forest) (before : Parsed) (s : Spot) (bytes more : List ℕ) : Type 0 where
+pub record TreesGo (all : List Entry) (sections : SectionBytes) (home : Home) (table : List Abbrev) (p : ℕ) (stack : List ℕ) (trees : Forest) (before : Parsed) (s : Spot) (bytes more : List ℕ) : Type 0 where
   pub references : List Reference
   pub next : Spot
   pub reads : (n : ℕ) → children_at sections home table (turns trees + n) (before, back (p ∷ stack)) s
@@ -407,7 +407,7 @@ pub record TreesGo (all : List Entry) (sections : Sections) (home : Home) (table
   pub left : rest next ≡ more
 
 -- the end of a list
-end_goes : (all : List Entry) (sections : Sections) (home : Home) (table : List Abbrev) (p : ℕ) (stack : List ℕ) (before : Parsed) (s : Spot) (bytes more : List ℕ) → Stands s → IsUleb bytes 0 → Lead all before.references → rest s ≡ bytes ++ more
+end_goes : (all : List Entry) (sections : SectionBytes) (home : Home) (table : List Abbrev) (p : ℕ) (stack : List ℕ) (before : Parsed) (s : Spot) (bytes more : List ℕ) → Stands s → IsUleb bytes 0 → Lead all before.references → rest s ≡ bytes ++ more
     → TreesGo all sections home table p stack no_more before s bytes more
 unfolding child_at
 end_goes all sections home table p stack before s bytes more stands spells lead parts =
@@ -434,7 +434,7 @@ depth_sound n true lt = rw (lt-ltb n MOST_OPEN (lt refl)) refl
 depth_sound n false lt = refl
 
 -- an entry of the innermost list
-entry_child : (sections : Sections) (home : Home) (table : List Abbrev) (p : ℕ) (stack : List ℕ) (declared : Abbrev) (before : Parsed) (s : Spot) (code : ℕ × Spot) (read : Parsed × Spot) → uleb_at s ≡ Ok code → (code.0 == 0) ≡ false
+entry_child : (sections : SectionBytes) (home : Home) (table : List Abbrev) (p : ℕ) (stack : List ℕ) (declared : Abbrev) (before : Parsed) (s : Spot) (code : ℕ × Spot) (read : Parsed × Spot) → uleb_at s ≡ Ok code → (code.0 == 0) ≡ false
     → declared_as code.0 table ≡ Some declared → (declared.children ≡ true → suc (length stack) < MOST_OPEN) → is_full before ≡ false → entry_at sections home (Some p) s.place declared before code.1 ≡ Ok read
     → child_at sections home table (before, back (p ∷ stack)) s ≡ Ok ((read.0, opened declared.children (length before.entries) (back (p ∷ stack))), read.1)
 unfolding child_at listed_at
@@ -443,7 +443,7 @@ entry_child sections home table p stack declared before s code read coded some f
     rw (coded, some, found, depth, room, innermost_back stack p, entry) refl
 
 -- trees that are spelled are read
-abbrev pub TreesAreRead : List Entry → Sections → Home → List Abbrev → Forest → Type 0
+abbrev pub TreesAreRead : List Entry → SectionBytes → Home → List Abbrev → Forest → Type 0
 TreesAreRead all sections home table trees =
     (p : ℕ) (stack : List ℕ) (before : Parsed) (s : Spot) (bytes more : List ℕ) → Stands s → TreesThere all sections home table (suc (length stack)) trees s.place bytes → Lead all before.references → length before.entries + size trees ≤ MOST_ENTRIES
     → rest s ≡ bytes ++ more → TreesGo all sections home table p stack trees before s bytes more
@@ -460,7 +460,7 @@ below_none false Kids (tree node more others) place bytes has w = absurd w
 abbrev pub parsed : List Entry → List Reference → Parsed
 parsed entries references = record { entries = entries; references = references }
 
-tree_goes : (all : List Entry) → AreLow all → (sections : Sections) (home : Home) (table : List Abbrev) (node : Node) (kids others : Forest) (p : ℕ) (stack : List ℕ) (before : Parsed) (s : Spot) (bytes more : List ℕ) → Stands s
+tree_goes : (all : List Entry) → AreLow all → (sections : SectionBytes) (home : Home) (table : List Abbrev) (node : Node) (kids others : Forest) (p : ℕ) (stack : List ℕ) (before : Parsed) (s : Spot) (bytes more : List ℕ) → Stands s
     → TreesThere all sections home table (suc (length stack)) (tree node kids others) s.place bytes → Lead all before.references → length before.entries + size (tree node kids others) ≤ MOST_ENTRIES → rest s ≡ bytes ++ more
     → TreesAreRead all sections home table kids → TreesAreRead all sections home table others → TreesGo all sections home table p stack (tree node kids others) before s bytes more
 tree_goes all low sections home table node kids others p stack before s bytes more stands there lead room parts read_kids read_others = go node.declared.children refl
@@ -568,7 +568,7 @@ tree_goes all low sections home table node kids others p stack before s bytes mo
           left = go_on.left;
         }
 
-pub trees_go : (all : List Entry) → AreLow all → (sections : Sections) (home : Home) (table : List Abbrev) (trees : Forest) → TreesAreRead all sections home table trees
+pub trees_go : (all : List Entry) → AreLow all → (sections : SectionBytes) (home : Home) (table : List Abbrev) (trees : Forest) → TreesAreRead all sections home table trees
 trees_go all low sections home table no_more p stack before s bytes more stands there lead room parts = end_goes all sections home table p stack before s bytes more stands there.spells lead parts
 trees_go all low sections home table (tree node kids others) p stack before s bytes more stands there lead room parts =
     tree_goes all low sections home table node kids others p stack before s bytes more stands there lead room parts (trees_go all low sections home table kids) (trees_go all low sections home table others)

@@ -17,14 +17,16 @@ use Rattle.dwarf_types.specs.declared.abbrev.Abbrev.{Abbrev}
 use Rattle.dwarf_types.specs.declared.entry.Entry.{Entry}
 use Rattle.dwarf_types.specs.declared.entry.InUnit.{InUnit}
 use Rattle.dwarf_types.specs.declared.entry.RawUnits.{RawUnits}
-use Rattle.dwarf_types.specs.declared.sections.Sections.{Sections}
-use Rattle.dwarf_types.proofs.Readers.{bind_ok, guard_ok, ok_is, IsBytes, IsBytes-drop, IsBytes-take, IsBytes-from, Stands}
+use Rattle.dwarf_types.specs.SectionBytes.{SectionBytes}
+use Rattle.ds_base.proofs.Passing.{bind_ok, guard_ok, ok_is}
+use Rattle.dwarf_types.proofs.Readers.{IsBytes, IsBytes-drop, IsBytes-take, IsBytes-from, Stands}
 use Rattle.abbrev_read.proofs.TableLaws.{table_spelled}
 use Rattle.unit_tree.specs.declared.attribute.Home.{Home}
 use Rattle.unit_tree.specs.declared.entry.Parsed.{Parsed}
 use Rattle.unit_tree.specs.declared.entry.TheConstants.{MOST_ENTRIES}
 use Rattle.unit_tree.specs.declared.header.Header.{Header}
-use Rattle.unit_tree.specs.declared.header.TheConstants.{LENGTH_RESERVED, DWARF_VERSION, ADDRESS_SIZE}
+use Rattle.ds_base.specs.declared.dwarf.TheConstants.{LENGTH_RESERVED}
+use Rattle.unit_tree.specs.declared.header.TheConstants.{DWARF_VERSION, ADDRESS_SIZE}
 use Rattle.unit_tree.specs.declared.reference.Reference.{Reference}
 use Rattle.unit_tree.specs.Entry.{is_split, opened, tree_at, children_at}
 use Rattle.unit_tree.specs.Header.{info_at, behind_length}
@@ -35,13 +37,13 @@ use Rattle.unit_tree.specs.Unit.{is_zero, unit_from, unit_at, units_at, units_of
 use Rattle.unit_tree.proofs.AttrLaws.{Lead, AreLow, lead_front}
 use Rattle.unit_tree.proofs.Placed.{Passed, passed_then, stands_on, number_taken}
 use Rattle.unit_tree.proofs.Rising.{entry_onward, both_false, unit_passes, units_rise}
-use Rattle.unit_tree.proofs.Onward.{uleb_onward, number_onward}
+use Rattle.ds_base.proofs.Onward.{uleb_onward, number_onward}
 use Rattle.unit_tree.proofs.Steps.{RootSteps, root_steps, tree_steps, HeaderSteps, header_steps, unit_steps, units_end, UnitsSteps, units_steps}
 use Rattle.unit_tree.proofs.TreeLaws.{node_of, node_taken, OpenThere, open_entries, ChildrenTaken, children_taken, has_room, length_preorder}
 
 -- ---- the tree of a unit
 
-record TreeTaken (all : List Entry) (sections : Sections) (home : Home) (table : List Abbrev) (before : Parsed) (s : Spot) (y : Parsed × Spot) : Type 0 where
+record TreeTaken (all : List Entry) (sections : SectionBytes) (home : Home) (table : List Abbrev) (before : Parsed) (s : Spot) (y : Parsed × Spot) : Type 0 where
   root : Node
   kids : Forest
   bytes : List ℕ
@@ -58,14 +60,14 @@ record TreeTaken (all : List Entry) (sections : Sections) (home : Home) (table :
   few : length y.0.entries ≤ MOST_ENTRIES
 
 -- what is below a root
-record BelowRoot (all : List Entry) (sections : Sections) (home : Home) (table : List Abbrev) (children : Bool) (number place : ℕ) (bytes : List ℕ) (entries : List Entry) : Type 0 where
+record BelowRoot (all : List Entry) (sections : SectionBytes) (home : Home) (table : List Abbrev) (children : Bool) (number place : ℕ) (bytes : List ℕ) (entries : List Entry) : Type 0 where
   kids : Forest
   spells : SpellsBelow children (λ p b. SpellsTrees sections home.place table kids p b) kids place bytes
   shallow : IsShallow 1 kids
   leads_on : TreesLead all home.unit kids
   entries_are : entries ≡ preorder home.unit (Some number) (number + 1) kids
 
-one_list : (all : List Entry) (sections : Sections) (home : Home) (table : List Abbrev) (number place : ℕ) (bytes : List ℕ) (forests : List Forest) → OpenThere all sections home table (number ∷ []) forests place bytes
+one_list : (all : List Entry) (sections : SectionBytes) (home : Home) (table : List Abbrev) (number place : ℕ) (bytes : List ℕ) (forests : List Forest) → OpenThere all sections home table (number ∷ []) forests place bytes
     → BelowRoot all sections home table true number place bytes (open_entries home.unit (number + 1) (number ∷ []) forests)
 one_list all sections home table number place bytes [] there = absurd there
 one_list all sections home table number place bytes (kids ∷ []) there =
@@ -74,12 +76,12 @@ one_list all sections home table number place bytes (kids ∷ []) there =
     record { kids = kids; spells = subst (SpellsTrees sections home.place table kids place) is k.spells; shallow = k.shallow; leads_on = k.leads_on; entries_are = append-nil (preorder home.unit (Some number) (number + 1) kids) }
 one_list all sections home table number place bytes (kids ∷ others ∷ forests) there = absurd there.second
 
-no_list : (all : List Entry) (sections : Sections) (home : Home) (table : List Abbrev) (number place : ℕ) (bytes : List ℕ) (forests : List Forest) → OpenThere all sections home table [] forests place bytes
+no_list : (all : List Entry) (sections : SectionBytes) (home : Home) (table : List Abbrev) (number place : ℕ) (bytes : List ℕ) (forests : List Forest) → OpenThere all sections home table [] forests place bytes
     → BelowRoot all sections home table false number place bytes []
 no_list all sections home table number place bytes [] there = record { kids = no_more; spells = there; shallow = tt; leads_on = tt; entries_are = refl }
 no_list all sections home table number place bytes (trees ∷ forests) there = absurd there
 
-root_taken : (all : List Entry) → AreLow all → (start : Spot) (sections : Sections) (home : Home) (table : List Abbrev) (before : Parsed) (s : Spot) (z : (Bool × Parsed) × Spot) (y : Parsed × Spot) → Stands s
+root_taken : (all : List Entry) → AreLow all → (start : Spot) (sections : SectionBytes) (home : Home) (table : List Abbrev) (before : Parsed) (s : Spot) (z : (Bool × Parsed) × Spot) (y : Parsed × Spot) → Stands s
     → RootSteps start sections home table before s z → children_at sections home table (z.1.end - z.1.place) (z.0.1, opened z.0.0 (length before.entries) []) z.1 ≡ Ok y → Lead all y.0.references
     → TreeTaken all sections home table before s y
 root_taken all low start sections home table before s z y stands root others h = go root.declared.children refl
@@ -140,7 +142,7 @@ root_taken all low start sections home table before s z y stands root others h =
         let r = children_taken all low sections home table (read.1.end - read.1.place) [] read.0 read.1 y stands_next (still false has) h in
         joined [] r (λ place there. subst (λ (c : Bool). BelowRoot all sections home table c number place r.bytes (open_entries home.unit (number + 1) [] r.forests)) (sym has) (no_list all sections home table number place r.bytes r.forests there))
 
-tree_taken : (all : List Entry) → AreLow all → (start : Spot) (sections : Sections) (home : Home) (table : List Abbrev) (before : Parsed) (s : Spot) (y : Parsed × Spot) → Stands s → tree_at start sections home table before s ≡ Ok y → Lead all y.0.references
+tree_taken : (all : List Entry) → AreLow all → (start : Spot) (sections : SectionBytes) (home : Home) (table : List Abbrev) (before : Parsed) (s : Spot) (y : Parsed × Spot) → Stands s → tree_at start sections home table before s ≡ Ok y → Lead all y.0.references
     → TreeTaken all sections home table before s y
 tree_taken all low start sections home table before s y stands e h =
     let w = tree_steps start sections home table before s y e in
@@ -149,68 +151,68 @@ tree_taken all low start sections home table before s y stands e h =
 -- ---- a unit
 
 -- what is left of the section from a place on
-pub info_left : (sections : Sections) (place : ℕ) → rest (info_at sections place) ≡ drop place sections.info.now
-info_left sections place = take_all (length sections.info.now - place) (drop place sections.info.now) (omega (arith, length-drop place sections.info.now))
+pub info_left : (sections : SectionBytes) (place : ℕ) → rest (info_at sections place) ≡ drop place sections.info
+info_left sections place = take_all (length sections.info - place) (drop place sections.info) (omega (arith, length-drop place sections.info))
 
-pub info_stands : (sections : Sections) (place : ℕ) → AreBytes sections.info.now → place ≤ length sections.info.now → Stands (info_at sections place)
+pub info_stands : (sections : SectionBytes) (place : ℕ) → AreBytes sections.info → place ≤ length sections.info → Stands (info_at sections place)
 info_stands sections place all le =
-    record { place = record { before_end = le; in_bytes = omega arith }; bytes = subst IsBytes (sym (info_left sections place)) (IsBytes-drop place sections.info.now (IsBytes-from sections.info.now all)) }
+    record { place = record { before_end = le; in_bytes = omega arith }; bytes = subst IsBytes (sym (info_left sections place)) (IsBytes-drop place sections.info (IsBytes-from sections.info all)) }
 
 -- the bytes behind the length
-abbrev pub body_at : Sections → ℕ → ℕ → List ℕ
-body_at sections place len = take len (drop (place + 4) sections.info.now)
+abbrev pub body_at : SectionBytes → ℕ → ℕ → List ℕ
+body_at sections place len = take len (drop (place + 4) sections.info)
 
-pub body_left : (sections : Sections) (place len : ℕ) → rest (behind_length sections place len) ≡ body_at sections place len
+pub body_left : (sections : SectionBytes) (place len : ℕ) → rest (behind_length sections place len) ≡ body_at sections place len
 body_left sections place len =
     let count : place + 4 + len - (place + 4) ≡ len = omega arith in
-    ap (λ (n : ℕ). take n (drop (place + 4) sections.info.now)) count
+    ap (λ (n : ℕ). take n (drop (place + 4) sections.info)) count
 
-pub body_stands : (sections : Sections) (place len : ℕ) → AreBytes sections.info.now → place + 4 + len ≤ length sections.info.now → Stands (behind_length sections place len)
+pub body_stands : (sections : SectionBytes) (place len : ℕ) → AreBytes sections.info → place + 4 + len ≤ length sections.info → Stands (behind_length sections place len)
 body_stands sections place len all le =
     record {
       place = record { before_end = omega arith; in_bytes = le };
-      bytes = subst IsBytes (sym (body_left sections place len)) (IsBytes-take len (drop (place + 4) sections.info.now) (IsBytes-drop (place + 4) sections.info.now (IsBytes-from sections.info.now all)));
+      bytes = subst IsBytes (sym (body_left sections place len)) (IsBytes-take len (drop (place + 4) sections.info) (IsBytes-drop (place + 4) sections.info (IsBytes-from sections.info all)));
     }
 
-length_body : (sections : Sections) (place len : ℕ) → place + 4 + len ≤ length sections.info.now → length (body_at sections place len) ≡ len
-length_body sections place len le = omega (arith, length-take len (drop (place + 4) sections.info.now), length-drop (place + 4) sections.info.now)
+length_body : (sections : SectionBytes) (place len : ℕ) → place + 4 + len ≤ length sections.info → length (body_at sections place len) ≡ len
+length_body sections place len le = omega (arith, length-take len (drop (place + 4) sections.info), length-drop (place + 4) sections.info)
 
 -- the bytes of the body, and those behind it
-body_parts : (sections : Sections) (place len : ℕ) → drop (place + 4) sections.info.now ≡ body_at sections place len ++ drop (place + 4 + len) sections.info.now
-body_parts sections place len = sym (take-append-drop len (drop (place + 4) sections.info.now)) ∙ ap (λ (xs : List ℕ). body_at sections place len ++ xs) (drop-drop len (place + 4) sections.info.now)
+body_parts : (sections : SectionBytes) (place len : ℕ) → drop (place + 4) sections.info ≡ body_at sections place len ++ drop (place + 4 + len) sections.info
+body_parts sections place len = sym (take-append-drop len (drop (place + 4) sections.info)) ∙ ap (λ (xs : List ℕ). body_at sections place len ++ xs) (drop-drop len (place + 4) sections.info)
 
 -- what a header spells
-record HeaderTaken (sections : Sections) (place : ℕ) (y : Header × Spot) : Type 0 where
+record HeaderTaken (sections : SectionBytes) (place : ℕ) (y : Header × Spot) : Type 0 where
   count : List ℕ
   len : ℕ
   counts : IsNumber 4 count len
   short : len < LENGTH_RESERVED
-  inside : place + 4 + len ≤ length sections.info.now
-  parts : drop place sections.info.now ≡ count ++ drop (place + 4) sections.info.now
+  inside : place + 4 + len ≤ length sections.info
+  parts : drop place sections.info ≡ count ++ drop (place + 4) sections.info
   version : List ℕ
   version_is : IsNumber 2 version DWARF_VERSION
   offset : List ℕ
   offset_is : IsNumber 4 offset y.0.table
   width : List ℕ
   width_is : IsNumber 1 width ADDRESS_SIZE
-  below : y.0.table < length sections.abbrev.now
+  below : y.0.table < length sections.abbrev_
   end : y.0.end ≡ place + 4 + len
   passed : Passed (version ++ (offset ++ width)) (behind_length sections place len) y.1
 
 pub length_number : (width n : ℕ) (bytes : List ℕ) → IsNumber width bytes n → length bytes ≡ width
 length_number width n bytes w = ap length w.is ∙ length-bytes_low_first 0 width n
 
-header_taken : (sections : Sections) (place : ℕ) (y : Header × Spot) → AreBytes sections.info.now → place ≤ length sections.info.now → HeaderSteps sections place y → HeaderTaken sections place y
+header_taken : (sections : SectionBytes) (place : ℕ) (y : Header × Spot) → AreBytes sections.info → place ≤ length sections.info → HeaderSteps sections place y → HeaderTaken sections place y
 header_taken sections place y all le w =
     let first : Spot = info_at sections place in
     let stands = info_stands sections place all le in
     let c = number_taken 4 first w.len stands w.length_is in
     let p = c.passed in
     let four = length_number 4 w.len.0 c.bytes c.spells in
-    let fits : place + 4 ≤ length sections.info.now = let q = p.stands in let r = q.place in omega (arith, r.before_end, p.place, p.end, four) in
-    let sound = both_false (not (nat_lt w.len.0 LENGTH_RESERVED)) (nat_lt (length sections.info.now - (place + 4)) w.len.0) w.sound in
+    let fits : place + 4 ≤ length sections.info = let q = p.stands in let r = q.place in omega (arith, r.before_end, p.place, p.end, four) in
+    let sound = both_false (not (nat_lt w.len.0 LENGTH_RESERVED)) (nat_lt (length sections.info - (place + 4)) w.len.0) w.sound in
     let short = ltb-true w.len.0 LENGTH_RESERVED (not-false (nat_lt w.len.0 LENGTH_RESERVED) sound.0) in
-    let inside : place + 4 + w.len.0 ≤ length sections.info.now = omega (arith, ltb-false _ _ sound.1, fits) in
+    let inside : place + 4 + w.len.0 ≤ length sections.info = omega (arith, ltb-false _ _ sound.1, fits) in
     let o = number_onward 4 first w.len w.length_is in
     let by : o.by ≡ 4 = omega (arith, ap (λ (x : Spot). x.place) o.is, p.place, four) in
     let there : w.len.1 ≡ info_at sections (place + 4) = o.is ∙ ap (λ (n : ℕ). after first n) by in
@@ -235,7 +237,7 @@ header_taken sections place y all le w =
       offset_is = t.spells;
       width = z.bytes;
       width_is = subst (IsNumber 1 z.bytes) width z.spells;
-      below = ltb-true _ _ (not-false (nat_lt w.table.0 (length sections.abbrev.now)) w.inside);
+      below = ltb-true _ _ (not-false (nat_lt w.table.0 (length sections.abbrev_)) w.inside);
       end = refl;
       passed = passed_then v.bytes (t.bytes ++ z.bytes) s w.version.1 w.size.1 vp (passed_then t.bytes z.bytes w.version.1 w.table.1 w.size.1 tp z.passed);
     })
@@ -260,13 +262,13 @@ unit_is number before entries t is =
     let root : slice_get entries (length before) ≡ Some first = ap (λ (es : List Entry). slice_get es (length before)) is ∙ got_there before first below in
     rw (count, root) refl
 
-record UnitTaken (all : List Entry) (sections : Sections) (number : ℕ) (before : Parsed) (place : ℕ) (y : (InUnit × Parsed) × ℕ) : Type 0 where
+record UnitTaken (all : List Entry) (sections : SectionBytes) (number : ℕ) (before : Parsed) (place : ℕ) (y : (InUnit × Parsed) × ℕ) : Type 0 where
   t : UnitTree
   bytes : List ℕ
   spells : SpellsUnit sections t place bytes
-  parts : drop place sections.info.now ≡ bytes ++ drop y.1 sections.info.now
+  parts : drop place sections.info ≡ bytes ++ drop y.1 sections.info
   next : y.1 ≡ place + length bytes
-  inside : y.1 ≤ length sections.info.now
+  inside : y.1 ≤ length sections.info
   sound : IsSoundUnit all number t
   unit : y.0.0 ≡ in_unit (length before.entries) t
   entries : y.0.1.entries ≡ before.entries ++ unit_entries number (length before.entries) t
@@ -275,7 +277,7 @@ record UnitTaken (all : List Entry) (sections : Sections) (number : ℕ) (before
   few : length y.0.1.entries ≤ MOST_ENTRIES
 
 -- what stands between two spots at the end of a body
-body_spells : (sections : Sections) (unit : ℕ) (t : UnitTree) (place : ℕ) (v o w tree_bytes zeros : List ℕ) → IsNumber 2 v DWARF_VERSION → IsNumber 4 o t.offset → IsNumber 1 w ADDRESS_SIZE
+body_spells : (sections : SectionBytes) (unit : ℕ) (t : UnitTree) (place : ℕ) (v o w tree_bytes zeros : List ℕ) → IsNumber 2 v DWARF_VERSION → IsNumber 4 o t.offset → IsNumber 1 w ADDRESS_SIZE
     → SpellsTree sections unit t (place + length (v ++ (o ++ w))) tree_bytes → AreZeros zeros → SpellsBody sections unit t place ((v ++ (o ++ w)) ++ (tree_bytes ++ zeros))
 body_spells sections unit t place v o w tree_bytes zeros version offset width spells empty =
     let at : place + length (v ++ (o ++ w)) ≡ place + length v + length o + length w = omega (arith, length-append v (o ++ w), length-append o w) in
@@ -287,7 +289,7 @@ body_spells sections unit t place v o w tree_bytes zeros version offset width sp
       second = record { front = o; back = w ++ (tree_bytes ++ zeros); is = refl; first = offset; second = record { front = w; back = tree_bytes ++ zeros; is = refl; first = width; second = record { front = tree_bytes; back = zeros; is = refl; first = subst (λ (n : ℕ). SpellsTree sections unit t n tree_bytes) at spells; second = empty } } };
     }
 
-unit_taken : (all : List Entry) → AreLow all → (sections : Sections) (number : ℕ) (before : Parsed) (place : ℕ) (y : (InUnit × Parsed) × ℕ) → AreBytes sections.info.now → AreBytes sections.abbrev.now → place ≤ length sections.info.now
+unit_taken : (all : List Entry) → AreLow all → (sections : SectionBytes) (number : ℕ) (before : Parsed) (place : ℕ) (y : (InUnit × Parsed) × ℕ) → AreBytes sections.info → AreBytes sections.abbrev_ → place ≤ length sections.info
     → unit_at sections number before place ≡ Ok y → Lead all y.0.1.references → UnitTaken all sections number before place y
 unit_taken all low sections number before place y info abbrev_bytes le e h =
     let w = unit_steps sections number before place y e in
@@ -307,8 +309,8 @@ unit_taken all low sections number before place y info abbrev_bytes le e h =
     let spells : SpellsBody sections place t (place + 4) (body_at sections place hd.len) =
     subst (SpellsBody sections place t (place + 4)) (sym body) (body_spells sections place t (place + 4) hd.version hd.offset hd.width tk.bytes w.others.0 hd.version_is hd.offset_is hd.width_is (subst (λ (n : ℕ). SpellsTree sections place t n tk.bytes) p.place tk.spells) (not-false (list_all is_zero w.others.0) w.zeros)) in
     let four = length_number 4 hd.len hd.count hd.counts in
-    let whole : drop place sections.info.now ≡ (hd.count ++ body_at sections place hd.len) ++ drop w.header.0.end sections.info.now =
-    hd.parts ∙ ap (λ (xs : List ℕ). hd.count ++ xs) (body_parts sections place hd.len ∙ ap (λ (n : ℕ). body_at sections place hd.len ++ drop n sections.info.now) (sym hd.end)) ∙ sym (append_assoc hd.count (body_at sections place hd.len) (drop w.header.0.end sections.info.now)) in
+    let whole : drop place sections.info ≡ (hd.count ++ body_at sections place hd.len) ++ drop w.header.0.end sections.info =
+    hd.parts ∙ ap (λ (xs : List ℕ). hd.count ++ xs) (body_parts sections place hd.len ∙ ap (λ (n : ℕ). body_at sections place hd.len ++ drop n sections.info) (sym hd.end)) ∙ sym (append_assoc hd.count (body_at sections place hd.len) (drop w.header.0.end sections.info)) in
     record {
       t = t;
       bytes = hd.count ++ body_at sections place hd.len;
@@ -320,7 +322,7 @@ unit_taken all low sections number before place y info abbrev_bytes le e h =
         short = omega (arith, len, hd.short);
         spells = spells;
         inside = hd.below;
-        table = table_spelled sections.abbrev.now w.header.0.table w.table hd.below abbrev_bytes w.table_is;
+        table = table_spelled sections.abbrev_ w.header.0.table w.table hd.below abbrev_bytes w.table_is;
         is_unit = tk.is_unit;
         whole = tk.whole;
       };
@@ -337,9 +339,9 @@ unit_taken all low sections number before place y info abbrev_bytes le e h =
 
 -- ---- all units
 
-record UnitsTaken (all : List Entry) (sections : Sections) (units : List InUnit) (before : Parsed) (place : ℕ) (y : List InUnit × Parsed) : Type 0 where
+record UnitsTaken (all : List Entry) (sections : SectionBytes) (units : List InUnit) (before : Parsed) (place : ℕ) (y : List InUnit × Parsed) : Type 0 where
   trees : List UnitTree
-  spells : SpellsUnits sections trees place (drop place sections.info.now)
+  spells : SpellsUnits sections trees place (drop place sections.info)
   units_are : y.0 ≡ units ++ in_units (length before.entries) trees
   entries : y.1.entries ≡ before.entries ++ entries_of (length units) (length before.entries) trees
   sound : AreSoundUnits all (length units) trees
@@ -347,13 +349,13 @@ record UnitsTaken (all : List Entry) (sections : Sections) (units : List InUnit)
   grown : y.1.references ≡ before.references ++ references
   few : length before.entries ≤ MOST_ENTRIES → length y.1.entries ≤ MOST_ENTRIES
 
-section_taken : (all : List Entry) (sections : Sections) (units : List InUnit) (before : Parsed) (place : ℕ) (y : List InUnit × Parsed) → length sections.info.now ≤ place → (units, before) ≡ y → UnitsTaken all sections units before place y
+section_taken : (all : List Entry) (sections : SectionBytes) (units : List InUnit) (before : Parsed) (place : ℕ) (y : List InUnit × Parsed) → length sections.info ≤ place → (units, before) ≡ y → UnitsTaken all sections units before place y
 section_taken all sections units before place y le is =
     subst (UnitsTaken all sections units before place) is
-    (record { trees = []; spells = drop_all place sections.info.now le; units_are = sym (append-nil units); entries = sym (append-nil before.entries); sound = tt; references = []; grown = sym (append-nil before.references); few = λ h. h })
+    (record { trees = []; spells = drop_all place sections.info le; units_are = sym (append-nil units); entries = sym (append-nil before.entries); sound = tt; references = []; grown = sym (append-nil before.references); few = λ h. h })
 
-more_taken : (all : List Entry) → AreLow all → (sections : Sections) (left : ℕ) (units : List InUnit) (before : Parsed) (place : ℕ) (y : List InUnit × Parsed) → AreBytes sections.info.now → AreBytes sections.abbrev.now → place ≤ length sections.info.now
-    → UnitsSteps sections left units before place y → Lead all y.1.references → ((unit : InUnit) (now : Parsed) (next : ℕ) → place < next → next ≤ length sections.info.now → units_at sections left (units ++ unit ∷ []) now next ≡ Ok y → UnitsTaken all sections (units ++ unit ∷ []) now next y)
+more_taken : (all : List Entry) → AreLow all → (sections : SectionBytes) (left : ℕ) (units : List InUnit) (before : Parsed) (place : ℕ) (y : List InUnit × Parsed) → AreBytes sections.info → AreBytes sections.abbrev_ → place ≤ length sections.info
+    → UnitsSteps sections left units before place y → Lead all y.1.references → ((unit : InUnit) (now : Parsed) (next : ℕ) → place < next → next ≤ length sections.info → units_at sections left (units ++ unit ∷ []) now next ≡ Ok y → UnitsTaken all sections (units ++ unit ∷ []) now next y)
     → UnitsTaken all sections units before place y
 more_taken all low sections left units before place y info abbrev_bytes le w h known =
     let u = unit_passes sections (length units) before place w.read w.unit in
@@ -365,7 +367,7 @@ more_taken all low sections left units before place y info abbrev_bytes le w h k
     let next : length w.read.0.1.entries ≡ number + 1 + size t.t.kids = omega (arith, ap length t.entries, length-append before.entries own, length_preorder (length units) (Some number) (number + 1) t.t.kids) in
     record {
       trees = t.t ∷ r.trees;
-      spells = record { front = t.bytes; back = drop w.read.1 sections.info.now; is = t.parts; first = t.spells; second = subst (λ (n : ℕ). SpellsUnits sections r.trees n (drop w.read.1 sections.info.now)) t.next r.spells };
+      spells = record { front = t.bytes; back = drop w.read.1 sections.info; is = t.parts; first = t.spells; second = subst (λ (n : ℕ). SpellsUnits sections r.trees n (drop w.read.1 sections.info)) t.next r.spells };
       units_are = r.units_are
           ∙ append_assoc units (w.read.0.0 ∷ []) (in_units (length w.read.0.1.entries) r.trees)
           ∙ ap (λ (n : ℕ). units ++ w.read.0.0 ∷ in_units n r.trees) next
@@ -381,8 +383,8 @@ more_taken all low sections left units before place y info abbrev_bytes le w h k
       few = λ few. r.few t.few;
     }
 
-units_taken : (all : List Entry) → AreLow all → (sections : Sections) (left : ℕ) (units : List InUnit) (before : Parsed) (place : ℕ) (y : List InUnit × Parsed) → AreBytes sections.info.now → AreBytes sections.abbrev.now → place ≤ length sections.info.now
-    → length sections.info.now ≤ left + place → units_at sections left units before place ≡ Ok y → Lead all y.1.references → UnitsTaken all sections units before place y
+units_taken : (all : List Entry) → AreLow all → (sections : SectionBytes) (left : ℕ) (units : List InUnit) (before : Parsed) (place : ℕ) (y : List InUnit × Parsed) → AreBytes sections.info → AreBytes sections.abbrev_ → place ≤ length sections.info
+    → length sections.info ≤ left + place → units_at sections left units before place ≡ Ok y → Lead all y.1.references → UnitsTaken all sections units before place y
 units_taken all low sections zero units before place y info abbrev_bytes le all_turns e h = section_taken all sections units before place y (omega (arith, all_turns)) (units_end sections units before place y e)
 units_taken all low sections (suc left) units before place y info abbrev_bytes le all_turns e h =
     elim (units_steps sections left units before place y e) [
@@ -430,16 +432,16 @@ low_below : (entries : List Entry) (limit : ℕ) → limit < 2 ^ 32 → ((i : �
 low_below [] limit lt below = tt
 low_below (x ∷ xs) limit lt below = (omega (arith, below 0 x (omega arith), lt), low_below xs limit lt (λ i d within. below (suc i) d (omega arith)))
 
-pub units_spelled : (sections : Sections) (units : RawUnits) → length sections.info.now < 2 ^ 32 → AreBytes sections.info.now → AreBytes sections.abbrev.now → units_of sections ≡ Ok units → IsSpelled sections units
+pub units_spelled : (sections : SectionBytes) (units : RawUnits) → length sections.info < 2 ^ 32 → AreBytes sections.info → AreBytes sections.abbrev_ → units_of sections ≡ Ok units → IsSpelled sections units
 unfolding units_of
 units_spelled sections units small info abbrev_bytes e =
     let made : List InUnit × Parsed → List Entry → Result RawUnits Fault = λ read entries. Ok (raw read.0 entries) in
-    let a = bind_ok (units_at sections (length sections.info.now) [] nothing 0) (λ read. resolved read.1.entries read.1.references >>= made read) units e in
+    let a = bind_ok (units_at sections (length sections.info) [] nothing 0) (λ read. resolved read.1.entries read.1.references >>= made read) units e in
     let b = bind_ok (resolved a.0.1.entries a.0.1.references) (made a.0) units a.2 in
     let r = resolved_ok a.0.1.entries a.0.1.references b.0 b.1 in
-    let rise = units_rise sections (length sections.info.now) a.0 a.1 in
-    let low = low_below a.0.1.entries (length sections.info.now) small rise.below in
-    let t = units_taken a.0.1.entries low sections (length sections.info.now) [] nothing 0 a.0 info abbrev_bytes (omega arith) (omega arith) a.1 r.lead in
+    let rise = units_rise sections (length sections.info) a.0 a.1 in
+    let low = low_below a.0.1.entries (length sections.info) small rise.below in
+    let t = units_taken a.0.1.entries low sections (length sections.info) [] nothing 0 a.0 info abbrev_bytes (omega arith) (omega arith) a.1 r.lead in
     let entries_are : a.0.1.entries ≡ entries_of 0 0 t.trees = t.entries in
     let is : raw a.0.0 b.0 ≡ raw_units t.trees = raw_is a.0.0 b.0 t.trees t.units_are (sym r.same ∙ entries_are) in
     record {

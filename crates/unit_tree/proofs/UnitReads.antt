@@ -11,7 +11,7 @@ use Rattle.dwarf_types.specs.Spelled.{AreBytes, IsNumber}
 use Rattle.dwarf_types.specs.declared.abbrev.Abbrev.{Abbrev}
 use Rattle.dwarf_types.specs.declared.entry.Entry.{Entry}
 use Rattle.dwarf_types.specs.declared.entry.InUnit.{InUnit}
-use Rattle.dwarf_types.specs.declared.sections.Sections.{Sections}
+use Rattle.dwarf_types.specs.SectionBytes.{SectionBytes}
 use Rattle.dwarf_types.proofs.Readers.{Stands, length_rest}
 use Rattle.abbrev_read.specs.Reading.{table_at}
 use Rattle.abbrev_read.proofs.TableLaws.{table_read}
@@ -19,7 +19,8 @@ use Rattle.unit_tree.specs.declared.attribute.Home.{Home}
 use Rattle.unit_tree.specs.declared.entry.Parsed.{Parsed}
 use Rattle.unit_tree.specs.declared.entry.TheConstants.{MOST_ENTRIES}
 use Rattle.unit_tree.specs.declared.header.Header.{Header}
-use Rattle.unit_tree.specs.declared.header.TheConstants.{LENGTH_RESERVED, DWARF_VERSION, ADDRESS_SIZE}
+use Rattle.ds_base.specs.declared.dwarf.TheConstants.{LENGTH_RESERVED}
+use Rattle.unit_tree.specs.declared.header.TheConstants.{DWARF_VERSION, ADDRESS_SIZE}
 use Rattle.unit_tree.specs.declared.reference.Reference.{Reference}
 use Rattle.unit_tree.specs.Entry.{is_split, is_full, entry_at, root_at, tree_at, children_at, opened}
 use Rattle.unit_tree.specs.Entry.{declared_as}
@@ -40,18 +41,18 @@ low_both : (xs ys : List Entry) → AreLow xs → AreLow ys → AreLow (xs ++ ys
 low_both [] ys h k = k
 low_both (x ∷ xs) ys h k = (h.0, low_both xs ys h.1 k)
 
-node_low : (sections : Sections) (unit : ℕ) (table : List Abbrev) (root : Bool) (node : Node) (place : ℕ) (bytes : List ℕ) → SpellsNode sections unit table root node place bytes → place + length bytes ≤ 2 ^ 32 - 1 → node.place < 2 ^ 32 - 1
+node_low : (sections : SectionBytes) (unit : ℕ) (table : List Abbrev) (root : Bool) (node : Node) (place : ℕ) (bytes : List ℕ) → SpellsNode sections unit table root node place bytes → place + length bytes ≤ 2 ^ 32 - 1 → node.place < 2 ^ 32 - 1
 node_low sections unit table root node place bytes w le =
     let spelled = w.spells in
     omega (arith, w.there, le, ap length spelled.is, length-append spelled.front spelled.back, leb_some spelled.front spelled.first.spells.spelled)
 
-below_low : (sections : Sections) (place : ℕ) (table : List Abbrev) (unit : ℕ) (parent : Option ℕ) (number : ℕ) (children : Bool) (kids : Forest) (at : ℕ) (bytes : List ℕ) → SpellsBelow children (λ p b. SpellsTrees sections place table kids p b) kids at bytes
+below_low : (sections : SectionBytes) (place : ℕ) (table : List Abbrev) (unit : ℕ) (parent : Option ℕ) (number : ℕ) (children : Bool) (kids : Forest) (at : ℕ) (bytes : List ℕ) → SpellsBelow children (λ p b. SpellsTrees sections place table kids p b) kids at bytes
     → at + length bytes ≤ 2 ^ 32 - 1 → (SpellsTrees sections place table kids at bytes → at + length bytes ≤ 2 ^ 32 - 1 → AreLow (preorder unit parent number kids)) → AreLow (preorder unit parent number kids)
 below_low sections place table unit parent number true kids at bytes w le known = known w le
 below_low sections place table unit parent number false no_more at bytes w le known = tt
 below_low sections place table unit parent number false (tree node more others) at bytes w le known = absurd w
 
-trees_low : (sections : Sections) (place : ℕ) (table : List Abbrev) (unit : ℕ) (parent : Option ℕ) (number : ℕ) (trees : Forest) (at : ℕ) (bytes : List ℕ) → SpellsTrees sections place table trees at bytes → at + length bytes ≤ 2 ^ 32 - 1 → AreLow (preorder unit parent number trees)
+trees_low : (sections : SectionBytes) (place : ℕ) (table : List Abbrev) (unit : ℕ) (parent : Option ℕ) (number : ℕ) (trees : Forest) (at : ℕ) (bytes : List ℕ) → SpellsTrees sections place table trees at bytes → at + length bytes ≤ 2 ^ 32 - 1 → AreLow (preorder unit parent number trees)
 trees_low sections place table unit parent number no_more at bytes w le = tt
 trees_low sections place table unit parent number (tree node kids others) at bytes w le =
     let f = w.first in
@@ -63,7 +64,7 @@ trees_low sections place table unit parent number (tree node kids others) at byt
           (trees_low sections place table unit parent (number + 1 + size kids) others (at + length w.front) w.back w.second (omega (arith, le, ap length w.is, len))),
     )
 
-unit_low : (sections : Sections) (unit number : ℕ) (t : UnitTree) (place : ℕ) (bytes : List ℕ) → SpellsUnit sections t place bytes → place + length bytes ≤ 2 ^ 32 - 1 → AreLow (unit_entries unit number t)
+unit_low : (sections : SectionBytes) (unit number : ℕ) (t : UnitTree) (place : ℕ) (bytes : List ℕ) → SpellsUnit sections t place bytes → place + length bytes ≤ 2 ^ 32 - 1 → AreLow (unit_entries unit number t)
 unit_low sections unit number t place bytes w le =
     let v = w.spells in
     let o = v.second in
@@ -78,7 +79,7 @@ unit_low sections unit number t place bytes w le =
       below_low sections place t.table unit (Some number) (number + 1) t.root.declared.children t.kids (at + length r.front) r.back r.second (omega (arith, fits, ap length r.is, length-append r.front r.back)) (λ spells fit. trees_low sections place t.table unit (Some number) (number + 1) t.kids (at + length r.front) r.back spells fit),
     )
 
-units_low : (sections : Sections) (unit number : ℕ) (trees : List UnitTree) (place : ℕ) (bytes : List ℕ) → SpellsUnits sections trees place bytes → place + length bytes ≤ 2 ^ 32 - 1 → AreLow (entries_of unit number trees)
+units_low : (sections : SectionBytes) (unit number : ℕ) (trees : List UnitTree) (place : ℕ) (bytes : List ℕ) → SpellsUnits sections trees place bytes → place + length bytes ≤ 2 ^ 32 - 1 → AreLow (entries_of unit number trees)
 units_low sections unit number [] place bytes w le = tt
 units_low sections unit number (t ∷ ts) place bytes w le =
     let len = length-append w.front w.back in
@@ -88,12 +89,12 @@ units_low sections unit number (t ∷ ts) place bytes w le =
 
 -- ---- trees take no more turns than they have bytes
 
-below_fit : (sections : Sections) (place : ℕ) (table : List Abbrev) (children : Bool) (kids : Forest) (at : ℕ) (bytes : List ℕ) → SpellsBelow children (λ p b. SpellsTrees sections place table kids p b) kids at bytes
+below_fit : (sections : SectionBytes) (place : ℕ) (table : List Abbrev) (children : Bool) (kids : Forest) (at : ℕ) (bytes : List ℕ) → SpellsBelow children (λ p b. SpellsTrees sections place table kids p b) kids at bytes
     → (SpellsTrees sections place table kids at bytes → turns kids ≤ length bytes) → (if children then turns kids else 0) ≤ length bytes
 below_fit sections place table true kids at bytes w known = known w
 below_fit sections place table false kids at bytes w known = omega arith
 
-turns_fit : (sections : Sections) (place : ℕ) (table : List Abbrev) (trees : Forest) (at : ℕ) (bytes : List ℕ) → SpellsTrees sections place table trees at bytes → turns trees ≤ length bytes
+turns_fit : (sections : SectionBytes) (place : ℕ) (table : List Abbrev) (trees : Forest) (at : ℕ) (bytes : List ℕ) → SpellsTrees sections place table trees at bytes → turns trees ≤ length bytes
 turns_fit sections place table no_more at bytes w = leb_some bytes w.spelled
 turns_fit sections place table (tree node kids others) at bytes w =
     let f = w.first in
@@ -104,7 +105,7 @@ turns_fit sections place table (tree node kids others) at bytes w =
 
 -- ---- the tree of a unit
 
-record TreeGoes (all : List Entry) (start : Spot) (sections : Sections) (home : Home) (t : UnitTree) (before : Parsed) (s : Spot) (bytes more : List ℕ) : Type 0 where
+record TreeGoes (all : List Entry) (start : Spot) (sections : SectionBytes) (home : Home) (t : UnitTree) (before : Parsed) (s : Spot) (bytes more : List ℕ) : Type 0 where
   references : List Reference
   next : Spot
   reads : tree_at start sections home t.table before s ≡ Ok (parsed (before.entries ++ unit_entries home.unit (length before.entries) t) references, next)
@@ -112,19 +113,19 @@ record TreeGoes (all : List Entry) (start : Spot) (sections : Sections) (home : 
   passed : Passed bytes s next
   left : rest next ≡ more
 
-root_reads : (start : Spot) (sections : Sections) (home : Home) (table : List Abbrev) (declared : Abbrev) (before : Parsed) (s : Spot) (code : ℕ × Spot) (read : Parsed × Spot) → uleb_at s ≡ Ok code → (code.0 == 0) ≡ false
+root_reads : (start : Spot) (sections : SectionBytes) (home : Home) (table : List Abbrev) (declared : Abbrev) (before : Parsed) (s : Spot) (code : ℕ × Spot) (read : Parsed × Spot) → uleb_at s ≡ Ok code → (code.0 == 0) ≡ false
     → declared_as code.0 table ≡ Some declared → declared.tag ≡ DW_TAG_compile_unit → is_split declared ≡ false → is_full before ≡ false → entry_at sections home None s.place declared before code.1 ≡ Ok read
     → root_at start sections home table before s ≡ Ok ((declared.children, read.0), read.1)
 unfolding root_at
 root_reads start sections home table declared before s code read coded some found unit whole room entry =
     rw (coded, some, found, eq-eqb declared.tag DW_TAG_compile_unit unit, whole, room, entry) refl
 
-tree_reads : (start : Spot) (sections : Sections) (home : Home) (table : List Abbrev) (before : Parsed) (s : Spot) (root : (Bool × Parsed) × Spot) → root_at start sections home table before s ≡ Ok root
+tree_reads : (start : Spot) (sections : SectionBytes) (home : Home) (table : List Abbrev) (before : Parsed) (s : Spot) (root : (Bool × Parsed) × Spot) → root_at start sections home table before s ≡ Ok root
     → tree_at start sections home table before s ≡ children_at sections home table (root.1.end - root.1.place) (root.0.1, opened root.0.0 (length before.entries) []) root.1
 unfolding tree_at
 tree_reads start sections home table before s root first = rw first refl
 
-unit_tree_goes : (all : List Entry) → AreLow all → (start : Spot) (sections : Sections) (home : Home) (t : UnitTree) (before : Parsed) (s : Spot) (bytes more : List ℕ) → Stands s → SpellsTree sections home.place t s.place bytes → IsSoundUnit all home.unit t
+unit_tree_goes : (all : List Entry) → AreLow all → (start : Spot) (sections : SectionBytes) (home : Home) (t : UnitTree) (before : Parsed) (s : Spot) (bytes more : List ℕ) → Stands s → SpellsTree sections home.place t s.place bytes → IsSoundUnit all home.unit t
     → t.root.declared.tag ≡ DW_TAG_compile_unit → is_split t.root.declared ≡ false → Lead all before.references → length before.entries + 1 + size t.kids ≤ MOST_ENTRIES → rest s ≡ bytes ++ more → TreeGoes all start sections home t before s bytes more
 unit_tree_goes all low start sections home t before s bytes more stands spells sound unit whole lead room parts = go t.root.declared.children refl
   where
@@ -199,31 +200,31 @@ unit_tree_goes all low start sections home t before s bytes more stands spells s
 -- ---- a unit
 
 -- what is spelled of a header is read
-record HeaderGoes (sections : Sections) (t : UnitTree) (place : ℕ) (body : List ℕ) (tail : List ℕ) : Type 0 where
+record HeaderGoes (sections : SectionBytes) (t : UnitTree) (place : ℕ) (body : List ℕ) (tail : List ℕ) : Type 0 where
   next : Spot
   reads : header_at sections place ≡ Ok (record { table = t.offset; end = place + 4 + length body }, next)
   stands : Stands next
   left : rest next ≡ tail
   end : next.end ≡ place + 4 + length body
 
-header_reads : (sections : Sections) (place : ℕ) (len version table size : ℕ × Spot) → number_at 4 (info_at sections place) ≡ Ok len → is_bad_length sections place len.0 ≡ false → number_at 2 (behind_length sections place len.0) ≡ Ok version
-    → version.0 ≡ DWARF_VERSION → number_at 4 version.1 ≡ Ok table → table.0 < length sections.abbrev.now → number_at 1 table.1 ≡ Ok size → size.0 ≡ ADDRESS_SIZE
+header_reads : (sections : SectionBytes) (place : ℕ) (len version table size : ℕ × Spot) → number_at 4 (info_at sections place) ≡ Ok len → is_bad_length sections place len.0 ≡ false → number_at 2 (behind_length sections place len.0) ≡ Ok version
+    → version.0 ≡ DWARF_VERSION → number_at 4 version.1 ≡ Ok table → table.0 < length sections.abbrev_ → number_at 1 table.1 ≡ Ok size → size.0 ≡ ADDRESS_SIZE
     → header_at sections place ≡ Ok (record { table = table.0; end = place + 4 + len.0 }, size.1)
 unfolding header_at fields_at
 header_reads sections place len version table size length_is sound version_is supported table_is inside size_is eight =
-    rw (length_is, sound, version_is, eq-eqb version.0 DWARF_VERSION supported, table_is, lt-ltb table.0 (length sections.abbrev.now) inside, size_is, eq-eqb size.0 ADDRESS_SIZE eight) refl
+    rw (length_is, sound, version_is, eq-eqb version.0 DWARF_VERSION supported, table_is, lt-ltb table.0 (length sections.abbrev_) inside, size_is, eq-eqb size.0 ADDRESS_SIZE eight) refl
 
-header_goes : (sections : Sections) (t : UnitTree) (place : ℕ) (count body more v o w tail : List ℕ) → AreBytes sections.info.now → place ≤ length sections.info.now → drop place sections.info.now ≡ (count ++ body) ++ more → IsNumber 4 count (length body)
-    → length body < LENGTH_RESERVED → body ≡ v ++ (o ++ (w ++ tail)) → IsNumber 2 v DWARF_VERSION → IsNumber 4 o t.offset → IsNumber 1 w ADDRESS_SIZE → t.offset < length sections.abbrev.now → HeaderGoes sections t place body tail
+header_goes : (sections : SectionBytes) (t : UnitTree) (place : ℕ) (count body more v o w tail : List ℕ) → AreBytes sections.info → place ≤ length sections.info → drop place sections.info ≡ (count ++ body) ++ more → IsNumber 4 count (length body)
+    → length body < LENGTH_RESERVED → body ≡ v ++ (o ++ (w ++ tail)) → IsNumber 2 v DWARF_VERSION → IsNumber 4 o t.offset → IsNumber 1 w ADDRESS_SIZE → t.offset < length sections.abbrev_ → HeaderGoes sections t place body tail
 header_goes sections t place count body more v o w tail info le parts counts short body_is version offset width below =
     let len : ℕ = length body in
     let four = length_number 4 len count counts in
     let first : Spot = info_at sections place in
-    let whole : drop place sections.info.now ≡ count ++ (body ++ more) = parts ∙ append_assoc count body more in
-    let fits : place + 4 + len ≤ length sections.info.now = omega (arith, le, four, ap length whole, length-append count (body ++ more), length-append body more, length-drop place sections.info.now) in
+    let whole : drop place sections.info ≡ count ++ (body ++ more) = parts ∙ append_assoc count body more in
+    let fits : place + 4 + len ≤ length sections.info = omega (arith, le, four, ap length whole, length-append count (body ++ more), length-append body more, length-drop place sections.info) in
     let c = number_goes 4 first count len (body ++ more) (info_stands sections place info le) counts (info_left sections place ∙ whole) in
     let s : Spot = behind_length sections place len in
-    let from : drop (place + 4) sections.info.now ≡ body ++ more = sym (drop-drop 4 place sections.info.now) ∙ ap (drop 4) whole ∙ drop_at count (body ++ more) 4 four in
+    let from : drop (place + 4) sections.info ≡ body ++ more = sym (drop-drop 4 place sections.info) ∙ ap (drop 4) whole ∙ drop_at count (body ++ more) 4 four in
     let here : rest s ≡ v ++ (o ++ (w ++ tail)) = body_left sections place len ∙ ap (take len) from ∙ take_at body more len refl ∙ body_is in
     let gv = number_goes 2 s v DWARF_VERSION (o ++ (w ++ tail)) (body_stands sections place len info fits) version here in
     let pv = gv.passed in
@@ -231,7 +232,7 @@ header_goes sections t place count body more v o w tail info le parts counts sho
     let po = go_on.passed in
     let gw = number_goes 1 go_on.next w ADDRESS_SIZE tail po.stands width go_on.left in
     let pw = gw.passed in
-    let sound : is_bad_length sections place len ≡ false = rw (lt-ltb len LENGTH_RESERVED short, le-ltb (length sections.info.now - (place + 4)) len (omega (arith, fits))) refl in
+    let sound : is_bad_length sections place len ≡ false = rw (lt-ltb len LENGTH_RESERVED short, le-ltb (length sections.info - (place + 4)) len (omega (arith, fits))) refl in
     record {
       next = gw.next;
       reads = header_reads sections place (len, c.next) (DWARF_VERSION, gv.next) (t.offset, go_on.next) (ADDRESS_SIZE, gw.next) c.reads sound gv.reads refl go_on.reads below gw.reads refl;
@@ -247,19 +248,19 @@ zeros_read start s zeros stands left empty =
     let all : take n (rest s) ≡ zeros = take_all n (rest s) (omega (arith, length_rest s stands)) ∙ left in
     rw (le-ltb n n (omega arith), all, empty) refl
 
-record UnitGoes (all : List Entry) (sections : Sections) (number : ℕ) (t : UnitTree) (before : Parsed) (place : ℕ) (bytes : List ℕ) : Type 0 where
+record UnitGoes (all : List Entry) (sections : SectionBytes) (number : ℕ) (t : UnitTree) (before : Parsed) (place : ℕ) (bytes : List ℕ) : Type 0 where
   references : List Reference
   reads : unit_at sections number before place ≡ Ok ((in_unit (length before.entries) t, parsed (before.entries ++ unit_entries number (length before.entries) t) references), place + length bytes)
   lead : Lead all references
 
-unit_reads : (sections : Sections) (number : ℕ) (before : Parsed) (place : ℕ) (header : Header × Spot) (table : List Abbrev) (read : Parsed × Spot) → header_at sections place ≡ Ok header → table_at sections.abbrev.now header.0.table ≡ Ok table
+unit_reads : (sections : SectionBytes) (number : ℕ) (before : Parsed) (place : ℕ) (header : Header × Spot) (table : List Abbrev) (read : Parsed × Spot) → header_at sections place ≡ Ok header → table_at sections.abbrev_ header.0.table ≡ Ok table
     → tree_at (info_at sections place) sections (record { unit = number; place = place }) table before header.1 ≡ Ok read → zeros_at (info_at sections place) read.1 ≡ Ok tt
     → unit_at sections number before place ≡ Ok ((unit_from (length before.entries) read.0.entries, read.0), header.0.end)
 unfolding unit_at
 unit_reads sections number before place header table read a b c d = rw (a, b, c, d) refl
 
-unit_goes : (all : List Entry) → AreLow all → (sections : Sections) (number : ℕ) (t : UnitTree) (before : Parsed) (place : ℕ) (bytes more : List ℕ) → AreBytes sections.info.now → AreBytes sections.abbrev.now → place ≤ length sections.info.now → SpellsUnit sections t place bytes
-    → drop place sections.info.now ≡ bytes ++ more → IsSoundUnit all number t → Lead all before.references → length before.entries + 1 + size t.kids ≤ MOST_ENTRIES → UnitGoes all sections number t before place bytes
+unit_goes : (all : List Entry) → AreLow all → (sections : SectionBytes) (number : ℕ) (t : UnitTree) (before : Parsed) (place : ℕ) (bytes more : List ℕ) → AreBytes sections.info → AreBytes sections.abbrev_ → place ≤ length sections.info → SpellsUnit sections t place bytes
+    → drop place sections.info ≡ bytes ++ more → IsSoundUnit all number t → Lead all before.references → length before.entries + 1 + size t.kids ≤ MOST_ENTRIES → UnitGoes all sections number t before place bytes
 unit_goes all low sections number t before place bytes more info abbrev_bytes le w parts sound lead room =
     let v = w.spells in
     let o = v.second in
@@ -276,7 +277,7 @@ unit_goes all low sections number t before place bytes more info abbrev_bytes le
     let tg = unit_tree_goes all low (info_at sections place) sections home t before hd.next b.front b.back hd.stands (subst (λ (n : ℕ). SpellsTree sections place t n b.front) at b.first) sound w.is_unit w.whole lead room hd.left in
     let tp = tg.passed in
     let entries : List Entry = before.entries ++ unit_entries number (length before.entries) t in
-    let table = table_read sections.abbrev.now t.offset t.table w.inside abbrev_bytes w.table in
+    let table = table_read sections.abbrev_ t.offset t.table w.inside abbrev_bytes w.table in
     let four = length_number 4 (length w.body) w.count w.counts in
     let end : place + 4 + length w.body ≡ place + length bytes = omega (arith, ap length w.is, length-append w.count w.body, four) in
     record {
@@ -288,26 +289,26 @@ unit_goes all low sections number t before place bytes more info abbrev_bytes le
 
 -- ---- all units
 
-record UnitsGo (all : List Entry) (sections : Sections) (trees : List UnitTree) (left : ℕ) (units : List InUnit) (before : Parsed) (place : ℕ) : Type 0 where
+record UnitsGo (all : List Entry) (sections : SectionBytes) (trees : List UnitTree) (left : ℕ) (units : List InUnit) (before : Parsed) (place : ℕ) : Type 0 where
   references : List Reference
   reads : units_at sections left units before place ≡ Ok (units ++ in_units (length before.entries) trees, parsed (before.entries ++ entries_of (length units) (length before.entries) trees) references)
   lead : Lead all references
 
-section_ends : (sections : Sections) (left : ℕ) (units : List InUnit) (before : Parsed) (place : ℕ) → place ≡ length sections.info.now → units_at sections left units before place ≡ Ok (units, before)
+section_ends : (sections : SectionBytes) (left : ℕ) (units : List InUnit) (before : Parsed) (place : ℕ) → place ≡ length sections.info → units_at sections left units before place ≡ Ok (units, before)
 unfolding units_at
 section_ends sections zero units before place last = refl
-section_ends sections (suc left) units before place last = rw (eq-eqb place (length sections.info.now) last) refl
+section_ends sections (suc left) units before place last = rw (eq-eqb place (length sections.info) last) refl
 
-one_more : (sections : Sections) (left : ℕ) (units : List InUnit) (before : Parsed) (place : ℕ) (read : (InUnit × Parsed) × ℕ) → (place ≡ length sections.info.now → ⊥) → unit_at sections (length units) before place ≡ Ok read
+one_more : (sections : SectionBytes) (left : ℕ) (units : List InUnit) (before : Parsed) (place : ℕ) (read : (InUnit × Parsed) × ℕ) → (place ≡ length sections.info → ⊥) → unit_at sections (length units) before place ≡ Ok read
     → units_at sections (suc left) units before place ≡ units_at sections left (units ++ read.0.0 ∷ []) read.0.1 read.1
 unfolding units_at
-one_more sections left units before place read more unit = rw (ne_eqb place (length sections.info.now) more, unit) refl
+one_more sections left units before place read more unit = rw (ne_eqb place (length sections.info) more, unit) refl
 
-units_go : (all : List Entry) → AreLow all → (sections : Sections) (trees : List UnitTree) (left : ℕ) (units : List InUnit) (before : Parsed) (place : ℕ) → AreBytes sections.info.now → AreBytes sections.abbrev.now → place ≤ length sections.info.now
-    → length sections.info.now ≤ left + place → SpellsUnits sections trees place (drop place sections.info.now) → AreSoundUnits all (length units) trees → Lead all before.references
+units_go : (all : List Entry) → AreLow all → (sections : SectionBytes) (trees : List UnitTree) (left : ℕ) (units : List InUnit) (before : Parsed) (place : ℕ) → AreBytes sections.info → AreBytes sections.abbrev_ → place ≤ length sections.info
+    → length sections.info ≤ left + place → SpellsUnits sections trees place (drop place sections.info) → AreSoundUnits all (length units) trees → Lead all before.references
     → length before.entries + length (entries_of (length units) (length before.entries) trees) ≤ MOST_ENTRIES → UnitsGo all sections trees left units before place
 units_go all low sections [] left units before place info abbrev_bytes le all_turns w sound lead room =
-    let last : place ≡ length sections.info.now = omega (arith, le, ap length w, length-drop place sections.info.now) in
+    let last : place ≡ length sections.info = omega (arith, le, ap length w, length-drop place sections.info) in
     record {
       references = before.references;
       reads = section_ends sections left units before place last ∙ ap₂ (λ (us : List InUnit) (es : List Entry). Ok (us, parsed es before.references)) (sym (append-nil units)) (sym (append-nil before.entries));
@@ -315,14 +316,14 @@ units_go all low sections [] left units before place info abbrev_bytes le all_tu
     }
 units_go all low sections (t ∷ ts) zero units before place info abbrev_bytes le all_turns w sound lead room =
     let first = w.first in
-    absurd (omega (arith, all_turns, ap length w.is, length-append w.front w.back, length-drop place sections.info.now, ap length first.is, length-append first.count first.body, length_number 4 (length first.body) first.count first.counts))
+    absurd (omega (arith, all_turns, ap length w.is, length-append w.front w.back, length-drop place sections.info, ap length first.is, length-append first.count first.body, length_number 4 (length first.body) first.count first.counts))
 units_go all low sections (t ∷ ts) (suc left) units before place info abbrev_bytes le all_turns w sound lead room =
     let first = w.first in
     let number : ℕ = length before.entries in
     let own : List Entry = unit_entries (length units) number t in
     let own_len : length own ≡ 1 + size t.kids = omega (arith, length_preorder (length units) (Some number) (number + 1) t.kids) in
     let some : 4 ≤ length w.front = omega (arith, ap length first.is, length-append first.count first.body, length_number 4 (length first.body) first.count first.counts) in
-    let len : length sections.info.now ≡ place + length w.front + length w.back = omega (arith, le, ap length w.is, length-append w.front w.back, length-drop place sections.info.now) in
+    let len : length sections.info ≡ place + length w.front + length w.back = omega (arith, le, ap length w.is, length-append w.front w.back, length-drop place sections.info) in
     let all_len = length-append own (entries_of (suc (length units)) (number + 1 + size t.kids) ts) in
     let u = unit_goes all low sections (length units) t before place w.front w.back info abbrev_bytes le w.first w.is sound.0 lead (omega (arith, room, own_len, all_len)) in
     let unit : InUnit = in_unit number t in
@@ -330,7 +331,7 @@ units_go all low sections (t ∷ ts) (suc left) units before place info abbrev_b
     let next : ℕ = place + length w.front in
     let count : length (units ++ unit ∷ []) ≡ suc (length units) = omega (arith, length-append units (unit ∷ [])) in
     let now_len : length now.entries ≡ number + 1 + size t.kids = omega (arith, length-append before.entries own, own_len) in
-    let rest_is : drop next sections.info.now ≡ w.back = sym (drop-drop (length w.front) place sections.info.now) ∙ ap (drop (length w.front)) w.is ∙ drop_at w.front w.back (length w.front) refl in
+    let rest_is : drop next sections.info ≡ w.back = sym (drop-drop (length w.front) place sections.info) ∙ ap (drop (length w.front)) w.is ∙ drop_at w.front w.back (length w.front) refl in
     let spells = subst (SpellsUnits sections ts next) (sym rest_is) w.second in
     let few : length now.entries + length (entries_of (length (units ++ unit ∷ [])) (length now.entries) ts) ≤ MOST_ENTRIES =
     subst (λ (n : ℕ). length now.entries + length (entries_of n (length now.entries) ts) ≤ MOST_ENTRIES) (sym count)
@@ -359,14 +360,14 @@ all_resolved : (entries : List Entry) (references : List Reference) → Lead ent
 unfolding resolved
 all_resolved entries references lead = rw (none_found entries references lead) refl
 
-object_reads : (sections : Sections) (units : List InUnit) (entries : List Entry) (references : List Reference) → units_at sections (length sections.info.now) [] nothing 0 ≡ Ok (units, parsed entries references) → resolved entries references ≡ Ok entries
+object_reads : (sections : SectionBytes) (units : List InUnit) (entries : List Entry) (references : List Reference) → units_at sections (length sections.info) [] nothing 0 ≡ Ok (units, parsed entries references) → resolved entries references ≡ Ok entries
     → units_of sections ≡ Ok (record { units = units; entries = entries })
 unfolding units_of
 object_reads sections units entries references a b = rw (a, b) refl
 
-pub units_read : (sections : Sections) (trees : List UnitTree) → length sections.info.now < 2 ^ 32 → AreBytes sections.info.now → AreBytes sections.abbrev.now → SpellsObject sections trees → units_of sections ≡ Ok (raw_units trees)
+pub units_read : (sections : SectionBytes) (trees : List UnitTree) → length sections.info < 2 ^ 32 → AreBytes sections.info → AreBytes sections.abbrev_ → SpellsObject sections trees → units_of sections ≡ Ok (raw_units trees)
 units_read sections trees small info abbrev_bytes w =
     let all : List Entry = entries_of 0 0 trees in
-    let low = units_low sections 0 0 trees 0 sections.info.now w.spells (omega (arith, small)) in
-    let u = units_go all low sections trees (length sections.info.now) [] nothing 0 info abbrev_bytes (omega arith) (omega arith) w.spells w.sound refl (omega (arith, w.few)) in
+    let low = units_low sections 0 0 trees 0 sections.info w.spells (omega (arith, small)) in
+    let u = units_go all low sections trees (length sections.info) [] nothing 0 info abbrev_bytes (omega arith) (omega arith) w.spells w.sound refl (omega (arith, w.few)) in
     object_reads sections (in_units 0 trees) all u.references u.reads (all_resolved all u.references u.lead)

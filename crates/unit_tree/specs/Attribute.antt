@@ -9,7 +9,7 @@ use Rattle.ds_base.specs.Spot.{Spot, fault_at}
 use Rattle.ds_base.specs.Reading.{◌>>=◌, refuse_if}
 use Rattle.dwarf_types.specs.declared.abbrev.Field.{Field}
 use Rattle.dwarf_types.specs.declared.entry.Attr.{Attr}
-use Rattle.dwarf_types.specs.declared.sections.Sections.{Sections}
+use Rattle.dwarf_types.specs.SectionBytes.{SectionBytes}
 use Rattle.dwarf_types.specs.declared.value.Value.{Value}
 use Rattle.dwarf_types.specs.declared.value.Value.TheVariants as values
 use Rattle.form_value.specs.Reading.{value_at}
@@ -45,21 +45,21 @@ abbrev pub reference_to : ℕ → Option ℕ → Spot → Value × Option Refere
 reference_to place unit s = (values.Ref (led_to place), Some (record { place = s.place; target = led_to place; unit = unit }))
 
 -- what a number means, which stands here
-unfoldable pub meant_at : Sections → Home → Bool → Meaning → ℕ → Spot → Result (Value × Option Reference) Fault
+unfoldable pub meant_at : SectionBytes → Home → Bool → Meaning → ℕ → Spot → Result (Value × Option Reference) Fault
 meant_at sections home lines InUnit n s = Ok (reference_to (home.place + n) (Some home.unit) s)
 meant_at sections home lines InObject n s = Ok (reference_to n None s)
-meant_at sections home lines LineTable n s = if lines then offset_in sections.line.now n s else Ok (values.Offset n, None)
-meant_at sections home lines RangeList n s = offset_in sections.ranges.now n s
-meant_at sections home lines LocationList n s = offset_in sections.loc.now n s
+meant_at sections home lines LineTable n s = if lines then offset_in sections.line n s else Ok (values.Offset n, None)
+meant_at sections home lines RangeList n s = offset_in sections.ranges n s
+meant_at sections home lines LocationList n s = offset_in sections.loc n s
 meant_at sections home lines Other n s = Ok (values.Offset n, None)
 
 -- what a value means, which stands here as an attribute behind others of a root or another entry
-unfoldable pub value_meant_at : Sections → Home → Bool → Field → List Attr → Value → Spot → Result (Value × Option Reference) Fault
+unfoldable pub value_meant_at : SectionBytes → Home → Bool → Field → List Attr → Value → Spot → Result (Value × Option Reference) Fault
 value_meant_at sections home root field before value s =
     option_map_or (λ n. meant_at sections home (names_lines root before) (meaning_of field.form field.name) n s) (number_in value) (Ok (value, None))
 
 -- the next attribute, behind others, and the reference that it is
-unfoldable pub attr_at : Sections → Home → Bool → Field → List Attr → Spot → Result ((Attr × Option Reference) × Spot) Fault
+unfoldable pub attr_at : SectionBytes → Home → Bool → Field → List Attr → Spot → Result ((Attr × Option Reference) × Spot) Fault
 attr_at sections home root field before s = do
   read ← value_at field DWARF_VERSION sections s
   meant ← value_meant_at sections home root field before read.0 s
@@ -70,7 +70,7 @@ abbrev pub Described : Type 0
 Described = List Attr × List Reference
 
 -- the attributes of some fields, behind those before
-unfoldable pub attrs_at : Sections → Home → Bool → List Field → Described → Spot → Result (Described × Spot) Fault
+unfoldable pub attrs_at : SectionBytes → Home → Bool → List Field → Described → Spot → Result (Described × Spot) Fault
 attrs_at sections home root [] before s = Ok (before, s)
 attrs_at sections home root (field ∷ fields) before s = do
   attr ← attr_at sections home root field before.0 s

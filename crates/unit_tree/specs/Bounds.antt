@@ -1,16 +1,11 @@
--- Bounds that the code keeps, so that places and numbers fit 32 bits. No meaning is said here.
-use Rattle.std.specs.Prelude.{◌≡◌, ◌<◌, ◌≤◌, ◌^◌, ℕ, true, length, Result, Ok, Err}
+-- Bounds that the code keeps, so that numbers fit 32 bits. No meaning is said here.
+use Rattle.std.specs.Prelude.{◌≡◌, ◌<◌, ◌≤◌, ℕ, true, length, Result, Ok, Err}
 use Rattle.ds_base.specs.declared.fault.Fault.{Fault}
 use Rattle.ds_base.specs.declared.fault.Kind.TheVariants.{LimitEntries}
 use Rattle.ds_base.specs.Spot.{Spot, fault_at}
 use Rattle.unit_tree.specs.declared.entry.Parsed.{Parsed}
 use Rattle.unit_tree.specs.declared.entry.TheConstants.{MOST_ENTRIES}
 use Rattle.unit_tree.specs.Entry.{is_full}
-
--- a cursor in a section of fewer than 2^32 bytes
-pub record IsSmall (s : Spot) : Type 0 where
-  pub before_end : s.place ≤ s.end
-  pub small : s.end < 2 ^ 32
 
 -- no more entries than an object may have
 abbrev pub IsFew : Parsed → Type 0

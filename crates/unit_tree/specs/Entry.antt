@@ -8,7 +8,7 @@ use Rattle.ds_base.specs.Spot.{Spot, fault_at}
 use Rattle.ds_base.specs.Reading.{◌>>=◌, refuse_if, or_fault, uleb_at}
 use Rattle.dwarf_types.specs.declared.abbrev.Abbrev.{Abbrev}
 use Rattle.dwarf_types.specs.declared.abbrev.Field.{Field}
-use Rattle.dwarf_types.specs.declared.sections.Sections.{Sections}
+use Rattle.dwarf_types.specs.SectionBytes.{SectionBytes}
 use Rattle.unit_tree.specs.declared.attribute.Home.{Home}
 use Rattle.unit_tree.specs.declared.entry.Parsed.{Parsed}
 use Rattle.unit_tree.specs.declared.entry.TheConstants.{MOST_ENTRIES, MOST_OPEN}
@@ -28,7 +28,7 @@ with_entry home parent place declared before described =
     record { entries = before.entries ++ record { parent = parent; unit = home.unit; place = place; tag = declared.tag; attrs = described.0 } ∷ []; references = described.1 }
 
 -- the entry that begins at a place and has a declaration, whose values stand here
-unfoldable pub entry_at : Sections → Home → Option ℕ → ℕ → Abbrev → Parsed → Spot → Result (Parsed × Spot) Fault
+unfoldable pub entry_at : SectionBytes → Home → Option ℕ → ℕ → Abbrev → Parsed → Spot → Result (Parsed × Spot) Fault
 entry_at sections home parent place declared before s = do
   read ← attrs_at sections home (is_none parent) declared.fields ([], before.references) s
   Ok (with_entry home parent place declared before read.0, read.1)
@@ -41,7 +41,7 @@ abbrev pub is_split : Abbrev → Bool
 is_split declared = list_any is_dwo_name declared.fields
 
 -- the first entry of the unit that begins at start, and whether it has a list of children
-unfoldable pub root_at : Spot → Sections → Home → List Abbrev → Parsed → Spot → Result ((Bool × Parsed) × Spot) Fault
+unfoldable pub root_at : Spot → SectionBytes → Home → List Abbrev → Parsed → Spot → Result ((Bool × Parsed) × Spot) Fault
 root_at start sections home table before s = do
   code ← uleb_at s
   _ ← refuse_if (code.0 == 0) (fault_at start kinds.BadUnit)
@@ -68,7 +68,7 @@ abbrev pub Walk : Type 0
 Walk = Parsed × List ℕ
 
 -- an entry of the innermost list that begins at first and has a declaration, behind its code
-unfoldable pub listed_at : Sections → Home → Abbrev → Walk → Spot → Spot → Result (Walk × Spot) Fault
+unfoldable pub listed_at : SectionBytes → Home → Abbrev → Walk → Spot → Spot → Result (Walk × Spot) Fault
 listed_at sections home declared walk first s = do
   _ ← refuse_if (declared.children && not (nat_lt (length walk.1) MOST_OPEN)) (fault_at first kinds.LimitDepth)
   _ ← refuse_if (is_full walk.0) (fault_at first kinds.LimitEntries)
@@ -76,13 +76,13 @@ listed_at sections home declared walk first s = do
   Ok ((read.0, opened declared.children (length walk.0.entries) walk.1), read.1)
 
 -- an entry of the innermost list, or the code 0 that closes it
-unfoldable pub child_at : Sections → Home → List Abbrev → Walk → Spot → Result (Walk × Spot) Fault
+unfoldable pub child_at : SectionBytes → Home → List Abbrev → Walk → Spot → Result (Walk × Spot) Fault
 child_at sections home table walk s = do
   code ← uleb_at s
   if code.0 == 0 then Ok ((walk.0, closed walk.1), code.1) else (or_fault (declared_as code.0 table) (fault_at s kinds.UnknownCode) >>= λ declared. listed_at sections home declared walk s code.1)
 
 -- Entries until no list is open. Each takes a byte at least, so a count of the bytes that are left bounds them.
-unfoldable pub children_at : Sections → Home → List Abbrev → ℕ → Walk → Spot → Result (Parsed × Spot) Fault
+unfoldable pub children_at : SectionBytes → Home → List Abbrev → ℕ → Walk → Spot → Result (Parsed × Spot) Fault
 children_at sections home table zero walk s = if length walk.1 == 0 then Ok (walk.0, s) else Err (fault_at s kinds.UnclosedSiblings)
 children_at sections home table (suc left) walk s =
     if length walk.1 == 0 then Ok (walk.0, s)
@@ -90,7 +90,7 @@ children_at sections home table (suc left) walk s =
     else (child_at sections home table walk s >>= λ read. children_at sections home table left read.0 read.1)
 
 -- the tree of the unit that begins at start
-unfoldable pub tree_at : Spot → Sections → Home → List Abbrev → Parsed → Spot → Result (Parsed × Spot) Fault
+unfoldable pub tree_at : Spot → SectionBytes → Home → List Abbrev → Parsed → Spot → Result (Parsed × Spot) Fault
 tree_at start sections home table before s = do
   root ← root_at start sections home table before s
   children_at sections home table (root.1.end - root.1.place) (root.0.1, opened root.0.0 (length before.entries) []) root.1

@@ -9,14 +9,15 @@ use Rattle.dwarf_types.specs.declared.entry.Attr.{Attr}
 use Rattle.dwarf_types.specs.declared.entry.Entry.{Entry}
 use Rattle.dwarf_types.specs.declared.entry.InUnit.{InUnit}
 use Rattle.dwarf_types.specs.declared.entry.RawUnits.{RawUnits}
-use Rattle.dwarf_types.specs.declared.sections.Sections.{Sections}
+use Rattle.dwarf_types.specs.SectionBytes.{SectionBytes}
 use Rattle.dwarf_types.specs.declared.value.Value.{Value}
 use Rattle.dwarf_types.specs.declared.value.Value.TheVariants as values
 use Rattle.dwarf_types.specs.Spelled.{InTurn, IsUleb, IsNumber}
 use Rattle.abbrev_read.specs.Spelling.{StandsAt}
 use Rattle.form_value.specs.Spelling.{SpellsValue}
 use Rattle.unit_tree.specs.declared.entry.TheConstants.{MOST_ENTRIES, MOST_OPEN}
-use Rattle.unit_tree.specs.declared.header.TheConstants.{LENGTH_RESERVED, DWARF_VERSION, ADDRESS_SIZE}
+use Rattle.ds_base.specs.declared.dwarf.TheConstants.{LENGTH_RESERVED}
+use Rattle.unit_tree.specs.declared.header.TheConstants.{DWARF_VERSION, ADDRESS_SIZE}
 use Rattle.unit_tree.specs.declared.meaning.Meaning.{Meaning}
 use Rattle.unit_tree.specs.declared.meaning.Meaning.TheVariants.{InUnit as InTheUnit, InObject, LineTable, RangeList, LocationList, Other}
 use Rattle.unit_tree.specs.Attribute.{names_lines}
@@ -105,27 +106,27 @@ attr_value place field (values.Offset n) = meant place (meaning_of field.form fi
 attr_value place field value = value
 
 -- an offset to a table or list is below the size of its section
-abbrev pub IsBelow : Sections → Bool → Meaning → ℕ → Type 0
+abbrev pub IsBelow : SectionBytes → Bool → Meaning → ℕ → Type 0
 IsBelow sections lines InTheUnit n = Unit {0}
 IsBelow sections lines InObject n = Unit {0}
-IsBelow sections lines LineTable n = lines ≡ true → n < length sections.line.now
-IsBelow sections lines RangeList n = n < length sections.ranges.now
-IsBelow sections lines LocationList n = n < length sections.loc.now
+IsBelow sections lines LineTable n = lines ≡ true → n < length sections.line
+IsBelow sections lines RangeList n = n < length sections.ranges
+IsBelow sections lines LocationList n = n < length sections.loc
 IsBelow sections lines Other n = Unit {0}
 
-abbrev pub IsInside : Sections → Bool → Field → Value → Type 0
+abbrev pub IsInside : SectionBytes → Bool → Field → Value → Type 0
 IsInside sections lines field (values.Offset n) = IsBelow sections lines (meaning_of field.form field.name) n
 IsInside sections lines field _ = Unit {0}
 
 -- bytes spell the attribute of a field of a unit that begins at a place
-pub record SpellsAttr (sections : Sections) (place : ℕ) (lines : Bool) (field : Field) (bytes : List ℕ) (attr : Attr) : Type 0 where
+pub record SpellsAttr (sections : SectionBytes) (place : ℕ) (lines : Bool) (field : Field) (bytes : List ℕ) (attr : Attr) : Type 0 where
   pub value : Value
   pub spells : SpellsValue field DWARF_VERSION sections bytes value
   pub inside : IsInside sections lines field value
   pub is : attr ≡ record { name = field.name; value = attr_value place field value }
 
 -- the attributes of fields, behind others of a root or another entry
-abbrev pub SpellsAttrs : Sections → ℕ → Bool → List Field → List Attr → List ℕ → List Attr → Type 0
+abbrev pub SpellsAttrs : SectionBytes → ℕ → Bool → List Field → List Attr → List ℕ → List Attr → Type 0
 SpellsAttrs sections place root [] before bytes [] = bytes ≡ []
 SpellsAttrs sections place root [] before bytes (attr ∷ attrs) = ⊥
 SpellsAttrs sections place root (field ∷ fields) before bytes [] = ⊥
@@ -140,7 +141,7 @@ pub record SpellsCode (table : List Abbrev) (declared : Abbrev) (bytes : List �
   pub found : declared_as code table ≡ Some declared
 
 -- an entry that begins at a place: its code and its attributes
-pub record SpellsNode (sections : Sections) (unit : ℕ) (table : List Abbrev) (root : Bool) (node : Node) (place : ℕ) (bytes : List ℕ) : Type 0 where
+pub record SpellsNode (sections : SectionBytes) (unit : ℕ) (table : List Abbrev) (root : Bool) (node : Node) (place : ℕ) (bytes : List ℕ) : Type 0 where
   pub there : node.place ≡ place
   pub spells : InTurn (SpellsCode table node.declared) (λ b. SpellsAttrs sections unit root node.declared.fields [] b node.attrs) bytes
 
@@ -151,13 +152,13 @@ SpellsBelow false Kids no_more place bytes = bytes ≡ []
 SpellsBelow false Kids (tree node more others) place bytes = ⊥
 
 -- trees one after the other from a place, and the code 0
-abbrev pub SpellsTrees : Sections → ℕ → List Abbrev → Forest → ℕ → List ℕ → Type 0
+abbrev pub SpellsTrees : SectionBytes → ℕ → List Abbrev → Forest → ℕ → List ℕ → Type 0
 SpellsTrees sections unit table no_more place bytes = IsUleb bytes 0
 SpellsTrees sections unit table (tree node kids others) place bytes =
     InTurnFrom (InTurnFrom (SpellsNode sections unit table false node) (SpellsBelow node.declared.children (λ p b. SpellsTrees sections unit table kids p b) kids)) (λ p b. SpellsTrees sections unit table others p b) place bytes
 
 -- the tree of a unit
-abbrev pub SpellsTree : Sections → ℕ → UnitTree → ℕ → List ℕ → Type 0
+abbrev pub SpellsTree : SectionBytes → ℕ → UnitTree → ℕ → List ℕ → Type 0
 SpellsTree sections unit t = InTurnFrom (SpellsNode sections unit t.table true t.root) (SpellsBelow t.root.declared.children (λ p b. SpellsTrees sections unit t.table t.kids p b) t.kids)
 
 -- ---- units
@@ -167,25 +168,25 @@ abbrev pub AreZeros : List ℕ → Type 0
 AreZeros bytes = list_all is_zero bytes ≡ true
 
 -- what follows a unit's length: its version, the place of its table, the size of an address, its tree from a place on, and zeros
-abbrev pub SpellsBody : Sections → ℕ → UnitTree → ℕ → List ℕ → Type 0
+abbrev pub SpellsBody : SectionBytes → ℕ → UnitTree → ℕ → List ℕ → Type 0
 SpellsBody sections unit t =
     InTurnFrom (λ p b. IsNumber 2 b DWARF_VERSION) (InTurnFrom (λ p b. IsNumber 4 b t.offset) (InTurnFrom (λ p b. IsNumber 1 b ADDRESS_SIZE) (InTurnFrom (SpellsTree sections unit t) (λ p b. AreZeros b))))
 
 -- the unit that begins at a place
-pub record SpellsUnit (sections : Sections) (t : UnitTree) (place : ℕ) (bytes : List ℕ) : Type 0 where
+pub record SpellsUnit (sections : SectionBytes) (t : UnitTree) (place : ℕ) (bytes : List ℕ) : Type 0 where
   pub count : List ℕ
   pub body : List ℕ
   pub is : bytes ≡ count ++ body
   pub counts : IsNumber 4 count (length body)
   pub short : length body < LENGTH_RESERVED
   pub spells : SpellsBody sections place t (place + 4) body
-  pub inside : t.offset < length sections.abbrev.now
-  pub table : StandsAt sections.abbrev.now t.offset t.table
+  pub inside : t.offset < length sections.abbrev_
+  pub table : StandsAt sections.abbrev_ t.offset t.table
   pub is_unit : t.root.declared.tag ≡ DW_TAG_compile_unit
   pub whole : is_split t.root.declared ≡ false
 
 -- units one after the other from a place
-abbrev pub SpellsUnits : Sections → List UnitTree → ℕ → List ℕ → Type 0
+abbrev pub SpellsUnits : SectionBytes → List UnitTree → ℕ → List ℕ → Type 0
 SpellsUnits sections [] place bytes = bytes ≡ []
 SpellsUnits sections (t ∷ ts) place bytes = InTurnFrom (SpellsUnit sections t) (λ p b. SpellsUnits sections ts p b) place bytes
 
@@ -229,13 +230,13 @@ AreSoundUnits entries unit [] = Unit {0}
 AreSoundUnits entries unit (t ∷ ts) = IsSoundUnit entries unit t × AreSoundUnits entries (suc unit) ts
 
 -- the sections spell the trees: units fill the section, there are not too many entries, and each reference leads to one of them
-pub record SpellsObject (sections : Sections) (trees : List UnitTree) : Type 0 where
-  pub spells : SpellsUnits sections trees 0 sections.info.now
+pub record SpellsObject (sections : SectionBytes) (trees : List UnitTree) : Type 0 where
+  pub spells : SpellsUnits sections trees 0 sections.info
   pub few : length (entries_of 0 0 trees) ≤ MOST_ENTRIES
   pub sound : AreSoundUnits (entries_of 0 0 trees) 0 trees
 
 -- what was read is what the sections spell
-pub record IsSpelled (sections : Sections) (units : RawUnits) : Type 0 where
+pub record IsSpelled (sections : SectionBytes) (units : RawUnits) : Type 0 where
   pub trees : List UnitTree
   pub spells : SpellsObject sections trees
   pub is : units ≡ raw_units trees

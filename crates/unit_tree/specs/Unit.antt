@@ -11,7 +11,7 @@ use Rattle.dwarf_types.specs.declared.entry.Attr.{Attr}
 use Rattle.dwarf_types.specs.declared.entry.Entry.{Entry}
 use Rattle.dwarf_types.specs.declared.entry.InUnit.{InUnit}
 use Rattle.dwarf_types.specs.declared.entry.RawUnits.{RawUnits}
-use Rattle.dwarf_types.specs.declared.sections.Sections.{Sections}
+use Rattle.dwarf_types.specs.SectionBytes.{SectionBytes}
 use Rattle.dwarf_types.specs.declared.value.Value.{Value}
 use Rattle.dwarf_types.specs.declared.value.Value.TheVariants as values
 use Rattle.abbrev_read.specs.Reading.{table_at}
@@ -45,27 +45,27 @@ zeros_at start s = do
   refuse_if (not (list_all is_zero others.0)) (fault_at start kinds.BadUnit)
 
 -- the unit of a number that begins at a place, with its entries behind those before, and the place behind it
-unfoldable pub unit_at : Sections → ℕ → Parsed → ℕ → Result ((InUnit × Parsed) × ℕ) Fault
+unfoldable pub unit_at : SectionBytes → ℕ → Parsed → ℕ → Result ((InUnit × Parsed) × ℕ) Fault
 unit_at sections number before place = do
   header ← header_at sections place
-  table ← table_at sections.abbrev.now header.0.table
+  table ← table_at sections.abbrev_ header.0.table
   tree ← tree_at (info_at sections place) sections (record { unit = number; place = place }) table before header.1
   _ ← zeros_at (info_at sections place) tree.1
   Ok ((unit_from (length before.entries) tree.0.entries, tree.0), header.0.end)
 
 -- Units up to the section's end. Each takes a byte at least, so a count of the bytes that are left bounds them.
-unfoldable pub units_at : Sections → ℕ → List InUnit → Parsed → ℕ → Result (List InUnit × Parsed) Fault
+unfoldable pub units_at : SectionBytes → ℕ → List InUnit → Parsed → ℕ → Result (List InUnit × Parsed) Fault
 units_at sections zero units before place = Ok (units, before)
 units_at sections (suc left) units before place =
-    if place == length sections.info.now then Ok (units, before)
+    if place == length sections.info then Ok (units, before)
     else (unit_at sections (length units) before place >>= λ read. units_at sections left (units ++ read.0.0 ∷ []) read.0.1 read.1)
 
 abbrev pub nothing : Parsed
 nothing = record { entries = []; references = [] }
 
 -- all units of an object
-unfoldable pub units_of : Sections → Result RawUnits Fault
+unfoldable pub units_of : SectionBytes → Result RawUnits Fault
 units_of sections = do
-  read ← units_at sections (length sections.info.now) [] nothing 0
+  read ← units_at sections (length sections.info) [] nothing 0
   entries ← resolved read.1.entries read.1.references
   Ok (record { units = read.0; entries = entries })

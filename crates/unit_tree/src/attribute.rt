@@ -3,8 +3,9 @@
 ghost use Rattle.std.specs.Prelude.{◌≡◌, ◌++◌, [], OnOk};
 ghost use Rattle.std.specs.Option.{option_to_list};
 ghost use Rattle.ds_base.specs.Reading.{Finds, ReadsUnlessFull};
+ghost use Rattle.ds_base.specs.Spot.{IsSmall};
+ghost use Rattle.dwarf_types.specs.SectionBytes.{bytes_in};
 ghost use Rattle.unit_tree.specs.Attribute.{number_in, has_attr, names_lines, offset_in, reference_to, meant_at, value_meant_at, attr_at, attrs_at};
-ghost use Rattle.unit_tree.specs.Bounds.{IsSmall};
 
 use crate::header::DWARF_VERSION;
 use crate::meaning::{Meaning, meaning_of_value};
@@ -36,7 +37,7 @@ pub(crate) fn read_attrs(
     references: &mut List<Reference>,
 ) -> Result<List<Attr>, ReadError>
     requires { IsSmall cursor.old }
-    ensures { ReadsUnlessFull (λ attrs. (attrs, references.new)) result cursor.new (attrs_at sections.now home root fields.now ([], references.old) cursor.old) }
+    ensures { ReadsUnlessFull (λ attrs. (attrs, references.new)) result cursor.new (attrs_at (bytes_in sections.now) home root fields.now ([], references.old) cursor.old) }
 {
     let mut attrs = Vec::with_capacity(alloc, fields.len())?;
     for field in fields {
@@ -77,7 +78,7 @@ fn read_attr(
     before: &[Attr],
 ) -> Result<(Attr, Option<Reference>), ReadError>
     requires { IsSmall cursor.old }
-    ensures { ReadsUnlessFull (λ attr. attr) result cursor.new (attr_at sections.now home root field.now before.now cursor.old) }
+    ensures { ReadsUnlessFull (λ attr. attr) result cursor.new (attr_at (bytes_in sections.now) home root field.now before.now cursor.old) }
 {
     let first = cursor.fork();
     let value = read_value(alloc, cursor, field, DWARF_VERSION, sections)?;
@@ -98,7 +99,7 @@ fn understand(
     value: Value,
 ) -> Result<(Value, Option<Reference>), Fault>
     requires { IsSmall first.now }
-    ensures { Finds (λ meant. meant) result (value_meant_at sections.now home root field.now before.now value first.now) }
+    ensures { Finds (λ meant. meant) result (value_meant_at (bytes_in sections.now) home root field.now before.now value first.now) }
 {
     match number_of(&value) {
         None => Ok((value, None)),
@@ -145,7 +146,7 @@ fn means(
     n: u64,
 ) -> Result<(Value, Option<Reference>), Fault>
     requires { IsSmall first.now }
-    ensures { Finds (λ meant. meant) result (meant_at sections.now home lines meaning n first.now) }
+    ensures { Finds (λ meant. meant) result (meant_at (bytes_in sections.now) home lines meaning n first.now) }
 {
     match meaning {
         Meaning::InUnit => {

@@ -3,7 +3,8 @@
 ghost use Rattle.std.specs.Prelude.{◌≡◌, ◌<◌, ◌-◌, ◌==◌, length, IfOk, OnOk};
 ghost use Rattle.std.specs.List.{list_any};
 ghost use Rattle.ds_base.specs.Reading.{Finds, Moves, ReadsUnlessFull, uleb_at};
-ghost use Rattle.unit_tree.specs.Bounds.{IsSmall};
+ghost use Rattle.ds_base.specs.Spot.{IsSmall};
+ghost use Rattle.dwarf_types.specs.SectionBytes.{bytes_in};
 ghost use Rattle.unit_tree.specs.Entry.{is_dwo_name, entry_at, root_at, innermost, closed, opened, listed_at, child_at, children_at, tree_at};
 ghost use Rattle.unit_tree.specs.Bounds.{IsFew, NumbersNext};
 
@@ -43,7 +44,7 @@ pub(crate) fn read_tree(
     parsed: &mut Parsed,
 ) -> Result<u32, ReadError>
     requires small { IsSmall cursor.old }
-    ensures read { ReadsUnlessFull (λ _. parsed.new) result cursor.new (tree_at start.now sections.now home table.now parsed.old cursor.old) }
+    ensures read { ReadsUnlessFull (λ _. parsed.new) result cursor.new (tree_at start.now (bytes_in sections.now) home table.now parsed.old cursor.old) }
     ensures number { IfOk result (λ number. number ≡ length parsed.old.entries) }
     ensures few { OnOk result (IsFew parsed.new) }
 {
@@ -67,7 +68,7 @@ fn read_root(
     parsed: &mut Parsed,
 ) -> Result<(u32, bool), ReadError>
     requires small { IsSmall cursor.old }
-    ensures read { ReadsUnlessFull (λ root. (root.1, parsed.new)) result cursor.new (root_at start.now sections.now home table.now parsed.old cursor.old) }
+    ensures read { ReadsUnlessFull (λ root. (root.1, parsed.new)) result cursor.new (root_at start.now (bytes_in sections.now) home table.now parsed.old cursor.old) }
     ensures number { IfOk result (λ root. root.0 ≡ length parsed.old.entries) }
     ensures few { OnOk result (IsFew parsed.new) }
     ensures small { OnOk result (IsSmall cursor.new) }
@@ -112,7 +113,7 @@ fn read_children(
 ) -> Result<(), ReadError>
     requires few { IsFew parsed.old }
     requires small { IsSmall cursor.old }
-    ensures read { ReadsUnlessFull (λ _. parsed.new) result cursor.new (children_at sections.now home table.now (cursor.old.end - cursor.old.place) (parsed.old, lists.old) cursor.old) }
+    ensures read { ReadsUnlessFull (λ _. parsed.new) result cursor.new (children_at (bytes_in sections.now) home table.now (cursor.old.end - cursor.old.place) (parsed.old, lists.old) cursor.old) }
     ensures few { OnOk result (IsFew parsed.new) }
 {
     let left = cursor.left();
@@ -151,7 +152,7 @@ fn read_child(
 ) -> Result<(), ReadError>
     requires few { IsFew parsed.old }
     requires small { IsSmall cursor.old }
-    ensures read { ReadsUnlessFull (λ _. (parsed.new, lists.new)) result cursor.new (child_at sections.now home table.now (parsed.old, lists.old) cursor.old) }
+    ensures read { ReadsUnlessFull (λ _. (parsed.new, lists.new)) result cursor.new (child_at (bytes_in sections.now) home table.now (parsed.old, lists.old) cursor.old) }
     ensures few { OnOk result (IsFew parsed.new) }
 {
     let first = cursor.fork();
@@ -182,7 +183,7 @@ fn read_listed(
 ) -> Result<(), ReadError>
     requires first { IsSmall first.now }
     requires small { IsSmall cursor.old }
-    ensures read { ReadsUnlessFull (λ _. (parsed.new, lists.new)) result cursor.new (listed_at sections.now home declared.now (parsed.old, lists.old) first.now cursor.old) }
+    ensures read { ReadsUnlessFull (λ _. (parsed.new, lists.new)) result cursor.new (listed_at (bytes_in sections.now) home declared.now (parsed.old, lists.old) first.now cursor.old) }
     ensures few { OnOk result (IsFew parsed.new) }
 {
     if declared.children && lists.len() >= MOST_OPEN {
@@ -212,7 +213,7 @@ fn read_entry(
 ) -> Result<(), ReadError>
     requires room { length parsed.old.entries < MOST_ENTRIES }
     requires small { IsSmall cursor.old }
-    ensures read { ReadsUnlessFull (λ _. parsed.new) result cursor.new (entry_at sections.now home parent place declared.now parsed.old cursor.old) }
+    ensures read { ReadsUnlessFull (λ _. parsed.new) result cursor.new (entry_at (bytes_in sections.now) home parent place declared.now parsed.old cursor.old) }
     ensures few { OnOk result (IsFew parsed.new) }
 {
     let fields = declared.fields.as_slice();

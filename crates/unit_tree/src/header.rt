@@ -2,8 +2,10 @@
 
 ghost use Rattle.std.specs.Prelude.{◌≡◌, ◌≤◌, ◌<◌, length, IfOk};
 ghost use Rattle.ds_base.specs.Reading.{Finds};
+ghost use Rattle.dwarf_types.specs.SectionBytes.{bytes_in};
 ghost use Rattle.unit_tree.specs.Header.{info_at, fields_at, header_at};
 
+use ds_base::dwarf::LENGTH_RESERVED;
 use ds_base::{Cursor, Fault, Kind, Part};
 use dwarf_types::Sections;
 
@@ -12,9 +14,6 @@ pub(crate) const DWARF_VERSION: u16 = 4;
 
 /// The size in bytes of an address of the object's CPU.
 const ADDRESS_SIZE: u8 = 8;
-
-/// "The values 0xfffffff0 through 0xffffffff are reserved" for lengths (DWARF 4, section 7.2.2).
-const LENGTH_RESERVED: u32 = 0xffff_fff0;
 
 /// What a unit's header says (DWARF 4, section 7.5.1.1).
 #[derive(Clone, Copy, Debug, PartialEq, Eq)]
@@ -28,7 +27,7 @@ pub(crate) struct Header {
 /// A cursor at a place of `__debug_info`.
 pub(crate) fn info_cursor<'a>(sections: &Sections<'a>, place: u64) -> Cursor<'a>
     requires { place ≤ length sections.now.info.now }
-    ensures { result ≡ info_at sections.now place }
+    ensures { result ≡ info_at (bytes_in sections.now) place }
 {
     Cursor::new(sections.info, Part::Info, place, sections.info.len() as u64)
 }
@@ -40,7 +39,7 @@ pub(crate) fn read_header<'a>(
     place: u64,
 ) -> Result<(Header, Cursor<'a>), Fault>
     requires { place ≤ length sections.now.info.now }
-    ensures read { Finds (λ header. header) result (header_at sections.now place) }
+    ensures read { Finds (λ header. header) result (header_at (bytes_in sections.now) place) }
     ensures inside { IfOk result (λ header. header.0.end ≤ length sections.now.info.now) }
     ensures end { IfOk result (λ header. (header.1.place ≤ header.1.end) × (header.1.end ≡ header.0.end)) }
     ensures table { IfOk result (λ header. header.0.table < length sections.now.abbrev.now) }
@@ -63,7 +62,7 @@ fn read_fields<'a>(
     first: &Cursor,
     cursor: Cursor<'a>,
 ) -> Result<(Header, Cursor<'a>), Fault>
-    ensures read { Finds (λ header. header) result (fields_at sections.now first.now cursor.entry) }
+    ensures read { Finds (λ header. header) result (fields_at (bytes_in sections.now) first.now cursor.entry) }
     ensures end { IfOk result (λ header. (header.0.end ≡ cursor.entry.end) × (header.1.end ≡ cursor.entry.end) × (header.1.place ≤ cursor.entry.end)) }
     ensures table { IfOk result (λ header. header.0.table < length sections.now.abbrev.now) }
 {

@@ -3,15 +3,15 @@
 ghost use Rattle.std.specs.Prelude.{◌≡◌, ◌<◌, ◌^◌, List, Ok, length};
 ghost use Rattle.dwarf_types.specs.Spelled.{AreBytes};
 ghost use Rattle.dwarf_types.specs.declared.entry.RawUnits.{RawUnits};
-ghost use Rattle.dwarf_types.specs.declared.sections.Sections.{Sections};
+ghost use Rattle.dwarf_types.specs.SectionBytes.{SectionBytes};
 ghost use Rattle.unit_tree.specs.Unit.{units_of};
 ghost use Rattle.unit_tree.specs.Spelling.{UnitTree, SpellsObject, IsSpelled, raw_units};
 
 /// What [`read_units`](crate::read_units) reads is spelled so, and what is spelled so is read (DWARF 4,
 /// section 7.5): units, each of a header, a tree and zero bytes, and their entries in preorder.
 pub fn units_are_read_as_spelled()
-    ensures found { (sections : Sections) (units : RawUnits) → length sections.info.now < 2 ^ 32 → AreBytes sections.info.now → AreBytes sections.abbrev.now →
+    ensures found { (sections : SectionBytes) (units : RawUnits) → length sections.info < 2 ^ 32 → AreBytes sections.info → AreBytes sections.abbrev_ →
         units_of sections ≡ Ok units → IsSpelled sections units }
-    ensures only { (sections : Sections) (trees : List UnitTree) → length sections.info.now < 2 ^ 32 → AreBytes sections.info.now → AreBytes sections.abbrev.now →
+    ensures only { (sections : SectionBytes) (trees : List UnitTree) → length sections.info < 2 ^ 32 → AreBytes sections.info → AreBytes sections.abbrev_ →
         SpellsObject sections trees → units_of sections ≡ Ok (raw_units trees) }
 {}

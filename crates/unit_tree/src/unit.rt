@@ -4,6 +4,7 @@ ghost use Rattle.std.specs.Prelude.{◌≡◌, ◌≤◌, ◌<◌, ◌^◌, ◌=
 ghost use Rattle.std.specs.List.{find, list_all};
 ghost use Rattle.std.specs.Option.{option_copied};
 ghost use Rattle.ds_base.specs.Reading.{Finds, Gives};
+ghost use Rattle.dwarf_types.specs.SectionBytes.{bytes_in};
 ghost use Rattle.unit_tree.specs.Bounds.{IsFew};
 ghost use Rattle.unit_tree.specs.Table.{AreRead};
 ghost use Rattle.unit_tree.specs.Unit.{short_in, language_of, unit_from, is_zero, zeros_at, unit_at, units_at, units_of, nothing};
@@ -31,7 +32,7 @@ use std::collections::BTreeMap;
 #[tactic(auto, unfolding(crate::specs::Unit::units_of))]
 pub fn read_units(alloc: Global, sections: &Sections) -> Result<RawUnits, ReadError>
     requires info { length sections.now.info.now < 2 ^ 32 }
-    ensures exact { Gives (λ units. units) result (units_of sections.now) }
+    ensures exact { Gives (λ units. units) result (units_of (bytes_in sections.now)) }
 {
     let mut parsed = Parsed {
         entries: List::new(alloc),
@@ -53,7 +54,7 @@ fn read_each(
 ) -> Result<List<InUnit>, ReadError>
     requires info { length sections.now.info.now < 2 ^ 32 }
     requires nothing { parsed.old ≡ nothing }
-    ensures read { Gives (λ units. (units, parsed.new)) result (units_at sections.now (length sections.now.info.now) [] nothing 0) }
+    ensures read { Gives (λ units. (units, parsed.new)) result (units_at (bytes_in sections.now) (length sections.now.info.now) [] nothing 0) }
 {
     let mut tables: Tables = BTreeMap::new(alloc);
     let mut units = List::new(alloc);
@@ -84,7 +85,7 @@ fn read_unit(
     requires info { length sections.now.info.now < 2 ^ 32 }
     requires inside { place ≤ length sections.now.info.now }
     requires tables { AreRead sections.now.abbrev.now tables.old }
-    ensures read { Gives (λ unit. ((unit.0, parsed.new), unit.1)) result (unit_at sections.now number parsed.old place) }
+    ensures read { Gives (λ unit. ((unit.0, parsed.new), unit.1)) result (unit_at (bytes_in sections.now) number parsed.old place) }
     ensures inside { IfOk result (λ unit. unit.1 ≤ length sections.now.info.now) }
     ensures tables { AreRead sections.now.abbrev.now tables.new }
 {

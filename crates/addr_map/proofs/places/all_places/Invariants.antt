@@ -1,6 +1,6 @@
 use Rattle.std.proofs.Common.{◌≡◌, ◌++◌, drop}
 use Rattle.std.specs.List.{filter_map}
-use Rattle.reloc_table.specs.Standings.{standing_of}
+use Rattle.macho_read.specs.Standings.{standing_of}
 use Rattle.addr_map.specs.Entries.{place_of}
 use Rattle.addr_map.proofs.places.all_places.Given as goal
 

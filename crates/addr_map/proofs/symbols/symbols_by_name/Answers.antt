@@ -1,7 +1,7 @@
 use Rattle.std.proofs.Common.{◌≡◌, ◌-◌, ◌∙◌, ℕ, List as Listed, Some, true, false, cond, ap, rules, arith}
 use Rattle.std.specs.Str.{bytes_eq}
 use Rattle.std.proofs.lemmas.Map.Text.{hash_map_updates_str}
-use Rattle.reloc_table.specs.Standings.{is_stab}
+use Rattle.macho_read.specs.Standings.{is_stab}
 use Rattle.addr_map.specs.Tables.{index_in}
 use Rattle.addr_map.proofs.Named.{index_put, index_same}
 use Rattle.addr_map.proofs.symbols.symbols_by_name.Goals as goal

@@ -1,6 +1,7 @@
 use Rattle.std.proofs.Common.{◌∙◌, sym}
 use Rattle.indexmap.proofs.CallerLemmas.{insert_entry-new}
-use Rattle.ar_read.proofs.Table.{none_from, puts_last, puts_none}
+use Rattle.ds_base.proofs.Lookups.{none_from}
+use Rattle.ar_read.proofs.Table.{puts_last, puts_none}
 use Rattle.ar_read.proofs.archive.put_behind.Goals as goal
 
 pub returns-then-contains_key : goal.returns-then-contains_key

@@ -1,4 +1,4 @@
-use Rattle.line_read.proofs.Onward.{number_onward, small_kept}
+use Rattle.ds_base.proofs.Onward.{number_onward, small_kept}
 use Rattle.line_read.proofs.operation.read_body.Goals as goal
 
 pub read_filled-requires-clause-small : goal.read_filled-requires-clause-small

@@ -1,4 +1,5 @@
-use Rattle.line_read.proofs.Onward.{uleb_onward, inside_kept}
+use Rattle.ds_base.proofs.Onward.{uleb_onward}
+use Rattle.line_read.proofs.Inside.{inside_kept}
 use Rattle.line_read.proofs.operation.read_extended.Goals as goal
 
 pub read_part-requires-clause-inside : goal.read_part-requires-clause-inside

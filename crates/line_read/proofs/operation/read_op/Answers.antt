@@ -1,4 +1,5 @@
-use Rattle.line_read.proofs.Onward.{number_onward, inside_kept}
+use Rattle.ds_base.proofs.Onward.{number_onward}
+use Rattle.line_read.proofs.Inside.{inside_kept}
 use Rattle.line_read.proofs.operation.read_op.Goals as goal
 
 pub read_extended-requires-clause-inside : goal.read_extended-requires-clause-inside

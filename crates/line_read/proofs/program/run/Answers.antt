@@ -2,7 +2,7 @@ use Rattle.std.proofs.Common.{arith}
 use Rattle.std.proofs.lemmas.Bool.{ne_eqb}
 use Rattle.std.proofs.lemmas.Result.{err_from_is_err_and}
 use Rattle.line_read.specs.Operation.{op_at}
-use Rattle.line_read.proofs.Onward.{inside_kept}
+use Rattle.line_read.proofs.Inside.{inside_kept}
 use Rattle.line_read.proofs.OperationPlaces.{op_onward}
 use Rattle.line_read.proofs.ProgramLoop.{run_more, read_refused, step_refused}
 use Rattle.line_read.proofs.program.run.Goals as goal

@@ -1,4 +1,4 @@
-use Rattle.line_read.proofs.Onward.{inside_kept}
+use Rattle.line_read.proofs.Inside.{inside_kept}
 use Rattle.line_read.proofs.OperationPlaces.{version_onward, program_onward}
 use Rattle.line_read.proofs.table.read_lines.Goals as goal
 

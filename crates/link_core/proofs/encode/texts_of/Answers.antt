@@ -1,4 +1,3 @@
-use Rattle.std.proofs.Common.{arith}
 use Rattle.link_core.proofs.UnitTexts.{one_more}
 use Rattle.link_core.proofs.encode.texts_of.Goals as goal
 

@@ -1,8 +1,9 @@
-use Rattle.std.proofs.Common.{◌≡◌, ℕ, List, ◌-◌, is_some, Bool, false, true, None, refl, sym, ap, ◌∙◌}
+use Rattle.std.proofs.Common.{◌≡◌, ℕ, ◌-◌, is_some, false, true, sym, ap, ◌∙◌}
 use Rattle.indexmap.proofs.CallerLemmas.{insert_entry-new}
-use Rattle.link_core.specs.Files.{content_in, no_memory, world}
+use Rattle.link_core.specs.Files.{content_in, no_memory}
 use Rattle.link_core.specs.Seen.{held_seen}
-use Rattle.link_core.proofs.Holding.{content_is, goes_on, stops_unread, reads_one, held_more, none_from}
+use Rattle.ds_base.proofs.Lookups.{none_from}
+use Rattle.link_core.proofs.Holding.{content_is, goes_on, stops_unread, reads_one, held_more}
 use Rattle.link_core.proofs.files.hold_file.Goals as goal
 
 pub returns-then-contains_key : goal.returns-then-contains_key

@@ -1,5 +1,6 @@
 use Rattle.std.proofs.Common.{◌≡◌, ◌-◌}
-use Rattle.list_items.specs.Bounds.{IsSmall}
+use Rattle.ds_base.specs.Spot.{IsSmall}
+use Rattle.dwarf_types.specs.SectionBytes.{bytes_in}
 use Rattle.list_items.specs.Lists.{list_at}
 use Rattle.list_items.proofs.Turns.{before}
 use Rattle.range_lists.specs.Reading.{range_at, ranges_of}
@@ -8,4 +9,4 @@ use Rattle.range_lists.proofs.ranges.read_ranges.Given as goal
 abbrev pub invariant-loop : goal.invariant-loop
 invariant-loop l =
     IsSmall l.cursor
-    × (before l.spans (list_at l.image l.relocs range_at (l.left - l.counter) l.base l.cursor) ≡ ranges_of l.sections l.relocs l.image l.offset l.fn.base)
+    × (before l.spans (list_at l.image l.relocs range_at (l.left - l.counter) l.base l.cursor) ≡ ranges_of (bytes_in l.sections) l.relocs l.image l.offset l.fn.base)

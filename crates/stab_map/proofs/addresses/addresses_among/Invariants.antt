@@ -6,4 +6,4 @@ use Rattle.stab_map.proofs.addresses.addresses_among.Given as goal
 
 -- the table has the addresses of the names among the symbols behind those that are left
 abbrev pub invariant-loop-symbol : goal.invariant-loop-symbol
-invariant-loop-symbol l = Done (λ done. (name : Listed ℕ) → address_in l.addresses name ≡ address_among l.sections done name) (iter_rest l.symbol-iterator.iter) l.symbols
+invariant-loop-symbol l = Done (λ done. (name : Listed ℕ) → address_in l.addresses name ≡ address_among l.image done name) (iter_rest l.symbol-iterator.iter) l.symbols

@@ -3,7 +3,8 @@ use Rattle.std.proofs.lemmas.Result.{err_from_is_err_and}
 use Rattle.dwarf_types.specs.declared.abbrev.Field.{Field}
 use Rattle.unit_tree.proofs.AttrLoop.{attr_refused, attr_more, attrs_end}
 use Rattle.ds_base.proofs.Refusals.{refused_is}
-use Rattle.unit_tree.proofs.Onward.{attr_onward, small_kept}
+use Rattle.ds_base.proofs.Onward.{small_kept}
+use Rattle.unit_tree.proofs.Onward.{attr_onward}
 use Rattle.unit_tree.proofs.attribute.read_attrs.Goals as goal
 
 pub returns-in_err-attr : goal.returns-in_err-attr

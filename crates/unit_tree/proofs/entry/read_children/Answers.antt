@@ -3,7 +3,7 @@ use Rattle.std.proofs.lemmas.Bool.{eq-eqb, ne_eqb}
 use Rattle.std.proofs.lemmas.Result.{err_from_is_err_and}
 use Rattle.unit_tree.specs.Entry.{Walk}
 use Rattle.unit_tree.proofs.ChildLoop.{all_closed, unclosed, turns_end, child_refused, child_more}
-use Rattle.unit_tree.proofs.Onward.{small_kept}
+use Rattle.ds_base.proofs.Onward.{small_kept}
 use Rattle.unit_tree.proofs.Rising.{child_further}
 use Rattle.ds_base.proofs.Refusals.{refused_is, refused_from}
 use Rattle.unit_tree.proofs.entry.read_children.Goals as goal

@@ -1,4 +1,4 @@
-use Rattle.unit_tree.proofs.Onward.{small_kept}
+use Rattle.ds_base.proofs.Onward.{small_kept}
 use Rattle.unit_tree.proofs.Rising.{entry_onward}
 use Rattle.unit_tree.proofs.entry.read_root.Goals as goal
 

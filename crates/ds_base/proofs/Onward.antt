@@ -6,11 +6,10 @@ use Rattle.std.proofs.lemmas.Bool.{cases_lt, ltb-false, lt-ltb, le-ltb}
 use Rattle.std.proofs.lemmas.List.{length-take}
 use Rattle.ds_base.specs.declared.fault.Fault.{Fault}
 use Rattle.ds_base.specs.declared.fault.Kind.TheVariants as kinds
-use Rattle.ds_base.specs.Spot.{Spot, rest, after, fault_at}
+use Rattle.ds_base.specs.Spot.{Spot, IsSmall, rest, after, fault_at}
 use Rattle.ds_base.specs.Leb.{uleb_value, sleb_value, fits_i64}
 use Rattle.ds_base.specs.Reading.{or_fault, index_below, bytes_at, number_at, text_at, leb_at, uleb_at, sleb_at}
-use Rattle.dwarf_types.proofs.Readers.{bind_ok, guard_ok, ok_is, found_ok}
-use Rattle.line_read.specs.Bounds.{IsSmall, IsInside}
+use Rattle.ds_base.proofs.Passing.{bind_ok, guard_ok, ok_is, found_ok}
 
 pub record Onward (s t : Spot) : Type 0 where
   pub by : ℕ
@@ -48,11 +47,6 @@ pub small_kept : (s t : Spot) → Onward s t → IsSmall s → IsSmall t
 small_kept s t o h =
     let p = h.before_end in
     subst IsSmall (sym o.is) (record { before_end = omega (arith, o.fits, p); small = h.small })
-
-pub inside_kept : (bytes : List ℕ) (s t : Spot) → Onward s t → IsInside bytes s → IsInside bytes t
-inside_kept bytes s t o h =
-    let p = h.before_end in
-    subst (IsInside bytes) (sym o.is) (record { whole = h.whole; part = h.part; before_end = omega (arith, o.fits, p); in_bytes = h.in_bytes })
 
 -- what is behind n bytes that are there
 behind : {A : Type 0} (s : Spot) (n : ℕ) (x : A) (y : A × Spot) → n ≤ s.end - s.place → (x, after s n) ≡ y → Onward s y.1

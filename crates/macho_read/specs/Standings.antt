@@ -1,10 +1,10 @@
 -- What a symbol of an image stands for (mach-o/nlist.h, n_type and n_sect).
-use Rattle.std.specs.Prelude.{ℕ, ◌==◌, ◌&&◌, not, Bool, length, bit_and, nat_lt, nat_le, if◌then◌else◌}
+use Rattle.std.specs.Prelude.{ℕ, ◌==◌, ◌&&◌, not, Bool, true, false, length, bit_and, nat_lt, nat_le, if◌then◌else◌}
 use Rattle.ds_base.specs.declared.macho.TheConstants.{N_EXT, N_SECT, N_STAB, N_TYPE, N_UNDF}
 use Rattle.macho_read.specs.declared.image.Image.{Image}
 use Rattle.macho_read.specs.declared.image.Symbol.{Symbol}
-use Rattle.reloc_table.specs.declared.symbol.Standing.{Standing}
-use Rattle.reloc_table.specs.declared.symbol.Standing.TheVariants as standings
+use Rattle.macho_read.specs.declared.standing.Standing.{Standing}
+use Rattle.macho_read.specs.declared.standing.Standing.TheVariants as standings
 
 -- a symbol of the debugger
 abbrev pub is_stab : Symbol → Bool
@@ -25,3 +25,13 @@ standing_of image symbol =
     else if bit_and symbol.kind N_TYPE == N_UNDF then (if is_common symbol then standings.Common else standings.Undefined)
     else if bit_and symbol.kind N_TYPE == N_SECT && has_section image symbol.sect then standings.Defined symbol.sect
     else standings.Absolute
+
+abbrev pub is_placed : Standing → Bool
+is_placed (standings.Defined section) = true
+is_placed standings.Common = false
+is_placed standings.Undefined = false
+is_placed standings.Absolute = false
+
+-- it stands for an address in a section of the image
+abbrev pub is_defined : Image → Symbol → Bool
+is_defined image symbol = is_placed (standing_of image symbol)

@@ -1,12 +1,12 @@
 //! What a symbol stands for.
 
 ghost use Rattle.std.specs.Prelude.{◌≡◌};
-ghost use Rattle.reloc_table.specs.Standings;
+ghost use Rattle.macho_read.specs.Standings;
 
+use crate::image::{Image, Symbol};
 use ds_base::macho::{N_EXT, N_SECT, N_STAB, N_TYPE, N_UNDF};
-use macho_read::{Image, Symbol};
 
-/// What a symbol of an object stands for (mach-o/nlist.h).
+/// What a symbol of an image stands for (mach-o/nlist.h).
 #[derive(Clone, Copy, Debug, PartialEq, Eq)]
 pub enum Standing {
     /// An address in the section of this ordinal, which counts from 1 over the image's sections.
@@ -43,6 +43,13 @@ pub fn standing_of(image: &Image, symbol: &Symbol) -> Standing
     } else {
         Standing::Absolute
     }
+}
+
+/// Whether a symbol of an image is defined in one of its sections (mach-o/nlist.h, `n_type` and `n_sect`).
+pub fn is_defined(image: &Image, symbol: &Symbol) -> bool
+    ensures { result ≡ Standings.is_defined image.now symbol.now }
+{
+    matches!(standing_of(image, symbol), Standing::Defined { .. })
 }
 
 /// Whether a symbol is a stab, which is the debugger's (mach-o/stab.h).
