@@ -1,2 +1,5 @@
-pub mod WorkedGraph
+pub mod Lengths
 pub mod Readers
+pub mod WorkedGraph
+pub mod WorkedParts
+pub mod WorkedUnits

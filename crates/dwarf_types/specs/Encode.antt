@@ -1,46 +1,52 @@
 -- The one encoding of a graph: its sections in the order of the output, those without bytes left out.
-use Rattle.std.specs.Prelude.{ℕ, ◌+◌, ◌==◌, Bool, not, List, [], ◌∷◌, ◌++◌, length}
-use Rattle.std.specs.List.{filter, filter_map, flat_map}
-use Rattle.std.specs.Str.{bytes_eq}
-use Rattle.std.specs.Prelude.{Option, Some, None}
+use Rattle.std.specs.Prelude.{ℕ, ◌==◌, Bool, not, List, [], ◌∷◌, length}
+use Rattle.std.specs.List.{filter, flat_map}
 use Rattle.ds_base.specs.declared.fault.Part.TheVariants as parts
-use Rattle.ds_base.specs.FirstUse.{once}
 use Rattle.ds_base.specs.Texts.{section_of}
 use Rattle.dwarf_types.specs.declared.graph.Graph.{Graph}
-use Rattle.dwarf_types.specs.declared.graph.Node.{Node}
 use Rattle.dwarf_types.specs.declared.graph.OutUnit.{OutUnit}
-use Rattle.dwarf_types.specs.declared.graph.Written.{Written}
 use Rattle.dwarf_types.specs.declared.graph.OutValue.{OutValue}
-use Rattle.dwarf_types.specs.declared.graph.OutValue.TheVariants as values
+use Rattle.dwarf_types.specs.declared.graph.Written.{Written}
 use Rattle.dwarf_types.specs.Abbreviations.{table_bytes}
+use Rattle.dwarf_types.specs.Aranges.{aranges_bytes}
 use Rattle.dwarf_types.specs.Entries.{unit_bytes}
+use Rattle.dwarf_types.specs.Frames.{frames_bytes}
+use Rattle.dwarf_types.specs.LineTable.{lines_bytes}
+use Rattle.dwarf_types.specs.Lists.{ranges_bytes, locations_bytes}
+use Rattle.dwarf_types.specs.Layout.{texts_of, numbered_units, unit_start, table_place, lists_place, places_of}
+use Rattle.dwarf_types.specs.Places.{own_node}
 
-abbrev pub text_of : OutValue → Option (List ℕ)
-text_of (values.Address address) = None
-text_of (values.Text text) = Some text
-text_of (values.Number form bits) = None
+-- the parts of all units, one after the other
+abbrev pub over_units : Graph → (ℕ → OutUnit → List ℕ) → List ℕ
+over_units graph part = flat_map (λ n. part n.0 n.1) (numbered_units graph)
 
--- the texts of a node, in the order of its values
-abbrev pub texts_of_node : Node → List (List ℕ)
-texts_of_node node = filter_map (λ a. text_of a.value) node.attrs
-
--- the texts of a graph, each once, by first use over units, nodes and values
-abbrev pub texts_of : Graph → List (List ℕ)
-texts_of graph = once bytes_eq (flat_map (λ unit. flat_map texts_of_node unit.nodes) graph.units)
+-- what the values of a unit have in a section, in preorder
+abbrev pub over_values : (OutValue → List ℕ) → OutUnit → List ℕ
+over_values part unit = flat_map (λ node. flat_map (λ a. part a.value) node.attrs) unit.nodes
 
 abbrev pub abbrev_section : Graph → List ℕ
-abbrev_section graph = flat_map table_bytes graph.units
-
--- units one after the other, the first of whose tables stands at a place; the next one's stands behind it
-abbrev pub units_bytes : List (List ℕ) → ℕ → List OutUnit → List ℕ
-units_bytes texts table_place [] = []
-units_bytes texts table_place (unit ∷ units) = unit_bytes texts table_place unit ++ units_bytes texts (table_place + length (table_bytes unit)) units
+abbrev_section graph = over_units graph table_bytes
 
 abbrev pub info_section : Graph → List ℕ
-info_section graph = units_bytes (texts_of graph) 0 graph.units
+info_section graph = over_units graph (λ u. unit_bytes (places_of graph u) (lists_place graph u) (table_place graph u))
 
 abbrev pub str_section : Graph → List ℕ
 str_section graph = section_of (texts_of graph)
+
+abbrev pub line_section : Graph → List ℕ
+line_section graph = flat_map lines_bytes graph.units
+
+abbrev pub ranges_section : Graph → List ℕ
+ranges_section graph = flat_map (over_values ranges_bytes) graph.units
+
+abbrev pub loc_section : Graph → List ℕ
+loc_section graph = over_units graph (λ u. over_values (locations_bytes (own_node (places_of graph u))))
+
+abbrev pub aranges_section : Graph → List ℕ
+aranges_section graph = over_units graph (λ u unit. aranges_bytes (unit_start graph u) unit.ranges)
+
+abbrev pub frame_section : Graph → List ℕ
+frame_section graph = frames_bytes graph.frames
 
 abbrev pub has_bytes : Written → Bool
 has_bytes section = not (length section.bytes == 0)
@@ -49,4 +55,9 @@ abbrev pub encode : Graph → List Written
 encode graph = filter has_bytes (
     record { part = parts.Abbrev; bytes = abbrev_section graph }
     ∷ record { part = parts.Info; bytes = info_section graph }
-    ∷ record { part = parts.Str; bytes = str_section graph } ∷ [])
+    ∷ record { part = parts.Str; bytes = str_section graph }
+    ∷ record { part = parts.Line; bytes = line_section graph }
+    ∷ record { part = parts.Ranges; bytes = ranges_section graph }
+    ∷ record { part = parts.Loc; bytes = loc_section graph }
+    ∷ record { part = parts.Aranges; bytes = aranges_section graph }
+    ∷ record { part = parts.Frame; bytes = frame_section graph } ∷ [])

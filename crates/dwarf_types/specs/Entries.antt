@@ -1,11 +1,16 @@
--- The entries of an output unit as bytes (DWARF 4, sections 7.5.1 and 7.5.2).
-use Rattle.std.specs.Prelude.{ℕ, ◌+◌, ◌-◌, List, [], ◌∷◌, ◌++◌, length, replicate, slice_index, Option, Some, None}
+-- The entries of an output unit as bytes, and where each stands (DWARF 4, sections 7.5.1 and 7.5.2).
+use Rattle.std.specs.Prelude.{ℕ, ◌+◌, ◌-◌, List, [], ◌∷◌, ◌++◌, map, take, replicate, slice_index, Option, Some, None}
+use Rattle.std.specs.List.{enumerate_from, sum_by}
 use Rattle.byteorder.specs.Endian.{little_bytes}
-use Rattle.ds_base.specs.Leb.{uleb}
+use Rattle.ds_base.specs.Leb.{uleb, uleb_len_of}
 use Rattle.dwarf_types.specs.declared.graph.Node.{Node}
 use Rattle.dwarf_types.specs.declared.graph.OutUnit.{OutUnit}
-use Rattle.dwarf_types.specs.Values.{values_bytes}
-use Rattle.dwarf_types.specs.Abbreviations.{Declaration, declaration_of, table_of, code_in}
+use Rattle.dwarf_types.specs.Abbreviations.{declaration_of, table_of, code_in}
+use Rattle.dwarf_types.specs.Lists.{ranges_len, locations_len}
+use Rattle.dwarf_types.specs.Places.{Places, ListPlaces}
+use Rattle.dwarf_types.specs.Values.{values_len, values_bytes}
+
+-- ---- the tree
 
 -- how many ancestors a node has, by those of the nodes before it
 abbrev pub depth_below : List ℕ → Option ℕ → ℕ
@@ -20,29 +25,64 @@ depths_after depths (n ∷ ns) = depths_after (depths ++ depth_below depths n.pa
 abbrev pub depths_of : List Node → List ℕ
 depths_of nodes = depths_after [] nodes
 
--- behind each node, how many lists of siblings end: those from its own depth up to that of the next
-abbrev pub lists_ended : List ℕ → List ℕ
-lists_ended [] = []
-lists_ended (d ∷ []) = d ∷ []
-lists_ended (d ∷ next ∷ ds) = (d - next) ∷ lists_ended (next ∷ ds)
+-- how many lists of siblings end behind node k: those from its own depth up to that of the next, behind the last node all
+abbrev pub lists_ended : List Node → ℕ → ℕ
+lists_ended nodes k = slice_index (depths_of nodes) k - slice_index (depths_of nodes) (k + 1)
 
--- a node: its code and its values
-abbrev pub entry_bytes : List (List ℕ) → List Declaration → Declaration → Node → List ℕ
-entry_bytes texts table declared node = uleb (code_in table declared) ++ values_bytes texts node.attrs
+-- an entry: the code of its abbreviation, its node, and how many lists of siblings end behind it
+pub record OutEntry : Type 0 where
+  pub code : ℕ
+  pub node : Node
+  pub ended : ℕ
 
--- some nodes, which are those of the unit from number i on, each with a zero byte for each list that ends behind it
-abbrev pub entries_bytes : List (List ℕ) → List Node → ℕ → List Node → List ℕ → List ℕ
-entries_bytes texts nodes i [] ended = []
-entries_bytes texts nodes i (n ∷ ns) [] = []
-entries_bytes texts nodes i (n ∷ ns) (e ∷ ended) =
-    entry_bytes texts (table_of nodes) (declaration_of nodes i n) n ++ (replicate e 0 ++ entries_bytes texts nodes (i + 1) ns ended)
+-- the entry of node k of the unit of a number
+abbrev pub entry_of : ℕ → List Node → ℕ → Node → OutEntry
+entry_of u nodes k node = record { code = code_in (table_of u nodes) (declaration_of u nodes k node); node = node; ended = lists_ended nodes k }
 
--- what follows a unit's header
-abbrev pub body_bytes : List (List ℕ) → List Node → List ℕ
-body_bytes texts nodes = entries_bytes texts nodes 0 nodes (lists_ended (depths_of nodes))
+abbrev pub entries_of : ℕ → OutUnit → List OutEntry
+entries_of u unit = map (λ n. entry_of u unit.nodes n.0 n.1) (enumerate_from 0 unit.nodes)
 
--- a unit of version 4, whose table stands at a place of the abbreviation section
-abbrev pub unit_bytes : List (List ℕ) → ℕ → OutUnit → List ℕ
-unit_bytes texts table_place unit =
-    let body = body_bytes texts unit.nodes in
-    little_bytes 4 (7 + length body) ++ (little_bytes 2 unit.version ++ (little_bytes 4 table_place ++ (8 ∷ body)))
+-- ---- lengths and places
+
+-- the code, the values, and a zero byte for each list that ends behind them
+abbrev pub entry_len : OutEntry → ℕ
+entry_len entry = uleb_len_of entry.code + (values_len entry.node.attrs + entry.ended)
+
+-- unit_length, version, debug_abbrev_offset, address_size
+abbrev pub header_len : ℕ
+header_len = 11
+
+-- The place of an entry, counted from the header of its unit: the length of the header and of all entries before it, with the zero bytes behind them.
+abbrev pub node_place : ℕ → OutUnit → ℕ → ℕ
+node_place u unit k = header_len + sum_by entry_len (take k (entries_of u unit))
+
+abbrev pub unit_len : ℕ → OutUnit → ℕ
+unit_len u unit = header_len + sum_by entry_len (entries_of u unit)
+
+-- ---- bytes
+
+-- the range lists and the location lists of a node
+abbrev pub node_ranges_len : Node → ℕ
+node_ranges_len node = sum_by (λ a. ranges_len a.value) node.attrs
+
+abbrev pub node_locations_len : Node → ℕ
+node_locations_len node = sum_by (λ a. locations_len a.value) node.attrs
+
+-- where the next lists stand behind those of a node
+abbrev pub behind_node : ListPlaces → Node → ListPlaces
+behind_node next node = record { ranges = next.ranges + node_ranges_len node; locations = next.locations + node_locations_len node }
+
+abbrev pub entry_bytes : Places → ListPlaces → OutEntry → List ℕ
+entry_bytes places next entry = uleb entry.code ++ (values_bytes places next entry.node.attrs ++ replicate entry.ended 0)
+
+abbrev pub entries_bytes : Places → ListPlaces → List OutEntry → List ℕ
+entries_bytes places next [] = []
+entries_bytes places next (e ∷ es) = entry_bytes places next e ++ entries_bytes places (behind_node next e.node) es
+
+-- the header of a unit of version 4, whose abbreviations stand at a place; unit_length does not count itself
+abbrev pub header_bytes : ℕ → ℕ → OutUnit → List ℕ
+header_bytes u table unit = little_bytes 4 (unit_len u unit - 4) ++ (little_bytes 2 unit.version ++ (little_bytes 4 table ++ (8 ∷ [])))
+
+-- a unit, whose abbreviations and whose first lists stand at these places
+abbrev pub unit_bytes : Places → ListPlaces → ℕ → OutUnit → List ℕ
+unit_bytes places next table unit = header_bytes places.unit table unit ++ entries_bytes places next (entries_of places.unit unit)

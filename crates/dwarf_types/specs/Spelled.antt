@@ -54,3 +54,12 @@ pub record Made {A B : Type 0} (made : A → B) (Spells : List ℕ → A → Typ
   pub of : A
   pub spells : Spells bytes of
   pub is : b ≡ made of
+
+-- first a spelling of some value, and then what goes with that value
+pub record Followed {A B : Type 0} (First : List ℕ → A → Type 0) (Then : A → List ℕ → B → Type 0) (bytes : List ℕ) (b : B) : Type 0 where
+  pub value : A
+  pub front : List ℕ
+  pub back : List ℕ
+  pub is : bytes ≡ front ++ back
+  pub first : First front value
+  pub second : Then value back b

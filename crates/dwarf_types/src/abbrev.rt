@@ -1,4 +1,4 @@
-//! Declarations of abbreviation tables.
+//! Declarations of abbreviation tables, as they are read and as they are written.
 
 use ds_base::List;
 
@@ -24,4 +24,15 @@ pub struct Abbrev {
     pub children: bool,
     /// The attributes of the entries of this code, in the order of their values.
     pub fields: List<Field>,
+}
+
+/// What an abbreviation of the output declares (DWARF 4, section 7.5.3).
+#[derive(Drop)]
+pub struct Declaration {
+    /// The `DW_TAG` number.
+    pub tag: u16,
+    /// Whether the entries of this declaration have a list of children.
+    pub children: bool,
+    /// The `DW_AT` number and the `DW_FORM` number of each attribute, in the order of their values.
+    pub attributes: List<(u16, u16)>,
 }

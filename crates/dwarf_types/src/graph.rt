@@ -1,11 +1,16 @@
-//! What is written: units of nodes with their attributes.
+//! What is written: units of nodes with their attributes, and frames.
 
+use crate::address::Span;
+use crate::frames::OutFrame;
+use crate::lines::OutLines;
+use crate::parts::ExprPart;
 use ds_base::{Bytes, List, Part};
 
-/// The debugging information of a linked program, unit by unit in the order of the output.
+/// The debugging information of a linked program, in the order of the output.
 #[derive(Drop)]
 pub struct Graph {
     pub units: List<OutUnit>,
+    pub frames: List<OutFrame>,
 }
 
 /// An output unit.
@@ -15,6 +20,10 @@ pub struct OutUnit {
     pub version: u16,
     /// The unit's entries in preorder; the first is the root.
     pub nodes: List<Node>,
+    /// Its line table, where the root has one.
+    pub lines: Option<OutLines>,
+    /// The addresses of its code in the linked program.
+    pub ranges: List<Span>,
 }
 
 /// An output debugging information entry.
@@ -35,15 +44,47 @@ pub struct OutAttr {
     pub value: OutValue,
 }
 
-/// The value of an output attribute.
+/// The value of an output attribute, by the class of its form (DWARF 5, section 7.5.5).
 #[derive(Drop)]
 pub enum OutValue {
-    /// An address in the linked program.
+    /// Class address: an address in the linked program.
     Address(u64),
-    /// A text, without the zero byte that ends it.
+    /// Class string: a text, without the zero byte that ends it.
     Text(Bytes),
-    /// A constant or a flag: its bits, and the `DW_FORM` number in which it is written.
+    /// Classes constant and flag, up to 64 bits: the bits, and the `DW_FORM` number in which they are
+    /// written. A constant with a sign is its two's complement in 64 bits.
     Number { form: u16, bits: u64 },
+    /// A constant of 16 bytes, the lowest first; in units of version 5 alone.
+    Wide(Bytes),
+    /// Class block: the bytes behind the length, and the `DW_FORM` number in which they are written.
+    Block { form: u16, bytes: Bytes },
+    /// Class exprloc: the expression, part by part.
+    Expr(List<ExprPart>),
+    /// Class reference: the entry to which it leads.
+    Ref(Target),
+    /// Class rnglist: the addresses in the linked program.
+    Ranges(List<Span>),
+    /// Class loclist: the locations, item by item.
+    Locations(List<OutLocation>),
+    /// Class lineptr, at a unit's root: the unit's line table.
+    Lines,
+}
+
+/// An entry to which a reference leads.
+#[derive(Clone, Copy, Debug, PartialEq, Eq)]
+pub struct Target {
+    /// The number of its unit in the graph, counted from 0.
+    pub unit: u32,
+    /// Its number among the nodes of that unit, counted from 0.
+    pub node: u32,
+}
+
+/// Where an object is found while the linked program runs in a span of addresses.
+#[derive(Drop)]
+pub struct OutLocation {
+    pub span: Span,
+    /// The expression, part by part.
+    pub parts: List<ExprPart>,
 }
 
 /// A section as it is written.

@@ -19,11 +19,11 @@ use Rattle.ds_base.specs.Leb.{uleb_len_of, uleb_value, sleb_value, fits_i64}
 use Rattle.ds_base.specs.Reading.{◌>>=◌, Gives, or_fault, index_below, bytes_at, number_at, leb_at, uleb_at, sleb_at}
 use Rattle.dwarf_types.specs.declared.expr.Op.{Op}
 use Rattle.dwarf_types.specs.declared.expr.PlainOp.{PlainOp}
-use Rattle.expr_walk.specs.declared.op.Named.{Named}
-use Rattle.expr_walk.specs.declared.op.Named.TheVariants.{Nothing, Address, BaseType}
-use Rattle.expr_walk.specs.declared.operands.Operands.{Operands}
-use Rattle.expr_walk.specs.declared.operands.Operands.TheVariants as operands
-use Rattle.expr_walk.specs.Table.{operands_of}
+use Rattle.dwarf_types.specs.declared.operands.Named.{Named}
+use Rattle.dwarf_types.specs.declared.operands.Named.TheVariants.{Nothing, Address, BaseType}
+use Rattle.dwarf_types.specs.declared.operands.Operands.{Operands}
+use Rattle.dwarf_types.specs.declared.operands.Operands.TheVariants as operands
+use Rattle.dwarf_types.specs.Operations.{operands_of}
 use Rattle.expr_walk.specs.Length.{front_leb_len, respelled_len, plain_len, inner_len, op_len}
 use Rattle.expr_walk.specs.Reading.{naming, block_at, base_block_at, operands_at, bytes_up_to, code_at, plain_from, plain_at, all_at, expression_of, placed_from, inner_of, entry_value_from, op_from, op_at, address_in, base_in, alone, is_placed_below}
 

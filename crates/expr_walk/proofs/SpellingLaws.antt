@@ -10,18 +10,19 @@ use Rattle.ds_base.specs.declared.fault.Kind.TheVariants as kinds
 use Rattle.ds_base.specs.declared.fault.Part.{Part}
 use Rattle.ds_base.specs.Spot.{Spot, rest, fault_at, start}
 use Rattle.ds_base.specs.Reading.{◌>>=◌, or_fault, bytes_at, number_at, uleb_at, sleb_at}
-use Rattle.dwarf_types.specs.Spelled.{Made, IsUleb, IsSleb, IsNumber, IsCopy, AreBytes}
+use Rattle.dwarf_types.specs.Spelled.{Followed, Made, IsUleb, IsSleb, IsNumber, IsCopy, AreBytes}
 use Rattle.dwarf_types.specs.declared.expr.Op.{Op}
 use Rattle.dwarf_types.specs.declared.expr.PlainOp.{PlainOp}
 use Rattle.ds_base.proofs.Passing.{bind_ok, ok_is, found_ok}
 use Rattle.dwarf_types.proofs.Readers.{IsBytes-from, Stands, Again, Reader, Both, both_reader, made_reader, nothing_reader, renamed_reader, bytes_reader, number_reader, uleb_reader, sleb_reader, length_rest as length_rest_is}
-use Rattle.expr_walk.specs.declared.operands.Operands.{Operands}
-use Rattle.expr_walk.specs.declared.operands.Operands.TheVariants as operands
-use Rattle.expr_walk.specs.declared.op.Named.{Named}
-use Rattle.expr_walk.specs.declared.op.Named.TheVariants.{Nothing, Address, BaseType}
-use Rattle.expr_walk.specs.Table.{operands_of}
+use Rattle.dwarf_types.specs.declared.operands.Operands.{Operands}
+use Rattle.dwarf_types.specs.declared.operands.Operands.TheVariants as operands
+use Rattle.dwarf_types.specs.declared.operands.Named.{Named}
+use Rattle.dwarf_types.specs.declared.operands.Named.TheVariants.{Nothing, Address, BaseType}
+use Rattle.dwarf_types.specs.Operations.{operands_of}
 use Rattle.expr_walk.specs.Reading.{naming, block_at, base_block_at, operands_at, bytes_up_to, code_at, plain_from, plain_at, all_at, expression_of, placed_from, inner_of, entry_value_from, op_from, op_at, walk_of, address_in, base_in, alone}
-use Rattle.expr_walk.specs.Spelling.{Followed, SpellsBlock, SpellsOperands, IsPlain, Each, IsEntryValue, IsOp, an_entry_value, alone_it_is, SpellsExpression}
+use Rattle.dwarf_types.specs.SpelledOperands.{SpellsBlock, SpellsOperands}
+use Rattle.expr_walk.specs.Spelling.{IsPlain, Each, IsEntryValue, IsOp, an_entry_value, alone_it_is, SpellsExpression}
 use Rattle.expr_walk.proofs.Cuts.{Ahead, Keeps, Takes, Cuts, Items, plain_items, op_items, front, code_keeps, operands_keep, bytes_keep, uleb_keeps, up_to_is, with_row, plain_cuts, op_cuts, expression_whole}
 
 -- ---- operands

@@ -4,9 +4,9 @@ use Rattle.std.specs.List.{sum_by}
 use Rattle.ds_base.specs.Leb.{uleb_len_of}
 use Rattle.dwarf_types.specs.declared.expr.Op.{Op}
 use Rattle.dwarf_types.specs.declared.expr.PlainOp.{PlainOp}
-use Rattle.expr_walk.specs.declared.operands.Operands.{Operands}
-use Rattle.expr_walk.specs.declared.operands.Operands.TheVariants.{Expression, BaseBlock, UlebBase, ByteBase, Base}
-use Rattle.expr_walk.specs.Table.{operands_of}
+use Rattle.dwarf_types.specs.declared.operands.Operands.{Operands}
+use Rattle.dwarf_types.specs.declared.operands.Operands.TheVariants.{Expression, BaseBlock, UlebBase, ByteBase, Base}
+use Rattle.dwarf_types.specs.Operations.{operands_of}
 
 -- the length of the LEB number at the front of some bytes: up to the first byte below 128 and with it
 abbrev pub front_leb_len : List ℕ → ℕ

@@ -13,11 +13,11 @@ use Rattle.dwarf_types.specs.declared.expr.Base.{Base}
 use Rattle.dwarf_types.specs.declared.expr.Base.TheVariants as bases
 use Rattle.dwarf_types.specs.declared.expr.Op.{Op}
 use Rattle.dwarf_types.specs.declared.expr.PlainOp.{PlainOp}
-use Rattle.expr_walk.specs.declared.operands.Operands.{Operands}
-use Rattle.expr_walk.specs.declared.operands.Operands.TheVariants as operands
-use Rattle.expr_walk.specs.declared.op.Named.{Named}
-use Rattle.expr_walk.specs.declared.op.Named.TheVariants.{Nothing, Address, BaseType}
-use Rattle.expr_walk.specs.Table.{operands_of}
+use Rattle.dwarf_types.specs.declared.operands.Operands.{Operands}
+use Rattle.dwarf_types.specs.declared.operands.Operands.TheVariants as operands
+use Rattle.dwarf_types.specs.declared.operands.Named.{Named}
+use Rattle.dwarf_types.specs.declared.operands.Named.TheVariants.{Nothing, Address, BaseType}
+use Rattle.dwarf_types.specs.Operations.{operands_of}
 
 -- what is named by what is read
 abbrev pub naming : {A : Type 0} → (A → Named) → Result (A × Spot) Fault → Result (Named × Spot) Fault

@@ -1,45 +1,15 @@
 -- How an expression is spelled (DWARF 4, section 7.7.1), whoever reads it.
-use Rattle.std.specs.Prelude.{◌≡◌, ◌++◌, ℕ, List, [], ◌∷◌, Some, None}
+use Rattle.std.specs.Prelude.{◌≡◌, ℕ, List, [], ◌∷◌, Some, None}
 use Rattle.std.specs.List.{flat_map}
-use Rattle.dwarf_types.specs.Spelled.{InTurn, Made, IsUleb, IsSleb, IsNumber, IsCopy}
+use Rattle.dwarf_types.specs.Spelled.{InTurn, IsNumber}
+use Rattle.dwarf_types.specs.SpelledOperands.{SpellsBlock, SpellsOperands}
 use Rattle.dwarf_types.specs.declared.expr.Op.{Op}
 use Rattle.dwarf_types.specs.declared.expr.PlainOp.{PlainOp}
-use Rattle.expr_walk.specs.declared.operands.Operands.{Operands}
-use Rattle.expr_walk.specs.declared.operands.Operands.TheVariants as operands
-use Rattle.expr_walk.specs.declared.op.Named.{Named}
-use Rattle.expr_walk.specs.declared.op.Named.TheVariants.{Nothing, Address, BaseType}
-use Rattle.expr_walk.specs.Table.{operands_of}
+use Rattle.dwarf_types.specs.declared.operands.Operands.{Operands}
+use Rattle.dwarf_types.specs.declared.operands.Operands.TheVariants as operands
+use Rattle.dwarf_types.specs.declared.operands.Named.{Named}
+use Rattle.dwarf_types.specs.Operations.{operands_of}
 use Rattle.expr_walk.specs.Reading.{address_in, base_in}
-
--- first a spelling of some value, and then what goes with that value
-pub record Followed {A B : Type 0} (First : List ℕ → A → Type 0) (Then : A → List ℕ → B → Type 0) (bytes : List ℕ) (b : B) : Type 0 where
-  pub value : A
-  pub front : List ℕ
-  pub back : List ℕ
-  pub is : bytes ≡ front ++ back
-  pub first : First front value
-  pub second : Then value back b
-
--- a length and so many bytes
-abbrev pub SpellsBlock : List ℕ → List ℕ → Type 0
-SpellsBlock bytes block = Followed IsUleb (λ n. IsCopy n) bytes block
-
--- the operands of a row of the table, and what they name
-abbrev pub SpellsOperands : Operands → List ℕ → Named → Type 0
-SpellsOperands operands.Empty bytes named = (bytes ≡ []) × (named ≡ Nothing)
-SpellsOperands operands.Address bytes named = Made (λ n. Address n) (IsNumber 8) bytes named
-SpellsOperands (operands.Fixed width) bytes named = Made (λ number. Nothing) (IsCopy width) bytes named
-SpellsOperands operands.Uleb bytes named = Made (λ n. Nothing) IsUleb bytes named
-SpellsOperands operands.Sleb bytes named = Made (λ z. Nothing) IsSleb bytes named
-SpellsOperands operands.UlebSleb bytes named = Followed IsUleb (λ n. Made (λ z. Nothing) IsSleb) bytes named
-SpellsOperands operands.UlebUleb bytes named = Followed IsUleb (λ n. Made (λ m. Nothing) IsUleb) bytes named
-SpellsOperands operands.Block bytes named = Made (λ block. Nothing) SpellsBlock bytes named
-SpellsOperands operands.BaseBlock bytes named = Followed IsUleb (λ base. Followed (IsNumber 1) (λ n. Made (λ constant. BaseType base) (IsCopy n))) bytes named
-SpellsOperands operands.UlebBase bytes named = Followed IsUleb (λ n. Made (λ base. BaseType base) IsUleb) bytes named
-SpellsOperands operands.ByteBase bytes named = Followed (IsNumber 1) (λ n. Made (λ base. BaseType base) IsUleb) bytes named
-SpellsOperands operands.Base bytes named = Made (λ base. BaseType base) IsUleb bytes named
-SpellsOperands operands.Expression bytes named = ⊥
-SpellsOperands operands.Outside bytes named = ⊥
 
 -- an operation that is no entry value: its bytes are its code and its operands, and it tells what they name
 pub record IsPlain (op : PlainOp) : Type 0 where

@@ -1,12 +1,11 @@
 //! The length of an expression in the output.
 
 ghost use Rattle.std.specs.Prelude.{◌≡◌, ◌<◌, ◌≤◌, ◌^◌, length, drop};
-ghost use Rattle.expr_walk.specs.Table.{operands_of};
+ghost use Rattle.dwarf_types.specs.Operations.{operands_of};
 ghost use Rattle.expr_walk.specs.Length.{front_leb_len, respelled_len, plain_len, inner_len, op_len, ops_len};
 
-use crate::operands::{Operands, operands_after};
 use ds_base::{List, bytes_from, uleb_len};
-use dwarf_types::{Op, PlainOp};
+use dwarf_types::{Op, Operands, PlainOp, operands_after};
 
 /// The length of an expression in the output, in bytes.
 ///

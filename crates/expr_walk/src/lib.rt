@@ -1,8 +1,8 @@
 //! Expressions: the bytes of one, cut into its operations.
 //!
 //! Layer: object readers. Reads the operations of DWARF 4 (section 7.7.1) and DWARF 5 (section 7.7.1)
-//! that [`operands_after`] lists, and two of GNU's. [`walk`] gives `walk_of` of the expression's bytes
-//! (`specs/Reading.antt`), which goes by the same table (`specs/Table.antt`), or the first fault;
+//! that the table of `dwarf_types` lists (`operands_after`), and two of GNU's. [`walk`] gives `walk_of`
+//! of the expression's bytes (`specs/Reading.antt`), which goes by the same table, or the first fault;
 //! [`expressions_are_read_as_spelled`] says the same by a relation (`specs/Spelling.antt`), both ways.
 //! [`new_length`] is the length of the expression in the output (`specs/Length.antt`). An expression is
 //! cut and never run: what an operation computes is not looked at, and addresses and base types stay
@@ -13,12 +13,10 @@ mod expression;
 mod laws;
 mod length;
 mod op;
-mod operands;
 
 pub use expression::walk;
 pub use laws::expressions_are_read_as_spelled;
 pub use length::new_length;
-pub use operands::{Operands, operands_after};
 
 #[cfg(test)]
 mod tests;

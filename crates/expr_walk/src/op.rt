@@ -5,20 +5,9 @@ ghost use Rattle.ds_base.specs.Reading.{Gives, Reads, ReadsUnlessFull};
 ghost use Rattle.expr_walk.specs.Reading.{bytes_up_to, block_at, base_block_at, operands_at, address_in, base_of, base_in, code_at, plain_from, plain_at, alone, entry_value_from, op_from, op_at};
 
 use crate::expression::read_inner;
-use crate::operands::{Operands, operands_after};
 use ds_base::{Bytes, Cursor, Fault, Kind, List, Part, ReadError};
-use dwarf_types::{Addr, Base, Op, Place, PlainOp};
+use dwarf_types::{Addr, Base, Named, Op, Operands, Place, PlainOp, operands_after};
 use std::alloc::Global;
-
-/// What the operands of an operation name.
-#[derive(Clone, Copy, Debug, PartialEq, Eq)]
-pub(crate) enum Named {
-    Nothing,
-    /// An address, by its number as stored.
-    Address(u64),
-    /// A base type, by its number as stored: its place in the unit, or 0 for the generic type.
-    BaseType(u64),
-}
 
 /// The next operation of an outermost expression.
 #[tactic(auto, unfolding(crate::specs::Reading::op_at))]

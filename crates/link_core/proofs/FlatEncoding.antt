@@ -12,10 +12,10 @@ use Rattle.ds_base.specs.Texts.{section_of}
 use Rattle.dwarf_types.specs.declared.graph.Written.{Written}
 use Rattle.ds_base.specs.FirstUse.{once}
 use Rattle.ds_base.specs.Leb.{uleb}
-use Rattle.dwarf_types.specs.declared.graph.OutUnit.{OutUnit}
-use Rattle.dwarf_types.specs.Abbreviations.{Declaration, same_declaration, is_number, declaration_of, declarations_from, table_of, declarations_bytes, table_bytes}
-use Rattle.dwarf_types.specs.Entries.{depths_after, depths_of, lists_ended, entry_bytes, entries_bytes, body_bytes, unit_bytes}
-use Rattle.dwarf_types.specs.Encode.{texts_of_node, texts_of, units_bytes, info_section, str_section, has_bytes, encode}
+use Rattle.link_core.specs.FlatGraph.{OutUnit}
+use Rattle.link_core.specs.FlatAbbreviations.{Declaration, same_declaration, is_number, declaration_of, declarations_from, table_of, declarations_bytes, table_bytes}
+use Rattle.link_core.specs.FlatEntries.{depths_after, depths_of, lists_ended, entry_bytes, entries_bytes, body_bytes, unit_bytes}
+use Rattle.link_core.specs.FlatEncode.{texts_of_node, texts_of, units_bytes, info_section, str_section, has_bytes, encode}
 use Rattle.link_core.specs.Linked.{LiveFunction, LiveUnit, root_of, node_of, when_live, out_units, graph_of}
 use Rattle.link_core.specs.FlatUnit.{flat_abbreviations, text_place, flat_texts, flat_function, flat_unit, flat_units, flat_sections, unit_table, unit_texts}
 

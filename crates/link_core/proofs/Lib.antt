@@ -1,5 +1,6 @@
 pub mod Ends
 pub mod FlatEncoding
+pub mod FlatWorkedGraph
 pub mod Fronts
 pub mod Functions
 pub mod Holding

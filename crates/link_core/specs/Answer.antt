@@ -5,7 +5,7 @@ use Rattle.std.specs.FinMap as map
 use Rattle.ds_files.specs.Outside.{ReplaceFails}
 use Rattle.ds_files.specs.declared.files.FileError.{FileError}
 use Rattle.ds_files.specs.declared.files.FileError.TheVariants as errors
-use Rattle.dwarf_types.specs.Encode.{encode}
+use Rattle.link_core.specs.FlatEncode.{encode}
 use Rattle.macho_read.specs.declared.image.Image.{Image}
 use Rattle.link_core.specs.declared.status.Status.{Status}
 use Rattle.link_core.specs.declared.status.Status.TheVariants as statuses

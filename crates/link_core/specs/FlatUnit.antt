@@ -8,7 +8,7 @@ use Rattle.ds_base.specs.declared.fault.Part.TheVariants as parts
 use Rattle.ds_base.specs.FirstUse.{once}
 use Rattle.ds_base.specs.Texts.{place_of, section_of}
 use Rattle.dwarf_types.specs.declared.graph.Written.{Written}
-use Rattle.dwarf_types.specs.Encode.{has_bytes}
+use Rattle.link_core.specs.FlatEncode.{has_bytes}
 use Rattle.link_core.specs.Linked.{LiveFunction, LiveUnit, when_live}
 
 -- two abbreviations: a unit with a name and a language, and a function with low_pc, high_pc and a name

@@ -1,8 +1,13 @@
 pub mod Answer
 pub mod Codes
 pub mod Files
+pub mod FlatAbbreviations
+pub mod FlatEncode
+pub mod FlatEntries
 pub mod FlatForm
+pub mod FlatGraph
 pub mod FlatUnit
+pub mod FlatValues
 pub mod Holding
 pub mod Image
 pub mod Linked

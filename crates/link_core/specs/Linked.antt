@@ -5,10 +5,8 @@ use Rattle.std.specs.List.{filter_map, flat_map}
 use Rattle.ds_base.specs.declared.dwarf.TheConstants.{DW_TAG_compile_unit, DW_TAG_subprogram, DW_AT_name, DW_AT_language, DW_AT_low_pc, DW_AT_high_pc, DW_FORM_data2, DW_FORM_data4}
 use Rattle.ds_base.specs.declared.fault.Fault.{Fault}
 use Rattle.ds_base.specs.Reading.{◌>>=◌}
-use Rattle.dwarf_types.specs.declared.graph.Graph.{Graph}
-use Rattle.dwarf_types.specs.declared.graph.OutUnit.{OutUnit}
-use Rattle.dwarf_types.specs.declared.graph.Node.{Node}
-use Rattle.dwarf_types.specs.declared.graph.OutValue.TheVariants as values
+use Rattle.link_core.specs.FlatGraph.{Graph, Node, OutUnit}
+use Rattle.link_core.specs.FlatGraph as values
 use Rattle.stab_map.specs.declared.object.MapObject.{MapObject}
 use Rattle.reloc_table.specs.Address.{address_of}
 use Rattle.addr_map.specs.declared.map.AddrMap.{AddrMap}

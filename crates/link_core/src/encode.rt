@@ -3,7 +3,7 @@
 ghost use Rattle.std.specs.Prelude.{◌≡◌, ◌+◌, ◌*◌, ◌++◌, ◌∷◌, [], length, map, fold, OnOk, IfOk, IfSome};
 ghost use Rattle.std.specs.List.{filter, flat_map};
 ghost use Rattle.ds_base.specs.Texts.{section_of, with_text};
-ghost use Rattle.dwarf_types.specs.Encode.{has_bytes};
+ghost use Rattle.link_core.specs.FlatEncode.{has_bytes};
 ghost use Rattle.link_core.specs.Linked.{when_live};
 ghost use Rattle.link_core.specs.FlatUnit.{text_place, flat_function, flat_unit, flat_units, flat_texts, flat_sections, unit_table, unit_texts};
 ghost use Rattle.link_core.specs.Seen.{live_function_seen, live_unit_seen};

@@ -5,8 +5,8 @@
 //! `specs/Answer.antt`: for each list of words and each content of the files, the status with its cause, and what
 //! stands in the files then. What the content of the files refuses, and in which order, is `specs/Refusals.antt`. The
 //! debug sections of an object are of one form today, or empty (`specs/FlatForm.antt`); any other object is refused as
-//! not built. The linked graph is `specs/Linked.antt`, its encoding stands in `dwarf_types`, and the image's bytes in
-//! `specs/Image.antt`.
+//! not built. The linked graph is `specs/Linked.antt`, its encoding is `specs/FlatEncode.antt`, and the image's bytes
+//! are `specs/Image.antt`.
 //!
 //! The sections are written straight from the live functions: no graph is kept in memory. Types and line tables are
 //! not read yet, no message is written, and the gate is never passed.

@@ -2,7 +2,7 @@ use Rattle.std.proofs.Common.{◌≡◌, ℕ, List, map, sym, ap, subst, ◌∙�
 use Rattle.std.specs.Prelude.{IfOk, Result}
 use Rattle.ds_base.specs.declared.bytes.Bytes.{Bytes}
 use Rattle.ds_base.specs.declared.fault.NoMemory.{NoMemory}
-use Rattle.dwarf_types.specs.Encode.{encode}
+use Rattle.link_core.specs.FlatEncode.{encode}
 use Rattle.link_core.specs.Image.{image, end_of}
 use Rattle.link_core.specs.Linked.{graph_of}
 use Rattle.link_core.specs.Seen.{live_unit_seen}

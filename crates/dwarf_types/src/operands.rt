@@ -1,7 +1,7 @@
 //! The operands of operations, as one table from their numbers (DWARF 5, section 7.7.1, table 7.9).
 
 ghost use Rattle.std.specs.Prelude.{◌≡◌};
-ghost use Rattle.expr_walk.specs.Table.{has_no_operands, operands_of};
+ghost use Rattle.dwarf_types.specs.Operations.{has_no_operands, operands_of};
 
 use ds_base::dwarf::{
     DW_OP_GNU_entry_value, DW_OP_GNU_push_tls_address, DW_OP_abs, DW_OP_addr, DW_OP_addrx,
@@ -50,6 +50,16 @@ pub enum Operands {
     Outside,
 }
 
+/// What the operands of an operation name.
+#[derive(Clone, Copy, Debug, PartialEq, Eq)]
+pub enum Named {
+    Nothing,
+    /// An address, by its number as stored.
+    Address(u64),
+    /// A base type, by its number as stored: its place in the unit, or 0 for the generic type.
+    BaseType(u64),
+}
+
 /// The operands of an operation by its code, or `None` where there is no such operation.
 ///
 /// Sections: DWARF 4, section 7.7.1 and figure 24, for the operations up to `DW_OP_stack_value`;
@@ -57,7 +67,7 @@ pub enum Operands {
 /// `DW_OP_GNU_push_tls_address` and `DW_OP_GNU_entry_value`. Calls, pointers to what has no place
 /// and typed dereferences in other address spaces are outside of this project's profile, and so are,
 /// until units of version 5 are read, the operations that name an entry of `__debug_addr`.
-#[tactic(auto, unfolding(crate::specs::Table::operands_of))]
+#[tactic(auto, unfolding(crate::specs::Operations::operands_of))]
 pub fn operands_after(code: u8) -> Option<Operands>
     ensures { result ≡ operands_of code }
 {
@@ -92,7 +102,7 @@ pub fn operands_after(code: u8) -> Option<Operands>
 }
 
 /// Whether an operation is its code alone.
-#[tactic(auto, unfolding(crate::specs::Table::has_no_operands))]
+#[tactic(auto, unfolding(crate::specs::Operations::has_no_operands))]
 fn has_none(code: u8) -> bool
     ensures { result ≡ has_no_operands code }
 {
