@@ -9,6 +9,8 @@ use ds_base::List;
 pub struct Attr {
     /// The `DW_AT` number.
     pub name: u16,
+    /// Of the first byte behind its value in `__debug_info`.
+    pub end: u32,
     pub value: Value,
 }
 

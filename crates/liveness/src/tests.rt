@@ -132,6 +132,7 @@ fn field(moved: bool) -> Place {
 fn address(alloc: Global, name: u16, place: Place) -> Result<Attr, NoMemory> {
     Ok(Attr {
         name,
+        end: 0,
         value: Value::Address(Boxed::new(alloc, place)?),
     })
 }
@@ -171,6 +172,7 @@ fn expression(name: u16, alloc: Global, op: Op) -> Result<Attr, NoMemory> {
     ops.push(op)?;
     Ok(Attr {
         name,
+        end: 0,
         value: Value::Expr(ops),
     })
 }
@@ -182,6 +184,7 @@ fn both_fields(alloc: Global, first: bool, second: bool) -> Result<Attr, NoMemor
     ops.push(op(alloc, DW_OP_addr, Some(field(second)), None))?;
     Ok(Attr {
         name: DW_AT_location,
+        end: 0,
         value: Value::Expr(ops),
     })
 }
@@ -197,6 +200,7 @@ fn locations(alloc: Global, op: Op) -> Result<Attr, NoMemory> {
     })?;
     Ok(Attr {
         name: DW_AT_location,
+        end: 0,
         value: Value::Locations(items),
     })
 }
@@ -209,6 +213,7 @@ fn ranges(alloc: Global, count: u8) -> Result<Attr, NoMemory> {
     }
     Ok(Attr {
         name: DW_AT_ranges,
+        end: 0,
         value: Value::Ranges(spans),
     })
 }
@@ -223,6 +228,7 @@ fn attr(alloc: Global, says: Says) -> Result<Option<Attr>, NoMemory> {
         Says::Ranges(count) => ranges(alloc, count)?,
         Says::NoRanges => Attr {
             name: DW_AT_ranges,
+            end: 0,
             value: Value::Number {
                 form: DW_FORM_sec_offset,
                 bits: 0,
@@ -243,6 +249,7 @@ fn attr(alloc: Global, says: Says) -> Result<Option<Attr>, NoMemory> {
         Says::List => locations(alloc, op(alloc, DW_OP_addr, Some(field(true)), None))?,
         Says::Constant => Attr {
             name: DW_AT_const_value,
+            end: 0,
             value: Value::Number {
                 form: DW_FORM_data4,
                 bits: 7,
@@ -250,6 +257,7 @@ fn attr(alloc: Global, says: Says) -> Result<Option<Attr>, NoMemory> {
         },
         Says::Refers(name, target) => Attr {
             name,
+            end: 0,
             value: Value::Ref(target),
         },
         Says::Names(name, base) => expression(

@@ -1,5 +1,5 @@
 -- What is read of an entry's attributes is spelled so, and what is spelled so is read.
-use Rattle.std.proofs.Common.{◌≡◌, ℕ, ◌+◌, ◌-◌, ◌^◌, ◌<◌, ◌&&◌, Bool, true, false, not, List, [], ◌∷◌, ◌++◌, length, Option, Some, None, Result, Ok, refl, sym, ap, subst, ◌∙◌, append_assoc, inl, inr, arith}
+use Rattle.std.proofs.Common.{◌≡◌, ℕ, ◌+◌, ◌-◌, ◌^◌, ◌<◌, ◌&&◌, Bool, true, false, not, List, [], ◌∷◌, ◌++◌, length, Option, Some, None, Result, Ok, refl, sym, ap, ap₂, subst, ◌∙◌, append_assoc, inl, inr, arith}
 use Rattle.std.specs.Prelude.{nat_lt, if◌then◌else◌}
 use Rattle.std.specs.List.{list_all}
 use Rattle.std.specs.Option.{option_to_list}
@@ -233,7 +233,7 @@ class_not_ref Outside field sections bytes value m = absurd m
 
 pub record AttrTaken (all : List Entry) (sections : SectionBytes) (home : Home) (root : Bool) (field : Field) (before : List Attr) (s : Spot) (y : (Attr × Option Reference) × Spot) : Type 0 where
   pub bytes : List ℕ
-  pub spells : SpellsAttr sections home.place (names_lines root before) field bytes y.0.0
+  pub spells : SpellsAttr sections home.place (names_lines root before) field y.0.0 s.place bytes
   pub leads_on : ValueLeads all home.unit (meaning_of field.form field.name) y.0.0.value
   pub passed : Passed bytes s y.1
 
@@ -241,20 +241,21 @@ attr_taken : (all : List Entry) → AreLow all → (sections : SectionBytes) (ho
     → attr_at sections home root field before s ≡ Ok y → Lead all (option_to_list y.0.1) → AttrTaken all sections home root field before s y
 unfolding attr_at
 attr_taken all low sections home root field before s y stands e h =
-    let made : Value × Spot → Value × Option Reference → Result ((Attr × Option Reference) × Spot) Fault = λ read meant. Ok ((record { name = field.name; value = meant.0 }, meant.1), read.1) in
+    let made : Value × Spot → Value × Option Reference → Result ((Attr × Option Reference) × Spot) Fault = λ read meant. Ok ((record { name = field.name; end = read.1.place; value = meant.0 }, meant.1), read.1) in
     let b = bind_ok (value_at field DWARF_VERSION sections s) (λ read. value_meant_at sections home root field before read.0 s >>= made read) y e in
     let c = bind_ok (value_meant_at sections home root field before b.0.0 s) (made b.0) y b.2 in
     let place = stands.place in
     let v = value_spelled field DWARF_VERSION sections s b.0.0 b.0.1 stands b.1 in
     let w = v.spells in
+    let go = passed_by v.bytes s b.0.1 stands (value_onward field DWARF_VERSION sections s b.0 b.1) v.parts in
     subst (λ (p : (Attr × Option Reference) × Spot). Lead all (option_to_list p.0.1) → AttrTaken all sections home root field before s p) (ok_is _ y c.2)
     (λ k.
     let t = value_taken all low sections home root field before b.0.0 s c.0 (class_not_ref w.row.class field sections v.bytes b.0.0 w.spells) c.1 k in
     record {
       bytes = v.bytes;
-      spells = record { value = b.0.0; spells = w; inside = t.inside; is = ap (λ (x : Value). record { name = field.name; value = x }) t.is };
+      spells = record { value = b.0.0; spells = w; inside = t.inside; is = ap₂ (λ (n : ℕ) (x : Value). record { name = field.name; end = n; value = x }) go.place t.is };
       leads_on = t.leads_on;
-      passed = passed_by v.bytes s b.0.1 stands (value_onward field DWARF_VERSION sections s b.0 b.1) v.parts;
+      passed = go;
     }) h
 
 record AttrGoes (all : List Entry) (sections : SectionBytes) (home : Home) (root : Bool) (field : Field) (before : List Attr) (s : Spot) (bytes : List ℕ) (attr : Attr) (more : List ℕ) : Type 0 where
@@ -266,19 +267,21 @@ record AttrGoes (all : List Entry) (sections : SectionBytes) (home : Home) (root
   left : rest next ≡ more
 
 attr_goes : (all : List Entry) → AreLow all → (sections : SectionBytes) (home : Home) (root : Bool) (field : Field) (before : List Attr) (s : Spot) (bytes : List ℕ) (attr : Attr) (more : List ℕ) → Stands s
-    → SpellsAttr sections home.place (names_lines root before) field bytes attr → ValueLeads all home.unit (meaning_of field.form field.name) attr.value → rest s ≡ bytes ++ more
+    → SpellsAttr sections home.place (names_lines root before) field attr s.place bytes → ValueLeads all home.unit (meaning_of field.form field.name) attr.value → rest s ≡ bytes ++ more
     → AttrGoes all sections home root field before s bytes attr more
 unfolding attr_at
 attr_goes all low sections home root field before s bytes attr more stands w leads_on parts =
     let r = value_read field DWARF_VERSION sections s bytes w.value more stands w.spells parts in
     let value_is : attr.value ≡ attr_value home.place field w.value = ap (λ (a : Attr). a.value) w.is in
     let g = value_goes all low sections home root field before w.value s w.inside (subst (ValueLeads all home.unit (meaning_of field.form field.name)) value_is leads_on) in
+    let go = passed_by bytes s r.next stands (value_onward field DWARF_VERSION sections s (w.value, r.next) r.reads) (parts ∙ ap (λ (xs : List ℕ). bytes ++ xs) (sym r.left)) in
+    let ended : ℕ → Attr = λ n. record { name = field.name; end = n; value = attr_value home.place field w.value } in
     record {
       reference = g.reference;
       next = r.next;
-      reads = rw (r.reads, g.reads) (ap (λ (a : Attr). Ok ((a, g.reference), r.next)) (sym w.is));
+      reads = rw (r.reads, g.reads) (ap (λ (a : Attr). Ok ((a, g.reference), r.next)) (ap ended go.place ∙ sym w.is));
       lead = g.lead;
-      passed = passed_by bytes s r.next stands (value_onward field DWARF_VERSION sections s (w.value, r.next) r.reads) (parts ∙ ap (λ (xs : List ℕ). bytes ++ xs) (sym r.left));
+      passed = go;
       left = r.left;
     }
 
@@ -290,7 +293,7 @@ pub record AttrsTaken (all : List Entry) (sections : SectionBytes) (home : Home)
   pub references : List Reference
   pub grown : y.0.1 ≡ before.1 ++ references
   pub bytes : List ℕ
-  pub spells : SpellsAttrs sections home.place root fields before.0 bytes own
+  pub spells : SpellsAttrs sections home.place root fields before.0 own s.place bytes
   pub leads_on : AttrsLead all home.unit fields own
   pub passed : Passed bytes s y.1
 
@@ -307,13 +310,14 @@ attrs_taken all low sections home root (field ∷ fields) before s y stands e h 
     let t = attrs_taken all low sections home root fields (with_attr b.0) b.0.1 y (stands_on s b.0.1 stands o) b.2 h in
     let mine : Lead all (option_to_list b.0.0.1) = lead_back all before.1 _ (lead_front all (before.1 ++ option_to_list b.0.0.1) t.references (subst (Lead all) t.grown h)) in
     let a = attr_taken all low sections home root field before.0 s b.0 stands b.1 mine in
+    let went = a.passed in
     record {
       own = b.0.0.0 ∷ t.own;
       is = t.is ∙ append_assoc before.0 (b.0.0.0 ∷ []) t.own;
       references = option_to_list b.0.0.1 ++ t.references;
       grown = t.grown ∙ append_assoc before.1 (option_to_list b.0.0.1) t.references;
       bytes = a.bytes ++ t.bytes;
-      spells = record { front = a.bytes; back = t.bytes; is = refl; first = a.spells; second = t.spells };
+      spells = record { front = a.bytes; back = t.bytes; is = refl; first = a.spells; second = subst (λ (n : ℕ). SpellsAttrs sections home.place root fields (before.0 ++ b.0.0.0 ∷ []) t.own n t.bytes) went.place t.spells };
       leads_on = (a.leads_on, t.leads_on);
       passed = passed_then a.bytes t.bytes s b.0.1 y.1 a.passed t.passed;
     }
@@ -327,7 +331,7 @@ pub record AttrsGo (all : List Entry) (sections : SectionBytes) (home : Home) (r
   pub left : rest next ≡ more
 
 pub attrs_go : (all : List Entry) → AreLow all → (sections : SectionBytes) (home : Home) (root : Bool) (fields : List Field) (own : List Attr) (before : Described) (s : Spot) (bytes more : List ℕ) → Stands s
-    → SpellsAttrs sections home.place root fields before.0 bytes own → AttrsLead all home.unit fields own → Lead all before.1 → rest s ≡ bytes ++ more → AttrsGo all sections home root fields before s bytes own more
+    → SpellsAttrs sections home.place root fields before.0 own s.place bytes → AttrsLead all home.unit fields own → Lead all before.1 → rest s ≡ bytes ++ more → AttrsGo all sections home root fields before s bytes own more
 unfolding attrs_at
 attrs_go all low sections home root [] [] before s bytes more stands w leads_on lead parts =
     record {
@@ -345,7 +349,8 @@ attrs_go all low sections home root (field ∷ fields) (attr ∷ own) before s b
     let a = attr_goes all low sections home root field before.0 s w.front attr (w.back ++ more) stands w.first leads_on.0 whole in
     let p = a.passed in
     let now : Described = (before.0 ++ attr ∷ [], before.1 ++ option_to_list a.reference) in
-    let t = attrs_go all low sections home root fields own now a.next w.back more p.stands w.second leads_on.1 (lead_both all before.1 (option_to_list a.reference) lead a.lead) a.left in
+    let rest_spelled = subst (λ (n : ℕ). SpellsAttrs sections home.place root fields (before.0 ++ attr ∷ []) own n w.back) (sym p.place) w.second in
+    let t = attrs_go all low sections home root fields own now a.next w.back more p.stands rest_spelled leads_on.1 (lead_both all before.1 (option_to_list a.reference) lead a.lead) a.left in
     record {
       references = t.references;
       next = t.next;

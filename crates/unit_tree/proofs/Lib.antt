@@ -6,6 +6,7 @@ pub mod Placed
 pub mod Places
 pub mod References
 pub mod Rising
+pub mod Soundness
 pub mod Steps
 pub mod TreeLaws
 pub mod UnitLaws

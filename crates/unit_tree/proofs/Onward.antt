@@ -80,8 +80,8 @@ value_onward field version sections s y e =
 pub attr_onward : (sections : SectionBytes) (home : Home) (root : Bool) (field : Field) (before : List Attr) (s : Spot) (y : (Attr × Option Reference) × Spot) → attr_at sections home root field before s ≡ Ok y → Onward s y.1
 unfolding attr_at
 attr_onward sections home root field before s y e =
-    let b = bind_ok (value_at field DWARF_VERSION sections s) (λ read. value_meant_at sections home root field before read.0 s >>= λ meant. Ok ((record { name = field.name; value = meant.0 }, meant.1), read.1)) y e in
-    let c = bind_ok (value_meant_at sections home root field before b.0.0 s) (λ meant. Ok ((record { name = field.name; value = meant.0 }, meant.1), b.0.1)) y b.2 in
+    let b = bind_ok (value_at field DWARF_VERSION sections s) (λ read. value_meant_at sections home root field before read.0 s >>= λ meant. Ok ((record { name = field.name; end = read.1.place; value = meant.0 }, meant.1), read.1)) y e in
+    let c = bind_ok (value_meant_at sections home root field before b.0.0 s) (λ meant. Ok ((record { name = field.name; end = b.0.1.place; value = meant.0 }, meant.1), b.0.1)) y b.2 in
     subst (λ (p : (Attr × Option Reference) × Spot). Onward s p.1) (ok_is _ y c.2) (value_onward field DWARF_VERSION sections s b.0 b.1)
 
 pub attrs_onward : (sections : SectionBytes) (home : Home) (root : Bool) (fields : List Field) (before : Described) (s : Spot) (y : Described × Spot) → attrs_at sections home root fields before s ≡ Ok y → Onward s y.1

@@ -18,7 +18,7 @@ use Rattle.unit_tree.specs.declared.entry.TheConstants.{MOST_ENTRIES, MOST_OPEN}
 use Rattle.unit_tree.specs.declared.reference.Reference.{Reference}
 use Rattle.unit_tree.specs.Entry.{is_full, entry_at, innermost, closed, opened, Walk, listed_at, child_at, children_at}
 use Rattle.unit_tree.specs.Entry.{declared_as}
-use Rattle.unit_tree.specs.Spelling.{Node, Forest, size, entry_of, preorder, InTurnFrom, SpellsNode, SpellsBelow, SpellsTrees, IsShallow, AttrsLead, NodeLeads, TreesLead}
+use Rattle.unit_tree.specs.Spelling.{Node, Forest, size, entry_of, preorder, InTurnFrom, SpellsAttrs, SpellsNode, SpellsBelow, SpellsTrees, IsShallow, AttrsLead, NodeLeads, TreesLead}
 use Rattle.unit_tree.specs.Spelling.Forest.{no_more, tree}
 use Rattle.unit_tree.proofs.AttrLaws.{Lead, AreLow, lead_front, attrs_taken, attrs_go}
 use Rattle.unit_tree.proofs.Placed.{Passed, passed_nothing, passed_then, stands_on, uleb_taken, uleb_goes}
@@ -64,7 +64,7 @@ node_taken all low sections home table parent declared before s code y stands co
     record {
       attrs = a.own;
       bytes = c.bytes ++ a.bytes;
-      spells = record { there = refl; spells = record { front = c.bytes; back = a.bytes; is = refl; first = record { code = code.0; some = code_some code.0 some; spells = c.spells; found = found }; second = a.spells } };
+      spells = record { there = refl; spells = record { front = c.bytes; back = a.bytes; is = refl; first = record { code = code.0; some = code_some code.0 some; spells = c.spells; found = found }; second = subst (λ (n : ℕ). SpellsAttrs sections home.place (is_none parent) declared.fields [] a.own n a.bytes) p.place a.spells } };
       leads_on = a.leads_on;
       entries = ap (λ (attrs : List Attr). before.entries ++ entry_of home.unit parent (node_of declared s.place attrs) ∷ []) a.is;
       references = a.references;
@@ -94,7 +94,8 @@ node_goes all low sections home table parent node before s bytes more stands w l
     let whole : rest s ≡ spelled.front ++ (spelled.back ++ more) = parts ∙ ap (λ (b : List ℕ). b ++ more) spelled.is ∙ append_assoc spelled.front spelled.back more in
     let c = uleb_goes s spelled.front first.code (spelled.back ++ more) stands first.spells whole in
     let p = c.passed in
-    let a = attrs_go all low sections home (is_none parent) node.declared.fields node.attrs ([], before.references) c.next spelled.back more p.stands spelled.second leads_on lead c.left in
+    let attrs_spelled = subst (λ (n : ℕ). SpellsAttrs sections home.place (is_none parent) node.declared.fields [] node.attrs n spelled.back) (sym p.place) spelled.second in
+    let a = attrs_go all low sections home (is_none parent) node.declared.fields node.attrs ([], before.references) c.next spelled.back more p.stands attrs_spelled leads_on lead c.left in
     let there : node_of node.declared s.place node.attrs ≡ node = ap (λ (place : ℕ). node_of node.declared place node.attrs) (sym w.there) in
     record {
       code = (first.code, c.next);

@@ -63,7 +63,7 @@ unfoldable pub attr_at : SectionBytes → Home → Bool → Field → List Attr 
 attr_at sections home root field before s = do
   read ← value_at field DWARF_VERSION sections s
   meant ← value_meant_at sections home root field before read.0 s
-  Ok ((record { name = field.name; value = meant.0 }, meant.1), read.1)
+  Ok ((record { name = field.name; end = read.1.place; value = meant.0 }, meant.1), read.1)
 
 -- attributes and references that were read
 abbrev pub Described : Type 0

@@ -5,5 +5,6 @@ pub mod Header
 pub mod Meaning
 pub mod Reference
 pub mod Spelling
+pub mod Sound
 pub mod Table
 pub mod Unit

@@ -12,7 +12,7 @@ use Rattle.dwarf_types.specs.declared.entry.RawUnits.{RawUnits}
 use Rattle.dwarf_types.specs.SectionBytes.{SectionBytes}
 use Rattle.dwarf_types.specs.declared.value.Value.{Value}
 use Rattle.dwarf_types.specs.declared.value.Value.TheVariants as values
-use Rattle.dwarf_types.specs.Spelled.{InTurn, IsUleb, IsNumber}
+use Rattle.dwarf_types.specs.Spelled.{IsUleb, IsNumber}
 use Rattle.abbrev_read.specs.Spelling.{StandsAt}
 use Rattle.form_value.specs.Spelling.{SpellsValue}
 use Rattle.unit_tree.specs.declared.entry.TheConstants.{MOST_ENTRIES, MOST_OPEN}
@@ -118,20 +118,20 @@ abbrev pub IsInside : SectionBytes → Bool → Field → Value → Type 0
 IsInside sections lines field (values.Offset n) = IsBelow sections lines (meaning_of field.form field.name) n
 IsInside sections lines field _ = Unit {0}
 
--- bytes spell the attribute of a field of a unit that begins at a place
-pub record SpellsAttr (sections : SectionBytes) (place : ℕ) (lines : Bool) (field : Field) (bytes : List ℕ) (attr : Attr) : Type 0 where
+-- bytes from a place spell the attribute of a field, of a unit that begins at another
+pub record SpellsAttr (sections : SectionBytes) (unit : ℕ) (lines : Bool) (field : Field) (attr : Attr) (place : ℕ) (bytes : List ℕ) : Type 0 where
   pub value : Value
   pub spells : SpellsValue field DWARF_VERSION sections bytes value
   pub inside : IsInside sections lines field value
-  pub is : attr ≡ record { name = field.name; value = attr_value place field value }
+  pub is : attr ≡ record { name = field.name; end = place + length bytes; value = attr_value unit field value }
 
 -- the attributes of fields, behind others of a root or another entry
-abbrev pub SpellsAttrs : SectionBytes → ℕ → Bool → List Field → List Attr → List ℕ → List Attr → Type 0
-SpellsAttrs sections place root [] before bytes [] = bytes ≡ []
-SpellsAttrs sections place root [] before bytes (attr ∷ attrs) = ⊥
-SpellsAttrs sections place root (field ∷ fields) before bytes [] = ⊥
-SpellsAttrs sections place root (field ∷ fields) before bytes (attr ∷ attrs) =
-    InTurn (λ b. SpellsAttr sections place (names_lines root before) field b attr) (λ b. SpellsAttrs sections place root fields (before ++ attr ∷ []) b attrs) bytes
+abbrev pub SpellsAttrs : SectionBytes → ℕ → Bool → List Field → List Attr → List Attr → ℕ → List ℕ → Type 0
+SpellsAttrs sections unit root [] before [] place bytes = bytes ≡ []
+SpellsAttrs sections unit root [] before (attr ∷ attrs) place bytes = ⊥
+SpellsAttrs sections unit root (field ∷ fields) before [] place bytes = ⊥
+SpellsAttrs sections unit root (field ∷ fields) before (attr ∷ attrs) place bytes =
+    InTurnFrom (SpellsAttr sections unit (names_lines root before) field attr) (λ p b. SpellsAttrs sections unit root fields (before ++ attr ∷ []) attrs p b) place bytes
 
 -- a code that is not 0, and a declaration that has it
 pub record SpellsCode (table : List Abbrev) (declared : Abbrev) (bytes : List ℕ) : Type 0 where
@@ -143,7 +143,7 @@ pub record SpellsCode (table : List Abbrev) (declared : Abbrev) (bytes : List �
 -- an entry that begins at a place: its code and its attributes
 pub record SpellsNode (sections : SectionBytes) (unit : ℕ) (table : List Abbrev) (root : Bool) (node : Node) (place : ℕ) (bytes : List ℕ) : Type 0 where
   pub there : node.place ≡ place
-  pub spells : InTurn (SpellsCode table node.declared) (λ b. SpellsAttrs sections unit root node.declared.fields [] b node.attrs) bytes
+  pub spells : InTurnFrom (λ p b. SpellsCode table node.declared b) (SpellsAttrs sections unit root node.declared.fields [] node.attrs) place bytes
 
 -- the trees below an entry: a list of them, or nothing
 abbrev pub SpellsBelow : Bool → (ℕ → List ℕ → Type 0) → Forest → ℕ → List ℕ → Type 0

@@ -83,8 +83,12 @@ fn read_attr(
     let first = cursor.fork();
     let value = read_value(alloc, cursor, field, DWARF_VERSION, sections)?;
     let (value, reference) = understand(&first, sections, home, root, field, before, value)?;
+    // A section has fewer than 2^32 bytes.
+    let Ok(end) = u32::try_from(cursor.place()) else {
+        return Err(ReadError::NoMemory);
+    };
     let name = field.name;
-    Ok((Attr { name, value }, reference))
+    Ok((Attr { name, end, value }, reference))
 }
 
 /// The value of an attribute that stands at the cursor, as what it means, and the reference that it is.

@@ -21,6 +21,7 @@ mod table;
 mod unit;
 
 pub use laws::units_are_read_as_spelled;
+pub use meaning::{Meaning, meaning_of_offset};
 pub use unit::read_units;
 
 #[cfg(test)]

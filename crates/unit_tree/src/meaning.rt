@@ -12,7 +12,7 @@ use ds_base::dwarf::{
 
 /// To what the number of a value leads.
 #[derive(Clone, Copy, Debug, PartialEq, Eq)]
-pub(crate) enum Meaning {
+pub enum Meaning {
     /// To an entry of the same unit; it counts bytes from the unit's first byte.
     InUnit,
     /// To an entry of any unit of the object, by its place in `__debug_info`.
@@ -42,9 +42,9 @@ pub(crate) fn meaning_of_value(form: u16, name: u16) -> Meaning
     }
 }
 
-/// The meaning of a section offset, as the value of the attribute (DWARF 4, section 7.5.4, figure 20).
+/// To what a section offset leads, as the value of the attribute of this name (DWARF 4, section 7.5.4, figure 20).
 #[tactic(auto, unfolding(crate::specs::Meaning::table_of))]
-fn meaning_of_offset(name: u16) -> Meaning
+pub fn meaning_of_offset(name: u16) -> Meaning
     ensures { result ≡ table_of name }
 {
     match name {

@@ -6,6 +6,7 @@ ghost use Rattle.std.specs.Option.{option_copied};
 ghost use Rattle.ds_base.specs.Reading.{Finds, Gives};
 ghost use Rattle.dwarf_types.specs.SectionBytes.{bytes_in};
 ghost use Rattle.unit_tree.specs.Bounds.{IsFew};
+ghost use Rattle.unit_tree.specs.Sound.{AreSound};
 ghost use Rattle.unit_tree.specs.Table.{AreRead};
 ghost use Rattle.unit_tree.specs.Unit.{short_in, language_of, unit_from, is_zero, zeros_at, unit_at, units_at, units_of, nothing};
 
@@ -33,6 +34,9 @@ use std::collections::BTreeMap;
 pub fn read_units(alloc: Global, sections: &Sections) -> Result<RawUnits, ReadError>
     requires info { length sections.now.info.now < 2 ^ 32 }
     ensures exact { Gives (λ units. units) result (units_of (bytes_in sections.now)) }
+
+    // Units follow one another and are all entries, and each parent stands before its children in the unit.
+    ensures sound { IfOk result AreSound }
 {
     let mut parsed = Parsed {
         entries: List::new(alloc),

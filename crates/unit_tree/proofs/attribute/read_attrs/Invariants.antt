@@ -3,6 +3,7 @@ use Rattle.ds_base.specs.Spot.{IsSmall}
 use Rattle.dwarf_types.specs.SectionBytes.{bytes_in}
 use Rattle.unit_tree.specs.Attribute.{attrs_at}
 use Rattle.unit_tree.proofs.attribute.read_attrs.Given as goal
+use Rattle.dwarf_types.specs.SectionBytes.{bytes_in}
 
 abbrev pub invariant-loop-field : goal.invariant-loop-field
 invariant-loop-field l =

@@ -4,6 +4,7 @@ use Rattle.dwarf_types.specs.SectionBytes.{bytes_in}
 use Rattle.unit_tree.specs.Entry.{children_at}
 use Rattle.unit_tree.specs.Bounds.{IsFew}
 use Rattle.unit_tree.proofs.entry.read_children.Given as goal
+use Rattle.dwarf_types.specs.SectionBytes.{bytes_in}
 
 abbrev pub invariant-loop : goal.invariant-loop
 invariant-loop l =

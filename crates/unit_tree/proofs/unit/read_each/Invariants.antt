@@ -3,6 +3,7 @@ use Rattle.dwarf_types.specs.SectionBytes.{bytes_in}
 use Rattle.unit_tree.specs.Table.{AreRead}
 use Rattle.unit_tree.specs.Unit.{nothing, units_at}
 use Rattle.unit_tree.proofs.unit.read_each.Given as goal
+use Rattle.dwarf_types.specs.SectionBytes.{bytes_in}
 
 abbrev pub invariant-loop-number : goal.invariant-loop-number
 invariant-loop-number l =

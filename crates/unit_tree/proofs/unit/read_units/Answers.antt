@@ -1,8 +1,13 @@
 use Rattle.dwarf_types.specs.SectionBytes.{bytes_in}
 use Rattle.unit_tree.proofs.Rising.{units_rise}
+use Rattle.unit_tree.proofs.Soundness.{units_sound}
 use Rattle.unit_tree.proofs.unit.read_units.Goals as goal
+use Rattle.dwarf_types.specs.SectionBytes.{bytes_in}
 
 pub try_references-requires : goal.try_references-requires
 try_references-requires c =
     let r = units_rise (bytes_in c.args.sections.now) _ _ c.in_ok-units.ensures.read in
     record { rising = rw c.as_slice.ensures r.rising }
+
+pub returns-clause-sound : goal.returns-clause-sound
+returns-clause-sound c = units_sound (bytes_in c.args.sections.now) _ _ _ c.in_ok-units.ensures.read

@@ -1,0 +1,227 @@
+-- The units and entries that are read follow one another, and each parent stands before its children in the unit.
+use Rattle.std.proofs.Common.{◌≡◌, ℕ, zero, suc, ◌+◌, ◌-◌, ◌<◌, ◌≤◌, ◌==◌, Bool, true, false, cond, List, [], ◌∷◌, ◌++◌, length, take, get_or, Option, Some, None, Ok, refl, sym, ap, subst, ◌∙◌, inl, inr, ◌⊎◌, arith}
+use Rattle.std.specs.Prelude.{is_none, slice_get}
+use Rattle.std.proofs.lemmas.List.{length-append}
+use Rattle.std.proofs.lemmas.Option.{slice_get-get_or, slice_get_within}
+use Rattle.ds_base.specs.Spot.{Spot}
+use Rattle.dwarf_types.specs.declared.abbrev.Abbrev.{Abbrev}
+use Rattle.dwarf_types.specs.declared.entry.Entry.{Entry}
+use Rattle.dwarf_types.specs.declared.entry.InUnit.{InUnit}
+use Rattle.dwarf_types.specs.declared.entry.RawUnits.{RawUnits}
+use Rattle.dwarf_types.specs.Live.{Stands}
+use Rattle.dwarf_types.specs.SectionBytes.{SectionBytes}
+use Rattle.dwarf_types.specs.Sound.{AreUnits, IsIn, IsParent}
+use Rattle.unit_tree.specs.declared.attribute.Home.{Home}
+use Rattle.unit_tree.specs.declared.entry.Parsed.{Parsed}
+use Rattle.unit_tree.specs.declared.entry.TheConstants.{MOST_ENTRIES}
+use Rattle.unit_tree.specs.Entry.{entry_at, root_at, innermost, closed, opened, Walk, child_at, children_at, tree_at}
+use Rattle.unit_tree.specs.Sound.{LiesInUnit, AreSound}
+use Rattle.unit_tree.specs.Unit.{unit_from, nothing, unit_at, units_at}
+use Rattle.unit_tree.proofs.Rising.{RisesBelow, units_rise}
+use Rattle.unit_tree.proofs.TreeLaws.{has_room}
+use Rattle.unit_tree.proofs.Steps.{entry_steps, root_steps, listed_steps, child_steps, children_end, children_steps, tree_steps, unit_steps, units_end, units_steps}
+
+-- ---- places in lists
+
+module _ {A : Type 0} where
+  kept_at : (xs ys : List A) (i : ℕ) (x : A) → slice_get xs i ≡ Some x → slice_get (xs ++ ys) i ≡ Some x
+  kept_at [] ys i x e = absurd cc
+  kept_at (y ∷ xs) ys zero x e = e
+  kept_at (y ∷ xs) ys (suc i) x e = kept_at xs ys i x e
+
+  last_at : (xs : List A) (x : A) → slice_get (xs ++ x ∷ []) (length xs) ≡ Some x
+  last_at [] x = refl
+  last_at (y ∷ xs) x = last_at xs x
+
+  pushed_at : (xs : List A) (x : A) (i : ℕ) (y : A) → slice_get (xs ++ x ∷ []) i ≡ Some y → (slice_get xs i ≡ Some y) ⊎ ((i ≡ length xs) × (x ≡ y))
+  pushed_at [] x zero y e = inr (refl, cc)
+  pushed_at [] x (suc i) y e = absurd cc
+  pushed_at (z ∷ xs) x zero y e = inl e
+  pushed_at (z ∷ xs) x (suc i) y e =
+      elim (pushed_at xs x i y e) [
+        | inl there ↦ inl there
+        | inr last ↦ inr (ap suc last.0, last.1)
+      ]
+
+  front_at : (n : ℕ) (xs : List A) (i : ℕ) (x : A) → slice_get (take n xs) i ≡ Some x → slice_get xs i ≡ Some x
+  front_at zero xs i x e = absurd cc
+  front_at (suc n) [] i x e = absurd cc
+  front_at (suc n) (y ∷ xs) zero x e = e
+  front_at (suc n) (y ∷ xs) (suc i) x e = front_at n xs i x e
+
+-- ---- the entries of a unit that is read
+
+-- the root, or an entry whose parent is one of the unit
+abbrev ParentFrom : ℕ → ℕ → Option ℕ → Type 0
+ParentFrom first k None = k ≡ first
+ParentFrom first k (Some p) = (first ≤ p) × (p < k)
+
+-- entry k is one of the unit of a number whose first entry is told
+record IsOwn (number first k : ℕ) (e : Entry) : Type 0 where
+  unit : e.unit ≡ number
+  from_first : first ≤ k
+  parent : ParentFrom first k e.parent
+
+-- entries of the units before, and of the one that is read
+record Grows (units : List InUnit) (first : ℕ) (entries : List Entry) : Type 0 where
+  few : length entries ≤ MOST_ENTRIES
+  behind : first ≤ length entries
+  each : (k : ℕ) (e : Entry) → slice_get entries k ≡ Some e → LiesInUnit units k e ⊎ IsOwn (length units) first k e
+
+-- the entries of the open lists are of the unit
+abbrev AreOpen : ℕ → ℕ → List ℕ → Type 0
+AreOpen first count lists = (i p : ℕ) → slice_get lists i ≡ Some p → (first ≤ p) × (p < count)
+
+pushed_grows : (units : List InUnit) (first : ℕ) (entries : List Entry) (e : Entry) → Grows units first entries → length entries < MOST_ENTRIES → e.unit ≡ length units → ParentFrom first (length entries) e.parent → Grows units first (entries ++ e ∷ [])
+pushed_grows units first entries e h room unit parent =
+    let behind = h.behind in
+    record {
+      few = omega (arith, room, length-append entries (e ∷ []));
+      behind = omega (arith, behind, length-append entries (e ∷ []));
+      each = λ k d at. elim (pushed_at entries e k d at) [
+        | inl there ↦ h.each k d there
+        | inr last ↦ inr (subst (IsOwn (length units) first k) last.1 (record { unit = unit; from_first = omega (arith, behind, last.0); parent = subst (λ (n : ℕ). ParentFrom first n e.parent) (sym last.0) parent }))
+      ];
+    }
+
+entry_grows : (sections : SectionBytes) (home : Home) (parent : Option ℕ) (place : ℕ) (declared : Abbrev) (before : Parsed) (s : Spot) (y : Parsed × Spot) (units : List InUnit) (first : ℕ) → entry_at sections home parent place declared before s ≡ Ok y
+    → home.unit ≡ length units → length before.entries < MOST_ENTRIES → Grows units first before.entries → ParentFrom first (length before.entries) parent → Grows units first y.0.entries × (length y.0.entries ≡ length before.entries + 1)
+entry_grows sections home parent place declared before s y units first e is room h from =
+    let w = entry_steps sections home parent place declared before s y e in
+    subst (λ (p : Parsed × Spot). Grows units first p.0.entries × (length p.0.entries ≡ length before.entries + 1)) w.is
+    (pushed_grows units first before.entries _ h room is from, length-append before.entries _)
+
+inner_some : (lists : List ℕ) → (length lists == 0) ≡ false → (p : ℕ) × (innermost lists ≡ Some p)
+inner_some [] e = absurd cc
+inner_some (x ∷ xs) e = (get_or (x ∷ xs) (length (x ∷ xs) - 1) x, slice_get-get_or (x ∷ xs) (length (x ∷ xs) - 1) x (omega arith))
+
+opened_open : (children : Bool) (first number count : ℕ) (lists : List ℕ) → first ≤ number → number < count → AreOpen first number lists → AreOpen first count (opened children number lists)
+opened_open true first number count lists le lt h i p e =
+    elim (pushed_at lists number i p e) [
+      | inl there ↦ let b = h i p there in (b.0, omega (arith, b.1))
+      | inr last ↦ (omega (arith, last.1), omega (arith, last.1))
+    ]
+opened_open false first number count lists le lt h i p e = let b = h i p e in (b.0, omega (arith, b.1))
+
+-- what was read and the open lists
+record Walks (units : List InUnit) (first : ℕ) (walk : Walk) : Type 0 where
+  grows : Grows units first walk.0.entries
+  open_lists : AreOpen first (length walk.0.entries) walk.1
+
+child_walks : (sections : SectionBytes) (home : Home) (table : List Abbrev) (walk : Walk) (s : Spot) (y : Walk × Spot) (units : List InUnit) (first : ℕ) → child_at sections home table walk s ≡ Ok y → home.unit ≡ length units → (length walk.1 == 0) ≡ false
+    → Walks units first walk → Walks units first y.0
+child_walks sections home table walk s y units first e is some h =
+    elim (child_steps sections home table walk s y e) [
+      | inl w ↦ subst (λ (p : Walk × Spot). Walks units first p.0) w.is (record { grows = h.grows; open_lists = λ i p at. h.open_lists i p (front_at (length walk.1 - 1) walk.1 i p at) })
+      | inr w ↦
+          let l = listed_steps sections home w.declared walk s w.code.1 y w.listed in
+          let p = inner_some walk.1 some in
+          let within = h.open_lists (length walk.1 - 1) p.0 p.1 in
+          let parent : ParentFrom first (length walk.0.entries) (innermost walk.1) = subst (ParentFrom first (length walk.0.entries)) (sym p.1) within in
+          let g = entry_grows sections home (innermost walk.1) s.place w.declared walk.0 w.code.1 l.read units first l.entry is (has_room walk.0 l.room) h.grows parent in
+          let behind = h.grows in
+          subst (λ (q : Walk × Spot). Walks units first q.0) l.is (record {
+            grows = g.0;
+            open_lists = opened_open w.declared.children first (length walk.0.entries) (length l.read.0.entries) walk.1 behind.behind (omega (arith, g.1)) h.open_lists;
+          })
+    ]
+
+children_grow : (sections : SectionBytes) (home : Home) (table : List Abbrev) (left : ℕ) (walk : Walk) (s : Spot) (y : Parsed × Spot) (units : List InUnit) (first : ℕ) → children_at sections home table left walk s ≡ Ok y → home.unit ≡ length units
+    → Walks units first walk → Grows units first y.0.entries × (length walk.0.entries ≤ length y.0.entries)
+children_grow sections home table zero walk s y units first e is h =
+    let w = children_end sections home table walk s y e in
+    subst (λ (p : Parsed × Spot). Grows units first p.0.entries × (length walk.0.entries ≤ length p.0.entries)) w.1 (h.grows, omega arith)
+children_grow sections home table (suc left) walk s y units first e is h =
+    elim (children_steps sections home table left walk s y e) [
+      | inl w ↦ subst (λ (p : Parsed × Spot). Grows units first p.0.entries × (length walk.0.entries ≤ length p.0.entries)) w.1 (h.grows, omega arith)
+      | inr w ↦
+          let longer = child_longer sections home table walk s w.read w.child in
+          let r = children_grow sections home table left w.read.0 w.read.1 y units first w.others is (child_walks sections home table walk s w.read units first w.child is w.still_open h) in
+          (r.0, omega (arith, r.1, longer))
+    ]
+  where
+    entry_longer : (sections : SectionBytes) (home : Home) (parent : Option ℕ) (place : ℕ) (declared : Abbrev) (before : Parsed) (s : Spot) (y : Parsed × Spot) → entry_at sections home parent place declared before s ≡ Ok y → length before.entries ≤ length y.0.entries
+    entry_longer sections home parent place declared before s y e =
+        let w = entry_steps sections home parent place declared before s y e in
+        subst (λ (p : Parsed × Spot). length before.entries ≤ length p.0.entries) w.is (let n = length-append before.entries (record { parent = parent; unit = home.unit; place = place; tag = declared.tag; attrs = w.read.0.0 } ∷ []) in omega (arith, n))
+
+    child_longer : (sections : SectionBytes) (home : Home) (table : List Abbrev) (walk : Walk) (s : Spot) (y : Walk × Spot) → child_at sections home table walk s ≡ Ok y → length walk.0.entries ≤ length y.0.0.entries
+    child_longer sections home table walk s y e =
+        elim (child_steps sections home table walk s y e) [
+          | inl w ↦ subst (λ (p : Walk × Spot). length walk.0.entries ≤ length p.0.0.entries) w.is (omega arith)
+          | inr w ↦
+              let l = listed_steps sections home w.declared walk s w.code.1 y w.listed in
+              subst (λ (p : Walk × Spot). length walk.0.entries ≤ length p.0.0.entries) l.is (entry_longer sections home (innermost walk.1) s.place w.declared walk.0 w.code.1 l.read l.entry)
+        ]
+
+-- ---- units
+
+units_pushed : (at : ℕ) (units : List InUnit) (u : InUnit) (end : ℕ) → AreUnits at units u.first → 0 < u.count → u.first + u.count ≡ end → AreUnits at (units ++ u ∷ []) end
+units_pushed at [] u end h some last = (sym h, some, ap (λ (n : ℕ). n + u.count) h ∙ last)
+units_pushed at (x ∷ units) u end h some last = (h.0, h.1, units_pushed (at + x.count) units u end h.2 some last)
+
+record Reads (units : List InUnit) (entries : List Entry) : Type 0 where
+  few : length entries ≤ MOST_ENTRIES
+  follow : AreUnits 0 units (length entries)
+  each : (k : ℕ) (e : Entry) → slice_get entries k ≡ Some e → LiesInUnit units k e
+
+-- what was a unit's own lies in it, once it is there
+own_lies : (units : List InUnit) (first count k : ℕ) (e : Entry) (u : InUnit) → u.first ≡ first → u.first + u.count ≡ count → k < count → IsOwn (length units) first k e → LiesInUnit (units ++ u ∷ []) k e
+own_lies units first count k e u begins ends lt own =
+    let le = own.from_first in
+    record {
+      unit = u;
+      its_unit = ap (slice_get (units ++ u ∷ [])) own.unit ∙ last_at units u;
+      lies = record { from_first = omega (arith, begins, le); before_end = omega (arith, ends, lt) };
+      parent = parent_of e.parent own.parent;
+    }
+  where
+    parent_of : (o : Option ℕ) → ParentFrom first k o → IsParent u k o
+    parent_of None is = is ∙ sym begins
+    parent_of (Some p) within = let b = within.0 in (omega (arith, begins, b), within.1)
+
+still_lies : (units : List InUnit) (k : ℕ) (e : Entry) (u : InUnit) → LiesInUnit units k e → LiesInUnit (units ++ u ∷ []) k e
+still_lies units k e u h = record { unit = h.unit; its_unit = kept_at units (u ∷ []) e.unit h.unit h.its_unit; lies = h.lies; parent = h.parent }
+
+tree_grows : (start : Spot) (sections : SectionBytes) (home : Home) (table : List Abbrev) (before : Parsed) (s : Spot) (y : Parsed × Spot) (units : List InUnit) → tree_at start sections home table before s ≡ Ok y → home.unit ≡ length units
+    → Reads units before.entries → Grows units (length before.entries) y.0.entries × (length before.entries < length y.0.entries)
+tree_grows start sections home table before s y units e is h =
+    let w = tree_steps start sections home table before s y e in
+    let r = root_steps start sections home table before s w.root w.first in
+    let g = entry_grows sections home None s.place r.declared before r.code.1 r.read units (length before.entries) r.entry is (has_room before r.room) (record { few = h.few; behind = omega arith; each = λ k d at. inl (h.each k d at) }) refl in
+    let walks : Walks units (length before.entries) (r.read.0, opened r.declared.children (length before.entries) []) =
+    record { grows = g.0; open_lists = opened_open r.declared.children (length before.entries) (length before.entries) (length r.read.0.entries) [] (omega arith) (omega (arith, g.1)) (λ i p at. absurd cc) } in
+    let root : (Bool × Parsed) × Spot → Type 0 = λ p. Walks units (length before.entries) (p.0.1, opened p.0.0 (length before.entries) []) × (length before.entries < length p.0.1.entries) in
+    let ready = subst root r.is (walks, omega (arith, g.1)) in
+    let c = children_grow sections home table _ _ w.root.1 y units (length before.entries) w.others is ready.0 in
+    (c.0, omega (arith, c.1, ready.1))
+
+unit_reads : (sections : SectionBytes) (units : List InUnit) (before : Parsed) (place : ℕ) (y : (InUnit × Parsed) × ℕ) → unit_at sections (length units) before place ≡ Ok y → Reads units before.entries → Reads (units ++ y.0.0 ∷ []) y.0.1.entries
+unit_reads sections units before place y e h =
+    let w = unit_steps sections (length units) before place y e in
+    let t = tree_grows _ sections _ w.table before w.header.1 w.tree units w.tree_is refl h in
+    let u : InUnit = unit_from (length before.entries) w.tree.0.entries in
+    let ends : u.first + u.count ≡ length w.tree.0.entries = omega (arith, t.1) in
+    let g = t.0 in
+    subst (λ (p : (InUnit × Parsed) × ℕ). Reads (units ++ p.0.0 ∷ []) p.0.1.entries) w.is (record {
+      few = g.few;
+      follow = units_pushed 0 units u (length w.tree.0.entries) h.follow (omega (arith, t.1)) ends;
+      each = λ k d at. elim (g.each k d at) [
+        | inl there ↦ still_lies units k d u there
+        | inr own ↦ own_lies units (length before.entries) (length w.tree.0.entries) k d u refl ends (slice_get_within w.tree.0.entries k d at) own
+      ];
+    })
+
+units_read : (sections : SectionBytes) (left : ℕ) (units : List InUnit) (before : Parsed) (place : ℕ) (y : List InUnit × Parsed) → units_at sections left units before place ≡ Ok y → Reads units before.entries → Reads y.0 y.1.entries
+units_read sections zero units before place y e h = subst (λ (p : List InUnit × Parsed). Reads p.0 p.1.entries) (units_end sections units before place y e) h
+units_read sections (suc left) units before place y e h =
+    elim (units_steps sections left units before place y e) [
+      | inl w ↦ subst (λ (p : List InUnit × Parsed). Reads p.0 p.1.entries) w.1 h
+      | inr w ↦ units_read sections left _ w.read.0.1 w.read.1 y w.others (unit_reads sections units before place w.read w.unit h)
+    ]
+
+pub units_sound : (sections : SectionBytes) (left : ℕ) (units : List InUnit) (parsed : Parsed) → units_at sections left [] nothing 0 ≡ Ok (units, parsed) → AreSound (record { units = units; entries = parsed.entries })
+units_sound sections left units parsed e =
+    let r = units_read sections left [] nothing 0 (units, parsed) e (record { few = omega arith; follow = refl; each = λ k d at. absurd cc }) in
+    let rises = units_rise sections left (units, parsed) e in
+    record { few = r.few; units = r.follow; entries = r.each; rising = rises.rising }
