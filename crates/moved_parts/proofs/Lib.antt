@@ -1,0 +1,4 @@
+pub mod Orders
+pub mod Linked
+pub mod Held
+pub mod Runs

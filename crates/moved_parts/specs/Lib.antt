@@ -1,0 +1,5 @@
+pub mod Lines
+pub mod Spans
+pub mod Frames
+pub mod Places
+pub mod Parts
