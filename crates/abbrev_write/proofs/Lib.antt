@@ -1,0 +1,4 @@
+pub mod Codes
+pub mod FirstUses
+pub mod Spelled
+pub mod Tables

@@ -1,0 +1,85 @@
+//! The table of a unit, and the code of each node.
+
+ghost use Rattle.std.specs.Prelude.{◌≡◌, ◌<◌, length, slice_index, IfOk};
+ghost use Rattle.dwarf_types.specs.Abbreviations.{declarations_bytes};
+ghost use Rattle.abbrev_write.specs.Table.{unit_table, size_of};
+
+use crate::declare::{declare, parents_in};
+use crate::known::{code_for, new_known};
+use crate::write::size_of_all;
+use ds_base::{List, NoMemory};
+use dwarf_types::{Declaration, OutUnit};
+use std::alloc::Global;
+use std::marker::Model;
+
+/// The abbreviation table of a unit.
+///
+/// A contract sees its declarations in order, and the code of each node.
+#[derive(Drop)]
+pub struct AbbrevTable {
+    declarations: List<Declaration>,
+    codes: List<u32>,
+    // in bytes
+    size: u64,
+}
+
+impl Model for AbbrevTable {
+    ghost use Rattle.std.specs.Prelude.{◌≡◌, length};
+    ghost use Rattle.dwarf_types.specs.Abbreviations.{declarations_bytes};
+    ghost use Rattle.abbrev_write.specs.Table.{Table};
+
+    ghost Value = { Table };
+
+    ghost view = { λ a. record { declarations = a.declarations; codes = a.codes } };
+
+    ghost invariant = { λ a. a.size ≡ length (declarations_bytes a.declarations) };
+}
+
+/// The table of a unit, whose number in the graph counts from 0: the form of a reference depends on whether it stays
+/// in the unit. The time is linear in the unit's attributes.
+pub fn table(alloc: Global, unit: &OutUnit, number: u32) -> Result<AbbrevTable, NoMemory>
+    ensures exact { IfOk result (λ table. table ≡ unit_table number unit.now.nodes) }
+
+    // Each node has a code.
+    ensures each { IfOk result (λ table. length table.codes ≡ length unit.now.nodes) }
+{
+    let nodes = unit.nodes.as_slice();
+    let parents = parents_in(alloc, nodes)?;
+    let mut known = new_known(alloc);
+    let mut codes = List::new(alloc);
+    for (k, node) in nodes.iter().enumerate() {
+        let Ok(k) = u32::try_from(k) else {
+            return Err(NoMemory);
+        };
+        let declared = declare(alloc, number, node, parents.get(k))?;
+        codes.push(code_for(alloc, &mut known, declared)?)?;
+    }
+    let size = size_of_all(known.declarations.as_slice())?;
+    Ok(AbbrevTable {
+        declarations: known.declarations,
+        codes,
+        size,
+    })
+}
+
+/// The code of a node, counted from 1.
+pub fn code_of(table: &AbbrevTable, node: u32) -> u32
+    requires { node < length table.now.codes }
+    ensures { result ≡ slice_index table.now.codes node }
+{
+    table.codes.as_slice()[node as usize]
+}
+
+/// The size of the table in bytes.
+pub fn table_size(table: &AbbrevTable) -> u64
+    ensures { result ≡ size_of table.now }
+{
+    table.size
+}
+
+/// The declarations, in the order of their codes.
+pub(crate) fn declarations_of(table: &AbbrevTable) -> &[Declaration]
+    ensures { result.now ≡ table.now.declarations }
+{
+    table.declarations.as_slice()
+}
