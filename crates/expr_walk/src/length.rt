@@ -17,13 +17,13 @@ pub fn new_length(ops: &List<Op>) -> u64
 {
     let mut len: u64 = 0;
     for op in ops.as_slice() {
-        len += op_length(op);
+        len += new_op_length(op);
     }
     len
 }
 
-/// The length of an operation.
-fn op_length(op: &Op) -> u64
+/// The length of an operation in the output, in bytes.
+pub fn new_op_length(op: &Op) -> u64
     requires { op_len (operands_of op.now.code) op.now < 2 ^ 64 }
     ensures { result ≡ op_len (operands_of op.now.code) op.now }
 {
@@ -43,9 +43,16 @@ fn inner_length(ops: &[PlainOp]) -> u64
 {
     let mut len: u64 = 0;
     for op in ops {
-        len += plain_length(operands_after(op.code), op.bytes.as_slice());
+        len += new_plain_length(op);
     }
     len
+}
+
+/// The length in the output of an operation that stands inside an entry value, in bytes.
+pub fn new_plain_length(op: &PlainOp) -> u64
+    ensures { result ≡ plain_len (operands_of op.now.code) op.now.bytes }
+{
+    plain_length(operands_after(op.code), op.bytes.as_slice())
 }
 
 /// The length of an operation that is no entry value, by its operands.

@@ -4,9 +4,9 @@
 //! that the table of `dwarf_types` lists (`operands_after`), and two of GNU's. [`walk`] gives `walk_of`
 //! of the expression's bytes (`specs/Reading.antt`), which goes by the same table, or the first fault;
 //! [`expressions_are_read_as_spelled`] says the same by a relation (`specs/Spelling.antt`), both ways.
-//! [`new_length`] is the length of the expression in the output (`specs/Length.antt`). An expression is
-//! cut and never run: what an operation computes is not looked at, and addresses and base types stay
-//! the object's.
+//! [`new_length`] is the length of the expression in the output (`specs/Length.antt`), and
+//! [`new_op_length`] and [`new_plain_length`] are those of single operations. An expression is cut and
+//! never run: what an operation computes is not looked at, and addresses and base types stay the object's.
 #![tactic(auto)]
 
 mod expression;
@@ -16,7 +16,7 @@ mod op;
 
 pub use expression::walk;
 pub use laws::expressions_are_read_as_spelled;
-pub use length::new_length;
+pub use length::{new_length, new_op_length, new_plain_length};
 
 #[cfg(test)]
 mod tests;
