@@ -1,0 +1,4 @@
+mod Bases
+mod Cutting
+mod Each
+mod Meant

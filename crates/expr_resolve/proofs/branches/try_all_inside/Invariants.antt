@@ -1,0 +1,11 @@
+use Rattle.std.proofs.Common.{◌≡◌, ◌+◌, take, drop, Ok}
+use Rattle.std.specs.List.{sum_by}
+use Rattle.ds_base.specs.Reading.{◌>>=◌}
+use Rattle.expr_resolve.specs.Context.{context_in}
+use Rattle.expr_resolve.specs.Expressions.{each_from, inner_tried, op_size}
+use Rattle.expr_resolve.proofs.branches.try_all_inside.Given as goal
+
+abbrev pub invariant-loop-op : goal.invariant-loop-op
+invariant-loop-op l =
+    ((each_from op_size (inner_tried (context_in l.context)) l.place (drop l.op-index l.ops) >>= λ _. Ok (tt {0})) ≡ (each_from op_size (inner_tried (context_in l.context)) l.first l.ops >>= λ _. Ok (tt {0})))
+    × (l.place ≡ l.first + sum_by op_size (take l.op-index l.ops))

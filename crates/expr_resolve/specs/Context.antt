@@ -1,0 +1,26 @@
+-- What an expression of an object is understood by: where it stands, and the base types that it may name.
+use Rattle.std.specs.Prelude.{ℕ, ◌<◌, List}
+use Rattle.std.specs.List.{AllPairs}
+use Rattle.ds_base.specs.declared.fault.Part.{Part}
+use Rattle.macho_read.specs.declared.image.Image.{Image}
+use Rattle.reloc_table.specs.declared.relocation.Relocs.{Relocs}
+use Rattle.addr_map.specs.declared.map.AddrMap.{AddrMap}
+use Rattle.expr_resolve.specs.declared.context.BaseType.{BaseType}
+use Rattle.expr_resolve.specs.declared.context.ExprContext.{ExprContext}
+
+-- the object, and where in it the expression stands: its part of the file with the relocations there, and its unit by number and first byte
+pub record Context : Type 0 where
+  pub image : Image
+  pub map : AddrMap
+  pub bases : List BaseType
+  pub part : Part
+  pub relocs : Relocs
+  pub unit : ℕ
+  pub start : ℕ
+
+abbrev pub context_in : ExprContext → Context
+context_in c = record { image = c.image.now; map = c.map.now; bases = c.bases.now; part = c.part; relocs = c.relocs.now; unit = c.unit; start = c.start }
+
+-- each stands behind those before it
+abbrev pub AreInOrder : List BaseType → Type 0
+AreInOrder bases = AllPairs (λ b later. b.place < later.place) bases

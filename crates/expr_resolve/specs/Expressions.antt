@@ -1,0 +1,132 @@
+-- The operations of an object's expression (DWARF 4, section 7.7.1) with what their operands mean, or the first fault.
+use Rattle.std.specs.Prelude.{ℕ, ◌+◌, ◌-◌, ◌==◌, ◌&&◌, ◌||◌, not, Bool, List, [], ◌∷◌, length, drop, Option, Some, None, is_some, Result, Ok, if◌then◌else◌}
+use Rattle.std.specs.List.{find, list_any, sum_by}
+use Rattle.std.specs.Option.{option_map}
+use Rattle.byteorder.specs.Endian.{little_number}
+use Rattle.ds_base.specs.declared.dwarf.TheConstants.{DW_OP_addr, DW_OP_bra, DW_OP_const8u, DW_OP_convert, DW_OP_reinterpret, DW_OP_skip}
+use Rattle.ds_base.specs.declared.fault.Fault.{Fault}
+use Rattle.ds_base.specs.declared.fault.Kind.{Kind}
+use Rattle.ds_base.specs.declared.fault.Kind.TheVariants as kinds
+use Rattle.ds_base.specs.Reading.{◌>>=◌, or_fault, refuse_if}
+use Rattle.dwarf_types.specs.declared.address.Place.{Place}
+use Rattle.dwarf_types.specs.declared.expr.Base.{Base}
+use Rattle.dwarf_types.specs.declared.expr.Base.TheVariants as bases
+use Rattle.dwarf_types.specs.declared.expr.Op.{Op}
+use Rattle.dwarf_types.specs.declared.expr.PlainOp.{PlainOp}
+use Rattle.reloc_table.specs.Address.{address_of, reloc_at}
+use Rattle.expr_walk.specs.Length.{op_len, plain_len}
+use Rattle.expr_walk.specs.Reading.{walk_of}
+use Rattle.dwarf_types.specs.Operations.{operands_of}
+use Rattle.moved_parts.specs.Places.{place_of}
+use Rattle.expr_resolve.specs.Context.{Context}
+
+abbrev pub fault_in : Context → Kind → ℕ → Fault
+fault_in s kind place = record { kind = kind; section = s.part; place = place }
+
+-- ---- addresses
+
+-- The operand of DW_OP_addr is an address, and so is that of DW_OP_const8u where a relocation stands at it.
+abbrev pub holds_address : Context → ℕ → PlainOp → Bool
+holds_address s place op = op.code == DW_OP_addr || (op.code == DW_OP_const8u && is_some (reloc_at s.relocs (place + 1)))
+
+-- the number in the eight bytes behind the code, and what it means there
+abbrev pub operand_place : Context → ℕ → PlainOp → Place
+operand_place s place op = place_of s.map (address_of s.image s.relocs (place + 1) (little_number 8 (drop 1 op.bytes)))
+
+-- the address of an operation that begins at a place
+abbrev pub address_meant : Context → ℕ → PlainOp → Option Place
+address_meant s place op = if holds_address s place op then Some (operand_place s place op) else None
+
+-- ---- base types
+
+-- "The operand 0 is the generic type" in conversions alone.
+abbrev pub is_conversion : ℕ → Bool
+is_conversion code = code == DW_OP_convert || code == DW_OP_reinterpret
+
+-- the base type that an operation of a code names: one of the unit stands at the place, which counts from the unit's first byte
+abbrev pub base_named : Context → ℕ → Base → Option Base
+base_named s code bases.Generic = if is_conversion code then Some bases.Generic else None
+base_named s code (bases.Entry n) = option_map (λ b. bases.Entry b.entry) (find (λ b. b.unit == s.unit && b.place == s.start + n) s.bases)
+
+-- the base type of an operation that begins at a place, if it names one
+abbrev pub base_meant : Context → ℕ → ℕ → Option Base → Result (Option Base) Fault
+base_meant s place code None = Ok None
+base_meant s place code (Some base) = or_fault (base_named s code base) (fault_in s kinds.BadOperandType place) >>= λ meant. Ok (Some meant)
+
+-- ---- operations
+
+-- an operation that begins at a place, and is no entry value
+abbrev pub plain_meant : Context → ℕ → PlainOp → Result PlainOp Fault
+plain_meant s place op = base_meant s place op.code op.base >>= λ base. Ok (record op { address = address_meant s place op; base = base })
+
+-- items one after the other, the first of which begins at a place
+abbrev pub each_from : {A B : Type 0} → (A → ℕ) → (ℕ → A → Result B Fault) → ℕ → List A → Result (List B) Fault
+each_from len meant place [] = Ok []
+each_from len meant place (x ∷ xs) = do
+  here ← meant place x
+  others ← each_from len meant (place + len x) xs
+  Ok (here ∷ others)
+
+abbrev pub plain_size : PlainOp → ℕ
+plain_size op = length op.bytes
+
+abbrev pub op_size : Op → ℕ
+op_size op = length op.bytes
+
+-- the expression inside an entry value stands at its end
+abbrev pub inner_start : ℕ → Op → ℕ
+inner_start place op = place + length op.bytes - sum_by plain_size op.inner
+
+-- an operation without those inside, and with others
+abbrev pub outer_part : Op → PlainOp
+outer_part op = record { code = op.code; bytes = op.bytes; address = op.address; base = op.base }
+
+abbrev pub with_inner : PlainOp → List PlainOp → Op
+with_inner op inner = record { code = op.code; bytes = op.bytes; address = op.address; base = op.base; inner = inner }
+
+-- an operation that begins at a place: first its own operands, then those of the operations inside
+abbrev pub op_meant : Context → ℕ → Op → Result Op Fault
+op_meant s place op = do
+  outer ← plain_meant s place (outer_part op)
+  inner ← each_from plain_size (plain_meant s) (inner_start place op) op.inner
+  Ok (with_inner outer inner)
+
+-- ---- branches
+
+abbrev pub is_branch : ℕ → Bool
+is_branch code = code == DW_OP_bra || code == DW_OP_skip
+
+-- the operation has another length in the output
+abbrev pub plain_changes : PlainOp → Bool
+plain_changes op = not (plain_len (operands_of op.code) op.bytes == length op.bytes)
+
+abbrev pub op_changes : Op → Bool
+op_changes op = not (op_len (operands_of op.code) op == length op.bytes)
+
+-- an expression branches, while one of its operations changes its length
+abbrev pub plain_branches_over : List PlainOp → Bool
+plain_branches_over ops = list_any (λ op. is_branch op.code) ops && list_any plain_changes ops
+
+abbrev pub branches_over : List Op → Bool
+branches_over ops = list_any (λ op. is_branch op.code) ops && list_any op_changes ops
+
+-- the expression inside an operation that begins at a place
+abbrev pub inner_tried : Context → ℕ → Op → Result (Unit {0}) Fault
+inner_tried s place op = refuse_if (plain_branches_over op.inner) (fault_in s kinds.BranchOverRewrite (inner_start place op))
+
+-- an expression that begins at a place, and then those inside its operations in order
+abbrev pub branches_tried : Context → ℕ → List Op → Result (Unit {0}) Fault
+branches_tried s first ops = do
+  _ ← refuse_if (branches_over ops) (fault_in s kinds.BranchOverRewrite first)
+  _ ← each_from op_size (inner_tried s) first ops
+  Ok tt
+
+-- ---- the expression
+
+-- first all its operations, then what their operands mean, then its branches
+unfoldable pub expression_of : Context → List ℕ → ℕ → Result (List Op) Fault
+expression_of s bytes first = do
+  ops ← walk_of bytes s.part first
+  meant ← each_from op_size (op_meant s) first ops
+  _ ← branches_tried s first ops
+  Ok meant

@@ -1,0 +1,4 @@
+pub mod Context
+pub mod Expressions
+pub mod Sound
+pub mod Steps

@@ -1,0 +1,75 @@
+//! An expression: its operations, understood.
+
+ghost use Rattle.std.specs.Prelude.{◌≡◌, ◌+◌, ◌*◌, ◌^◌, ◌≤◌, ◌<◌, length, IfOk};
+ghost use Rattle.std.specs.List.{All, sum_by};
+ghost use Rattle.ds_base.specs.Reading.{Gives};
+ghost use Rattle.macho_read.specs.Sound.{IsSound as IsSoundImage};
+ghost use Rattle.reloc_table.specs.Sound.{IsSound as AreSoundRelocs};
+ghost use Rattle.addr_map.specs.Sound.{IsSound as IsSoundMap};
+ghost use Rattle.expr_walk.specs.Length.{ops_len};
+ghost use Rattle.expr_walk.specs.Reading.{walk_of};
+ghost use Rattle.expr_resolve.specs.Context.{context_in, AreInOrder};
+ghost use Rattle.expr_resolve.specs.Steps.{IsCut};
+ghost use Rattle.expr_resolve.specs.Expressions.{expression_of, op_size};
+ghost use Rattle.expr_resolve.specs.Sound.{NameKnown};
+
+use crate::branches::try_branches;
+use crate::context::ExprContext;
+use crate::operations::resolve_ops;
+use ds_base::{List, ReadError};
+use dwarf_types::Op;
+use expr_walk::walk;
+use std::alloc::Global;
+
+/// The operations of an expression, with what their operands mean (DWARF 4, section 7.7.1).
+///
+/// `first` is the place of its first byte, in bytes from the start of its part of the file, and faults are placed from
+/// there too. The operand of `DW_OP_addr` is an address, and so is that of `DW_OP_const8u` where a relocation stands at
+/// it. A base type is told by the number of its entry in the object. First all operations are cut, with the faults of
+/// `walk`. Then each in order, and those inside an entry value behind it, is `BadOperandType` at its first byte where it
+/// names no base type of the unit; the generic type, spelled 0, may be named in conversions alone. Last comes
+/// `BranchOverRewrite` at the first byte of an expression that branches while one of its operations has another length
+/// in the output, the outermost expression before those inside.
+#[tactic(auto, unfolding(crate::specs::Expressions::expression_of))]
+pub fn read_expression(
+    alloc: Global,
+    context: &ExprContext,
+    bytes: &[u8],
+    first: u64,
+) -> Result<List<Op>, ReadError>
+    requires image { IsSoundImage context.now.image.now }
+    requires relocs { AreSoundRelocs context.now.image.now context.now.relocs.now }
+    requires map { IsSoundMap context.now.map.now }
+    requires order { AreInOrder context.now.bases.now }
+    requires inside { first + length bytes.now < 2 ^ 32 }
+    ensures exact { Gives (λ ops. ops) result (expression_of (context_in context.now) bytes.now first) }
+
+    // Each base type that the operations name is one of the expression's unit.
+    ensures known { IfOk result (NameKnown (context_in context.now)) }
+
+    // The length in the output has a bound, so that `new_length` may be called.
+    ensures short { IfOk result (λ ops. ops_len ops ≤ 16 * length bytes.now) }
+{
+    let mut ops = cut(alloc, context, bytes, first)?;
+    // Told last: what is wrong with an operand comes before it.
+    let branches = try_branches(context, first, ops.as_slice());
+    resolve_ops(context, first, ops.as_mut_slice())?;
+    branches?;
+    Ok(ops)
+}
+
+/// The operations of an expression as they are stored.
+fn cut(
+    alloc: Global,
+    context: &ExprContext,
+    bytes: &[u8],
+    first: u64,
+) -> Result<List<Op>, ReadError>
+    requires { first + length bytes.now < 2 ^ 32 }
+    ensures exact { Gives (λ ops. ops) result (walk_of bytes.now context.now.part first) }
+    ensures cut { IfOk result (All IsCut) }
+    ensures size { IfOk result (λ ops. sum_by op_size ops ≡ length bytes.now) }
+    ensures short { IfOk result (λ ops. ops_len ops ≤ 16 * length bytes.now) }
+{
+    walk(alloc, bytes, context.part, first)
+}

@@ -1,0 +1,20 @@
+//! Expressions of an object, with what their operands mean.
+//!
+//! Layer: object readers. [`read_expression`] cuts an expression into its operations (DWARF 4, section 7.7.1) and gives
+//! `expression_of` it (`specs/Expressions.antt`): addresses with where they went, base types by their entries, or the
+//! first fault. An expression is never run.
+#![tactic(auto)]
+
+mod branches;
+mod context;
+mod expression;
+mod length;
+mod lookup;
+mod operand;
+mod operations;
+
+pub use context::{BaseType, ExprContext};
+pub use expression::read_expression;
+
+#[cfg(test)]
+mod tests;

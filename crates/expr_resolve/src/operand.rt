@@ -1,0 +1,123 @@
+//! Operands: the address or the base type that an operation names.
+
+ghost use Rattle.std.specs.Prelude.{◌≡◌, ◌+◌, ◌^◌, ◌<◌, ◌≤◌, [], length};
+ghost use Rattle.ds_base.specs.Reading.{Finds};
+ghost use Rattle.expr_resolve.specs.Context.{context_in, AreInOrder};
+ghost use Rattle.expr_resolve.specs.Steps.{bare, HoldsOperand, IsSoundContext, Leaves};
+ghost use Rattle.expr_resolve.specs.Expressions.{address_meant, base_meant, base_named, fault_in, holds_address, is_conversion, operand_place, plain_meant};
+
+use crate::context::ExprContext;
+use crate::lookup::{find_base, is_relocated};
+use byteorder::{ByteOrder, LittleEndian};
+use ds_base::dwarf::{DW_OP_addr, DW_OP_const8u, DW_OP_convert, DW_OP_reinterpret};
+use ds_base::{Fault, Kind};
+use dwarf_types::{Base, Place, PlainOp};
+use moved_parts::place as place_of;
+use reloc_table::resolve;
+
+/// A fault of the expression's part of the file.
+pub(crate) fn fault_at(context: &ExprContext, kind: Kind, place: u64) -> Fault
+    ensures { result ≡ fault_in (context_in context.now) kind place }
+{
+    Fault {
+        kind,
+        section: context.part,
+        place,
+    }
+}
+
+/// Puts in place what the operands of an operation mean that is no entry value. `place` is that of its first byte.
+pub(crate) fn resolve_plain(
+    context: &ExprContext,
+    place: u64,
+    op: &mut PlainOp,
+) -> Result<(), Fault>
+    requires sound { IsSoundContext (context_in context.now) }
+    requires operand { HoldsOperand op.old.code op.old.bytes }
+    requires inside { place + length op.old.bytes < 2 ^ 32 }
+    ensures { Leaves result op.new (plain_meant (context_in context.now) place op.old) }
+{
+    op.base = resolve_base(context, place, op.code, op.base)?;
+    op.address = address_in(context, place, op.code, op.bytes.as_slice());
+    Ok(())
+}
+
+/// The entry of the base type that an operation names, where it names one. `place` is that of its first byte.
+pub(crate) fn resolve_base(
+    context: &ExprContext,
+    place: u64,
+    code: u8,
+    base: Option<Base>,
+) -> Result<Option<Base>, Fault>
+    requires { AreInOrder context.now.bases.now }
+    ensures { Finds (λ meant. meant) result (base_meant (context_in context.now) place code base) }
+{
+    let Some(base) = base else {
+        return Ok(None);
+    };
+    match find_named(context, code, base) {
+        Some(meant) => Ok(Some(meant)),
+        None => Err(fault_at(context, Kind::BadOperandType, place)),
+    }
+}
+
+/// The base type that an operation of this code names, by its entry.
+fn find_named(context: &ExprContext, code: u8, base: Base) -> Option<Base>
+    requires { AreInOrder context.now.bases.now }
+    ensures { result ≡ base_named (context_in context.now) code base }
+{
+    match base {
+        Base::Generic if takes_generic(code) => Some(Base::Generic),
+        Base::Generic => None,
+        Base::Entry(at) => {
+            let place = u64::from(context.start) + u64::from(at);
+            match find_base(context.bases, context.unit, place) {
+                Some(entry) => Some(Base::Entry(entry)),
+                None => None,
+            }
+        }
+    }
+}
+
+/// Whether the generic type may be named: in conversions alone.
+fn takes_generic(code: u8) -> bool
+    ensures { result ≡ is_conversion code }
+{
+    code == DW_OP_convert || code == DW_OP_reinterpret
+}
+
+/// The address that an operation has, where it has one. `place` is that of its first byte.
+pub(crate) fn address_in(context: &ExprContext, place: u64, code: u8, bytes: &[u8]) -> Option<Place>
+    requires sound { IsSoundContext (context_in context.now) }
+    requires operand { HoldsOperand code bytes.now }
+    requires inside { place + length bytes.now < 2 ^ 32 }
+    ensures { result ≡ address_meant (context_in context.now) place (bare code bytes.now) }
+{
+    if has_address(context, place, code) {
+        Some(operand_address(context, place, bytes))
+    } else {
+        None
+    }
+}
+
+/// Whether the operand of an operation is an address: of `DW_OP_addr` always, and of `DW_OP_const8u` where a relocation
+/// stands at it.
+fn has_address(context: &ExprContext, place: u64, code: u8) -> bool
+    requires sound { IsSoundContext (context_in context.now) }
+    requires inside { place < 2 ^ 32 }
+    ensures { result ≡ holds_address (context_in context.now) place (bare code []) }
+{
+    code == DW_OP_addr || (code == DW_OP_const8u && is_relocated(context.relocs, place + 1))
+}
+
+/// What the number in the eight bytes behind the code means, and where that went.
+fn operand_address(context: &ExprContext, place: u64, bytes: &[u8]) -> Place
+    requires sound { IsSoundContext (context_in context.now) }
+    requires operand { 9 ≤ length bytes.now }
+    requires inside { place + length bytes.now < 2 ^ 32 }
+    ensures { result ≡ operand_place (context_in context.now) place (bare 0 bytes.now) }
+{
+    let stored = LittleEndian::read_u64(&bytes[1..]);
+    let at = resolve(context.relocs, context.image, place as u32 + 1, stored);
+    place_of(context.map, at)
+}
