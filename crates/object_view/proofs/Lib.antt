@@ -1,2 +1,16 @@
+pub mod Assembling
+pub mod Definitions
+pub mod EachOf
+pub mod FileBytes
+pub mod Items
+pub mod Kept
+pub mod KnownTypes
+pub mod Marking
+pub mod Names
 pub mod Opening
+pub mod Ordered
+pub mod Places
+pub mod RawValues
+pub mod SoundAnalysis
+pub mod Soundness
 pub mod Trying

@@ -1,4 +1,10 @@
+pub mod Analysis
+pub mod Attributes
+pub mod Code
 pub mod Opened
 pub mod Parts
+pub mod Ready
 pub mod Seen
 pub mod Sound
+pub mod Stages
+pub mod Units

@@ -1,14 +1,29 @@
-//! One object: its image, its debug sections, and their relocations.
+//! One object: its image, its debug sections, and what these say of the code that was linked.
 //!
 //! Layer: object readers. [`open_object`] gives `opened_of` the bytes (`specs/Opened.antt`): what every reader of a
-//! debug section stands on, or the object's first fault up to its relocations. What the sections say is not looked at
-//! here yet.
+//! debug section stands on, or the object's first fault up to its relocations. [`analyse`] gives `analysis_of` them
+//! (`specs/Analysis.antt`): units and entries with moved addresses, expressions, line tables, range and location lists
+//! (`specs/Attributes.antt`), the code of subprograms (`specs/Code.antt`) and the frames that are kept, or the object's
+//! first fault. It is a list of steps in the order of faults, over readers that stand on their own. Which entries are
+//! kept is not said here.
 #![tactic(auto)]
 
+mod analysis;
+mod attributes;
+mod code;
+mod expressions;
+mod line_tables;
+mod locations;
 mod open;
+mod ranges;
 mod sections;
+mod steps;
+mod units;
 
+pub use analysis::analyse;
 pub use open::{DebugRelocs, OpenObject, open_object};
 
 #[cfg(test)]
 mod tests;
+#[cfg(test)]
+mod tests_analysis;

@@ -1,11 +1,12 @@
 //! An object, opened: what every reader of its debug sections stands on.
 
-ghost use Rattle.std.specs.Prelude.{◌≡◌, [], IfOk};
+ghost use Rattle.std.specs.Prelude.{◌≡◌, ◌<◌, ◌^◌, [], length, IfOk};
 ghost use Rattle.ds_base.specs.Reading.{Gives};
+ghost use Rattle.dwarf_types.specs.SectionBytes.{bytes_in};
 ghost use Rattle.macho_read.specs.Sound.{IsSound as IsSoundImage};
 ghost use Rattle.reloc_table.specs.Sound.{IsSound};
 ghost use Rattle.object_view.specs.Opened as spec;
-ghost use Rattle.object_view.specs.Sound.{AreSound};
+ghost use Rattle.object_view.specs.Sound.{AreSmall, AreSound};
 
 use crate::sections::{check_sections, section_of, sections_in};
 use ds_base::{List, Part, ReadError};
@@ -45,6 +46,7 @@ pub fn open_object(alloc: Global, bytes: &[u8], cpu: u32) -> Result<OpenObject<'
     ensures exact { Gives spec.opened_seen result (spec.opened_of bytes.now cpu) }
     ensures sound_image { IfOk result (λ o. IsSoundImage o.image) }
     ensures sound { IfOk result (λ o. AreSound o.image o.relocs) }
+    ensures small { length bytes.now < 2 ^ 32 → IfOk result (λ o. AreSmall (bytes_in o.sections)) }
 {
     let image = read_image(alloc, bytes)?;
     check_kind(&image, Role::Object { cpu })?;

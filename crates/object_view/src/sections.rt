@@ -1,6 +1,6 @@
 //! The debug sections of an object: which count, which are tried, and their bytes.
 
-ghost use Rattle.std.specs.Prelude.{◌≡◌, [], ◌∷◌, ◌++◌, List as Listed, length, IsTrue, IfSome, OnOk};
+ghost use Rattle.std.specs.Prelude.{◌≡◌, ◌≤◌, ◌<◌, ◌^◌, [], ◌∷◌, ◌++◌, List as Listed, length, IsTrue, IfSome, OnOk};
 ghost use Rattle.std.specs.List.{list_any};
 ghost use Rattle.std.specs.Option.{option_copied};
 ghost use Rattle.ds_base.specs.Reading.{Gives};
@@ -10,6 +10,7 @@ ghost use Rattle.reloc_table.specs.Table;
 ghost use Rattle.object_view.specs.Opened;
 ghost use Rattle.object_view.specs.Parts as spec;
 ghost use Rattle.object_view.specs.Seen.{AreParts};
+ghost use Rattle.object_view.specs.Sound.{AreSmall};
 
 use ds_base::{List, Part, ReadError, bytes_from};
 use dwarf_types::Sections;
@@ -48,7 +49,8 @@ pub(crate) fn section_of(sections: &[Section], part: Part) -> Option<&Section>
 
 /// The bytes of a part of the file; a section that is not there has none.
 fn part_bytes<'a>(bytes: &'a [u8], sections: &[Section], part: Part) -> &'a [u8]
-    ensures { result.now ≡ spec.part_bytes bytes.now sections.now part }
+    ensures is { result.now ≡ spec.part_bytes bytes.now sections.now part }
+    ensures within { length result.now ≤ length bytes.now }
 {
     match section_of(sections, part) {
         Some(section) => content_of(bytes, section),
@@ -58,7 +60,8 @@ fn part_bytes<'a>(bytes: &'a [u8], sections: &[Section], part: Part) -> &'a [u8]
 
 /// The bytes of a section, as far as the file has them.
 fn content_of<'a>(bytes: &'a [u8], section: &Section) -> &'a [u8]
-    ensures { result.now ≡ spec.content_of bytes.now section.now }
+    ensures is { result.now ≡ spec.content_of bytes.now section.now }
+    ensures within { length result.now ≤ length bytes.now }
 {
     let start = section.offset as usize;
     if bytes.len() < start {
@@ -74,7 +77,8 @@ fn content_of<'a>(bytes: &'a [u8], section: &Section) -> &'a [u8]
 
 /// The bytes of all debug sections.
 pub(crate) fn sections_in<'a>(bytes: &'a [u8], sections: &[Section]) -> Sections<'a>
-    ensures { bytes_in result ≡ Opened.sections_in bytes.now sections.now }
+    ensures are { bytes_in result ≡ Opened.sections_in bytes.now sections.now }
+    ensures small { length bytes.now < 2 ^ 32 → AreSmall (bytes_in result) }
 {
     Sections {
         info: part_bytes(bytes, sections, Part::Info),

@@ -1,0 +1,219 @@
+-- Every analysis is sound, where the units that it was made of are.
+use Rattle.std.proofs.Common.{◌≡◌, ℕ, suc, ◌+◌, ◌<◌, ◌≤◌, ◌==◌, Bool, true, false, List, [], ◌∷◌, ◌++◌, map, Option, Some, None, length, get_or, slice_get, Result, Ok, Err, refl, sym, ap, subst, ◌∙◌, arith}
+use Rattle.std.specs.Prelude.{if◌then◌else◌, IfOk}
+use Rattle.std.specs.List.{All, enumerate_from, flat_map}
+use Rattle.std.specs.Option.{option_and_then}
+use Rattle.std.proofs.lemmas.Bool.{eqb-true}
+use Rattle.std.proofs.lemmas.List.{length-map}
+use Rattle.std.proofs.lemmas.List.Concat.{flat_map-cons}
+use Rattle.std.proofs.lemmas.List.Elements.{All-nil, All-cons, All-contains}
+use Rattle.std.proofs.lemmas.Option.{get_or_from_slice_get, slice_get_within}
+use Rattle.ds_base.specs.declared.dwarf.TheConstants.{DW_TAG_base_type, DW_TAG_subprogram}
+use Rattle.ds_base.specs.declared.fault.Fault.{Fault}
+use Rattle.ds_base.specs.declared.fault.ReadError.{ReadError}
+use Rattle.ds_base.specs.Reading.{◌>>=◌, Gives}
+use Rattle.dwarf_types.specs.declared.address.Span.{Span}
+use Rattle.dwarf_types.specs.declared.analysis.Analysis.{Analysis}
+use Rattle.dwarf_types.specs.declared.analysis.CodeRange.{CodeRange}
+use Rattle.dwarf_types.specs.declared.entry.Attr.{Attr}
+use Rattle.dwarf_types.specs.declared.entry.Entry.{Entry}
+use Rattle.dwarf_types.specs.declared.entry.InUnit.{InUnit}
+use Rattle.dwarf_types.specs.declared.entry.RawUnits.{RawUnits}
+use Rattle.dwarf_types.specs.declared.lines.RawLines.{RawLines}
+use Rattle.dwarf_types.specs.declared.value.Value.{Value}
+use Rattle.dwarf_types.specs.Live.{Stands, bases_of, op_bases, operations_of}
+use Rattle.dwarf_types.specs.Sound.{AreCodeRanges, AreUnits, IsBaseType, IsParent, IsSound, IsSoundEntry}
+use Rattle.ds_base.proofs.Passing.{bind_ok, ok_is}
+use Rattle.addr_map.specs.declared.map.AddrMap.{AddrMap}
+use Rattle.frame_table.specs.Frames.{frames_of}
+use Rattle.line_read.specs.Program.{lines_of}
+use Rattle.moved_parts.specs.Frames.{frames_moved}
+use Rattle.moved_parts.specs.Lines.{lines_moved}
+use Rattle.expr_resolve.specs.declared.context.BaseType.{BaseType}
+use Rattle.unit_tree.specs.Sound.{AreSound}
+use Rattle.object_view.specs.Analysis.{units_analysed}
+use Rattle.object_view.specs.Attributes.{all_marked, entries_by, entries_meant, info_context, line_place, loc_context, locations_meant, ranges_meant, unit_base, unit_with_lines, units_meant, value_meant}
+use Rattle.object_view.specs.Code.{code_of, code_ranges, low_high_pieces, ranges_pieces}
+use Rattle.object_view.specs.Opened.{Opened}
+use Rattle.object_view.specs.Stages.{analysed}
+use Rattle.object_view.specs.Units.{base_types, places_of, unit_start}
+use Rattle.object_view.proofs.Definitions.{analysed_same}
+use Rattle.object_view.proofs.Kept.{Kept, all_kept, bare, each_kept, entries_kept, stood, types_kept}
+use Rattle.object_view.proofs.KnownTypes.{IsTypeOf}
+use Rattle.object_view.proofs.Names.{all_flat}
+use Rattle.object_view.proofs.Ordered.{as_type, types_from, types_step, with_type}
+use Rattle.object_view.proofs.RawValues.{IsPlain, IsPlainEntry}
+use Rattle.object_view.proofs.Soundness.{AreGood, IsGood, all_marked_good, locations_good, ranges_good, step_all, value_good}
+
+-- ---- units
+
+abbrev span_of : InUnit → ℕ × ℕ
+span_of u = (u.first, u.count)
+
+lines_kept : (o : Opened) (m : AddrMap) (u now : InUnit) (place : Option ℕ) → unit_with_lines o m u place ≡ Ok now → span_of now ≡ span_of u
+lines_kept o m u now None e = ap span_of (sym (ok_is u now e))
+lines_kept o m u now (Some place) e =
+    let lines = bind_ok (lines_of o.image o.relocs.line o.sections.line place) (λ (lines : RawLines). Ok (record u { lines = Some (lines_moved m lines) })) now e in
+    ap span_of (sym (ok_is (record u { lines = Some (lines_moved m lines.0) }) now lines.2))
+
+units_kept : (o : Opened) (m : AddrMap) (entries : List Entry) (units now : List InUnit) → units_meant o m entries units ≡ Ok now → map span_of now ≡ map span_of units
+units_kept o m entries units now e =
+    each_kept span_of (λ (u : InUnit). unit_with_lines o m u (option_and_then line_place (slice_get entries u.first))) (λ x y is. lines_kept o m x y (option_and_then line_place (slice_get entries x.first)) is) units now e
+
+are_units : (at : ℕ) (now old : List InUnit) (end : ℕ) → map span_of now ≡ map span_of old → AreUnits at old end → AreUnits at now end
+are_units at [] [] end e h = h
+are_units at [] (u ∷ old) end e h = absurd cc
+are_units at (v ∷ now) [] end e h = absurd cc
+are_units at (v ∷ now) (u ∷ old) end e h =
+    let heads : span_of v ≡ span_of u = cc in
+    let tails : map span_of now ≡ map span_of old = cc in
+    let first : v.first ≡ u.first = ap (λ (p : ℕ × ℕ). p.0) heads in
+    let count : v.count ≡ u.count = ap (λ (p : ℕ × ℕ). p.1) heads in
+    (first ∙ h.0, omega (arith, count, h.1), subst (λ (n : ℕ). AreUnits (at + n) now end) (sym count) (are_units (at + u.count) now old end tails h.2))
+
+parent_kept : (u v : InUnit) (k : ℕ) (p : Option ℕ) → v.first ≡ u.first → IsParent u k p → IsParent v k p
+parent_kept u v k None e h = h ∙ sym e
+parent_kept u v k (Some p) e h = (omega (arith, e, h.0), h.1)
+
+-- ---- base types
+
+abbrev IsTypeIn : List Entry → BaseType → Type 0
+IsTypeIn all b = IsBaseType all b.unit b.entry
+
+-- items stand in a list from a number on
+abbrev StandFrom : ℕ → List Entry → List Entry → Type 0
+StandFrom k entries all = (i : ℕ) (e : Entry) → slice_get entries i ≡ Some e → slice_get all (k + i) ≡ Some e
+
+stand_behind : (k : ℕ) (e : Entry) (entries all : List Entry) → StandFrom k (e ∷ entries) all → StandFrom (k + 1) entries all
+stand_behind k e entries all h i x is = subst (λ (n : ℕ). slice_get all n ≡ Some x) (omega arith) (h (suc i) x is)
+
+stand_first : (k : ℕ) (e : Entry) (entries all : List Entry) → StandFrom k (e ∷ entries) all → Stands all k e
+stand_first k e entries all h = subst (λ (n : ℕ). slice_get all n ≡ Some e) (omega arith) (h 0 e refl)
+
+all_stand : (all : List Entry) → StandFrom 0 all all
+all_stand all i e is = let same : i ≡ 0 + i = omega arith in subst (λ (n : ℕ). slice_get all n ≡ Some e) same is
+
+with_type_in : (all : List Entry) (k : ℕ) (e : Entry) (b : Bool) (others : List BaseType) → (e.tag == DW_TAG_base_type) ≡ b → Stands all k e → All (IsTypeIn all) others → All (IsTypeIn all) (with_type b (as_type k e) others)
+with_type_in all k e true others is stands h = All-cons (IsTypeIn all) (as_type k e) others (record { entry = e; stands = stands; tag = eqb-true e.tag DW_TAG_base_type is; unit = refl }) h
+with_type_in all k e false others is stands h = h
+
+types_in : (all : List Entry) (k : ℕ) (entries : List Entry) → StandFrom k entries all → All (IsTypeIn all) (types_from k entries)
+types_in all k [] h = All-nil (IsTypeIn all)
+types_in all k (e ∷ entries) h =
+    subst (All (IsTypeIn all)) (sym (types_step k e entries (e.tag == DW_TAG_base_type) refl))
+    (with_type_in all k e (e.tag == DW_TAG_base_type) (types_from (k + 1) entries) refl (stand_first k e entries all h) (types_in all (k + 1) entries (stand_behind k e entries all h)))
+
+named_in : (all : List Entry) (unit j : ℕ) → IsTypeOf (base_types all) unit j → IsBaseType all unit j
+named_in all unit j h =
+    let there : IsTypeIn all h.base = All-contains (IsTypeIn all) (base_types all) h.base (types_in all 0 all (all_stand all)) h.known in
+    subst (λ (u : ℕ). IsBaseType all u j) h.its_unit (subst (λ (n : ℕ). IsBaseType all h.base.unit n) h.its_entry there)
+
+-- ---- code
+
+rise_from : (all : List Entry) (from to : ℕ) (code : List CodeRange) → from ≤ to → AreCodeRanges all to code → AreCodeRanges all from code
+rise_from all from to [] le h = tt
+rise_from all from to (r ∷ rs) le h = (omega (arith, le, h.0), h.1, h.2)
+
+abbrev as_code : ℕ → Span → CodeRange
+as_code k span = record { entry = k; span = span }
+
+spans_before : (all : List Entry) (from k : ℕ) (e : Entry) (spans : List Span) (others : List CodeRange) → from ≤ k → Stands all k e → e.tag ≡ DW_TAG_subprogram → AreCodeRanges all k others → AreCodeRanges all from (map (as_code k) spans ++ others)
+spans_before all from k e [] others le stands tag h = rise_from all from k others le h
+spans_before all from k e (span ∷ spans) others le stands tag h = (le, (e, stands, tag), spans_before all k k e spans others (omega arith) stands tag h)
+
+entry_before : (all : List Entry) (from k : ℕ) (e : Entry) (b : Bool) (spans : List Span) (others : List CodeRange) → from ≤ k → (e.tag == DW_TAG_subprogram) ≡ b → Stands all k e → AreCodeRanges all k others
+    → AreCodeRanges all from ((if b then map (as_code k) spans else []) ++ others)
+entry_before all from k e true spans others le is stands h = spans_before all from k e spans others le stands (eqb-true e.tag DW_TAG_subprogram is) h
+entry_before all from k e false spans others le is stands h = rise_from all from k others le h
+
+code_in : (m : AddrMap) (all : List Entry) (k : ℕ) (entries : List Entry) → StandFrom k entries all → AreCodeRanges all k (flat_map (code_ranges m) (enumerate_from k entries))
+code_in m all k [] h = tt
+code_in m all k (e ∷ entries) h =
+    let others = rise_from all k (k + 1) (flat_map (code_ranges m) (enumerate_from (k + 1) entries)) (omega arith) (code_in m all (k + 1) entries (stand_behind k e entries all h)) in
+    subst (AreCodeRanges all k) (sym (flat_map-cons (code_ranges m) (k, e) (enumerate_from (k + 1) entries)))
+    (entry_before all k k e (e.tag == DW_TAG_subprogram) (ranges_pieces e ++ low_high_pieces m e) (flat_map (code_ranges m) (enumerate_from (k + 1) entries)) (omega arith) refl (stand_first k e entries all h) others)
+
+-- ---- entries
+
+bases_known : (types : List BaseType) (count : ℕ) (e : Entry) → All (λ (a : Attr). IsGood types count e.unit a.value) e.attrs → All (IsTypeOf types e.unit) (bases_of e)
+bases_known types count e h =
+    all_flat (IsTypeOf types e.unit) (λ (a : Attr). flat_map op_bases (operations_of a.value)) e.attrs (λ k d lt.
+    all_flat (IsTypeOf types e.unit) op_bases (operations_of (get_or e.attrs k d).value) (IsGood.known (h k d lt)))
+
+entry_sound : (raw : RawUnits) (a : Analysis) → AreSound raw → Kept a.entries raw.entries → map span_of a.units ≡ map span_of raw.units → AreGood (base_types a.entries) (length a.entries) a.entries → (k : ℕ) (e : Entry) → Stands a.entries k e → IsSoundEntry a k e
+entry_sound raw a sound kept units good k e stands =
+    let was = stood bare a.entries raw.entries kept k e stands in
+    let unit_is : e.unit ≡ was.0.unit = ap (λ (x : Entry). x.unit) was.2 in
+    let parent_is : e.parent ≡ was.0.parent = ap (λ (x : Entry). x.parent) was.2 in
+    let lies = sound.entries k was.0 was.1 in
+    let now = stood span_of raw.units a.units (sym units) was.0.unit lies.unit lies.its_unit in
+    let first : now.0.first ≡ lies.unit.first = ap (λ (p : ℕ × ℕ). p.0) (sym now.2) in
+    let count : now.0.count ≡ lies.unit.count = ap (λ (p : ℕ × ℕ). p.1) (sym now.2) in
+    let from_first = lies.lies.from_first in
+    let before_end = lies.lies.before_end in
+    let here : All (λ (x : Attr). IsGood (base_types a.entries) (length a.entries) e.unit x.value) e.attrs =
+    subst (λ (x : Entry). All (λ (b : Attr). IsGood (base_types a.entries) (length a.entries) x.unit b.value) x.attrs) (get_or_from_slice_get a.entries k e e stands) (good k e (slice_get_within a.entries k e stands)) in
+    record {
+      unit = now.0;
+      its_unit = subst (λ (n : ℕ). slice_get a.units n ≡ Some now.0) (sym unit_is) now.1;
+      lies = record { from_first = omega (arith, first, from_first); before_end = omega (arith, first, count, before_end) };
+      parent = parent_kept lies.unit now.0 k e.parent first (subst (IsParent lies.unit k) (sym parent_is) lies.parent);
+      targets = λ attr j contains is. IsGood.target (All-contains (λ (x : Attr). IsGood (base_types a.entries) (length a.entries) e.unit x.value) e.attrs attr here contains) j is;
+      bases = λ j contains. named_in a.entries e.unit j (All-contains (IsTypeOf (base_types a.entries) e.unit) (bases_of e) j (bases_known (base_types a.entries) (length a.entries) e here) contains);
+    }
+
+-- ---- the analysis
+
+kept_length : (now old : List Entry) → Kept now old → length now ≡ length old
+kept_length now old kept = sym (length-map now bare) ∙ ap (λ (es : List Entry). length es) kept ∙ length-map old bare
+
+abbrev IsRaw : ℕ → ℕ → Value → Type 0
+IsRaw count unit value = IsPlain value × (0 < count)
+
+raw_all : (entries : List Entry) → All IsPlainEntry entries → All (λ (e : Entry). All (λ (a : Attr). IsRaw (length entries) e.unit a.value) e.attrs) entries
+raw_all entries h k d lt i x within = (h k d lt i x within, omega (arith, lt))
+
+pub analysis_sound : (o : Opened) (m : AddrMap) (raw : RawUnits) (a : Analysis) → AreSound raw → All IsPlainEntry raw.entries → units_analysed o m raw ≡ Ok a → IsSound a
+unfolding units_analysed
+analysis_sound o m raw a sound plain e =
+    let types : List BaseType = base_types raw.entries in
+    let count : ℕ = length raw.entries in
+    let last : List InUnit → List Entry → Result Analysis Fault = λ units entries. (frames_of o.image o.relocs.frame o.sections.frame >>= λ frames. Ok (record { units = units; entries = entries; code = code_of m entries; frames = frames_moved m frames })) in
+    let locate : List Entry → List Entry → Result (List Entry) Fault = λ meant ranged. entries_by (λ unit x. locations_meant o (loc_context o m meant unit (unit_start raw.units meant unit)) (unit_base raw.units meant unit) x x.value) ranged in
+    let range : List Entry → Result (List Entry) Fault = λ meant. entries_by (λ unit x. ranges_meant o m (unit_base raw.units meant unit) x x.value) (all_marked meant) in
+    let meant = bind_ok (entries_meant o m raw.units raw.entries) (λ meant. units_meant o m meant raw.units >>= λ units. range meant >>= λ ranged. locate meant ranged >>= λ entries. last units entries) a e in
+    let units = bind_ok (units_meant o m meant.0 raw.units) (λ units. range meant.0 >>= λ ranged. locate meant.0 ranged >>= λ entries. last units entries) a meant.2 in
+    let ranged = bind_ok (range meant.0) (λ ranged. locate meant.0 ranged >>= λ entries. last units.0 entries) a units.2 in
+    let entries = bind_ok (locate meant.0 ranged.0) (λ entries. last units.0 entries) a ranged.2 in
+    let frames = bind_ok (frames_of o.image o.relocs.frame o.sections.frame) (λ frames. Ok (record { units = units.0; entries = entries.0; code = code_of m entries.0; frames = frames_moved m frames })) a entries.2 in
+    let done : Analysis = record { units = units.0; entries = entries.0; code = code_of m entries.0; frames = frames_moved m frames.0 } in
+    let kept_meant : Kept meant.0 raw.entries = entries_kept (λ unit x. value_meant (info_context o m raw.entries unit (unit_start raw.units raw.entries unit)) (places_of raw.entries) x x.value) raw.entries meant.0 meant.1 in
+    let kept_ranged : Kept ranged.0 raw.entries = entries_kept (λ unit x. ranges_meant o m (unit_base raw.units meant.0 unit) x x.value) (all_marked meant.0) ranged.0 ranged.1 ∙ all_kept meant.0 ∙ kept_meant in
+    let kept : Kept entries.0 raw.entries = entries_kept (λ unit x. locations_meant o (loc_context o m meant.0 unit (unit_start raw.units meant.0 unit)) (unit_base raw.units meant.0 unit) x x.value) ranged.0 entries.0 entries.1 ∙ kept_ranged in
+    let same_count : length entries.0 ≡ count = kept_length entries.0 raw.entries kept in
+    let same_types : base_types entries.0 ≡ types = types_kept entries.0 raw.entries kept in
+    let long : length (places_of raw.entries) ≡ count = length-map raw.entries (λ (x : Entry). x.place) in
+    let understood : AreGood types count meant.0 = step_all (λ unit x. value_meant (info_context o m raw.entries unit (unit_start raw.units raw.entries unit)) (places_of raw.entries) x x.value) (IsRaw count) (IsGood types count)
+    (λ unit x now r is. value_good (info_context o m raw.entries unit (unit_start raw.units raw.entries unit)) (places_of raw.entries) count long r.1 x x.value now r.0 is) raw.entries meant.0 meant.1 (raw_all raw.entries plain) in
+    let with_ranges : AreGood types count ranged.0 = step_all (λ unit x. ranges_meant o m (unit_base raw.units meant.0 unit) x x.value) (IsGood types count) (IsGood types count)
+    (λ unit x now r is. ranges_good o m types count unit (unit_base raw.units meant.0 unit) x x.value now r is) (all_marked meant.0) ranged.0 ranged.1 (all_marked_good types count meant.0 understood) in
+    let located : AreGood types count entries.0 = step_all (λ unit x. locations_meant o (loc_context o m meant.0 unit (unit_start raw.units meant.0 unit)) (unit_base raw.units meant.0 unit) x x.value) (IsGood types count) (IsGood types count)
+    (λ unit x now r is.
+    let same : base_types meant.0 ≡ types = types_kept meant.0 raw.entries kept_meant in
+    subst (λ (ts : List BaseType). IsGood ts count unit now) same
+    (locations_good o (loc_context o m meant.0 unit (unit_start raw.units meant.0 unit)) count (unit_base raw.units meant.0 unit) x x.value now (subst (λ (ts : List BaseType). IsGood ts count unit x.value) (sym same) r) is)) ranged.0 entries.0 entries.1 with_ranges in
+    let good : AreGood (base_types entries.0) (length entries.0) entries.0 =
+    subst (λ (ts : List BaseType). AreGood ts (length entries.0) entries.0) (sym same_types) (subst (λ (n : ℕ). AreGood types n entries.0) (sym same_count) located) in
+    let same_units = units_kept o m meant.0 raw.units units.0 units.1 in
+    let few = sound.few in
+    subst IsSound (ok_is done a frames.2) (record {
+      few = omega (arith, few, same_count);
+      units = subst (AreUnits 0 units.0) (sym same_count) (are_units 0 units.0 raw.units count same_units sound.units);
+      entries = λ k x stands. entry_sound raw done sound kept same_units good k x stands;
+      code = code_in m entries.0 0 entries.0 (all_stand entries.0);
+    })
+
+-- what the stations make
+pub gives_sound : (o : Opened) (m : AddrMap) (raw : RawUnits) (r : Result Analysis ReadError) → AreSound raw → All IsPlainEntry raw.entries → Gives (λ (a : Analysis). a) r (analysed o m raw) → IfOk r IsSound
+gives_sound o m raw (Ok a) sound plain gives = analysis_sound o m raw a sound plain (sym (analysed_same o m raw) ∙ gives)
+gives_sound o m raw (Err e) sound plain gives = tt

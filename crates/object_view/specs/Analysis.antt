@@ -1,0 +1,33 @@
+-- An object's analysis, or its first fault: its steps one after the other.
+use Rattle.std.specs.Prelude.{ℕ, List, Result, Ok}
+use Rattle.ds_base.specs.declared.fault.Fault.{Fault}
+use Rattle.ds_base.specs.Reading.{◌>>=◌}
+use Rattle.dwarf_types.specs.declared.analysis.Analysis.{Analysis}
+use Rattle.dwarf_types.specs.declared.entry.RawUnits.{RawUnits}
+use Rattle.stab_map.specs.declared.object.MapObject.{MapObject}
+use Rattle.addr_map.specs.declared.map.AddrMap.{AddrMap}
+use Rattle.addr_map.specs.Ranges.{map_of}
+use Rattle.frame_table.specs.Frames.{frames_of}
+use Rattle.unit_tree.specs.Unit.{units_of}
+use Rattle.moved_parts.specs.Frames.{frames_moved}
+use Rattle.object_view.specs.Attributes.{all_marked, entries_by, entries_meant, loc_context, locations_meant, ranges_meant, unit_base, units_meant}
+use Rattle.object_view.specs.Code.{code_of}
+use Rattle.object_view.specs.Opened.{Opened, opened_of}
+use Rattle.object_view.specs.Units.{unit_start}
+
+-- what the units that were read mean: expressions, line tables, range lists, location lists, frames
+unfoldable pub units_analysed : Opened → AddrMap → RawUnits → Result Analysis Fault
+units_analysed o map raw = do
+  meant ← entries_meant o map raw.units raw.entries
+  units ← units_meant o map meant raw.units
+  ranged ← entries_by (λ unit a. ranges_meant o map (unit_base raw.units meant unit) a a.value) (all_marked meant)
+  entries ← entries_by (λ unit a. locations_meant o (loc_context o map meant unit (unit_start raw.units meant unit)) (unit_base raw.units meant unit) a a.value) ranged
+  frames ← frames_of o.image o.relocs.frame o.sections.frame
+  Ok (record { units = units; entries = entries; code = code_of map entries; frames = frames_moved map frames })
+
+-- the object in a file's bytes, for a program of a CPU type, by its part of the debug map
+unfoldable pub analysis_of : List ℕ → MapObject → ℕ → Result Analysis Fault
+analysis_of bytes object cpu = do
+  o ← opened_of bytes cpu
+  raw ← units_of o.sections
+  units_analysed o (map_of object o.image) raw

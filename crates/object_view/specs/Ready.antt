@@ -1,0 +1,71 @@
+-- Stations between the code and the definitions: the contexts of an object's expressions, and what must hold of them.
+use Rattle.std.specs.Prelude.{ℕ, ◌+◌, ◌-◌, ◌^◌, ◌<◌, ◌==◌, List, ◌++◌, length, slice_get, Result, Ok, if◌then◌else◌}
+use Rattle.std.specs.List.{AllPairs, flat_map}
+use Rattle.std.specs.Option.{unwrap_or}
+use Rattle.ds_base.specs.declared.dwarf.TheConstants.{DW_FORM_exprloc}
+use Rattle.ds_base.specs.declared.fault.Fault.{Fault}
+use Rattle.ds_base.specs.Reading.{◌>>=◌}
+use Rattle.dwarf_types.specs.declared.address.Addr.{Addr}
+use Rattle.dwarf_types.specs.declared.address.Addr.TheVariants as addrs
+use Rattle.dwarf_types.specs.declared.lists.Location.{Location}
+use Rattle.dwarf_types.specs.declared.lists.RawLocation.{RawLocation}
+use Rattle.dwarf_types.specs.declared.value.Value.{Value}
+use Rattle.dwarf_types.specs.declared.value.Value.TheVariants as values
+use Rattle.macho_read.specs.Sound.{IsSound as IsSoundImage}
+use Rattle.reloc_table.specs.Sound.{IsSound as AreSoundRelocs}
+use Rattle.addr_map.specs.declared.map.AddrMap.{AddrMap}
+use Rattle.addr_map.specs.Sound.{IsSound as IsSoundMap}
+use Rattle.list_items.specs.Sound.{IsSoundSpan}
+use Rattle.expr_resolve.specs.Context.{Context, AreInOrder}
+use Rattle.expr_resolve.specs.Expressions.{expression_of}
+use Rattle.object_view.specs.declared.expressions.Expressions.{Expressions}
+use Rattle.object_view.specs.Attributes.{each_of, item_meant, item_moved}
+use Rattle.object_view.specs.Opened.{Opened}
+use Rattle.object_view.specs.Sound.{AreSmall, AreSound}
+
+-- an expression of a unit
+abbrev pub context_of : Expressions → ℕ → Context
+context_of e unit =
+    record { image = e.image.now; map = e.map.now; bases = e.bases.now; part = e.part; relocs = e.relocs.now; unit = unit; start = unwrap_or (slice_get e.starts.now unit) 0 }
+
+-- what a context must keep to
+pub record IsReady (s : Context) : Type 0 where
+  pub image : IsSoundImage s.image
+  pub relocs : AreSoundRelocs s.image s.relocs
+  pub map : IsSoundMap s.map
+  pub order : AreInOrder s.bases
+
+-- what an object and its map must keep to
+pub record IsOpen (o : Opened) (map : AddrMap) : Type 0 where
+  pub sound_image : IsSoundImage o.image
+  pub sound_relocs : AreSound o.image o.relocs
+  pub sound_map : IsSoundMap map
+  pub small : AreSmall o.sections
+
+-- the address from which the lists of a unit count
+abbrev pub base_at : List Addr → ℕ → Addr
+base_at bases unit = unwrap_or (slice_get bases unit) (addrs.Fixed 0)
+
+-- the places of entries rise
+abbrev pub Rise : List ℕ → Type 0
+Rise places = AllPairs (λ p later. p < later) places
+
+-- a block that ends at a place, where an expression means its operations
+abbrev pub block_meant : Context → ℕ → ℕ → List ℕ → Result Value Fault
+block_meant s end form bytes =
+    if form == DW_FORM_exprloc then (expression_of s bytes (end - length bytes) >>= λ ops. Ok (values.Expr ops)) else Ok (values.Block form bytes)
+
+-- ---- items of location lists
+
+-- its expression stands in a section of fewer than 2^32 bytes
+pub record IsItem (item : RawLocation) : Type 0 where
+  pub span : IsSoundSpan item.span
+  pub inside : item.first + length item.bytes < 2 ^ 32
+
+-- the locations of an item behind those before it
+abbrev pub item_given : Context → List Location → RawLocation → Result (List Location) Fault
+item_given s before item = item_meant s item >>= λ meant. Ok (before ++ item_moved s.map meant)
+
+-- those of some items
+abbrev pub items_given : Context → List RawLocation → Result (List Location) Fault
+items_given s items = each_of (item_meant s) items >>= λ meant. Ok (flat_map (item_moved s.map) meant)

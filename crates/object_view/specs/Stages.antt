@@ -1,0 +1,80 @@
+-- Stations between the code and the definition of an analysis: its last steps, over lists that are made once.
+use Rattle.std.specs.Prelude.{ℕ, ◌<◌, ◌^◌, List, length, map, slice_get, Result, Ok}
+use Rattle.std.specs.Option.{option_map_or, unwrap_or}
+use Rattle.ds_base.specs.declared.fault.Fault.{Fault}
+use Rattle.ds_base.specs.declared.fault.Part.{Part}
+use Rattle.ds_base.specs.declared.fault.Part.TheVariants as parts
+use Rattle.ds_base.specs.Reading.{◌>>=◌}
+use Rattle.dwarf_types.specs.declared.address.Addr.{Addr}
+use Rattle.dwarf_types.specs.declared.address.Addr.TheVariants as addrs
+use Rattle.dwarf_types.specs.declared.analysis.Analysis.{Analysis}
+use Rattle.dwarf_types.specs.declared.entry.Attr.{Attr}
+use Rattle.dwarf_types.specs.declared.entry.Entry.{Entry}
+use Rattle.dwarf_types.specs.declared.entry.InUnit.{InUnit}
+use Rattle.dwarf_types.specs.declared.entry.RawUnits.{RawUnits}
+use Rattle.dwarf_types.specs.declared.value.Value.{Value}
+use Rattle.reloc_table.specs.declared.relocation.Relocs.{Relocs}
+use Rattle.addr_map.specs.declared.map.AddrMap.{AddrMap}
+use Rattle.frame_table.specs.Frames.{frames_of}
+use Rattle.moved_parts.specs.Frames.{frames_moved}
+use Rattle.expr_resolve.specs.declared.context.BaseType.{BaseType}
+use Rattle.expr_resolve.specs.Context.{Context, AreInOrder as AreInOrderTypes}
+use Rattle.object_view.specs.Attributes.{all_marked, base_of, entries_by, locations_meant, ranges_meant, units_meant, value_meant}
+use Rattle.object_view.specs.Code.{code_of}
+use Rattle.object_view.specs.Opened.{Opened}
+use Rattle.object_view.specs.Ready.{Rise, base_at}
+use Rattle.object_view.specs.Units.{base_types, places_of, start_of}
+use Rattle.object_view.specs.declared.units.Tables.{Tables}
+
+-- what is made of units and entries once
+pub record MadeOnce : Type 0 where
+  pub types : List BaseType
+  pub places : List ℕ
+  pub starts : List ℕ
+
+abbrev pub tables_in : Tables → MadeOnce
+tables_in t = record { types = t.types.now; places = t.places.now; starts = t.starts.now }
+
+abbrev pub made_of : List InUnit → List Entry → MadeOnce
+made_of units entries = record { types = base_types entries; places = places_of entries; starts = map (start_of entries) units }
+
+pub record AreInOrder (t : MadeOnce) : Type 0 where
+  pub types : AreInOrderTypes t.types
+  pub places : Rise t.places
+  pub few : length t.places < 2 ^ 32
+
+-- an expression of a part of the file, in a unit
+abbrev pub context_by : Opened → AddrMap → MadeOnce → Part → Relocs → ℕ → Context
+context_by o m t part relocs unit =
+    record { image = o.image; map = m; bases = t.types; part = part; relocs = relocs; unit = unit; start = unwrap_or (slice_get t.starts unit) 0 }
+
+-- an attribute of `__debug_info`
+abbrev pub info_meant : Opened → AddrMap → MadeOnce → ℕ → Attr → Result Value Fault
+info_meant o m t unit a = value_meant (context_by o m t parts.Info o.relocs.info unit) t.places a a.value
+
+-- entries whose range lists and location lists are read
+abbrev pub lists_meant : Opened → AddrMap → MadeOnce → List Addr → List Entry → Result (List Entry) Fault
+lists_meant o m t bases entries = do
+  ranged ← entries_by (λ unit a. ranges_meant o m (base_at bases unit) a a.value) (all_marked entries)
+  entries_by (λ unit a. locations_meant o (context_by o m t parts.Loc o.relocs.loc unit) (base_at bases unit) a a.value) ranged
+
+-- the analysis with units and entries
+abbrev pub finished : Opened → AddrMap → List InUnit → List Entry → Result Analysis Fault
+finished o m units entries = do
+  frames ← frames_of o.image o.relocs.frame o.sections.frame
+  Ok (record { units = units; entries = entries; code = code_of m entries; frames = frames_moved m frames })
+
+-- of each unit, the address from which its lists count
+abbrev pub bases_of : List InUnit → List Entry → List Addr
+bases_of units entries = map (λ u. option_map_or base_of (slice_get entries u.first) (addrs.Fixed 0)) units
+
+-- what units and entries mean
+abbrev pub entries_analysed : Opened → AddrMap → MadeOnce → List InUnit → List Entry → Result Analysis Fault
+entries_analysed o m t units entries = do
+  meant ← entries_by (info_meant o m t) entries
+  with_lines ← units_meant o m meant units
+  listed ← lists_meant o m t (bases_of units meant) meant
+  finished o m with_lines listed
+
+abbrev pub analysed : Opened → AddrMap → RawUnits → Result Analysis Fault
+analysed o m raw = entries_analysed o m (made_of raw.units raw.entries) raw.units raw.entries

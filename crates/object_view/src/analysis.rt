@@ -1,0 +1,176 @@
+//! An object's analysis.
+
+ghost use Rattle.std.specs.Prelude.{◌≡◌, ◌^◌, ◌<◌, length, IfOk};
+ghost use Rattle.ds_base.specs.Reading.{Gives};
+ghost use Rattle.dwarf_types.specs.Sound.{IsSound};
+ghost use Rattle.unit_tree.specs.Sound.{AreSound as AreSoundUnits};
+ghost use Rattle.object_view.specs.Analysis.{analysis_of};
+ghost use Rattle.object_view.specs.Attributes.{entries_by};
+ghost use Rattle.object_view.specs.Opened.{opened_seen};
+ghost use Rattle.object_view.specs.Ready.{IsOpen};
+ghost use Rattle.object_view.specs.Stages.{AreInOrder as AreInOrderTables, analysed, entries_analysed, finished, info_meant, lists_meant, tables_in};
+
+use crate::attributes::InfoValues;
+use crate::code::code_of;
+use crate::expressions::Expressions;
+use crate::line_tables::{mark_all, read_line_tables};
+use crate::locations::LocationLists;
+use crate::open::{OpenObject, open_object};
+use crate::ranges::{RangeLists, unit_bases};
+use crate::steps::change_entries;
+use crate::units::{Tables, base_types, places_of, unit_starts};
+use addr_map::{AddrMap, build};
+use ds_base::{List, Part, ReadError};
+use dwarf_types::{Addr, Analysis, Entry, InUnit, RawUnits};
+use frame_table::read_frames;
+use moved_parts::move_frames;
+use stab_map::MapObject;
+use std::alloc::Global;
+use unit_tree::read_units;
+
+/// Analyses the object in a file's bytes, for a program of this CPU type: its units, entries, code and frames, with
+/// the addresses that its part of the debug map moves to the linked program.
+///
+/// Faults come in this order: those of [`open_object`]; of the units, and of the references between their entries; of
+/// the expressions among the attributes, in document order; of the line tables, unit by unit; of the range lists of
+/// `DW_AT_ranges`, and then of the location lists of location attributes, both in document order; and of the frame
+/// descriptions. Only tables and lists that an entry names are read.
+///
+/// Addresses are moved, references are numbers of entries, expressions are operations, and a root's line table is
+/// `Lines`. A section offset that leads to no table or list stays as it is.
+#[tactic(auto, unfolding(crate::specs::Analysis::analysis_of))]
+pub fn analyse(
+    alloc: Global,
+    bytes: &[u8],
+    object: &MapObject,
+    cpu: u32,
+) -> Result<Analysis, ReadError>
+    requires { length bytes.now < 2 ^ 32 }
+    ensures exact { Gives (λ analysis. analysis) result (analysis_of bytes.now object.now cpu) }
+    ensures sound { IfOk result IsSound }
+{
+    let opened = open_object(alloc, bytes, cpu)?;
+    let raw = read_units(alloc, &opened.sections)?;
+    let map = build(alloc, object, &opened.image)?;
+    analyse_units(alloc, &opened, &map, raw)
+}
+
+/// What the units mean that were read.
+fn analyse_units(
+    alloc: Global,
+    object: &OpenObject,
+    map: &AddrMap,
+    raw: RawUnits,
+) -> Result<Analysis, ReadError>
+    requires open { IsOpen (opened_seen object.now) map.now }
+    requires raw { AreSoundUnits raw }
+    ensures { Gives (λ analysis. analysis) result (analysed (opened_seen object.now) map.now raw) }
+{
+    let RawUnits { units, entries } = raw;
+    let types = base_types(alloc, entries.as_slice())?;
+    let places = places_of(alloc, entries.as_slice())?;
+    let starts = unit_starts(alloc, units.as_slice(), entries.as_slice())?;
+    let tables = Tables {
+        types: types.as_slice(),
+        places: places.as_slice(),
+        starts: starts.as_slice(),
+    };
+    analyse_entries(alloc, object, map, &tables, units, entries)
+}
+
+/// What units and their entries mean, with the tables that are made of them.
+fn analyse_entries(
+    alloc: Global,
+    object: &OpenObject,
+    map: &AddrMap,
+    tables: &Tables,
+    units: List<InUnit>,
+    entries: List<Entry>,
+) -> Result<Analysis, ReadError>
+    requires open { IsOpen (opened_seen object.now) map.now }
+    requires tables { AreInOrderTables (tables_in tables.now) }
+    ensures { Gives (λ analysis. analysis) result (entries_analysed (opened_seen object.now) map.now (tables_in tables.now) units entries) }
+{
+    let entries = understand_info(alloc, object, map, tables, entries)?;
+    let bases = unit_bases(alloc, units.as_slice(), entries.as_slice())?;
+    let units = read_line_tables(alloc, object, map, entries.as_slice(), units)?;
+    let entries = read_lists(alloc, object, map, tables, bases.as_slice(), entries)?;
+    finish(alloc, object, map, units, entries)
+}
+
+/// Moves addresses, and understands references and expressions of `__debug_info`.
+fn understand_info(
+    alloc: Global,
+    object: &OpenObject,
+    map: &AddrMap,
+    tables: &Tables,
+    entries: List<Entry>,
+) -> Result<List<Entry>, ReadError>
+    requires open { IsOpen (opened_seen object.now) map.now }
+    requires tables { AreInOrderTables (tables_in tables.now) }
+    ensures { Gives (λ entries. entries) result (entries_by (info_meant (opened_seen object.now) map.now (tables_in tables.now)) entries) }
+{
+    let step = InfoValues {
+        expressions: Expressions {
+            image: &object.image,
+            map,
+            bases: tables.types,
+            part: Part::Info,
+            relocs: &object.relocs.info,
+            starts: tables.starts,
+        },
+        places: tables.places,
+    };
+    change_entries(alloc, &step, entries)
+}
+
+/// Reads the range lists and then the location lists that entries name.
+fn read_lists(
+    alloc: Global,
+    object: &OpenObject,
+    map: &AddrMap,
+    tables: &Tables,
+    bases: &[Addr],
+    entries: List<Entry>,
+) -> Result<List<Entry>, ReadError>
+    requires open { IsOpen (opened_seen object.now) map.now }
+    requires tables { AreInOrderTables (tables_in tables.now) }
+    ensures { Gives (λ entries. entries) result (lists_meant (opened_seen object.now) map.now (tables_in tables.now) bases.now entries) }
+{
+    let ranges = RangeLists { object, map, bases };
+    let locations = LocationLists {
+        object,
+        expressions: Expressions {
+            image: &object.image,
+            map,
+            bases: tables.types,
+            part: Part::Loc,
+            relocs: &object.relocs.loc,
+            starts: tables.starts,
+        },
+        bases,
+    };
+    let entries = change_entries(alloc, &ranges, mark_all(entries))?;
+    change_entries(alloc, &locations, entries)
+}
+
+/// The analysis with these units and entries: the code of subprograms and the frame descriptions come to it.
+fn finish(
+    alloc: Global,
+    object: &OpenObject,
+    map: &AddrMap,
+    units: List<InUnit>,
+    entries: List<Entry>,
+) -> Result<Analysis, ReadError>
+    requires { IsOpen (opened_seen object.now) map.now }
+    ensures { Gives (λ analysis. analysis) result (finished (opened_seen object.now) map.now units entries) }
+{
+    let frames = read_frames(alloc, &object.sections, &object.relocs.frame, &object.image)?;
+    let code = code_of(alloc, map, entries.as_slice())?;
+    Ok(Analysis {
+        units,
+        entries,
+        code,
+        frames: move_frames(alloc, map, frames)?,
+    })
+}
