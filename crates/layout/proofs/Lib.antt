@@ -1,0 +1,9 @@
+pub mod FrameLengths
+pub mod Limits
+pub mod ListRooms
+pub mod NodePlaces
+pub mod Numbered
+pub mod OneUnit
+pub mod SectionLengths
+pub mod TextRuns
+pub mod Turns

@@ -1,0 +1,36 @@
+-- Texts that are added one after the other.
+use Rattle.std.proofs.Common.{◌≡◌, ℕ, ◌+◌, ◌-◌, ◌^◌, ◌<◌, ◌≤◌, List, [], ◌∷◌, ◌++◌, length, drop, fold, get_or, Option, Some, is_some, refl, sym, ap, ◌∙◌, arith, length-append}
+use Rattle.std.specs.List.{filter_map, flat_map}
+use Rattle.std.proofs.lemmas.Bool.{cond_both}
+use Rattle.std.proofs.lemmas.Grind.{flat_map-append, fold-append}
+use Rattle.ds_base.proofs.Walking.{drop_one}
+use Rattle.ds_base.specs.Texts.{ended, place_of, section_of, with_text}
+
+one_grows : (texts : List (List ℕ)) (t : List ℕ) → length (section_of texts) ≤ length (section_of (with_text texts t))
+one_grows texts t =
+    cond_both (is_some (place_of texts t)) texts (texts ++ t ∷ []) (λ more. length (section_of texts) ≤ length (section_of more)) (λ _. omega arith)
+    (λ _. omega (arith, ap length (flat_map-append ended texts (t ∷ [])), length-append (section_of texts) (section_of (t ∷ []))))
+
+-- a section only grows
+grows : (uses texts : List (List ℕ)) → length (section_of texts) ≤ length (section_of (fold with_text texts uses))
+grows [] texts = omega arith
+grows (t ∷ uses) texts = omega (arith, one_grows texts t, grows uses (with_text texts t))
+
+module _ {X : Type 0} (xs : List X) (i : ℕ) (x : X) (pool all : List (List ℕ)) (lt : i < length xs) (is : x ≡ get_or xs i x) where
+  -- too long with the texts of one item, and so with all
+  pub long_run : (texts_in : X → List (List ℕ)) → fold with_text pool (flat_map texts_in (drop i xs)) ≡ all
+      → 2 ^ 32 - 1 ≤ length (section_of (fold with_text pool (texts_in x))) → 2 ^ 32 - 1 ≤ length (section_of all)
+  long_run texts_in so_far long =
+      let behind = flat_map texts_in (drop (i + 1) xs) in
+      let parts : fold with_text (fold with_text pool (texts_in x)) behind ≡ all =
+      sym (fold-append with_text pool (texts_in x) behind) ∙ sym (ap (λ (ys : List X). fold with_text pool (flat_map texts_in ys)) (drop_one xs i x lt is)) ∙ so_far in
+      omega (arith, long, grows behind (fold with_text pool (texts_in x)), ap (λ (texts : List (List ℕ)). length (section_of texts)) parts)
+
+  pub long_text : (text_in : X → Option (List ℕ)) (t : List ℕ) → text_in x ≡ Some t → fold with_text pool (filter_map text_in (drop i xs)) ≡ all
+      → 2 ^ 32 - 1 ≤ length (section_of (with_text pool t)) → 2 ^ 32 - 1 ≤ length (section_of all)
+  long_text text_in t e so_far long =
+      let behind = filter_map text_in (drop (i + 1) xs) in
+      let first : filter_map text_in (x ∷ drop (i + 1) xs) ≡ t ∷ behind = rw e refl in
+      let parts : fold with_text (with_text pool t) behind ≡ all =
+      sym (ap (fold with_text pool) (ap (filter_map text_in) (drop_one xs i x lt is) ∙ first)) ∙ so_far in
+      omega (arith, long, grows behind (with_text pool t), ap (λ (texts : List (List ℕ)). length (section_of texts)) parts)

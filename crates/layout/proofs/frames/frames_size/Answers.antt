@@ -1,0 +1,23 @@
+use Rattle.std.proofs.Common.{◌≡◌, ◌∙◌, ◌≤◌, [], ap, sym, fold, length, map, arith}
+use Rattle.std.specs.List.{sum_by}
+use Rattle.std.specs.Str.{bytes_eq}
+use Rattle.std.proofs.lemmas.List.{drop_all, take_all}
+use Rattle.ds_base.specs.FirstUse.{once}
+use Rattle.ds_base.specs.Texts.{with_text}
+use Rattle.text_pool.proofs.FirstUses.{once-append}
+use Rattle.layout.proofs.FrameLengths.{common_len, frames_len_is, own_len}
+use Rattle.layout.proofs.frames.frames_size.Goals as goal
+
+pub loop-frame-init : goal.loop-frame-init
+loop-frame-init c =
+    let none : sum_by common_len c.new_pool-seen.result ≡ 0 = ap (sum_by common_len) c.new_pool-seen.ensures in
+    (omega (arith, none), ap (λ seen. fold with_text seen (map (λ f. f.cie) c.args.frames.now)) c.new_pool-seen.ensures ∙ once-append [] (map (λ f. f.cie) c.args.frames.now))
+
+pub returns : goal.returns
+returns c =
+    let frames = c.args.frames.now in
+    let i = c.loop-frame.frame-index in
+    let past : length frames ≤ i = omega (arith, c.loop-frame-test.false) in
+    let seen : c.loop-frame.seen ≡ once bytes_eq (map (λ f. f.cie) frames) =
+    sym (ap (λ fs. fold with_text c.loop-frame.seen (map (λ f. f.cie) fs)) (drop_all i frames past)) ∙ c.loop-frame.invariant.1 in
+    omega (arith, frames_len_is frames, c.loop-frame.invariant.0, ap (sum_by common_len) seen, ap (sum_by own_len) (take_all i frames past))
