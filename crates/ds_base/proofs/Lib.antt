@@ -1,3 +1,4 @@
+pub mod Adding
 pub mod Backwards
 pub mod Finding
 pub mod Items

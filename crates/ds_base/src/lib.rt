@@ -3,7 +3,7 @@
 //! Layer: ground. Every other crate stands on this one. A reader takes its items from a [`Cursor`],
 //! whose contracts cite `specs/Reading.antt`: an item is a function from where the cursor stands to
 //! the value and the place behind it, or to the first fault. A writer puts its items into a room by
-//! the `put_` calls, whose contracts cite `specs/Room.antt`. LEB numbers are defined by their value
+//! the `put_` calls, or one behind the other by the `emit_` calls; both cite `specs/Room.antt`. LEB numbers are defined by their value
 //! in `specs/Leb.antt`. Nothing here knows of Mach-O or DWARF but their numbers.
 #![tactic(auto)]
 
@@ -11,6 +11,7 @@ mod bit_row;
 mod bytes;
 mod cursor;
 pub mod dwarf;
+mod emit;
 mod fault;
 mod leb;
 mod list;
@@ -21,6 +22,9 @@ mod put;
 pub use bit_row::BitRow;
 pub use bytes::Bytes;
 pub use cursor::Cursor;
+pub use emit::{
+    emit_bytes, emit_sleb, emit_u8, emit_u16, emit_u32, emit_u64, emit_uleb, emit_uleb4,
+};
 pub use fault::{Fault, Kind, NoMemory, Part, ReadError};
 pub use leb::{
     sleb_is_shortest, sleb_len, sleb_reads_back, uleb_is_shortest, uleb_len, uleb_reads_back,

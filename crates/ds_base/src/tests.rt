@@ -1,7 +1,8 @@
 //! Lists, bytes, marks, items from the front, and items written into a room.
 
 use crate::{
-    BitRow, Bytes, Cursor, Fault, Kind, List, Part, put_bytes, put_u8, put_u16, put_u32, put_u64,
+    BitRow, Bytes, Cursor, Fault, Kind, List, Part, emit_bytes, emit_u8, emit_u16, emit_u32,
+    emit_u64, emit_uleb4, put_bytes, put_u8, put_u16, put_u32, put_u64,
 };
 use std::test::Fail;
 
@@ -80,6 +81,23 @@ fn items_are_written_with_the_lowest_byte_first(rt: HostRuntime) {
     put_bytes(&mut room, 15, b"k");
     let want = [
         0x2a, 0x34, 0x12, 0x78, 0x56, 0x34, 0x12, 1, 2, 3, 4, 5, 6, 7, 8, b'k', 0xee,
+    ];
+    assert_eq!(rt; room.as_slice(), want.as_slice());
+}
+
+#[test]
+fn items_are_emitted_one_behind_the_other(rt: HostRuntime) {
+    let mut room = [0xee; 21];
+    let at = emit_u8(&mut room, 0, 0x2a);
+    let at = emit_u16(&mut room, at, 0x1234);
+    let at = emit_u32(&mut room, at, 0x1234_5678);
+    let at = emit_u64(&mut room, at, 0x0807_0605_0403_0201);
+    let at = emit_uleb4(&mut room, at, 0x35);
+    let at = emit_bytes(&mut room, at, b"k");
+    assert_eq!(rt; at, 20);
+    let want = [
+        0x2a, 0x34, 0x12, 0x78, 0x56, 0x34, 0x12, 1, 2, 3, 4, 5, 6, 7, 8, 0xb5, 0x80, 0x80, 0x00,
+        b'k', 0xee,
     ];
     assert_eq!(rt; room.as_slice(), want.as_slice());
 }

@@ -1,0 +1,85 @@
+//! Numbers, bytes and LEB numbers written into a room, one behind the other.
+//!
+//! Each call writes the item's bytes from `at` on, an index from 0, and answers the place behind them. What stood
+//! before `at` stays; of what stands behind the item nothing is said, so a writer fills its room from the front.
+
+ghost use Rattle.std.specs.Prelude.{◌+◌, ◌<◌, ◌≤◌, ◌^◌, ◌∷◌, [], length, false};
+ghost use Rattle.byteorder.specs.Endian.{little_bytes};
+ghost use Rattle.ds_base.specs.Leb.{leb_digits, sleb, uleb};
+ghost use Rattle.ds_base.specs.Room.{Adds};
+
+use crate::leb::{sleb_len, uleb_len};
+use crate::put::{put_bytes, put_sleb, put_u8, put_u16, put_u32, put_u64, put_uleb, put_uleb4};
+
+/// Writes bytes.
+pub fn emit_bytes(room: &mut [u8], at: usize, bytes: &[u8]) -> usize
+    requires fits { at + length bytes.now ≤ length room.old }
+    ensures { Adds room.old at bytes.now room.new result }
+{
+    put_bytes(room, at, bytes);
+    at + bytes.len()
+}
+
+/// Writes a byte.
+pub fn emit_u8(room: &mut [u8], at: usize, n: u8) -> usize
+    requires fits { at + 1 ≤ length room.old }
+    ensures { Adds room.old at (n ∷ []) room.new result }
+{
+    put_u8(room, at, n);
+    at + 1
+}
+
+/// Writes a number of two bytes.
+pub fn emit_u16(room: &mut [u8], at: usize, n: u16) -> usize
+    requires fits { at + 2 ≤ length room.old }
+    ensures { Adds room.old at (little_bytes 2 n) room.new result }
+{
+    put_u16(room, at, n);
+    at + 2
+}
+
+/// Writes a number of four bytes.
+pub fn emit_u32(room: &mut [u8], at: usize, n: u32) -> usize
+    requires fits { at + 4 ≤ length room.old }
+    ensures { Adds room.old at (little_bytes 4 n) room.new result }
+{
+    put_u32(room, at, n);
+    at + 4
+}
+
+/// Writes a number of eight bytes.
+pub fn emit_u64(room: &mut [u8], at: usize, n: u64) -> usize
+    requires fits { at + 8 ≤ length room.old }
+    ensures { Adds room.old at (little_bytes 8 n) room.new result }
+{
+    put_u64(room, at, n);
+    at + 8
+}
+
+/// Writes the shortest LEB number without a sign (DWARF 4, section 7.6).
+pub fn emit_uleb(room: &mut [u8], at: usize, n: u64) -> usize
+    requires fits { at + length (uleb n) ≤ length room.old }
+    ensures { Adds room.old at (uleb n) room.new result }
+{
+    put_uleb(room, at, n);
+    at + uleb_len(n) as usize
+}
+
+/// Writes a LEB number without a sign in exactly four bytes, padded where fewer would do.
+pub fn emit_uleb4(room: &mut [u8], at: usize, n: u32) -> usize
+    requires small { n < 2 ^ 28 }
+    requires fits { at + 4 ≤ length room.old }
+    ensures { Adds room.old at (leb_digits false 4 n) room.new result }
+{
+    put_uleb4(room, at, n);
+    at + 4
+}
+
+/// Writes the shortest LEB number with a sign (DWARF 4, section 7.6).
+pub fn emit_sleb(room: &mut [u8], at: usize, n: i64) -> usize
+    requires fits { at + length (sleb n) ≤ length room.old }
+    ensures { Adds room.old at (sleb n) room.new result }
+{
+    put_sleb(room, at, n);
+    at + sleb_len(n) as usize
+}
