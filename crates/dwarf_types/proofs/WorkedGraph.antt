@@ -11,16 +11,16 @@ use Rattle.dwarf_types.specs.Encode.{encode}
 use Rattle.dwarf_types.specs.Values.{number_len, number_bytes}
 
 -- the texts `m.c` and `main`
-m_c : List ℕ
+unfoldable pub m_c : List ℕ
 m_c = 0x6d ∷ 0x2e ∷ 0x63 ∷ []
 
-main : List ℕ
+unfoldable pub main : List ℕ
 main = 0x6d ∷ 0x61 ∷ 0x69 ∷ 0x6e ∷ []
 
-code : Span
+unfoldable pub code : Span
 code = record { low = 0x100003f50; high = 0x100003f7a }
 
-unit : Node
+unfoldable pub unit : Node
 unit = record {
   parent = None;
   tag = DW_TAG_compile_unit;
@@ -29,7 +29,7 @@ unit = record {
       ∷ record { name = DW_AT_low_pc; value = values.Address 0 } ∷ record { name = DW_AT_ranges; value = values.Ranges (code ∷ []) } ∷ [];
 }
 
-function : Node
+unfoldable pub function : Node
 function = record {
   parent = Some 0;
   tag = DW_TAG_subprogram;
@@ -38,7 +38,7 @@ function = record {
       ∷ record { name = DW_AT_name; value = values.Text main } ∷ [];
 }
 
-graph : Graph
+unfoldable pub graph : Graph
 graph = record { units = record { version = 4; nodes = unit ∷ function ∷ []; lines = None; ranges = code ∷ [] } ∷ []; frames = [] }
 
 encoded : encode graph ≡

@@ -8,6 +8,11 @@ pub mod Frames
 pub mod Layout
 pub mod LineProgram
 pub mod LineTable
+pub mod LinkedExpressions
+pub mod LinkedGraph
+pub mod LinkedShape
+pub mod LinkedUnits
+pub mod LinkedValues
 pub mod Lists
 pub mod Live
 pub mod Moves

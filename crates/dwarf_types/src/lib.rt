@@ -21,6 +21,7 @@ mod lists;
 mod operands;
 mod parts;
 mod sections;
+mod shape;
 mod value;
 
 pub use abbrev::{Abbrev, Declaration, Field};
@@ -36,4 +37,5 @@ pub use lists::{Location, RawLocation, RawSpan};
 pub use operands::{Named, Operands, operands_after};
 pub use parts::{ExprPart, PlainPart};
 pub use sections::Sections;
+pub use shape::{Origin, Shape, ShapeUnit};
 pub use value::Value;

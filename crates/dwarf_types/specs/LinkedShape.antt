@@ -1,0 +1,54 @@
+-- The shape of the linked graph: its units with the entry for which each node stands, and where each entry of the objects went.
+use Rattle.std.specs.Prelude.{◌≡◌, ℕ, ◌+◌, Bool, List, map, length, slice_get, Option, is_some}
+use Rattle.std.specs.List.{All, enumerate_from, filter_map, zip}
+use Rattle.std.specs.Option.{option_and_then, option_map}
+use Rattle.dwarf_types.specs.declared.analysis.Analysis.{Analysis}
+use Rattle.dwarf_types.specs.declared.entry.Entry.{Entry}
+use Rattle.dwarf_types.specs.declared.entry.InUnit.{InUnit}
+use Rattle.dwarf_types.specs.declared.graph.Target.{Target}
+use Rattle.dwarf_types.specs.declared.shape.Origin.{Origin}
+use Rattle.dwarf_types.specs.declared.shape.Shape.{Shape}
+use Rattle.dwarf_types.specs.declared.shape.ShapeUnit.{ShapeUnit}
+use Rattle.dwarf_types.specs.LinkedUnits.{Object, Source, image_of, kept_entries, numbered, parent_node, sources}
+
+-- ---- objects
+
+-- analyses with their marks, which are as many, and of each as many as it has entries
+pub record AreMarked (seen : List Analysis) (marks : List (List Bool)) : Type 0 where
+  pub each : length marks ≡ length seen
+  pub whole : All (λ object. length object.1 ≡ length object.0.entries) (zip seen marks)
+
+abbrev pub objects_of : List Analysis → List (List Bool) → List Object
+objects_of seen marks = map (λ object. record { seen = object.0; kept = object.1 }) (zip seen marks)
+
+-- ---- shapes
+
+abbrev pub origin_of : ℕ → Object → ℕ → ℕ × Entry → Origin
+origin_of object o u e = record { object = object + 1; entry = e.0; parent = parent_node o u e.1 }
+
+abbrev pub unit_shape : Source → Object → InUnit → ShapeUnit
+unit_shape source o unit = record { version = unit.version; nodes = map (origin_of source.object o source.unit) (kept_entries o source.unit) }
+
+abbrev pub shape_in : List Object → Source → Option ShapeUnit
+shape_in objects source = option_and_then (λ o. option_map (unit_shape source o) (slice_get o.seen.units source.unit)) (slice_get objects source.object)
+
+-- where the entries of an object went
+abbrev pub images_in : List Object → ℕ × Object → List (Option Target)
+images_in objects o = map (λ e. image_of 0 objects o.0 e.0) (numbered o.1)
+
+abbrev pub shaped : List Object → Shape
+shaped objects = record { units = filter_map (shape_in objects) (sources objects); images = map (images_in objects) (enumerate_from 0 objects) }
+
+-- ---- the objects of a shape
+
+-- which entries have a node
+abbrev pub marks_in : Shape → List (List Bool)
+marks_in shape = map (λ images. map is_some images) shape.images
+
+abbrev pub objects_in : List Analysis → Shape → List Object
+objects_in seen shape = objects_of seen (marks_in shape)
+
+-- a shape of these analyses
+pub record IsShape (seen : List Analysis) (shape : Shape) : Type 0 where
+  pub marked : AreMarked seen (marks_in shape)
+  pub is : shape ≡ shaped (objects_in seen shape)

@@ -1,0 +1,32 @@
+//! The shape of a linked graph: which entry each node stands for, and where each entry went.
+
+use crate::graph::Target;
+use ds_base::List;
+
+/// The entry of an object for which a node stands.
+#[derive(Clone, Copy, Debug, PartialEq, Eq)]
+pub struct Origin {
+    /// The number of the object, counted from 1.
+    pub object: u32,
+    /// The number of the entry among the object's, counted from 0.
+    pub entry: u32,
+    /// The number of the node's parent among the unit's nodes, counted from 0; none at the root.
+    pub parent: Option<u32>,
+}
+
+/// The nodes of an output unit, in preorder.
+#[derive(Drop)]
+pub struct ShapeUnit {
+    /// The version of DWARF in which the unit is written.
+    pub version: u16,
+    pub nodes: List<Origin>,
+}
+
+/// The units of a linked graph, and the node of each entry of each object, if it has one.
+#[derive(Drop)]
+pub struct Shape {
+    /// In the order of the output.
+    pub units: List<ShapeUnit>,
+    /// Of each object, entry by entry.
+    pub images: List<List<Option<Target>>>,
+}
