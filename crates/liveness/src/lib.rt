@@ -4,7 +4,8 @@
 //! that an entry's address moved (`Moves.antt` there). [`live`] marks exactly these entries. It takes the roots
 //! (`roots`), whose needs wait (`mark`); an entry that waits is taken off, and what it needs is marked in turn (`needs`,
 //! over the table of `children`), until none waits (`spread`). Each entry waits once at most, and nothing recurses, so
-//! time and memory grow with the number of entries and of their references alone.
+//! time and memory grow with the number of entries and of their references alone. What moved ([`address_moved`],
+//! [`low_pc_moves`], [`all_fields_moved`]) is asked again where entries are written.
 #![tactic(auto)]
 
 mod children;
@@ -14,6 +15,7 @@ mod needs;
 mod roots;
 mod spread;
 
+pub use moves::{address_moved, all_fields_moved, low_pc_moves};
 pub use spread::live;
 
 #[cfg(test)]

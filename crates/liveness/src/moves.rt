@@ -3,6 +3,7 @@
 ghost use Rattle.std.specs.Prelude.{◌≡◌, ◌==◌, ◌&&◌, not, false, length, is_some, slice_get};
 ghost use Rattle.std.specs.List.{filter_map, list_any, list_all};
 ghost use Rattle.std.specs.Option.{option_copied, option_map_or, option_to_list};
+ghost use Rattle.dwarf_types.specs.Live.{low_pc_moves};
 ghost use Rattle.dwarf_types.specs.Moves.{address_moved, has_address, has_location, has_piece, location_in, location_moves, moves, op_fields, place_in, tells_end, value_of};
 
 use ds_base::List;
@@ -60,6 +61,19 @@ pub(crate) fn place_in(value: &Value) -> Option<Place>
     }
 }
 
+/// Whether an entry's low_pc moved.
+pub fn low_pc_moves(entry: &Entry) -> bool
+    ensures { result ≡ low_pc_moves entry.now }
+{
+    let Some(value) = value_of(entry, DW_AT_low_pc) else {
+        return false;
+    };
+    match place_in(value) {
+        Some(place) => place.linked.is_some(),
+        None => false,
+    }
+}
+
 /// Whether the entry has an attribute of class address.
 fn has_place(entry: &Entry) -> bool
     ensures { result ≡ list_any (λ a. is_some (place_in a.value)) entry.now.attrs }
@@ -84,7 +98,7 @@ fn place_moves(entry: &Entry) -> bool
 }
 
 /// The address in the linked program to which an attribute of an entry of this tag moved.
-fn address_moved(tag: u16, attr: &Attr) -> Option<u64>
+pub fn address_moved(tag: u16, attr: &Attr) -> Option<u64>
     ensures { result ≡ address_moved tag attr.now }
 {
     let place = place_in(&attr.value)?;
@@ -179,7 +193,7 @@ fn have_inner_fields(inner: &[PlainOp]) -> bool
 }
 
 /// Whether all address fields of operations moved.
-fn all_fields_moved(ops: &[Op]) -> bool
+pub fn all_fields_moved(ops: &[Op]) -> bool
     ensures { result ≡ list_all (λ op. list_all (λ place. is_some place.linked) (op_fields op)) ops.now }
 {
     ops.iter().all(fields_moved)

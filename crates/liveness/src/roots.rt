@@ -3,13 +3,11 @@
 ghost use Rattle.std.specs.Prelude.{◌≡◌, ◌≤◌, ◌<◌, ◌^◌, ◌↔◌, ℕ, length, IfOk};
 ghost use Rattle.std.specs.List.{Contains};
 ghost use Rattle.std.specs.Option.{ForSome};
-ghost use Rattle.dwarf_types.specs.Live.{IsRoot, low_pc_moves};
+ghost use Rattle.dwarf_types.specs.Live.{IsRoot};
 ghost use Rattle.liveness.specs.Roots.{ParentsStandBefore, TellsInside, is_below_subprogram, is_constant, is_linked, is_root};
 
-use crate::moves::{location_moves, place_in, value_of};
-use ds_base::dwarf::{
-    DW_AT_const_value, DW_AT_low_pc, DW_TAG_label, DW_TAG_subprogram, DW_TAG_variable,
-};
+use crate::moves::{location_moves, low_pc_moves, value_of};
+use ds_base::dwarf::{DW_AT_const_value, DW_TAG_label, DW_TAG_subprogram, DW_TAG_variable};
 use ds_base::{BitRow, NoMemory};
 use dwarf_types::Entry;
 use std::alloc::Global;
@@ -80,17 +78,4 @@ fn is_constant(entry: &Entry) -> bool
     ensures { result ≡ is_constant entry.now }
 {
     entry.tag == DW_TAG_variable && value_of(entry, DW_AT_const_value).is_some()
-}
-
-/// Whether an entry's low_pc moved.
-fn low_pc_moves(entry: &Entry) -> bool
-    ensures { result ≡ low_pc_moves entry.now }
-{
-    let Some(value) = value_of(entry, DW_AT_low_pc) else {
-        return false;
-    };
-    match place_in(value) {
-        Some(place) => place.linked.is_some(),
-        None => false,
-    }
 }
