@@ -98,6 +98,14 @@ pub fn node_offset(layout: &Layout, target: &Target) -> u32
     node_in(unit_in(layout.units.as_slice(), target.unit), target.node)
 }
 
+/// Where each entry of a unit stands, counted from the header of the unit.
+pub fn node_offsets(layout: &Layout, unit: u32) -> &[u32]
+    requires { unit < length layout.now.units }
+    ensures { option_map (λ laid. laid.nodes) (slice_get layout.now.units unit) ≡ Some result.now }
+{
+    unit_in(layout.units.as_slice(), unit).nodes.as_slice()
+}
+
 /// Where a text begins in `__debug_str`, or `None` where the graph does not have it.
 pub fn text_place(layout: &Layout, text: &[u8]) -> Option<u32>
     ensures { result ≡ place_of layout.now.texts text.now }
