@@ -70,6 +70,13 @@ pub fn code_of(table: &AbbrevTable, node: u32) -> u32
     table.codes.as_slice()[node as usize]
 }
 
+/// The code of each node, counted from 1.
+pub fn codes_of(table: &AbbrevTable) -> &[u32]
+    ensures { result.now ≡ table.now.codes }
+{
+    table.codes.as_slice()
+}
+
 /// The size of the table in bytes.
 pub fn table_size(table: &AbbrevTable) -> u64
     ensures { result ≡ size_of table.now }

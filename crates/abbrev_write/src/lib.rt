@@ -11,7 +11,7 @@ mod declare;
 mod known;
 mod write;
 
-pub use abbreviations::{AbbrevTable, code_of, table, table_size};
+pub use abbreviations::{AbbrevTable, code_of, codes_of, table, table_size};
 pub use write::emit_table;
 
 #[cfg(test)]

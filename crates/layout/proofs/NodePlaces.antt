@@ -25,14 +25,14 @@ module _ (u : ℕ) (unit : OutUnit) where
   take_entries : (k : ℕ) → take k (entries_of u unit) ≡ first_entries k
   take_entries k = take-map (λ (n : ℕ × Node). entry_of u unit.nodes n.0 n.1) k (enumerate_from 0 unit.nodes)
 
-  take_more_entries : (k : ℕ) (node : Node) → k < length unit.nodes → node ≡ get_or unit.nodes k node → take (k + 1) (entries_of u unit) ≡ take k (entries_of u unit) ++ entry_of u unit.nodes k node ∷ []
+  pub take_more_entries : (k : ℕ) (node : Node) → k < length unit.nodes → node ≡ get_or unit.nodes k node → take (k + 1) (entries_of u unit) ≡ take k (entries_of u unit) ++ entry_of u unit.nodes k node ∷ []
   take_more_entries k node lt is =
       take_entries (k + 1) ∙ ap (map (λ (n : ℕ × Node). entry_of u unit.nodes n.0 n.1)) (take_numbered unit.nodes k node lt is)
       ∙ map_push (λ (n : ℕ × Node). entry_of u unit.nodes n.0 n.1) (take k (enumerate_from 0 unit.nodes)) (k, node)
       ∙ ap (λ (es : List OutEntry). es ++ entry_of u unit.nodes k node ∷ []) (sym (take_entries k))
 
   -- the code of a node
-  code_is : (k : ℕ) (node : Node) → k < length unit.nodes → node ≡ get_or unit.nodes k node
+  pub code_is : (k : ℕ) (node : Node) → k < length unit.nodes → node ≡ get_or unit.nodes k node
       → slice_index (unit_table u unit.nodes).codes k ≡ code_in (table_of u unit.nodes) (declaration_of u unit.nodes k node)
   code_is k node lt is =
       let numbered = enumerate_from 0 unit.nodes in

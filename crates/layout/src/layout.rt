@@ -151,6 +151,22 @@ pub fn lines_room(layout: &Layout, unit: u32) -> Option<Span>
     unit_in(layout.units.as_slice(), unit).lines_room
 }
 
+/// Where each range list of a unit stands in `__debug_ranges`, and where it ends, over nodes and values.
+pub fn range_rooms(layout: &Layout, unit: u32) -> &[Span]
+    requires { unit < length layout.now.units }
+    ensures { option_map (λ laid. laid.range_rooms) (slice_get layout.now.units unit) ≡ Some result.now }
+{
+    unit_in(layout.units.as_slice(), unit).range_rooms.as_slice()
+}
+
+/// Where each location list of a unit stands in `__debug_loc`, and where it ends, over nodes and values.
+pub fn location_rooms(layout: &Layout, unit: u32) -> &[Span]
+    requires { unit < length layout.now.units }
+    ensures { option_map (λ laid. laid.location_rooms) (slice_get layout.now.units unit) ≡ Some result.now }
+{
+    unit_in(layout.units.as_slice(), unit).location_rooms.as_slice()
+}
+
 /// Where a list of a unit stands in its section, and where it ends.
 ///
 /// The part is `Ranges` or `Loc`, and the lists of a unit are counted from 0 in each, over nodes and values.

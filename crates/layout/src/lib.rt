@@ -20,8 +20,8 @@ mod units;
 
 pub use error::LayoutError;
 pub use layout::{
-    Layout, lines_room, list_room, measure, node_offset, node_offsets, node_place, section_size,
-    table_of, table_room, text_place, texts, unit_start,
+    Layout, lines_room, list_room, location_rooms, measure, node_offset, node_offsets, node_place,
+    range_rooms, section_size, table_of, table_room, text_place, texts, unit_start,
 };
 
 #[cfg(test)]
