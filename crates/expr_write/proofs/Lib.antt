@@ -1,0 +1,2 @@
+pub mod InnerLengths
+pub mod SamePlaces
