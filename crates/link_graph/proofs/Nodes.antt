@@ -1,0 +1,142 @@
+-- The nodes of a unit and the images of its entries, entry by entry.
+use Rattle.std.proofs.Common.{◌≡◌, ℕ, ◌+◌, ◌<◌, ◌≤◌, ◌-◌, Bool, true, false, cond, eqb, List, [], ◌∷◌, ◌++◌, length, map, drop, get_or, slice_get, Option, Some, None, inl, inr, refl, sym, ap, subst, ◌∙◌, arith, append_assoc, length-append}
+use Rattle.std.specs.List.{filter, position}
+use Rattle.std.specs.Option.{option_and_then, option_map, option_map_or}
+use Rattle.std.proofs.lemmas.List.{take-take, map-append, length-map, get_or-append-add, get_or-map}
+use Rattle.std.proofs.lemmas.List.Elements.{filter-append}
+use Rattle.std.proofs.lemmas.Option.{get_or_from_slice_get, same_Some, slice_get-get_or, slice_get_cases}
+use Rattle.dwarf_types.specs.declared.entry.Entry.{Entry}
+use Rattle.dwarf_types.specs.declared.entry.InUnit.{InUnit}
+use Rattle.dwarf_types.specs.declared.graph.Target.{Target}
+use Rattle.dwarf_types.specs.declared.shape.Origin.{Origin}
+use Rattle.dwarf_types.specs.Live.{Stands}
+use Rattle.dwarf_types.specs.LinkedShape.{origin_of}
+use Rattle.dwarf_types.specs.LinkedUnits.{Object, is_kept, kept_entries, node_number, numbered, parent_node}
+use Rattle.dwarf_types.specs.Sound.{IsParent, IsSound}
+use Rattle.link_graph.specs.Passes.{image_with, images_in_unit, is_kept_one, nodes_in, nodes_with, parent_in, stretch, unit_in}
+use Rattle.link_graph.proofs.Positions.{position_kept}
+use Rattle.link_graph.proofs.Stretches.{kept_stretch, stretch_at, stretch_length, stretch_more, stretch_numbered}
+use Rattle.link_graph.proofs.Units.{unit_of, unit_spans}
+
+-- the marks as they are read
+pub kept_read : (o : Object) (k : ℕ) → k < length o.kept → is_kept o k ≡ get_or o.kept k false
+kept_read o k lt = ap (λ (b : Option Bool). option_map_or (λ b. b) b false) (slice_get-get_or o.kept k false lt)
+
+-- how many entries of the unit that are kept stand before an entry is the number of its node
+pub number_of_entry : (o : Object) (u : ℕ) (unit : InUnit) (n : ℕ) → IsSound o.seen → slice_get o.seen.units u ≡ Some unit → n < unit.count
+    → node_number o u (unit.first + n) ≡ cond (is_kept o (unit.first + n)) (Some (length (filter (is_kept_one o) (stretch o unit.first n)))) None
+number_of_entry o u unit n sound is lt = elim (slice_get_cases o.seen.entries (unit.first + n)).1 [
+  | inl w ↦ here w.0 w.2
+  | inr w ↦ absurd (omega (arith, w.0, ends))
+]
+  where
+    ends : unit.first + unit.count ≤ length o.seen.entries
+    ends = (unit_spans 0 o.seen.units (length o.seen.entries) u unit sound.units is).ends
+
+    here : (e : Entry) → Stands o.seen.entries (unit.first + n) e → node_number o u (unit.first + n) ≡ cond (is_kept o (unit.first + n)) (Some (length (filter (is_kept_one o) (stretch o unit.first n)))) None
+    here e at =
+        let all = stretch o unit.first unit.count in
+        let read : (unit.first + n, e) ≡ get_or all n (unit.first + n, e) =
+        sym (stretch_at o unit.first unit.count n (unit.first + n, e) lt ends ∙ ap (λ (x : Entry). (unit.first + n, x)) (get_or_from_slice_get o.seen.entries (unit.first + n) e e at)) in
+        ap (position (λ x. eqb x.0 (unit.first + n))) (kept_stretch o u unit sound is)
+        ∙ position_kept (is_kept_one o) unit.first all n (unit.first + n, e) (stretch_numbered o unit.first unit.count ends) (omega (arith, stretch_length o unit.first unit.count ends)) read
+        ∙ ap (λ (xs : List (ℕ × Entry)). cond (is_kept o (unit.first + n)) (Some (length (filter (is_kept_one o) xs))) None) (take-take n unit.count (drop unit.first (numbered o)) (omega arith))
+
+-- the node of an entry's parent, which stands before it in the unit
+pub parent_known : (o : Object) (number u : ℕ) (unit : InUnit) (n : ℕ) (e : Entry) (old : List (Option Target)) → IsSound o.seen → slice_get o.seen.units u ≡ Some unit → n < unit.count
+    → Stands o.seen.entries (unit.first + n) e → length old ≡ unit.first → parent_in (old ++ images_in_unit number o u (stretch o unit.first n)) e.parent ≡ parent_node o u e
+parent_known o number u unit n e old sound is lt at len = by e.parent (subst (λ (v : InUnit). IsParent v (unit.first + n) e.parent) its (sound.entries (unit.first + n) e at).parent)
+  where
+    ends : unit.first + unit.count ≤ length o.seen.entries
+    ends = (unit_spans 0 o.seen.units (length o.seen.entries) u unit sound.units is).ends
+
+    its : (sound.entries (unit.first + n) e at).unit ≡ unit
+    its =
+        let s = sound.entries (unit.first + n) e at in
+        let same : e.unit ≡ u = unit_of o.seen u unit (unit.first + n) e sound is at (record { from_first = omega arith; before_end = omega arith }) in
+        same_Some s.unit unit (sym s.its_unit ∙ ap (slice_get o.seen.units) same ∙ is)
+
+    back : (found : Option ℕ) → option_map (λ (t : Target). t.node) (option_map (λ (node : ℕ). record { unit = number; node = node }) found) ≡ found
+    back None = refl
+    back (Some node) = refl
+
+    by : (parent : Option ℕ) → IsParent unit (unit.first + n) parent → parent_in (old ++ images_in_unit number o u (stretch o unit.first n)) parent ≡ option_and_then (node_number o u) parent
+    by None w = refl
+    by (Some p) w =
+        let images = old ++ images_in_unit number o u (stretch o unit.first n) in
+        let f : ℕ × Entry → Option Target = λ e. option_map (λ node. record { unit = number; node = node }) (node_number o u e.0) in
+        let j = p - unit.first in
+        let place : length old + j ≡ p = omega (arith, w.0) in
+        let below : j < n = omega (arith, w.0, w.1) in
+        let within : p < length images = omega (arith, length-append old (images_in_unit number o u (stretch o unit.first n)), length-map (stretch o unit.first n) f, stretch_length o unit.first n (omega (arith, ends))) in
+        let there : get_or images p None ≡ f (p, get_or o.seen.entries (unit.first + j) e) =
+        ap (λ (k : ℕ). get_or images k None) (sym place) ∙ get_or-append-add old (images_in_unit number o u (stretch o unit.first n)) j None
+        ∙ get_or-map f (stretch o unit.first n) j (p, e) None (omega (arith, stretch_length o unit.first n (omega (arith, ends))))
+        ∙ ap f (stretch_at o unit.first n j (p, e) below (omega (arith, ends)) ∙ ap (λ (k : ℕ). (k, get_or o.seen.entries (unit.first + j) e)) (omega (arith, w.0))) in
+        let found : slice_get images p ≡ Some (f (p, e)) = slice_get-get_or images p None within ∙ ap (λ (t : Option Target). Some t) there in
+        ap (λ (t : Option (Option Target)). option_map (λ (t : Target). t.node) (option_and_then (λ image. image) t)) found ∙ back (node_number o u p)
+
+pub nodes_more : (o : Object) (object number u : ℕ) (unit : InUnit) (n : ℕ) (e : Entry) (old : List (Option Target)) → IsSound o.seen → slice_get o.seen.units u ≡ Some unit → n < unit.count
+    → Stands o.seen.entries (unit.first + n) e → length old ≡ unit.first
+    → nodes_in object o u (stretch o unit.first (n + 1))
+    ≡ nodes_in object o u (stretch o unit.first n) ++ nodes_with (is_kept o (unit.first + n)) (object + 1) (unit.first + n) e (old ++ images_in_unit number o u (stretch o unit.first n))
+nodes_more o object number u unit n e old sound is lt at len =
+    ap (λ (xs : List (ℕ × Entry)). map (origin_of object o u) (filter (is_kept_one o) xs)) (stretch_more o unit.first n e at)
+    ∙ ap (map (origin_of object o u)) (filter-append (is_kept_one o) (stretch o unit.first n) ((unit.first + n, e) ∷ []))
+    ∙ map-append (origin_of object o u) (filter (is_kept_one o) (stretch o unit.first n)) (filter (is_kept_one o) ((unit.first + n, e) ∷ []))
+    ∙ ap (λ (xs : List Origin). nodes_in object o u (stretch o unit.first n) ++ xs) (last (is_kept o (unit.first + n)))
+  where
+    last : (b : Bool) → map (origin_of object o u) (cond b ((unit.first + n, e) ∷ []) []) ≡ nodes_with b (object + 1) (unit.first + n) e (old ++ images_in_unit number o u (stretch o unit.first n))
+    last true = ap (λ (parent : Option ℕ). record { object = object + 1; entry = unit.first + n; parent = parent } ∷ []) (sym (parent_known o number u unit n e old sound is lt at len))
+    last false = refl
+
+pub images_more : (o : Object) (object number u : ℕ) (unit : InUnit) (n : ℕ) (e : Entry) → IsSound o.seen → slice_get o.seen.units u ≡ Some unit → n < unit.count → Stands o.seen.entries (unit.first + n) e
+    → images_in_unit number o u (stretch o unit.first (n + 1))
+    ≡ images_in_unit number o u (stretch o unit.first n) ++ image_with (is_kept o (unit.first + n)) number (length (nodes_in object o u (stretch o unit.first n))) ∷ []
+images_more o object number u unit n e sound is lt at =
+    ap (images_in_unit number o u) (stretch_more o unit.first n e at)
+    ∙ map-append f (stretch o unit.first n) ((unit.first + n, e) ∷ [])
+    ∙ ap (λ (t : Option Target). images_in_unit number o u (stretch o unit.first n) ++ t ∷ []) (ap (option_map (λ node. record { unit = number; node = node })) (number_of_entry o u unit n sound is lt) ∙ last (is_kept o (unit.first + n)))
+  where
+    f : ℕ × Entry → Option Target
+    f e = option_map (λ node. record { unit = number; node = node }) (node_number o u e.0)
+
+    so_far : List (ℕ × Entry)
+    so_far = filter (is_kept_one o) (stretch o unit.first n)
+
+    last : (b : Bool) → option_map (λ node. record { unit = number; node = node }) (cond b (Some (length so_far)) None) ≡ image_with b number (length (map (origin_of object o u) so_far))
+    last true = ap (λ (node : ℕ). Some (record { unit = number; node = node })) (sym (length-map so_far (origin_of object o u)))
+    last false = refl
+
+-- ---- as the loop has them
+
+pub nodes_step : (o : Object) (object number u : ℕ) (unit : InUnit) (n : ℕ) (e : Entry) (old images : List (Option Target)) (nodes : List Origin) (kept : Bool) → IsSound o.seen
+    → slice_get o.seen.units u ≡ Some unit → n < unit.count → Stands o.seen.entries (unit.first + n) e → length old ≡ unit.first → kept ≡ is_kept o (unit.first + n)
+    → nodes ≡ nodes_in object o u (stretch o unit.first n) → images ≡ old ++ images_in_unit number o u (stretch o unit.first n)
+    → nodes ++ nodes_with kept (object + 1) (unit.first + n) e images ≡ nodes_in object o u (stretch o unit.first (n + 1))
+nodes_step o object number u unit n e old images nodes kept sound is lt at len k these those = rw (these, those, k) (sym (nodes_more o object number u unit n e old sound is lt at len))
+
+pub images_step : (o : Object) (object number u : ℕ) (unit : InUnit) (n : ℕ) (e : Entry) (old images : List (Option Target)) (nodes : List Origin) (kept : Bool) → IsSound o.seen
+    → slice_get o.seen.units u ≡ Some unit → n < unit.count → Stands o.seen.entries (unit.first + n) e → kept ≡ is_kept o (unit.first + n)
+    → nodes ≡ nodes_in object o u (stretch o unit.first n) → images ≡ old ++ images_in_unit number o u (stretch o unit.first n)
+    → images ++ image_with kept number (length nodes) ∷ [] ≡ old ++ images_in_unit number o u (stretch o unit.first (n + 1))
+images_step o object number u unit n e old images nodes kept sound is lt at k these those =
+    rw (those, these, k) (append_assoc old _ _ ∙ ap (λ (xs : List (Option Target)). old ++ xs) (sym (images_more o object number u unit n e sound is lt at)))
+
+-- ---- a unit whose nodes are known
+
+nodes_whole : (o : Object) (object u : ℕ) (unit : InUnit) (nodes : List Origin) → IsSound o.seen → slice_get o.seen.units u ≡ Some unit → nodes ≡ nodes_in object o u (stretch o unit.first unit.count)
+    → nodes ≡ map (origin_of object o u) (kept_entries o u)
+nodes_whole o object u unit nodes sound is these = these ∙ ap (map (origin_of object o u)) (sym (kept_stretch o u unit sound is))
+
+if_same : {A : Type 0} (b c : Bool) (x y z : A) → b ≡ c → x ≡ y → cond b z x ≡ cond c z y
+if_same b c x y z e f = rw (e, f) refl
+
+-- it is written as they are, unless there is none
+pub unit_known : (o : Object) (object u : ℕ) (unit : InUnit) (nodes : List Origin) → IsSound o.seen → slice_get o.seen.units u ≡ Some unit → nodes ≡ nodes_in object o u (stretch o unit.first unit.count)
+    → cond (eqb (length nodes) 0) None (Some (record { version = unit.version; nodes = nodes })) ≡ unit_in object o (u, unit)
+unit_known o object u unit nodes sound is these =
+    let same = nodes_whole o object u unit nodes sound is these in
+    if_same (eqb (length nodes) 0) (eqb (length (kept_entries o u)) 0) (Some (record { version = unit.version; nodes = nodes })) _ None
+    (ap (λ (n : ℕ). eqb n 0) (ap length same ∙ length-map (kept_entries o u) (origin_of object o u)))
+    (ap (λ (ns : List Origin). Some (record { version = unit.version; nodes = ns })) same)

@@ -1,0 +1,72 @@
+-- What passing over one object gives: its units that are written, and where its entries went.
+use Rattle.std.specs.Prelude.{ℕ, ◌+◌, ◌==◌, Bool, List, [], ◌∷◌, map, take, drop, length, slice_get, Option, Some, None, if◌then◌else◌}
+use Rattle.std.specs.List.{enumerate_from, filter, filter_map, flat_map}
+use Rattle.std.specs.Option.{option_and_then, option_map}
+use Rattle.dwarf_types.specs.declared.entry.Entry.{Entry}
+use Rattle.dwarf_types.specs.declared.entry.InUnit.{InUnit}
+use Rattle.dwarf_types.specs.declared.graph.Target.{Target}
+use Rattle.dwarf_types.specs.declared.shape.Origin.{Origin}
+use Rattle.dwarf_types.specs.declared.shape.ShapeUnit.{ShapeUnit}
+use Rattle.dwarf_types.specs.LinkedShape.{origin_of}
+use Rattle.dwarf_types.specs.LinkedUnits.{Object, is_kept, kept_entries, node_number, numbered}
+
+-- ---- one entry
+
+-- the node of a parent, where the images up to it are known
+abbrev pub parent_in : List (Option Target) → Option ℕ → Option ℕ
+parent_in images parent = option_map (λ target. target.node) (option_and_then (λ p. option_and_then (λ image. image) (slice_get images p)) parent)
+
+-- the node of entry k of an object, if it is kept; the objects count from 1
+abbrev pub nodes_with : Bool → ℕ → ℕ → Entry → List (Option Target) → List Origin
+nodes_with kept object k e images = if kept then record { object = object; entry = k; parent = parent_in images e.parent } ∷ [] else []
+
+abbrev pub image_with : Bool → ℕ → ℕ → Option Target
+image_with kept unit node = if kept then Some (record { unit = unit; node = node }) else None
+
+-- ---- one unit
+
+-- n entries from one on
+abbrev pub stretch : Object → ℕ → ℕ → List (ℕ × Entry)
+stretch o first n = take n (drop first (numbered o))
+
+abbrev pub is_kept_one : Object → ℕ × Entry → Bool
+is_kept_one o e = is_kept o e.0
+
+-- the nodes of these entries of unit u
+abbrev pub nodes_in : ℕ → Object → ℕ → List (ℕ × Entry) → List Origin
+nodes_in object o u es = map (origin_of object o u) (filter (is_kept_one o) es)
+
+-- where these entries of unit u went, which has a number in the output
+abbrev pub images_in_unit : ℕ → Object → ℕ → List (ℕ × Entry) → List (Option Target)
+images_in_unit number o u es = map (λ e. option_map (λ node. record { unit = number; node = node }) (node_number o u e.0)) es
+
+-- ---- one object
+
+-- a unit by its number, if it is written
+abbrev pub unit_in : ℕ → Object → ℕ × InUnit → Option ShapeUnit
+unit_in object o u =
+    if length (kept_entries o u.0) == 0 then None else Some (record { version = u.1.version; nodes = map (origin_of object o u.0) (kept_entries o u.0) })
+
+-- those of the units below u
+abbrev pub units_below : ℕ → Object → ℕ → List ShapeUnit
+units_below object o u = filter_map (unit_in object o) (take u (enumerate_from 0 o.seen.units))
+
+abbrev pub units_of : ℕ → Object → List ShapeUnit
+units_of object o = filter_map (unit_in object o) (enumerate_from 0 o.seen.units)
+
+-- where an entry went, behind so many units of the objects before
+abbrev pub image_behind : ℕ → ℕ → Object → ℕ × Entry → Option Target
+image_behind before object o e = option_map (λ node. record { unit = before + length (units_below object o e.1.unit); node = node }) (node_number o e.1.unit e.0)
+
+abbrev pub images_of : ℕ → ℕ → Object → List (Option Target)
+images_of before object o = map (image_behind before object o) (numbered o)
+
+-- ---- objects
+
+-- the units of the objects below i
+abbrev pub units_before : List Object → ℕ → List ShapeUnit
+units_before objects i = flat_map (λ o. units_of o.0 o.1) (take i (enumerate_from 0 objects))
+
+-- where the entries of the objects below i went
+abbrev pub images_before : List Object → ℕ → List (List (Option Target))
+images_before objects i = map (λ o. images_of (length (units_before objects o.0)) o.0 o.1) (take i (enumerate_from 0 objects))

@@ -1,0 +1,80 @@
+//! One unit of an object: the nodes of its entries.
+
+ghost use Rattle.std.specs.Prelude.{◌≡◌, ◌+◌, ◌<◌, ◌^◌, ◌++◌, length, slice_get, Some, OnOk, IfOk};
+ghost use Rattle.std.specs.Option.{option_to_list};
+ghost use Rattle.dwarf_types.specs.Sound.{IsSound};
+ghost use Rattle.link_graph.specs.Passes.{images_in_unit, nodes_in, stretch, unit_in};
+
+use crate::entry::{add_entry, number_of};
+use ds_base::{BitRow, List, NoMemory};
+use dwarf_types::{Analysis, InUnit, Origin, ShapeUnit, Target};
+use std::alloc::Global;
+
+/// Puts unit `u` of an object, if one of its entries is kept, behind the units, and where its entries went behind the
+/// images of those before.
+///
+/// `object` is the object's number from 0.
+pub(crate) fn add_unit(
+    alloc: Global,
+    object: u32,
+    seen: &Analysis,
+    live: &BitRow,
+    u: usize,
+    unit: &InUnit,
+    units: &mut List<ShapeUnit>,
+    images: &mut List<Option<Target>>,
+) -> Result<(), NoMemory>
+    requires few { object < 2 ^ 16 }
+    requires sound { IsSound seen.now }
+    requires marked { length live.now ≡ length seen.now.entries }
+    requires unit { slice_get seen.now.units u ≡ Some unit.now }
+    requires begun { length images.old ≡ unit.now.first }
+    ensures units { OnOk result (units.new ≡ units.old ++ option_to_list (unit_in object (record { seen = seen.now; kept = live.now }) (u, unit.now))) }
+    ensures images { OnOk result (images.new ≡ images.old ++ images_in_unit (length units.old) (record { seen = seen.now; kept = live.now }) u (stretch (record { seen = seen.now; kept = live.now }) unit.now.first unit.now.count)) }
+{
+    let number = number_of(units.len())?;
+    let nodes = nodes_in(alloc, object, seen, live, u, unit, number, images)?;
+    if !nodes.is_empty() {
+        units.push(ShapeUnit {
+            version: unit.version,
+            nodes,
+        })?;
+    }
+    Ok(())
+}
+
+/// The nodes of the entries of unit `u` that are kept. Where its entries went is put behind the images of those before.
+fn nodes_in(
+    alloc: Global,
+    object: u32,
+    seen: &Analysis,
+    live: &BitRow,
+    u: usize,
+    unit: &InUnit,
+    number: u32,
+    images: &mut List<Option<Target>>,
+) -> Result<List<Origin>, NoMemory>
+    requires few { object < 2 ^ 16 }
+    requires sound { IsSound seen.now }
+    requires marked { length live.now ≡ length seen.now.entries }
+    requires unit { slice_get seen.now.units u ≡ Some unit.now }
+    requires begun { length images.old ≡ unit.now.first }
+    ensures nodes { IfOk result (λ nodes. nodes ≡ nodes_in object (record { seen = seen.now; kept = live.now }) u (stretch (record { seen = seen.now; kept = live.now }) unit.now.first unit.now.count)) }
+    ensures images { OnOk result (images.new ≡ images.old ++ images_in_unit number (record { seen = seen.now; kept = live.now }) u (stretch (record { seen = seen.now; kept = live.now }) unit.now.first unit.now.count)) }
+{
+    let entries = seen.entries.as_slice();
+    let mut nodes = List::new(alloc);
+    for n in 0..unit.count {
+        let k = unit.first + n;
+        add_entry(
+            object + 1,
+            number,
+            k,
+            &entries[k as usize],
+            live.get(k),
+            &mut nodes,
+            images,
+        )?;
+    }
+    Ok(nodes)
+}
