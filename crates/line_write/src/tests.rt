@@ -231,6 +231,23 @@ fn registers_are_set_where_they_differ(rt: HostRuntime) {
         },
         &[0x0b, 0x12],
     );
+    let all = Row {
+        file: 2,
+        column: 5,
+        discriminator: 3,
+        isa: 1,
+        is_stmt: false,
+        basic_block: true,
+        prologue_end: true,
+        epilogue_begin: true,
+        ..same
+    };
+    appends(
+        &rt,
+        alloc,
+        all,
+        &[4, 2, 5, 5, 0, 2, 4, 3, 0x0c, 1, 6, 7, 0x0a, 0x0b, 0x12],
+    );
 }
 
 #[test]

@@ -1,0 +1,9 @@
+use Rattle.std.proofs.Common.{◌++◌, length}
+use Rattle.dwarf_types.specs.LineTable.{line_table_bytes}
+use Rattle.line_read.specs.Header.{line_at}
+use Rattle.line_laws.proofs.Whole.{stands_behind, table_again}
+use Rattle.line_laws.proofs.laws.line_tables_are_read_as_written.Goals as goal
+
+pub returns : goal.returns
+returns c = λ lines front more image relocs sound small none.
+    table_again image relocs none lines sound (line_at (front ++ (line_table_bytes lines ++ more)) (length front)) more small (stands_behind front (line_table_bytes lines ++ more))
