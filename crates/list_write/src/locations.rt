@@ -14,6 +14,8 @@ use out_sizes::expression_size;
 
 /// Writes a location list of `__debug_loc` (DWARF 4, section 2.6.2) into a room of its size; `first` tells the place
 /// of each node in the unit.
+///
+/// `version` is that of the unit; lists of version 4 alone are written. Places count bytes from the unit's start.
 pub fn emit_locations(items: &List<OutLocation>, version: u16, first: &[u32], room: &mut [u8])
     requires version { version ≡ 4 }
     requires places { All (λ place. place < 2 ^ 28) first.now }

@@ -10,6 +10,8 @@ use ds_base::List;
 use dwarf_types::Span;
 
 /// Writes a range list of `__debug_ranges` (DWARF 4, section 2.17.3) into a room of its size.
+///
+/// `version` is that of the unit; lists of version 4 alone are written.
 pub fn emit_ranges(spans: &List<Span>, version: u16, room: &mut [u8])
     requires version { version ≡ 4 }
     requires size { length room.old ≡ length (range_list_bytes spans.now) }
