@@ -1,0 +1,83 @@
+//! The attributes of an entry.
+
+ghost use Rattle.std.specs.Prelude.{◌≡◌, ◌||◌, ◌&&◌, is_none, IfOk};
+ghost use Rattle.clone_values.specs.Images.{image_at};
+ghost use Rattle.dwarf_types.specs.LinkedValues.{attr_written, attrs_written};
+ghost use Rattle.dwarf_types.specs.WellNodes.{is_dropped};
+ghost use Rattle.dwarf_types.specs.WellRoots.{is_code_range};
+
+use crate::value::value_written;
+use ds_base::dwarf::{
+    DW_AT_addr_base, DW_AT_high_pc, DW_AT_loclists_base, DW_AT_low_pc, DW_AT_ranges,
+    DW_AT_rnglists_base, DW_AT_sibling, DW_AT_str_offsets_base,
+};
+use ds_base::{List, NoMemory};
+use dwarf_types::{Attr, Entry, OutAttr, Target};
+use std::alloc::Global;
+
+/// What an entry says where it is written: its attributes in order, moved to the linked program, or dropped.
+///
+/// `images` tells where each entry of the object went. A dropped attribute speaks of how the input was laid out, has an
+/// address that did not move, a list with nothing left or a reference to an entry that is not written, or is the length
+/// of code whose low_pc did not move. A root's own addresses are dropped, since its unit's ranges stand for them.
+pub fn attrs_of(
+    alloc: Global,
+    images: &[Option<Target>],
+    entry: &Entry,
+) -> Result<List<OutAttr>, NoMemory>
+    ensures { IfOk result (λ attrs. attrs ≡ attrs_written (image_at images.now) entry.now) }
+{
+    let mut attrs = List::new(alloc);
+    for attr in entry.attrs.as_slice() {
+        if let Some(written) = attr_written(alloc, images, entry, attr)? {
+            attrs.push(written)?;
+        }
+    }
+    Ok(attrs)
+}
+
+/// An attribute of an entry, where it is written.
+fn attr_written(
+    alloc: Global,
+    images: &[Option<Target>],
+    entry: &Entry,
+    attr: &Attr,
+) -> Result<Option<OutAttr>, NoMemory>
+    ensures { IfOk result (λ it. it ≡ attr_written (image_at images.now) entry.now attr.now) }
+{
+    if is_left_out(entry, attr.name) {
+        return Ok(None);
+    }
+    match value_written(alloc, images, entry, attr)? {
+        Some(value) => Ok(Some(OutAttr {
+            name: attr.name,
+            value,
+        })),
+        None => Ok(None),
+    }
+}
+
+/// Whether an attribute of an entry is left out by its name.
+fn is_left_out(entry: &Entry, name: u16) -> bool
+    ensures { result ≡ (is_dropped name || (is_none entry.now.parent && is_code_range name)) }
+{
+    is_dropped(name) || (entry.parent.is_none() && is_code_range(name))
+}
+
+/// Whether an attribute speaks of how the input was laid out.
+fn is_dropped(name: u16) -> bool
+    ensures { result ≡ is_dropped name }
+{
+    name == DW_AT_sibling
+        || name == DW_AT_str_offsets_base
+        || name == DW_AT_addr_base
+        || name == DW_AT_rnglists_base
+        || name == DW_AT_loclists_base
+}
+
+/// Whether an attribute of a root tells its unit's code.
+fn is_code_range(name: u16) -> bool
+    ensures { result ≡ is_code_range name }
+{
+    name == DW_AT_low_pc || name == DW_AT_high_pc || name == DW_AT_ranges
+}

@@ -1,0 +1,168 @@
+//! Values of attributes, moved to the linked program.
+
+ghost use Rattle.std.specs.Prelude.{◌≡◌, ◌&&◌, not, Some, None, if◌then◌else◌, IfOk};
+ghost use Rattle.std.specs.List.{filter_map};
+ghost use Rattle.std.specs.Option.{option_map};
+ghost use Rattle.clone_values.specs.Images.{image_at};
+ghost use Rattle.dwarf_types.specs.declared.graph.OutValue.TheVariants as out;
+ghost use Rattle.dwarf_types.specs.LinkedExpressions.{parts_of};
+ghost use Rattle.dwarf_types.specs.LinkedValues.{all_move, is_flag, location_written, loses_low_pc, unless_empty, value_written};
+ghost use Rattle.dwarf_types.specs.Moves.{address_moved};
+
+use crate::expression::parts_of;
+use crate::images::image_at;
+use ds_base::dwarf::{DW_AT_high_pc, DW_FORM_flag, DW_FORM_flag_present};
+use ds_base::{List, NoMemory};
+use dwarf_types::{Attr, Entry, Location, Op, OutLocation, OutValue, Span, Target, Value};
+use liveness::{address_moved, all_fields_moved, low_pc_moves};
+use std::alloc::Global;
+
+/// What an attribute of an entry says where it is written; none where it is dropped.
+pub(crate) fn value_written(
+    alloc: Global,
+    images: &[Option<Target>],
+    entry: &Entry,
+    attr: &Attr,
+) -> Result<Option<OutValue>, NoMemory>
+    ensures { IfOk result (λ it. it ≡ value_written (image_at images.now) entry.now attr.now attr.now.value) }
+{
+    match &attr.value {
+        Value::Address(_) => Ok(address_written(entry.tag, attr)),
+        Value::Text(text) => Ok(Some(OutValue::Text(text.copy(alloc)?))),
+        Value::Number { form, bits } => Ok(number_written(entry, attr, *form, *bits)),
+        Value::Wide(bytes) if loses_low_pc(entry, attr) => Ok(None),
+        Value::Wide(bytes) => Ok(Some(OutValue::Wide(bytes.copy(alloc)?))),
+        Value::Block { form, bytes } => Ok(Some(OutValue::Block {
+            form: *form,
+            bytes: bytes.copy(alloc)?,
+        })),
+        Value::Expr(ops) => expression_written(alloc, images, ops.as_slice()),
+        Value::Ref(k) => Ok(reference_written(images, *k)),
+        Value::Ranges(spans) => ranges_written(alloc, spans.as_slice()),
+        Value::Locations(items) => locations_written(alloc, images, items.as_slice()),
+        Value::Lines => Ok(Some(OutValue::Lines)),
+        Value::Offset(_) => Ok(None),
+    }
+}
+
+/// An address, where it moved.
+fn address_written(tag: u16, attr: &Attr) -> Option<OutValue>
+    ensures { result ≡ option_map (λ n. out.Address n) (address_moved tag attr.now) }
+{
+    let address = address_moved(tag, attr)?;
+    Some(OutValue::Address(address))
+}
+
+/// A number, where it is no length that goes with its low_pc.
+fn number_written(entry: &Entry, attr: &Attr, form: u16, bits: u64) -> Option<OutValue>
+    ensures { result ≡ (if not (is_flag form) && loses_low_pc entry.now attr.now then None else Some (out.Number form bits)) }
+{
+    if !is_flag(form) && loses_low_pc(entry, attr) {
+        return None;
+    }
+    Some(OutValue::Number { form, bits })
+}
+
+/// Whether a form is one of class flag.
+fn is_flag(form: u16) -> bool
+    ensures { result ≡ is_flag form }
+{
+    form == DW_FORM_flag || form == DW_FORM_flag_present
+}
+
+/// Whether an attribute of class constant is a length that goes with its low_pc.
+fn loses_low_pc(entry: &Entry, attr: &Attr) -> bool
+    ensures { result ≡ loses_low_pc entry.now attr.now }
+{
+    attr.name == DW_AT_high_pc && !low_pc_moves(entry)
+}
+
+/// An expression, where its addresses moved.
+fn expression_written(
+    alloc: Global,
+    images: &[Option<Target>],
+    ops: &[Op],
+) -> Result<Option<OutValue>, NoMemory>
+    ensures { IfOk result (λ it. it ≡ (if all_move ops.now then Some (out.Expr (parts_of (image_at images.now) ops.now)) else None)) }
+{
+    if !all_fields_moved(ops) {
+        return Ok(None);
+    }
+    let parts = parts_of(alloc, images, ops)?;
+    Ok(Some(OutValue::Expr(parts)))
+}
+
+/// A reference, where its entry is written.
+fn reference_written(images: &[Option<Target>], k: u32) -> Option<OutValue>
+    ensures { result ≡ option_map (λ target. out.Ref target) (image_at images.now k) }
+{
+    let target = image_at(images, k)?;
+    Some(OutValue::Ref(target))
+}
+
+/// A range list, where a piece is left of it.
+fn ranges_written(alloc: Global, spans: &[Span]) -> Result<Option<OutValue>, NoMemory>
+    ensures { IfOk result (λ it. it ≡ unless_empty (λ list. out.Ranges list) spans.now) }
+{
+    if spans.is_empty() {
+        return Ok(None);
+    }
+    Ok(Some(OutValue::Ranges(copy_of_spans(alloc, spans)?)))
+}
+
+/// A copy of a range list.
+pub fn copy_of_spans(alloc: Global, spans: &[Span]) -> Result<List<Span>, NoMemory>
+    ensures { IfOk result (λ copy. copy ≡ spans.now) }
+{
+    Ok(List::from_vec(Vec::from_slice(alloc, spans)?))
+}
+
+/// A location list, where an item is left of it.
+fn locations_written(
+    alloc: Global,
+    images: &[Option<Target>],
+    items: &[Location],
+) -> Result<Option<OutValue>, NoMemory>
+    ensures { IfOk result (λ it. it ≡ unless_empty (λ list. out.Locations list) (filter_map (location_written (image_at images.now)) items.now)) }
+{
+    let locations = items_written(alloc, images, items)?;
+    if locations.is_empty() {
+        return Ok(None);
+    }
+    Ok(Some(OutValue::Locations(locations)))
+}
+
+/// The items of a location list that are left.
+fn items_written(
+    alloc: Global,
+    images: &[Option<Target>],
+    items: &[Location],
+) -> Result<List<OutLocation>, NoMemory>
+    ensures { IfOk result (λ locations. locations ≡ filter_map (location_written (image_at images.now)) items.now) }
+{
+    let mut locations = List::new(alloc);
+    for item in items {
+        if let Some(location) = item_written(alloc, images, item)? {
+            locations.push(location)?;
+        }
+    }
+    Ok(locations)
+}
+
+/// An item of a location list, where the addresses of its expression moved.
+fn item_written(
+    alloc: Global,
+    images: &[Option<Target>],
+    item: &Location,
+) -> Result<Option<OutLocation>, NoMemory>
+    ensures { IfOk result (λ it. it ≡ location_written (image_at images.now) item.now) }
+{
+    if !all_fields_moved(item.ops.as_slice()) {
+        return Ok(None);
+    }
+    let parts = parts_of(alloc, images, item.ops.as_slice())?;
+    Ok(Some(OutLocation {
+        span: item.span,
+        parts,
+    }))
+}
