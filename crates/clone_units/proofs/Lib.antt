@@ -1,0 +1,6 @@
+pub mod Pieces
+pub mod Spans
+pub mod SpansInOrder
+pub mod Sources
+pub mod Cloned
+pub mod SoundTests
