@@ -1,0 +1,8 @@
+use Rattle.std.proofs.Common.{ℕ, ◌<◌}
+use Rattle.std.specs.Prelude.{slice_index_or}
+use Rattle.dwarf_types.specs.declared.lines.Sequence.{Sequence}
+use Rattle.dwarf_types.specs.WellLines.{IsSequence}
+use Rattle.graph_check.proofs.lines.are_sequences.Given as goal
+
+abbrev pub invariant-loop-sequence : goal.invariant-loop-sequence
+invariant-loop-sequence l = (k : ℕ) (d : Sequence) → k < l.sequence-index → IsSequence (slice_index_or l.sequences k d)

@@ -1,0 +1,55 @@
+//! A graph, and its units.
+
+ghost use Rattle.std.specs.Bool.{OnTrue};
+ghost use Rattle.std.specs.List.{All};
+ghost use Rattle.dwarf_types.specs.Well.{IsWell, IsWellUnit};
+
+use crate::lines::{are_frames, are_lines};
+use crate::nodes::are_nodes;
+use crate::roots::is_root;
+use crate::spans::are_spans;
+use crate::tree::{are_in_preorder, name_no_lines};
+use dwarf_types::{Graph, OutUnit};
+
+/// The version of DWARF of every unit.
+const VERSION: u16 = 4;
+
+/// Whether a graph is well. One that is not accepted may be well all the same.
+pub fn is_well(graph: &Graph) -> bool
+    ensures { OnTrue result (IsWell graph.now) }
+{
+    are_frames(graph.frames.as_slice());
+    are_units(graph, graph.units.as_slice())
+}
+
+/// Whether these are units of a well graph.
+fn are_units(graph: &Graph, units: &[OutUnit]) -> bool
+    ensures { OnTrue result (All (IsWellUnit graph.now) units.now) }
+{
+    for unit in units {
+        if !is_unit(graph, unit) {
+            return false;
+        }
+    }
+    true
+}
+
+/// Whether this is a unit of a well graph.
+fn is_unit(graph: &Graph, unit: &OutUnit) -> bool
+    ensures { OnTrue result (IsWellUnit graph.now unit.now) }
+{
+    let nodes = unit.nodes.as_slice();
+    let Some((root, below)) = nodes.split_first() else {
+        return false;
+    };
+    if unit.version != VERSION || !is_root(unit, root) {
+        return false;
+    }
+    if !are_in_preorder(nodes, below) || !name_no_lines(below) {
+        return false;
+    }
+    if !are_nodes(graph, nodes) || !are_lines(&unit.lines) {
+        return false;
+    }
+    are_spans(unit.ranges.as_slice())
+}
