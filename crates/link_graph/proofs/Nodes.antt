@@ -9,13 +9,14 @@ use Rattle.dwarf_types.specs.declared.entry.Entry.{Entry}
 use Rattle.dwarf_types.specs.declared.entry.InUnit.{InUnit}
 use Rattle.dwarf_types.specs.declared.graph.Target.{Target}
 use Rattle.dwarf_types.specs.declared.shape.Origin.{Origin}
+use Rattle.dwarf_types.specs.declared.shape.ShapeUnit.{ShapeUnit}
 use Rattle.dwarf_types.specs.Live.{Stands}
 use Rattle.dwarf_types.specs.LinkedShape.{origin_of}
 use Rattle.dwarf_types.specs.LinkedUnits.{Object, is_kept, kept_entries, node_number, numbered, parent_node}
 use Rattle.dwarf_types.specs.Sound.{IsParent, IsSound}
-use Rattle.link_graph.specs.Passes.{image_with, images_in_unit, is_kept_one, nodes_in, nodes_with, parent_in, stretch, unit_in}
+use Rattle.link_graph.specs.Passes.{entries_of, image_with, images_in_unit, is_kept_one, nodes_in, nodes_with, parent_in, stretch, unit_in, unit_at}
 use Rattle.link_graph.proofs.Positions.{position_kept}
-use Rattle.link_graph.proofs.Stretches.{kept_stretch, stretch_at, stretch_length, stretch_more, stretch_numbered}
+use Rattle.link_graph.proofs.Stretches.{entries_are, kept_stretch, stretch_at, stretch_length, stretch_more, stretch_numbered}
 use Rattle.link_graph.proofs.Units.{unit_of, unit_spans}
 
 -- the marks as they are read
@@ -133,10 +134,25 @@ if_same : {A : Type 0} (b c : Bool) (x y z : A) → b ≡ c → x ≡ y → cond
 if_same b c x y z e f = rw (e, f) refl
 
 -- it is written as they are, unless there is none
-pub unit_known : (o : Object) (object u : ℕ) (unit : InUnit) (nodes : List Origin) → IsSound o.seen → slice_get o.seen.units u ≡ Some unit → nodes ≡ nodes_in object o u (stretch o unit.first unit.count)
-    → cond (eqb (length nodes) 0) None (Some (record { version = unit.version; nodes = nodes })) ≡ unit_in object o (u, unit)
+unit_known : (o : Object) (object u : ℕ) (unit : InUnit) (nodes : List Origin) → IsSound o.seen → slice_get o.seen.units u ≡ Some unit → nodes ≡ nodes_in object o u (entries_of o u)
+    → cond (eqb (length nodes) 0) None (Some (record { version = unit.version; nodes = nodes })) ≡ unit_at object o u
 unit_known o object u unit nodes sound is these =
-    let same = nodes_whole o object u unit nodes sound is these in
-    if_same (eqb (length nodes) 0) (eqb (length (kept_entries o u)) 0) (Some (record { version = unit.version; nodes = nodes })) _ None
+    let same = nodes_whole o object u unit nodes sound is (these ∙ ap (nodes_in object o u) (entries_are o u unit is)) in
+    if_same (eqb (length nodes) 0) (eqb (length (kept_entries o u)) 0) (Some (record { version = unit.version; nodes = nodes })) (Some (record { version = unit.version; nodes = map (origin_of object o u) (kept_entries o u) })) None
     (ap (λ (n : ℕ). eqb n 0) (ap length same ∙ length-map (kept_entries o u) (origin_of object o u)))
     (ap (λ (ns : List Origin). Some (record { version = unit.version; nodes = ns })) same)
+    ∙ sym (ap (option_and_then (λ (unit : InUnit). unit_in object o (u, unit))) is)
+
+pub unit_some : (o : Object) (object u version : ℕ) (unit : InUnit) (nodes : List Origin) → IsSound o.seen → slice_get o.seen.units u ≡ Some unit → nodes ≡ nodes_in object o u (entries_of o u)
+    → version ≡ unit.version → eqb (length nodes) 0 ≡ false → Some (record { version = version; nodes = nodes }) ≡ unit_at object o u
+unit_some o object u version unit nodes sound is these same some =
+    ap (λ (v : ℕ). made v) same ∙ sym (ap (λ (b : Bool). cond b None (made unit.version)) some) ∙ unit_known o object u unit nodes sound is these
+  where
+    made : ℕ → Option ShapeUnit
+    made v = Some (record { version = v; nodes = nodes })
+
+pub unit_none : (o : Object) (object u : ℕ) (nodes : List Origin) → IsSound o.seen → u < length o.seen.units → nodes ≡ nodes_in object o u (entries_of o u) → eqb (length nodes) 0 ≡ true → None ≡ unit_at object o u
+unit_none o object u nodes sound lt these none = elim (slice_get_cases o.seen.units u).1 [
+  | inl w ↦ (let made : Option ShapeUnit = Some (record { version = w.0.version; nodes = nodes }) in sym (ap (λ (b : Bool). cond b None made) none) ∙ unit_known o object u w.0 nodes sound w.2 these)
+  | inr w ↦ absurd (omega (arith, w.0))
+]

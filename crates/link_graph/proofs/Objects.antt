@@ -1,11 +1,11 @@
 -- The units of an object and the images of its entries, unit by unit.
-use Rattle.std.proofs.Common.{◌≡◌, ℕ, ◌+◌, ◌<◌, ◌≤◌, List, [], ◌∷◌, ◌++◌, length, map, take, drop, get_or, slice_get, Option, Some, refl, sym, ap, subst, ◌∙◌, arith, length-append}
+use Rattle.std.proofs.Common.{◌≡◌, ℕ, ◌+◌, ◌<◌, ◌≤◌, List, [], ◌∷◌, ◌++◌, length, map, take, drop, get_or, slice_get, Option, Some, refl, sym, ap, subst, ◌∙◌, arith, length-append, inl, inr, None}
 use Rattle.std.specs.List.{All, enumerate_from, filter_map}
-use Rattle.std.specs.Option.{option_map, option_to_list}
+use Rattle.std.specs.Option.{IfSome, option_and_then, option_map, option_to_list}
 use Rattle.std.proofs.lemmas.List.{drop_all, length-map, map-append, take_all, take_more}
 use Rattle.std.proofs.lemmas.List.Elements.{filter_map-append}
 use Rattle.std.proofs.lemmas.List.FromFn.{get_or-enumerate_from, length-enumerate_from}
-use Rattle.std.proofs.lemmas.Option.{get_or_from_slice_get, slice_get-get_or, slice_get_within}
+use Rattle.std.proofs.lemmas.Option.{get_or_from_slice_get, slice_get-get_or, slice_get_cases, slice_get_within}
 use Rattle.ds_base.proofs.Walking.{drop_one}
 use Rattle.dwarf_types.specs.declared.entry.Entry.{Entry}
 use Rattle.dwarf_types.specs.declared.entry.InUnit.{InUnit}
@@ -14,13 +14,13 @@ use Rattle.dwarf_types.specs.declared.shape.ShapeUnit.{ShapeUnit}
 use Rattle.dwarf_types.specs.Live.{Stands}
 use Rattle.dwarf_types.specs.LinkedUnits.{Object, node_number, numbered}
 use Rattle.dwarf_types.specs.Sound.{AreUnits, IsSound}
-use Rattle.link_graph.specs.Passes.{image_behind, images_in_unit, images_of, stretch, unit_in, units_below, units_of}
+use Rattle.link_graph.specs.Passes.{entries_of, image_behind, images_in_unit, images_of, stretch, unit_at, unit_in, units_below, units_of}
 use Rattle.link_graph.proofs.Gathered.{map_same, one_or_none, take_on}
-use Rattle.link_graph.proofs.Stretches.{numbered_length, stretch_at, stretch_length}
+use Rattle.link_graph.proofs.Stretches.{entries_are, numbered_length, stretch_at, stretch_length}
 use Rattle.link_graph.proofs.Units.{unit_of, unit_spans}
 
 -- one unit more
-pub units_more : (object : ℕ) (o : Object) (u : ℕ) (unit : InUnit) → slice_get o.seen.units u ≡ Some unit → units_below object o (u + 1) ≡ units_below object o u ++ option_to_list (unit_in object o (u, unit))
+pub units_more : (object : ℕ) (o : Object) (u : ℕ) (unit : InUnit) → slice_get o.seen.units u ≡ Some unit → units_below object o (u + 1) ≡ units_below object o u ++ option_to_list (unit_at object o u)
 units_more object o u unit is =
     let within : u < length o.seen.units = slice_get_within o.seen.units u unit is in
     let same : 0 + u ≡ u = omega arith in
@@ -28,7 +28,7 @@ units_more object o u unit is =
     get_or-enumerate_from 0 o.seen.units u (0, unit) within ∙ ap (λ (n : ℕ). (n, get_or o.seen.units u unit)) same ∙ ap (λ (x : InUnit). (u, x)) (get_or_from_slice_get o.seen.units u unit unit is) in
     ap (filter_map (unit_in object o)) (take_more (enumerate_from 0 o.seen.units) u (0, unit) (omega (arith, length-enumerate_from 0 o.seen.units)) ∙ ap (λ (x : ℕ × InUnit). take u (enumerate_from 0 o.seen.units) ++ x ∷ []) here)
     ∙ filter_map-append (unit_in object o) (take u (enumerate_from 0 o.seen.units)) ((u, unit) ∷ [])
-    ∙ ap (λ (xs : List ShapeUnit). units_below object o u ++ xs) (one_or_none (unit_in object o) (u, unit))
+    ∙ ap (λ (xs : List ShapeUnit). units_below object o u ++ xs) (one_or_none (unit_in object o) (u, unit) ∙ ap option_to_list (sym (ap (option_and_then (λ (unit : InUnit). unit_in object o (u, unit))) is)))
 
 pub units_all : (object : ℕ) (o : Object) (u : ℕ) → length o.seen.units ≤ u → units_below object o u ≡ units_of object o
 units_all object o u le = ap (filter_map (unit_in object o)) (take_all u (enumerate_from 0 o.seen.units) (omega (arith, length-enumerate_from 0 o.seen.units)))
@@ -103,3 +103,22 @@ pub images_all : (before object : ℕ) (o : Object) (u : ℕ) (images : List (Op
 images_all before object o u images le so_far =
     let all : length images ≡ length o.seen.entries = subst (λ (us : List InUnit). AreUnits (length images) us (length o.seen.entries)) (drop_all u o.seen.units le) so_far.left in
     so_far.are ∙ ap (map (image_behind before object o)) (take_all (length images) (numbered o) (omega (arith, numbered_length o)))
+
+-- ---- as the loop has them
+
+pub units_next : (object : ℕ) (o : Object) (u : ℕ) → u < length o.seen.units → units_below object o (u + 1) ≡ units_below object o u ++ option_to_list (unit_at object o u)
+units_next object o u lt = elim (slice_get_cases o.seen.units u).1 [ inl w ↦ units_more object o u w.0 w.2 | inr w ↦ absurd (omega (arith, w.0)) ]
+
+pub images_next : (before number object : ℕ) (o : Object) (u : ℕ) (images : List (Option Target)) → IsSound o.seen → u < length o.seen.units → number ≡ before + length (units_below object o u)
+    → HasImages before object o u images → HasImages before object o (u + 1) (images ++ images_in_unit number o u (entries_of o u))
+images_next before number object o u images sound lt number_is so_far = elim (slice_get_cases o.seen.units u).1 [
+  | inl w ↦ subst (λ (es : List (ℕ × Entry)). HasImages before object o (u + 1) (images ++ images_in_unit number o u es)) (sym (entries_are o u w.0 w.2)) (images_more before number object o u w.0 images sound w.2 number_is so_far)
+  | inr w ↦ absurd (omega (arith, w.0))
+]
+
+pub unit_begun : (before object : ℕ) (o : Object) (u : ℕ) (images : List (Option Target)) → HasImages before object o u images → IfSome (slice_get o.seen.units u) (λ unit. length images ≡ unit.first)
+unit_begun before object o u images so_far = by (slice_get o.seen.units u) (λ unit is. unit_begins before object o u unit images is so_far)
+  where
+    by : (found : Option InUnit) → ((unit : InUnit) → found ≡ Some unit → length images ≡ unit.first) → IfSome found (λ unit. length images ≡ unit.first)
+    by None h = tt
+    by (Some unit) h = h unit refl

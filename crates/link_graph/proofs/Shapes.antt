@@ -85,7 +85,7 @@ numbers_below xs i j d lt =
     subst (λ (n : ℕ). n < i) (sym (ap (λ e. e.0) (get_or-take i (enumerate_from 0 xs) j d below ∙ enumerate_at xs j d within))) below
 
 -- a unit that is written stands behind the units before it
-source_position : (objects : List Object) (i : ℕ) (o : Object) (u : ℕ) (unit : InUnit) → slice_get objects i ≡ Some o → slice_get o.seen.units u ≡ Some unit → eqb (length (kept_entries o u)) 0 ≡ false
+pub source_position : (objects : List Object) (i : ℕ) (o : Object) (u : ℕ) (unit : InUnit) → slice_get objects i ≡ Some o → slice_get o.seen.units u ≡ Some unit → eqb (length (kept_entries o u)) 0 ≡ false
     → position (same_source (record { object = i; unit = u })) (sources objects) ≡ Some (length (units_before objects i) + length (units_below i o u))
 source_position objects i o u unit at is written =
     ap (position p) whole ∙ position_found p (before ++ below) source (above ++ behind) (All-append (λ y. p y ≡ false) before below none_before none_below) here
@@ -237,14 +237,14 @@ pub object_read : (seen : List Analysis) (marks : List (List Bool)) (k : ℕ) (s
 object_read seen marks k s m lt lt' is is' = object_at seen marks k s m (slice_get_read seen _ k s refl lt is) (slice_get_read marks _ k m refl lt' is')
 
 -- each object is one of the analyses with its marks
-record Parts (seen : List Analysis) (marks : List (List Bool)) (k : ℕ) (o : Object) : Type 0 where
-  analysis : slice_get seen k ≡ Some o.seen
-  marked : slice_get marks k ≡ Some o.kept
+pub record Parts (seen : List Analysis) (marks : List (List Bool)) (k : ℕ) (o : Object) : Type 0 where
+  pub analysis : slice_get seen k ≡ Some o.seen
+  pub marked : slice_get marks k ≡ Some o.kept
 
 objects_long : (seen : List Analysis) (marks : List (List Bool)) → length marks ≡ length seen → length (objects_of seen marks) ≡ length seen
 objects_long seen marks each = length-map (zip seen marks) _ ∙ omega (arith, length-zip seen marks, each)
 
-object_parts : (seen : List Analysis) (marks : List (List Bool)) (k : ℕ) (o : Object) → length marks ≡ length seen → slice_get (objects_of seen marks) k ≡ Some o → Parts seen marks k o
+pub object_parts : (seen : List Analysis) (marks : List (List Bool)) (k : ℕ) (o : Object) → length marks ≡ length seen → slice_get (objects_of seen marks) k ≡ Some o → Parts seen marks k o
 object_parts seen marks k o each at =
     let within : k < length seen = omega (arith, slice_get_within (objects_of seen marks) k o at, objects_long seen marks each) in
     let made = object_at seen marks k (get_or seen k o.seen) (get_or marks k o.kept) (slice_get-get_or seen k o.seen within) (slice_get-get_or marks k o.kept (omega (arith, within, each))) in

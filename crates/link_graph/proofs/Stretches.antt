@@ -1,6 +1,7 @@
 -- The entries of a unit: those from its first on, as many as it has.
-use Rattle.std.proofs.Common.{◌≡◌, ℕ, ◌+◌, ◌<◌, ◌≤◌, ◌&&◌, Bool, true, false, eqb, List, [], ◌∷◌, ◌++◌, length, take, drop, get_or, slice_get, Some, refl, sym, ap, subst, ◌∙◌, arith, append-nil}
+use Rattle.std.proofs.Common.{◌≡◌, ℕ, ◌+◌, ◌<◌, ◌≤◌, ◌&&◌, Bool, true, false, eqb, List, [], ◌∷◌, ◌++◌, length, take, drop, get_or, slice_get, Some, refl, sym, ap, subst, ◌∙◌, arith, append-nil, Option}
 use Rattle.std.specs.List.{All, filter}
+use Rattle.std.specs.Option.{option_map_or}
 use Rattle.std.proofs.lemmas.Bool.{ne_eqb, eq-eqb}
 use Rattle.std.proofs.lemmas.List.{get_or-take, get_or-drop, length-take, length-drop, take-append-drop, take_more}
 use Rattle.std.proofs.lemmas.List.Elements.{filter-append}
@@ -11,7 +12,7 @@ use Rattle.dwarf_types.specs.declared.entry.InUnit.{InUnit}
 use Rattle.dwarf_types.specs.Live.{Stands}
 use Rattle.dwarf_types.specs.LinkedUnits.{Object, is_kept, kept_entries, numbered}
 use Rattle.dwarf_types.specs.Sound.{IsIn, IsSound}
-use Rattle.link_graph.specs.Passes.{is_kept_one, stretch}
+use Rattle.link_graph.specs.Passes.{entries_of, is_kept_one, stretch}
 use Rattle.link_graph.proofs.Positions.{AreNumbered, filter_none, filter_same}
 use Rattle.link_graph.proofs.Units.{unit_has, unit_of, unit_spans}
 
@@ -85,3 +86,6 @@ kept_stretch o u unit sound is =
         let same : eqb e.unit u ≡ true = eq-eqb _ _ (unit_of o.seen u unit (unit.first + j) e sound is at (record { from_first = omega arith; before_end = omega arith })) in
         let here : p (unit.first + j, e) ≡ is_kept_one o (unit.first + j, e) = rw same refl in
         subst (λ (x : ℕ × Entry). p x ≡ is_kept_one o x) (sym (stretch_at o unit.first unit.count j d below ends)) here
+
+pub entries_are : (o : Object) (u : ℕ) (unit : InUnit) → slice_get o.seen.units u ≡ Some unit → entries_of o u ≡ stretch o unit.first unit.count
+entries_are o u unit is = ap (λ (found : Option InUnit). option_map_or (λ (unit : InUnit). stretch o unit.first unit.count) found []) is

@@ -1,7 +1,7 @@
 -- The units of a sound analysis, and which entries lie in them.
-use Rattle.std.proofs.Common.{◌≡◌, ℕ, zero, suc, ◌+◌, ◌<◌, ◌≤◌, List, [], ◌∷◌, length, slice_get, Some, inl, inr, sym, subst, ◌∙◌, arith}
+use Rattle.std.proofs.Common.{◌≡◌, ℕ, zero, suc, ◌+◌, ◌<◌, ◌≤◌, List, [], ◌∷◌, length, get_or, slice_get, Some, inl, inr, sym, subst, ◌∙◌, arith, ap, refl}
 use Rattle.std.proofs.lemmas.Bool.{cases_order}
-use Rattle.std.proofs.lemmas.Option.{same_Some, none-some}
+use Rattle.std.proofs.lemmas.Option.{same_Some, none-some, slice_get_read}
 use Rattle.dwarf_types.specs.declared.analysis.Analysis.{Analysis}
 use Rattle.dwarf_types.specs.declared.entry.Entry.{Entry}
 use Rattle.dwarf_types.specs.declared.entry.InUnit.{InUnit}
@@ -49,3 +49,7 @@ unit_of a u unit k e sound is at lies =
         | inr lt ↦ (let apart = units_apart 0 a.units (length a.entries) u e.unit unit s.unit sound.units is s.its_unit lt in absurd (omega (arith, apart, lies.before_end, other.from_first)))
       ]
     ]
+
+-- a unit as it is read
+pub unit_read : (units lent : List InUnit) (u : ℕ) (unit : InUnit) → lent ≡ units → u < length units → unit ≡ get_or lent u unit → slice_get units u ≡ Some unit
+unit_read units lent u unit same lt is = slice_get_read units (length units) u unit refl lt (is ∙ ap (λ (us : List InUnit). get_or us u unit) same)

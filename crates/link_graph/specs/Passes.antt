@@ -1,7 +1,8 @@
 -- What passing over one object gives: its units that are written, and where its entries went.
 use Rattle.std.specs.Prelude.{ℕ, ◌+◌, ◌==◌, Bool, List, [], ◌∷◌, map, take, drop, length, slice_get, Option, Some, None, if◌then◌else◌}
 use Rattle.std.specs.List.{enumerate_from, filter, filter_map, flat_map}
-use Rattle.std.specs.Option.{option_and_then, option_map}
+use Rattle.std.specs.Option.{option_and_then, option_map, option_map_or}
+use Rattle.dwarf_types.specs.declared.analysis.Analysis.{Analysis}
 use Rattle.dwarf_types.specs.declared.entry.Entry.{Entry}
 use Rattle.dwarf_types.specs.declared.entry.InUnit.{InUnit}
 use Rattle.dwarf_types.specs.declared.graph.Target.{Target}
@@ -9,6 +10,10 @@ use Rattle.dwarf_types.specs.declared.shape.Origin.{Origin}
 use Rattle.dwarf_types.specs.declared.shape.ShapeUnit.{ShapeUnit}
 use Rattle.dwarf_types.specs.LinkedShape.{origin_of}
 use Rattle.dwarf_types.specs.LinkedUnits.{Object, is_kept, kept_entries, node_number, numbered}
+
+-- an analysis with its marks
+abbrev pub marked : Analysis → List Bool → Object
+marked seen live = record { seen = seen; kept = live }
 
 -- ---- one entry
 
@@ -29,6 +34,10 @@ image_with kept unit node = if kept then Some (record { unit = unit; node = node
 abbrev pub stretch : Object → ℕ → ℕ → List (ℕ × Entry)
 stretch o first n = take n (drop first (numbered o))
 
+-- the entries of unit u
+abbrev pub entries_of : Object → ℕ → List (ℕ × Entry)
+entries_of o u = option_map_or (λ unit. stretch o unit.first unit.count) (slice_get o.seen.units u) []
+
 abbrev pub is_kept_one : Object → ℕ × Entry → Bool
 is_kept_one o e = is_kept o e.0
 
@@ -46,6 +55,10 @@ images_in_unit number o u es = map (λ e. option_map (λ node. record { unit = n
 abbrev pub unit_in : ℕ → Object → ℕ × InUnit → Option ShapeUnit
 unit_in object o u =
     if length (kept_entries o u.0) == 0 then None else Some (record { version = u.1.version; nodes = map (origin_of object o u.0) (kept_entries o u.0) })
+
+-- unit u, if it is written
+abbrev pub unit_at : ℕ → Object → ℕ → Option ShapeUnit
+unit_at object o u = option_and_then (λ unit. unit_in object o (u, unit)) (slice_get o.seen.units u)
 
 -- those of the units below u
 abbrev pub units_below : ℕ → Object → ℕ → List ShapeUnit

@@ -2,7 +2,7 @@
 
 ghost use Rattle.std.specs.Prelude.{◌≡◌, ◌<◌, ◌^◌, ◌++◌, length, OnOk, IfOk};
 ghost use Rattle.dwarf_types.specs.Sound.{IsSound};
-ghost use Rattle.link_graph.specs.Passes.{images_of, units_of};
+ghost use Rattle.link_graph.specs.Passes.{images_of, marked, units_of};
 
 use crate::unit::add_unit;
 use ds_base::{BitRow, List, NoMemory};
@@ -23,12 +23,12 @@ pub(crate) fn add_object(
     requires few { object < 2 ^ 16 }
     requires sound { IsSound seen.now }
     requires marked { length live.now ≡ length seen.now.entries }
-    ensures units { OnOk result (units.new ≡ units.old ++ units_of object (record { seen = seen.now; kept = live.now })) }
-    ensures images { IfOk result (λ images. images ≡ images_of (length units.old) object (record { seen = seen.now; kept = live.now })) }
+    ensures units { OnOk result (units.new ≡ units.old ++ units_of object (marked seen.now live.now)) }
+    ensures images { IfOk result (λ images. images ≡ images_of (length units.old) object (marked seen.now live.now)) }
 {
     let mut images = List::new(alloc);
-    for (u, unit) in seen.units.as_slice().iter().enumerate() {
-        add_unit(alloc, object, seen, live, u, unit, units, &mut images)?;
+    for u in 0..seen.units.len() {
+        add_unit(alloc, object, seen, live, u, units, &mut images)?;
     }
     Ok(images)
 }

@@ -1,13 +1,13 @@
 //! One unit of an object: the nodes of its entries.
 
-ghost use Rattle.std.specs.Prelude.{◌≡◌, ◌+◌, ◌<◌, ◌^◌, ◌++◌, length, slice_get, Some, OnOk, IfOk};
+ghost use Rattle.std.specs.Prelude.{◌≡◌, ◌<◌, ◌^◌, ◌++◌, length, slice_get, IfSome, OnOk, IfOk};
 ghost use Rattle.std.specs.Option.{option_to_list};
 ghost use Rattle.dwarf_types.specs.Sound.{IsSound};
-ghost use Rattle.link_graph.specs.Passes.{images_in_unit, nodes_in, stretch, unit_in};
+ghost use Rattle.link_graph.specs.Passes.{entries_of, images_in_unit, marked, nodes_in, unit_at};
 
 use crate::entry::{add_entry, number_of};
 use ds_base::{BitRow, List, NoMemory};
-use dwarf_types::{Analysis, InUnit, Origin, ShapeUnit, Target};
+use dwarf_types::{Analysis, Origin, ShapeUnit, Target};
 use std::alloc::Global;
 
 /// Puts unit `u` of an object, if one of its entries is kept, behind the units, and where its entries went behind the
@@ -20,23 +20,22 @@ pub(crate) fn add_unit(
     seen: &Analysis,
     live: &BitRow,
     u: usize,
-    unit: &InUnit,
     units: &mut List<ShapeUnit>,
     images: &mut List<Option<Target>>,
 ) -> Result<(), NoMemory>
     requires few { object < 2 ^ 16 }
     requires sound { IsSound seen.now }
     requires marked { length live.now ≡ length seen.now.entries }
-    requires unit { slice_get seen.now.units u ≡ Some unit.now }
-    requires begun { length images.old ≡ unit.now.first }
-    ensures units { OnOk result (units.new ≡ units.old ++ option_to_list (unit_in object (record { seen = seen.now; kept = live.now }) (u, unit.now))) }
-    ensures images { OnOk result (images.new ≡ images.old ++ images_in_unit (length units.old) (record { seen = seen.now; kept = live.now }) u (stretch (record { seen = seen.now; kept = live.now }) unit.now.first unit.now.count)) }
+    requires unit { u < length seen.now.units }
+    requires begun { IfSome (slice_get seen.now.units u) (λ unit. length images.old ≡ unit.first) }
+    ensures units { OnOk result (units.new ≡ units.old ++ option_to_list (unit_at object (marked seen.now live.now) u)) }
+    ensures images { OnOk result (images.new ≡ images.old ++ images_in_unit (length units.old) (marked seen.now live.now) u (entries_of (marked seen.now live.now) u)) }
 {
     let number = number_of(units.len())?;
-    let nodes = nodes_in(alloc, object, seen, live, u, unit, number, images)?;
+    let nodes = nodes_in(alloc, object, seen, live, u, number, images)?;
     if !nodes.is_empty() {
         units.push(ShapeUnit {
-            version: unit.version,
+            version: seen.units.as_slice()[u].version,
             nodes,
         })?;
     }
@@ -50,18 +49,18 @@ fn nodes_in(
     seen: &Analysis,
     live: &BitRow,
     u: usize,
-    unit: &InUnit,
     number: u32,
     images: &mut List<Option<Target>>,
 ) -> Result<List<Origin>, NoMemory>
     requires few { object < 2 ^ 16 }
     requires sound { IsSound seen.now }
     requires marked { length live.now ≡ length seen.now.entries }
-    requires unit { slice_get seen.now.units u ≡ Some unit.now }
-    requires begun { length images.old ≡ unit.now.first }
-    ensures nodes { IfOk result (λ nodes. nodes ≡ nodes_in object (record { seen = seen.now; kept = live.now }) u (stretch (record { seen = seen.now; kept = live.now }) unit.now.first unit.now.count)) }
-    ensures images { OnOk result (images.new ≡ images.old ++ images_in_unit number (record { seen = seen.now; kept = live.now }) u (stretch (record { seen = seen.now; kept = live.now }) unit.now.first unit.now.count)) }
+    requires unit { u < length seen.now.units }
+    requires begun { IfSome (slice_get seen.now.units u) (λ unit. length images.old ≡ unit.first) }
+    ensures nodes { IfOk result (λ nodes. nodes ≡ nodes_in object (marked seen.now live.now) u (entries_of (marked seen.now live.now) u)) }
+    ensures images { OnOk result (images.new ≡ images.old ++ images_in_unit number (marked seen.now live.now) u (entries_of (marked seen.now live.now) u)) }
 {
+    let unit = &seen.units.as_slice()[u];
     let entries = seen.entries.as_slice();
     let mut nodes = List::new(alloc);
     for n in 0..unit.count {

@@ -1,22 +1,24 @@
-use Rattle.std.proofs.Common.{◌≡◌, ◌++◌, length, eqb, true, false, cond, Option, Some, None, sym, ap, ◌∙◌, append-nil}
+use Rattle.std.proofs.Common.{◌≡◌, ◌++◌, eqb, length, false, true, Option, sym, ap, ◌∙◌, append-nil}
 use Rattle.std.specs.Option.{option_to_list}
+use Rattle.dwarf_types.specs.declared.entry.InUnit.{InUnit}
 use Rattle.dwarf_types.specs.declared.shape.ShapeUnit.{ShapeUnit}
 use Rattle.dwarf_types.specs.LinkedUnits.{Object}
-use Rattle.link_graph.proofs.Nodes.{unit_known}
+use Rattle.link_graph.specs.Passes.{marked}
+use Rattle.link_graph.proofs.Nodes.{unit_none, unit_some}
+use Rattle.link_graph.proofs.Units.{unit_read}
 use Rattle.link_graph.proofs.unit.add_unit.Goals as goal
 
 pub returns-in_ok-push-clause-units : goal.returns-in_ok-push-clause-units
 returns-in_ok-push-clause-units c =
-    let o : Object = record { seen = c.args.seen.now; kept = c.args.live.now } in
+    let o : Object = marked c.args.seen.now c.args.live.now in
+    let unit = c.index-as_slice-u.result in
+    let is = unit_read o.seen.units c.as_slice.result.now c.args.u unit c.as_slice.ensures c.requires.unit c.index-as_slice-u.is in
     let some : eqb (length c.in_ok-nodes.nodes) 0 ≡ false = sym c.is_empty.ensures ∙ c.if-not-is_empty.true in
-    let unit : ShapeUnit = record { version = c.args.unit.now.version; nodes = c.in_ok-nodes.nodes } in
-    c.in_ok-push.ensures.ok ∙ ap (λ (t : Option ShapeUnit). c.args.units.now ++ option_to_list t)
-    (sym (ap (λ b. cond b None (Some unit)) some) ∙ unit_known o c.args.object c.args.u c.args.unit.now c.in_ok-nodes.nodes c.requires.sound c.requires.unit c.in_ok-nodes.ensures.nodes)
+    let version = ap (λ (u : InUnit). u.version) (sym c.index-as_slice-u.is) in
+    c.in_ok-push.ensures.ok ∙ ap (λ (t : Option ShapeUnit). c.args.units.now ++ option_to_list t) (unit_some o c.args.object c.args.u _ unit c.in_ok-nodes.nodes c.requires.sound is c.in_ok-nodes.ensures.nodes version some)
 
 pub returns-else-not-is_empty-clause-units : goal.returns-else-not-is_empty-clause-units
 returns-else-not-is_empty-clause-units c =
-    let o : Object = record { seen = c.args.seen.now; kept = c.args.live.now } in
+    let o : Object = marked c.args.seen.now c.args.live.now in
     let none : eqb (length c.in_ok-nodes.nodes) 0 ≡ true = sym c.is_empty.ensures ∙ c.if-not-is_empty.false in
-    let unit : ShapeUnit = record { version = c.args.unit.now.version; nodes = c.in_ok-nodes.nodes } in
-    sym (append-nil c.args.units.now) ∙ ap (λ (t : Option ShapeUnit). c.args.units.now ++ option_to_list t)
-    (sym (ap (λ b. cond b None (Some unit)) none) ∙ unit_known o c.args.object c.args.u c.args.unit.now c.in_ok-nodes.nodes c.requires.sound c.requires.unit c.in_ok-nodes.ensures.nodes)
+    sym (append-nil c.args.units.now) ∙ ap (λ (t : Option ShapeUnit). c.args.units.now ++ option_to_list t) (unit_none o c.args.object c.args.u c.in_ok-nodes.nodes c.requires.sound c.requires.unit c.in_ok-nodes.ensures.nodes none)
