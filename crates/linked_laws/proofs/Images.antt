@@ -1,0 +1,98 @@
+-- The units of the linked graph, and where the entries that are written went.
+use Rattle.std.proofs.Common.{◌≡◌, ◌+◌, ◌==◌, ℕ, Bool, true, false, cond, eqb, List, length, slice_get, Some, None, refl, sym, ap, subst, ◌∙◌, arith}
+use Rattle.std.specs.List.{All, enumerate_from, position}
+use Rattle.std.specs.Option.{is_some, option_and_then, option_map}
+use Rattle.std.proofs.lemmas.Bool.{and_parts, eqb-true, ne_eqb}
+use Rattle.std.proofs.lemmas.List.Elements.{All-weaker}
+use Rattle.std.proofs.lemmas.List.Quantifiers.{position-Some}
+use Rattle.std.proofs.lemmas.Option.{same_Some, slice_get-get_or, slice_get_within}
+use Rattle.dwarf_types.specs.declared.entry.Entry.{Entry}
+use Rattle.dwarf_types.specs.declared.entry.InUnit.{InUnit}
+use Rattle.dwarf_types.specs.declared.graph.Target.{Target}
+use Rattle.dwarf_types.specs.LinkedGraph.{linked, unit_written, written}
+use Rattle.dwarf_types.specs.LinkedUnits.{Object, Source, image_of, is_kept, kept_entries, node_number, same_source, sources, sources_in}
+use Rattle.dwarf_types.specs.Live.{Stands}
+use Rattle.dwarf_types.specs.Sound.{IsSound}
+use Rattle.link_graph.proofs.Gathered.{All-enumerate, All-filter_map, All-flat_map}
+use Rattle.link_graph.proofs.Shapes.{source_position}
+use Rattle.linked_laws.proofs.Lists.{kept_at}
+use Rattle.linked_laws.proofs.Written.{node_of_entry}
+
+abbrev pub source_by : ℕ → ℕ → Source
+source_by object unit = record { object = object; unit = unit }
+
+module _ (objects : List Object) where
+  -- a unit of an object, with an entry that is written
+  pub record IsSource (s : Source) : Type 0 where
+    pub object : Object
+    pub unit : InUnit
+    pub at : slice_get objects s.object ≡ Some object
+    pub is : slice_get object.seen.units s.unit ≡ Some unit
+    pub some : (length (kept_entries object s.unit) == 0) ≡ false
+
+  unless : (b : Bool) (x y : Source) → cond b None (Some x) ≡ Some y → (x ≡ y) × (b ≡ false)
+  unless true x y e = absurd cc
+  unless false x y e = (same_Some x y e, refl)
+
+  in_object : (i : ℕ) (o : Object) (u : ℕ × InUnit) (y : Source) → slice_get objects i ≡ Some o → slice_get o.seen.units u.0 ≡ Some u.1
+      → cond (eqb (length (kept_entries o u.0)) 0) None (Some (source_by i u.0)) ≡ Some y → IsSource y
+  in_object i o u y at is e =
+      let h = unless (eqb (length (kept_entries o u.0)) 0) (source_by i u.0) y e in
+      let own : IsSource (source_by i u.0) = record { object = o; unit = u.1; at = at; is = is; some = h.1 } in
+      subst IsSource h.0 own
+
+  -- each unit that is written is one of an object
+  pub all_sources : All IsSource (sources objects)
+  all_sources =
+      All-flat_map IsSource sources_in (enumerate_from 0 objects)
+      (All-weaker (λ (x : ℕ × Object). slice_get objects x.0 ≡ Some x.1) (λ x. All IsSource (sources_in x))
+      (λ x at. All-filter_map IsSource (λ (u : ℕ × InUnit). cond (eqb (length (kept_entries x.1 u.0)) 0) None (Some (source_by x.0 u.0))) (enumerate_from 0 x.1.seen.units)
+      (All-weaker (λ (u : ℕ × InUnit). slice_get x.1.seen.units u.0 ≡ Some u.1) (λ u. (y : Source) → cond (eqb (length (kept_entries x.1 u.0)) 0) None (Some (source_by x.0 u.0)) ≡ Some y → IsSource y)
+      (λ u is y e. in_object x.0 x.1 u y at is e) (enumerate_from 0 x.1.seen.units) (All-enumerate x.1.seen.units)))
+      (enumerate_from 0 objects) (All-enumerate objects))
+
+  -- and what is written of it
+  pub source_written : (s : Source) (o : Object) (unit : InUnit) → slice_get objects s.object ≡ Some o → slice_get o.seen.units s.unit ≡ Some unit → written 0 objects s ≡ Some (unit_written 0 objects s o unit)
+  source_written s o unit at is =
+      ap (option_and_then (λ (x : Object). option_map (unit_written 0 objects s x) (slice_get x.seen.units s.unit))) at ∙ ap (option_map (unit_written 0 objects s o)) is
+
+  all_there : All (λ s. is_some (written 0 objects s) ≡ true) (sources objects)
+  all_there = All-weaker IsSource (λ s. is_some (written 0 objects s) ≡ true) (λ s h. ap is_some (source_written s h.object h.unit h.at h.is)) (sources objects) all_sources
+
+  source_same : (s t : Source) → same_source s t ≡ true → t ≡ s
+  source_same s t e =
+      let h = and_parts (eqb s.object t.object) (eqb s.unit t.unit) e in
+      ap (λ (n : ℕ). source_by n t.unit) (sym (eqb-true s.object t.object h.0)) ∙ ap (source_by s.object) (sym (eqb-true s.unit t.unit h.1))
+
+  -- where an entry that is written went
+  pub record Goes (i : ℕ) (o : Object) (k : ℕ) (e : Entry) (unit : InUnit) : Type 0 where
+    pub target : Target
+    pub is : image_of 0 objects i k ≡ Some target
+    pub number : node_number o e.unit k ≡ Some target.node
+    pub in_graph : slice_get (linked objects).units target.unit ≡ Some (unit_written 0 objects (source_by i e.unit) o unit)
+    pub node : slice_get (kept_entries o e.unit) target.node ≡ Some (k, e)
+
+  abbrev pub target_by : ℕ → ℕ → Target
+  target_by unit node = record { unit = unit; node = node }
+
+  pub goes : (i : ℕ) (o : Object) (k : ℕ) (e : Entry) (unit : InUnit) → slice_get objects i ≡ Some o → IsSound o.seen → Stands o.seen.entries k e → slice_get o.seen.units e.unit ≡ Some unit → is_kept o k ≡ true → Goes i o k e unit
+  goes i o k e unit at sound stands is kept =
+      let own = node_of_entry o e.unit unit k e sound is stands refl kept in
+      let source = source_by i e.unit in
+      let some : eqb (length (kept_entries o e.unit)) 0 ≡ false = ne_eqb (length (kept_entries o e.unit)) 0 (λ none. omega (arith, none, slice_get_within (kept_entries o e.unit) own.number (k, e) own.at)) in
+      let found = source_position objects i o e.unit unit at is some in
+      let first = position-Some (same_source source) (sources objects) _ source found in
+      let read = slice_get-get_or (sources objects) _ source first.0 ∙ ap (λ (s : Source). Some s) (source_same source _ first.1) in
+      let place = kept_at (written 0 objects) (sources objects) _ all_there ∙ ap (option_and_then (written 0 objects)) read ∙ source_written source o unit at is in
+      let image : image_of 0 objects i k ≡ Some (target_by (0 + _) own.number) =
+      ap (option_and_then (λ (x : Object). option_and_then (λ (y : Entry). option_and_then (λ n. option_map (λ node. target_by (0 + n) node) (node_number x y.unit k)) (position (same_source (source_by i y.unit)) (sources objects))) (slice_get x.seen.entries k))) at
+      ∙ ap (option_and_then (λ (y : Entry). option_and_then (λ n. option_map (λ node. target_by (0 + n) node) (node_number o y.unit k)) (position (same_source (source_by i y.unit)) (sources objects)))) stands
+      ∙ ap (option_and_then (λ n. option_map (λ node. target_by (0 + n) node) (node_number o e.unit k))) found
+      ∙ ap (option_map (λ node. target_by (0 + _) node)) own.is in
+      record {
+        target = target_by (0 + _) own.number;
+        is = image;
+        number = own.is;
+        in_graph = ap (slice_get (linked objects).units) (let same : 0 + _ ≡ _ = omega arith in same) ∙ place;
+        node = own.at;
+      }

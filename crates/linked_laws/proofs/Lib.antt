@@ -1,0 +1,12 @@
+pub mod Attributes
+pub mod Chains
+pub mod ExpressionLengths
+pub mod Expressions
+pub mod Images
+pub mod Lists
+pub mod Live
+pub mod Preorder
+pub mod Roots
+pub mod Spans
+pub mod Whole
+pub mod Written

@@ -1,0 +1,140 @@
+-- What an analysis of version 4 keeps to beside being sound: its entries say what the bytes of an object can say.
+use Rattle.std.specs.Prelude.{◌≡◌, ◌<◌, ◌+◌, ◌^◌, ◌==◌, ◌&&◌, not, ℕ, zero, suc, Bool, true, false, IsTrue, List, [], ◌∷◌, length, drop, Option, Some, None, is_none, is_some, IfSome, if◌then◌else◌}
+use Rattle.std.specs.List.{All, list_any}
+use Rattle.ds_base.specs.declared.dwarf.TheConstants.{DW_AT_ranges, DW_AT_stmt_list, DW_TAG_compile_unit}
+use Rattle.dwarf_types.specs.declared.address.Place.{Place}
+use Rattle.dwarf_types.specs.declared.analysis.Analysis.{Analysis}
+use Rattle.dwarf_types.specs.declared.entry.Attr.{Attr}
+use Rattle.dwarf_types.specs.declared.entry.Entry.{Entry}
+use Rattle.dwarf_types.specs.declared.entry.InUnit.{InUnit}
+use Rattle.dwarf_types.specs.declared.expr.Base.{Base}
+use Rattle.dwarf_types.specs.declared.expr.Base.TheVariants as bases
+use Rattle.dwarf_types.specs.declared.expr.Op.{Op}
+use Rattle.dwarf_types.specs.declared.expr.PlainOp.{PlainOp}
+use Rattle.dwarf_types.specs.declared.lists.Location.{Location}
+use Rattle.dwarf_types.specs.declared.operands.Operands.{Operands}
+use Rattle.dwarf_types.specs.declared.operands.Operands.TheVariants as operands
+use Rattle.dwarf_types.specs.declared.value.Value.{Value}
+use Rattle.dwarf_types.specs.declared.value.Value.TheVariants as values
+use Rattle.dwarf_types.specs.Expressions.{expression_len}
+use Rattle.dwarf_types.specs.LinkedExpressions.{before_base, behind_base, moved_bytes, outside, parts_of}
+use Rattle.dwarf_types.specs.Live.{Stands}
+use Rattle.dwarf_types.specs.Operations.{operands_of}
+use Rattle.dwarf_types.specs.Spelled.{AreBytes, AreTextBytes}
+use Rattle.dwarf_types.specs.WellLines.{IsFrame, IsLineTable}
+use Rattle.dwarf_types.specs.WellRoots.{is_split}
+use Rattle.dwarf_types.specs.WellValues.{FitsBlock, FitsForm, IsSpan, has_locations}
+use Rattle.dwarf_types.specs.WholeParts.{IsOperation, SpellsAround}
+
+-- ---- expressions
+
+-- the generic type is named in a conversion alone, whose one operand is a base type
+abbrev pub MayName : Operands → Base → Type 0
+MayName row bases.Generic = row ≡ operands.Base
+MayName row (bases.Entry k) = Unit {0}
+
+-- an operation that names a base type: what stands around the name is as its row of the table says
+pub record NamesBase (op : PlainOp) (base : Base) : Type 0 where
+  pub row : Operands
+  pub known : operands_of op.code ≡ Some row
+  pub around : SpellsAround row (before_base (Some row) (drop 1 op.bytes)) (behind_base (Some row) (drop 1 op.bytes))
+  pub may : MayName row base
+
+-- one operation, once its address is the moved one
+abbrev pub IsGivenBy : PlainOp → Option Base → Type 0
+IsGivenBy op None = IsOperation (moved_bytes op)
+IsGivenBy op (Some base) = NamesBase op base
+
+abbrev pub IsGivenPlain : PlainOp → Type 0
+IsGivenPlain op = IsGivenBy op op.base
+
+-- an entry value with operations inside, or another operation
+pub data IsGivenOp (op : Op) : Type 0 where
+  is_entry_value : operands_of op.code ≡ Some operands.Expression → All IsGivenPlain op.inner → IsGivenOp op
+  is_other : (operands_of op.code ≡ Some operands.Expression → ⊥) → IsGivenPlain (outside op) → IsGivenOp op
+
+-- ---- values
+
+-- an item of a location list; its expression is short enough for a length of two bytes, wherever its base types go
+pub record IsGivenLocation (item : Location) : Type 0 where
+  pub span : IsSpan item.span
+  pub ops : All IsGivenOp item.ops
+  pub short : expression_len (parts_of (λ k. None) item.ops) < 2 ^ 16
+
+pub record IsGivenPlace (place : Place) : Type 0 where
+  pub linked : IfSome place.linked (λ n. n < 2 ^ 64)
+  pub linked_end : IfSome place.linked_end (λ n. n < 2 ^ 64)
+
+-- the value of an attribute of a name; a list stands under an attribute of its kind alone
+abbrev pub IsGivenValue : ℕ → Value → Type 0
+IsGivenValue name (values.Address place) = IsGivenPlace place
+IsGivenValue name (values.Text text) = AreTextBytes text
+IsGivenValue name (values.Number form bits) = FitsForm form bits
+IsGivenValue name (values.Wide bytes) = ⊥
+IsGivenValue name (values.Block form bytes) = FitsBlock form (length bytes) × AreBytes bytes
+IsGivenValue name (values.Expr ops) = All IsGivenOp ops
+IsGivenValue name (values.Ref k) = Unit {0}
+IsGivenValue name (values.Ranges spans) = (name ≡ DW_AT_ranges) × All IsSpan spans
+IsGivenValue name (values.Locations items) = IsTrue (has_locations name) × All IsGivenLocation items
+IsGivenValue name values.Lines = Unit {0}
+IsGivenValue name (values.Offset n) = Unit {0}
+
+-- ---- entries
+
+pub record IsGivenAttr (a : Attr) : Type 0 where
+  pub some : 0 < a.name
+  pub fits : a.name < 2 ^ 16
+  pub value : IsGivenValue a.name a.value
+
+pub record IsGivenEntry (e : Entry) : Type 0 where
+  pub some : 0 < e.tag
+  pub fits : e.tag < 2 ^ 16
+  pub attrs : All IsGivenAttr e.attrs
+
+-- ---- line tables are named by roots
+
+abbrev pub is_lines : Value → Bool
+is_lines values.Lines = true
+is_lines _ = false
+
+abbrev pub has_lines : List Attr → Bool
+has_lines attrs = list_any (λ a. is_lines a.value) attrs
+
+-- by the first stmt_list alone: by nothing before it, and by nothing behind it
+abbrev pub names_lines_first : List Attr → Bool
+names_lines_first [] = true
+names_lines_first (a ∷ attrs) = if a.name == DW_AT_stmt_list then not (has_lines attrs) else (not (is_lines a.value) && names_lines_first attrs)
+
+-- the root of a unit, which stands in no other file
+pub record IsGivenRoot (unit : InUnit) (root : Entry) : Type 0 where
+  pub tag : root.tag ≡ DW_TAG_compile_unit
+  pub whole : list_any (λ a. is_split a.name) root.attrs ≡ false
+  pub stmt_list : names_lines_first root.attrs ≡ true
+  pub lines : is_some unit.lines ≡ has_lines root.attrs
+
+pub record IsGivenUnit (entries : List Entry) (unit : InUnit) : Type 0 where
+  pub version : unit.version ≡ 4
+  pub root : (e : Entry) → Stands entries unit.first e → IsGivenRoot unit e
+  pub lines : IfSome unit.lines IsLineTable
+
+-- ---- preorder
+
+-- n parents up from entry k stands entry a
+abbrev pub IsUp : List Entry → ℕ → ℕ → ℕ → Type 0
+IsUp entries zero k a = a ≡ k
+IsUp entries (suc n) k a = (e : Entry) × (p : ℕ) × Stands entries k e × (e.parent ≡ Some p) × IsUp entries n p a
+
+-- the parent of an entry is the entry right before it, or one above that
+abbrev pub ArePreorder : List Entry → Type 0
+ArePreorder entries = (k p : ℕ) (e : Entry) → Stands entries (k + 1) e → e.parent ≡ Some p → (n : ℕ) × IsUp entries n k p
+
+-- ---- analyses
+
+pub record IsGiven (a : Analysis) : Type 0 where
+  pub units : All (IsGivenUnit a.entries) a.units
+  pub entries : All IsGivenEntry a.entries
+  -- only roots name line tables
+  pub no_lines : All (λ e. is_none e.parent ≡ false → has_lines e.attrs ≡ false) a.entries
+  pub preorder : ArePreorder a.entries
+  pub code : All (λ piece. IsSpan piece.span) a.code
+  pub frames : All IsFrame a.frames
