@@ -22,7 +22,6 @@ use dwarf_types::{
 };
 use std::alloc::Global;
 use std::process::Abort;
-use std::test::Fail;
 
 /// An operation.
 #[derive(Clone, Copy)]
@@ -441,54 +440,52 @@ fn assert_written(
     tag: u16,
     attrs: &[(u16, Says)],
     wanted: &[u8],
-) -> Result<(), Fail> {
-    let found = written(alloc, tag, attrs)?;
+) {
+    let Ok(found) = written(alloc, tag, attrs) else {
+        panic!(rt; "{label}: no memory");
+    };
     assert_eq!(rt; found.as_slice(), wanted, "{label}");
-    Ok(())
 }
 
 #[test]
 #[rattlefmt::skip]
-fn addresses_and_lengths_move_or_go(rt: HostRuntime) -> Result<(), Fail> {
+fn addresses_and_lengths_move_or_go(rt: HostRuntime) {
     let a = rt.alloc();
     let moved = Says::Address(Some(0x1004), None);
     let ended = Says::Address(None, Some(0x1008));
     let stayed = Says::Address(None, None);
-    assert_written(&rt, a, "a start moves as a byte", DW_TAG_subprogram, &[(DW_AT_low_pc, Says::Address(Some(0x1004), Some(0x2004)))], b"11=a1004;")?;
-    assert_written(&rt, a, "a start that is only an end goes", DW_TAG_subprogram, &[(DW_AT_low_pc, ended)], b"")?;
-    assert_written(&rt, a, "a high_pc moves as an end", DW_TAG_subprogram, &[(DW_AT_high_pc, ended)], b"12=a1008;")?;
-    assert_written(&rt, a, "a call returns to an end", DW_TAG_subprogram, &[(DW_AT_call_return_pc, ended), (DW_AT_call_return_pc, moved)], b"7d=a1008;")?;
-    assert_written(&rt, a, "the older call site's low_pc is an end", DW_TAG_GNU_call_site, &[(DW_AT_low_pc, ended)], b"11=a1008;")?;
-    assert_written(&rt, a, "a length stays with its low_pc", DW_TAG_subprogram, &[(DW_AT_high_pc, Says::Constant(0x2a)), (DW_AT_low_pc, moved)], b"12=n6/2a;11=a1004;")?;
-    assert_written(&rt, a, "and goes with it", DW_TAG_subprogram, &[(DW_AT_low_pc, stayed), (DW_AT_high_pc, Says::Constant(0x2a))], b"")?;
-    assert_written(&rt, a, "a length without a low_pc", DW_TAG_subprogram, &[(DW_AT_high_pc, Says::Wide), (DW_AT_high_pc, Says::Flag)], b"12=n19/1;")?;
-    assert_written(&rt, a, "a root's own addresses go", DW_TAG_compile_unit, &[(DW_AT_low_pc, moved), (DW_AT_high_pc, Says::Constant(1)), (DW_AT_ranges, Says::Ranges(1)), (DW_AT_name, Says::Text)], b"3=t 61 62;")?;
-    assert_written(&rt, a, "ranges of others stay, where a piece is left", DW_TAG_subprogram, &[(DW_AT_ranges, Says::Ranges(2)), (DW_AT_ranges, Says::Ranges(0))], b"55=s 0-10 1-10;")?;
-    Ok(())
+    assert_written(&rt, a, "a start moves as a byte", DW_TAG_subprogram, &[(DW_AT_low_pc, Says::Address(Some(0x1004), Some(0x2004)))], b"11=a1004;");
+    assert_written(&rt, a, "a start that is only an end goes", DW_TAG_subprogram, &[(DW_AT_low_pc, ended)], b"");
+    assert_written(&rt, a, "a high_pc moves as an end", DW_TAG_subprogram, &[(DW_AT_high_pc, ended)], b"12=a1008;");
+    assert_written(&rt, a, "a call returns to an end", DW_TAG_subprogram, &[(DW_AT_call_return_pc, ended), (DW_AT_call_return_pc, moved)], b"7d=a1008;");
+    assert_written(&rt, a, "the older call site's low_pc is an end", DW_TAG_GNU_call_site, &[(DW_AT_low_pc, ended)], b"11=a1008;");
+    assert_written(&rt, a, "a length stays with its low_pc", DW_TAG_subprogram, &[(DW_AT_high_pc, Says::Constant(0x2a)), (DW_AT_low_pc, moved)], b"12=n6/2a;11=a1004;");
+    assert_written(&rt, a, "and goes with it", DW_TAG_subprogram, &[(DW_AT_low_pc, stayed), (DW_AT_high_pc, Says::Constant(0x2a))], b"");
+    assert_written(&rt, a, "a length without a low_pc", DW_TAG_subprogram, &[(DW_AT_high_pc, Says::Wide), (DW_AT_high_pc, Says::Flag)], b"12=n19/1;");
+    assert_written(&rt, a, "a root's own addresses go", DW_TAG_compile_unit, &[(DW_AT_low_pc, moved), (DW_AT_high_pc, Says::Constant(1)), (DW_AT_ranges, Says::Ranges(1)), (DW_AT_name, Says::Text)], b"3=t 61 62;");
+    assert_written(&rt, a, "ranges of others stay, where a piece is left", DW_TAG_subprogram, &[(DW_AT_ranges, Says::Ranges(2)), (DW_AT_ranges, Says::Ranges(0))], b"55=s 0-10 1-10;");
 }
 
 #[test]
 #[rattlefmt::skip]
-fn other_values_stay_or_go(rt: HostRuntime) -> Result<(), Fail> {
+fn other_values_stay_or_go(rt: HostRuntime) {
     let a = rt.alloc();
-    assert_written(&rt, a, "in their order", DW_TAG_variable, &[(DW_AT_external, Says::Flag), (DW_AT_name, Says::Text), (DW_AT_const_value, Says::Block), (DW_AT_const_value, Says::Constant(7))], b"3f=n19/1;3=t 61 62;1c=ba 3;1c=n6/7;")?;
-    assert_written(&rt, a, "a wide constant", DW_TAG_variable, &[(DW_AT_const_value, Says::Wide)], b"1c=w 1 1 1 1 1 1 1 1 1 1 1 1 1 1 1 1;")?;
-    assert_written(&rt, a, "references", DW_TAG_variable, &[(DW_AT_type, Says::Refers(3)), (DW_AT_type, Says::Refers(1)), (DW_AT_type, Says::Refers(0)), (DW_AT_type, Says::Refers(4))], b"49=r1.2;49=r1.0;")?;
-    assert_written(&rt, a, "line tables and offsets", DW_TAG_compile_unit, &[(DW_AT_stmt_list, Says::Lines), (DW_AT_stmt_list, Says::Offset)], b"10=p;")?;
-    assert_written(&rt, a, "names of the input's layout", DW_TAG_variable, &[(DW_AT_sibling, Says::Refers(3)), (DW_AT_str_offsets_base, Says::Constant(1)), (DW_AT_addr_base, Says::Constant(1)), (DW_AT_rnglists_base, Says::Constant(1)), (DW_AT_loclists_base, Says::Constant(1))], b"")?;
-    Ok(())
+    assert_written(&rt, a, "in their order", DW_TAG_variable, &[(DW_AT_external, Says::Flag), (DW_AT_name, Says::Text), (DW_AT_const_value, Says::Block), (DW_AT_const_value, Says::Constant(7))], b"3f=n19/1;3=t 61 62;1c=ba 3;1c=n6/7;");
+    assert_written(&rt, a, "a wide constant", DW_TAG_variable, &[(DW_AT_const_value, Says::Wide)], b"1c=w 1 1 1 1 1 1 1 1 1 1 1 1 1 1 1 1;");
+    assert_written(&rt, a, "references", DW_TAG_variable, &[(DW_AT_type, Says::Refers(3)), (DW_AT_type, Says::Refers(1)), (DW_AT_type, Says::Refers(0)), (DW_AT_type, Says::Refers(4))], b"49=r1.2;49=r1.0;");
+    assert_written(&rt, a, "line tables and offsets", DW_TAG_compile_unit, &[(DW_AT_stmt_list, Says::Lines), (DW_AT_stmt_list, Says::Offset)], b"10=p;");
+    assert_written(&rt, a, "names of the input's layout", DW_TAG_variable, &[(DW_AT_sibling, Says::Refers(3)), (DW_AT_str_offsets_base, Says::Constant(1)), (DW_AT_addr_base, Says::Constant(1)), (DW_AT_rnglists_base, Says::Constant(1)), (DW_AT_loclists_base, Says::Constant(1))], b"");
 }
 
 #[test]
 #[rattlefmt::skip]
-fn expressions_are_cut_into_parts(rt: HostRuntime) -> Result<(), Fail> {
+fn expressions_are_cut_into_parts(rt: HostRuntime) {
     let a = rt.alloc();
-    assert_written(&rt, a, "bytes are one stretch", DW_TAG_variable, &[(DW_AT_location, Says::Expr(Does::Dup, Does::Drop))], b"2=e( 12 13);")?;
-    assert_written(&rt, a, "with an address that moved", DW_TAG_variable, &[(DW_AT_location, Says::Expr(Does::At(0x3020100), Does::StackValue))], b"2=e( 3 0 1 2 3 0 0 0 0 9f);")?;
-    assert_written(&rt, a, "an address that did not", DW_TAG_variable, &[(DW_AT_location, Says::Expr(Does::At(1), Does::Stayed)), (DW_AT_location, Says::Expr(Does::Dup, Does::StayedInside))], b"")?;
-    assert_written(&rt, a, "a base type is alone", DW_TAG_variable, &[(DW_AT_location, Says::Expr(Does::Convert(Base::Entry(3)), Does::Convert(Base::Generic)))], b"2=e<a8#2><a8->;")?;
-    assert_written(&rt, a, "operands around it", DW_TAG_variable, &[(DW_AT_location, Says::Expr(Does::Regval(Base::Entry(2)), Does::ConstType(Base::Entry(3)))), (DW_AT_location, Says::Expr(Does::Dup, Does::DerefType(Base::Entry(3))))], b"2=e<a5 85 1#1><a4#2 2 7 8>;2=e( 12)<a6 4#2>;")?;
-    assert_written(&rt, a, "an entry value", DW_TAG_variable, &[(DW_AT_location, Says::Expr(Does::EntryValue, Does::Dup))], b"2=e{f3( 13 12)<a8#2>}( 12);")?;
-    assert_written(&rt, a, "items of a list", DW_TAG_variable, &[(DW_AT_frame_base, Says::List(Does::Stayed, Does::Dup)), (DW_AT_frame_base, Says::List(Does::Dup, Does::At(1))), (DW_AT_frame_base, Says::List(Does::Stayed, Does::StayedInside))], b"40=l 3-4( 12);40=l 1-2( 12) 3-4( 3 1 0 0 0 0 0 0 0);")?;
-    Ok(())
+    assert_written(&rt, a, "bytes are one stretch", DW_TAG_variable, &[(DW_AT_location, Says::Expr(Does::Dup, Does::Drop))], b"2=e( 12 13);");
+    assert_written(&rt, a, "with an address that moved", DW_TAG_variable, &[(DW_AT_location, Says::Expr(Does::At(0x3020100), Does::StackValue))], b"2=e( 3 0 1 2 3 0 0 0 0 9f);");
+    assert_written(&rt, a, "an address that did not", DW_TAG_variable, &[(DW_AT_location, Says::Expr(Does::At(1), Does::Stayed)), (DW_AT_location, Says::Expr(Does::Dup, Does::StayedInside))], b"");
+    assert_written(&rt, a, "a base type is alone", DW_TAG_variable, &[(DW_AT_location, Says::Expr(Does::Convert(Base::Entry(3)), Does::Convert(Base::Generic)))], b"2=e<a8#2><a8->;");
+    assert_written(&rt, a, "operands around it", DW_TAG_variable, &[(DW_AT_location, Says::Expr(Does::Regval(Base::Entry(2)), Does::ConstType(Base::Entry(3)))), (DW_AT_location, Says::Expr(Does::Dup, Does::DerefType(Base::Entry(3))))], b"2=e<a5 85 1#1><a4#2 2 7 8>;2=e( 12)<a6 4#2>;");
+    assert_written(&rt, a, "an entry value", DW_TAG_variable, &[(DW_AT_location, Says::Expr(Does::EntryValue, Does::Dup))], b"2=e{f3( 13 12)<a8#2>}( 12);");
+    assert_written(&rt, a, "items of a list", DW_TAG_variable, &[(DW_AT_frame_base, Says::List(Does::Stayed, Does::Dup)), (DW_AT_frame_base, Says::List(Does::Dup, Does::At(1))), (DW_AT_frame_base, Says::List(Does::Stayed, Does::StayedInside))], b"40=l 3-4( 12);40=l 1-2( 12) 3-4( 3 1 0 0 0 0 0 0 0);");
 }
