@@ -1,0 +1,8 @@
+pub mod InTurn
+pub mod Laying
+pub mod OneList
+pub mod OneUnit
+pub mod Pieces
+pub mod Rooms
+pub mod SubRooms
+pub mod UnitParts
