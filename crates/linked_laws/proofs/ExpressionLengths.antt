@@ -17,14 +17,14 @@ use Rattle.dwarf_types.specs.Expressions.{expression_len, inner_len, part_len, p
 use Rattle.dwarf_types.specs.LinkedExpressions.{as_part, base_node, before_base, behind_base, joined, joined_plain, moved_bytes, op_part, outside, parts_of, plain_part, plain_parts}
 use Rattle.dwarf_types.specs.Operations.{operands_of}
 
-inner_joined : (part : PlainPart) (ps : List PlainPart) → inner_len (joined_plain part ps) ≡ plain_part_len part + inner_len ps
+pub inner_joined : (part : PlainPart) (ps : List PlainPart) → inner_len (joined_plain part ps) ≡ plain_part_len part + inner_len ps
 inner_joined (plain.Plain front) [] = sum_by-cons plain_part_len (plain.Plain front) []
 inner_joined (plain.Plain front) (plain.Plain back ∷ ps) =
     omega (arith, sum_by-cons plain_part_len (plain.Plain (front ++ back)) ps, sum_by-cons plain_part_len (plain.Plain back) ps, length-append front back)
 inner_joined (plain.Plain front) (plain.Typed code before base after ∷ ps) = sum_by-cons plain_part_len (plain.Plain front) (plain.Typed code before base after ∷ ps)
 inner_joined (plain.Typed code before base after) ps = sum_by-cons plain_part_len (plain.Typed code before base after) ps
 
-parts_joined : (part : ExprPart) (ps : List ExprPart) → expression_len (joined part ps) ≡ part_len part + expression_len ps
+pub parts_joined : (part : ExprPart) (ps : List ExprPart) → expression_len (joined part ps) ≡ part_len part + expression_len ps
 parts_joined (parts.Plain front) [] = sum_by-cons part_len (parts.Plain front) []
 parts_joined (parts.Plain front) (parts.Plain back ∷ ps) =
     omega (arith, sum_by-cons part_len (parts.Plain (front ++ back)) ps, sum_by-cons part_len (parts.Plain back) ps, length-append front back)
@@ -33,7 +33,7 @@ parts_joined (parts.Plain front) (parts.Nested code inner ∷ ps) = sum_by-cons 
 parts_joined (parts.Typed code before base after) ps = sum_by-cons part_len (parts.Typed code before base after) ps
 parts_joined (parts.Nested code inner) ps = sum_by-cons part_len (parts.Nested code inner) ps
 
-as_long : (part : PlainPart) → part_len (as_part part) ≡ plain_part_len part
+pub as_long : (part : PlainPart) → part_len (as_part part) ≡ plain_part_len part
 as_long (plain.Plain bytes) = refl
 as_long (plain.Typed code before base after) = refl
 

@@ -1,6 +1,6 @@
 //! What is linked is well.
 //!
-//! Layer: output graph. [`linked_is_well`] says that the linked graph of objects (`dwarf_types/specs/LinkedGraph.antt`)
+//! Layer: laws. [`linked_is_well`] says that the linked graph of objects (`dwarf_types/specs/LinkedGraph.antt`)
 //! keeps to what every writer asks of a graph (`dwarf_types/specs/Well.antt`), where the objects' analyses are sound and
 //! say what the bytes of an object can say (`specs/Given.antt`), and where whatever an entry that is written needs is
 //! written too (`specs/Kept.antt`). [`live_entries_are_closed`] says the last of the live entries. Nothing here runs.

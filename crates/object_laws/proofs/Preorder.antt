@@ -1,0 +1,138 @@
+-- The entries of an object stand in preorder.
+use Rattle.std.proofs.Common.{◌≡◌, ◌+◌, ℕ, zero, suc, List, [], ◌∷◌, ◌++◌, length, slice_get, Option, Some, None, refl, sym, ap, subst, arith}
+use Rattle.std.specs.List.{All}
+use Rattle.std.proofs.lemmas.List.Elements.{All-nil, All-cons}
+use Rattle.dwarf_types.specs.declared.entry.Entry.{Entry}
+use Rattle.dwarf_types.specs.declared.entry.InUnit.{InUnit}
+use Rattle.dwarf_types.specs.Live.{Stands}
+use Rattle.linked_laws.specs.Given.{ArePreorder, IsUp}
+use Rattle.unit_tree.specs.Spelling.{Forest, UnitTree, entries_of, entry_of, in_unit, in_units, no_more, preorder, size, tree, unit_entries}
+use Rattle.unit_tree.proofs.TreeLaws.{length_preorder}
+
+-- ---- items in a row
+
+get_left : {X : Type 0} (xs ys : List X) (i : ℕ) (x : X) → slice_get xs i ≡ Some x → slice_get (xs ++ ys) i ≡ Some x
+get_left [] ys i x e = absurd cc
+get_left (y ∷ xs) ys zero x e = e
+get_left (y ∷ xs) ys (suc i) x e = get_left xs ys i x e
+
+get_right : {X : Type 0} (xs ys : List X) (i : ℕ) (x : X) → slice_get ys i ≡ Some x → slice_get (xs ++ ys) (length xs + i) ≡ Some x
+get_right [] ys i x e = let same : i ≡ 0 + i = omega arith in subst (λ (n : ℕ). slice_get ys n ≡ Some x) same e
+get_right (y ∷ xs) ys i x e =
+    let same : suc (length xs + i) ≡ suc (length xs) + i = omega arith in
+    subst (λ (n : ℕ). slice_get (y ∷ (xs ++ ys)) n ≡ Some x) same (get_right xs ys i x e)
+
+-- items stand in a list from a number on
+abbrev StandFrom : ℕ → List Entry → List Entry → Type 0
+StandFrom k xs all = (i : ℕ) (e : Entry) → slice_get xs i ≡ Some e → slice_get all (k + i) ≡ Some e
+
+first_stands : (k : ℕ) (e : Entry) (xs all : List Entry) → StandFrom k (e ∷ xs) all → Stands all k e
+first_stands k e xs all h = subst (λ (n : ℕ). slice_get all n ≡ Some e) (omega arith) (h 0 e refl)
+
+behind_stand : (k : ℕ) (e : Entry) (xs all : List Entry) → StandFrom k (e ∷ xs) all → StandFrom (k + 1) xs all
+behind_stand k e xs all h i x is = subst (λ (n : ℕ). slice_get all n ≡ Some x) (omega arith) (h (suc i) x is)
+
+left_stand : (k : ℕ) (xs ys all : List Entry) → StandFrom k (xs ++ ys) all → StandFrom k xs all
+left_stand k xs ys all h i x is = h i x (get_left xs ys i x is)
+
+right_stand : (k : ℕ) (xs ys all : List Entry) → StandFrom k (xs ++ ys) all → StandFrom (k + length xs) ys all
+right_stand k xs ys all h i x is = subst (λ (n : ℕ). slice_get all n ≡ Some x) (omega arith) (h (length xs + i) x (get_right xs ys i x is))
+
+module _ (all : List Entry) where
+  -- entry p is entry k, or one above it
+  abbrev Up : ℕ → ℕ → Type 0
+  Up k p = (n : ℕ) × IsUp all n k p
+
+  -- an entry's parent is right before it, or above that
+  abbrev IsFine : ℕ → Entry → Type 0
+  IsFine number e = (k p : ℕ) → number ≡ k + 1 → e.parent ≡ Some p → Up k p
+
+  abbrev AreFine : ℕ → List Entry → Type 0
+  AreFine number [] = Unit {0}
+  AreFine number (e ∷ es) = IsFine number e × AreFine (number + 1) es
+
+  fine_both : (number : ℕ) (xs ys : List Entry) → AreFine number xs → AreFine (number + length xs) ys → AreFine number (xs ++ ys)
+  fine_both number [] ys h k = subst (λ (n : ℕ). AreFine n ys) (omega arith) k
+  fine_both number (x ∷ xs) ys h k = (h.0, fine_both (number + 1) xs ys h.1 (subst (λ (n : ℕ). AreFine n ys) (omega arith) k))
+
+  -- one more parent up
+  up_more : (n k a p : ℕ) (e : Entry) → IsUp all n k a → Stands all a e → e.parent ≡ Some p → Up k p
+  up_more zero k a p e up stands parent = (1, (e, p, subst (λ (x : ℕ). Stands all x e) up stands, parent, refl))
+  up_more (suc n) k a p e up stands parent =
+      let more = up_more n up.1 a p e up.4 stands parent in
+      (suc more.0, (up.0, up.1, up.2, up.3, more.1))
+
+  same_some : (p q : ℕ) (o : Option ℕ) → o ≡ Some p → o ≡ Some q → p ≡ q
+  same_some p q o e f = cc
+
+  -- trees whose entries stand from a number on, below an entry to which the one right before them leads up: so does their last one
+  trees_fine : (unit : ℕ) (forest : Forest) (k p : ℕ) → StandFrom (k + 1) (preorder unit (Some p) (k + 1) forest) all → Up k p
+      → AreFine (k + 1) (preorder unit (Some p) (k + 1) forest) × Up (k + size forest) p
+  trees_fine unit no_more k p h up = (tt, subst (λ (n : ℕ). Up n p) (omega arith) up)
+  trees_fine unit (tree node kids others) k p h up =
+      let here = entry_of unit (Some p) node in
+      let below = preorder unit (Some (k + 1)) (k + 1 + 1) kids in
+      let behind = preorder unit (Some p) (k + 1 + 1 + size kids) others in
+      let rest = behind_stand (k + 1) here (below ++ behind) all h in
+      let first = trees_fine unit kids (k + 1) (k + 1) (left_stand (k + 1 + 1) below behind all rest) (0, refl) in
+      let above = up_more first.1.0 (k + 1 + size kids) (k + 1) p here first.1.1 (first_stands (k + 1) here (below ++ behind) all h) refl in
+      let long : length below ≡ size kids = length_preorder unit (Some (k + 1)) (k + 1 + 1) kids in
+      let moved : k + 1 + 1 + size kids ≡ k + 1 + size kids + 1 = omega arith in
+      let there = subst (λ (n : ℕ). StandFrom n behind all) (ap (λ (n : ℕ). k + 1 + 1 + n) long) (right_stand (k + 1 + 1) below behind all rest) in
+      let last = trees_fine unit others (k + 1 + size kids) p (subst (λ (n : ℕ). StandFrom n (preorder unit (Some p) n others) all) moved there) above in
+      let fine_behind : AreFine (k + 1 + 1 + length below) behind =
+      subst (λ (n : ℕ). AreFine n behind) (ap (λ (n : ℕ). k + 1 + 1 + n) (sym long)) (subst (λ (n : ℕ). AreFine n (preorder unit (Some p) n others)) (sym moved) last.0) in (
+        ((λ j q is parent. subst (λ (x : ℕ). Up x q) (omega (arith, is)) (subst (Up k) (same_some p q (Some p) refl parent) up)), fine_both (k + 1 + 1) below behind first.0 fine_behind),
+        subst (λ (n : ℕ). Up n p) (omega arith) last.1,
+      )
+
+  unit_fine : (unit number : ℕ) (t : UnitTree) → StandFrom number (unit_entries unit number t) all → AreFine number (unit_entries unit number t)
+  unit_fine unit number t h =
+      let kids = trees_fine unit t.kids number number (behind_stand number (entry_of unit None t.root) (preorder unit (Some number) (number + 1) t.kids) all h) (0, refl) in
+      ((λ k p is parent. absurd cc), kids.0)
+
+  units_fine : (ts : List UnitTree) (unit number : ℕ) → StandFrom number (entries_of unit number ts) all → AreFine number (entries_of unit number ts)
+  units_fine [] unit number h = tt
+  units_fine (t ∷ ts) unit number h =
+      let here = unit_entries unit number t in
+      let others = entries_of (suc unit) (number + 1 + size t.kids) ts in
+      let long : length here ≡ 1 + size t.kids = let l = length_preorder unit (Some number) (number + 1) t.kids in omega (arith, l) in
+      let place : number + length here ≡ number + 1 + size t.kids = omega (arith, long) in
+      let there = subst (λ (n : ℕ). StandFrom n others all) place (right_stand number here others all h) in
+      fine_both number here others (unit_fine unit number t (left_stand number here others all h)) (subst (λ (n : ℕ). AreFine n others) (sym place) (units_fine ts (suc unit) (number + 1 + size t.kids) there))
+
+-- ---- roots
+
+-- the first entry of a unit has no parent
+abbrev pub HasRoot : List Entry → InUnit → Type 0
+HasRoot all u = (e : Entry) → Stands all u.first e → e.parent ≡ None
+
+same_entry : (x y : Entry) (o : Option Entry) → o ≡ Some x → o ≡ Some y → x ≡ y
+same_entry x y o e f = cc
+
+units_rooted : (all : List Entry) (ts : List UnitTree) (unit number : ℕ) → StandFrom number (entries_of unit number ts) all → All (HasRoot all) (in_units number ts)
+units_rooted all [] unit number h = All-nil (HasRoot all)
+units_rooted all (t ∷ ts) unit number h =
+    let here = unit_entries unit number t in
+    let others = entries_of (suc unit) (number + 1 + size t.kids) ts in
+    let root = entry_of unit None t.root in
+    let long : length here ≡ 1 + size t.kids = let l = length_preorder unit (Some number) (number + 1) t.kids in omega (arith, l) in
+    let there = subst (λ (n : ℕ). StandFrom n others all) (omega (arith, long)) (right_stand number here others all h) in
+    let stands = first_stands number root (preorder unit (Some number) (number + 1) t.kids) all (left_stand number here others all h) in
+    All-cons (HasRoot all) (in_unit number t) (in_units (number + 1 + size t.kids) ts) (λ e is. ap (λ (x : Entry). x.parent) (same_entry e root (slice_get all number) is stands)) (units_rooted all ts (suc unit) (number + 1 + size t.kids) there)
+
+pub trees_rooted : (ts : List UnitTree) → All (HasRoot (entries_of 0 0 ts)) (in_units 0 ts)
+trees_rooted ts = units_rooted (entries_of 0 0 ts) ts 0 0 (λ i x is. subst (λ (n : ℕ). slice_get (entries_of 0 0 ts) n ≡ Some x) (omega arith) is)
+
+-- ---- all entries
+
+fine_at : (all : List Entry) (number : ℕ) (xs : List Entry) (i : ℕ) (e : Entry) → AreFine all number xs → slice_get xs i ≡ Some e → IsFine all (number + i) e
+fine_at all number [] i e h is = absurd cc
+fine_at all number (x ∷ xs) zero e h is = let same : x ≡ e = cc in let at : number ≡ number + 0 = omega arith in subst (IsFine all (number + 0)) same (subst (λ (n : ℕ). IsFine all n x) at h.0)
+fine_at all number (x ∷ xs) (suc i) e h is = let at : number + 1 + i ≡ number + suc i = omega arith in subst (λ (n : ℕ). IsFine all n e) at (fine_at all (number + 1) xs i e h.1 is)
+
+pub trees_preorder : (ts : List UnitTree) → ArePreorder (entries_of 0 0 ts)
+trees_preorder ts k p e stands parent =
+    let all = entries_of 0 0 ts in
+    let fine = units_fine all ts 0 0 (λ i x is. subst (λ (n : ℕ). slice_get all n ≡ Some x) (omega arith) is) in
+    fine_at all 0 all (k + 1) e fine stands k p (omega arith) parent

@@ -1,0 +1,189 @@
+-- The steps of an analysis over all entries, and what these keep to behind each.
+use Rattle.std.proofs.Common.{◌≡◌, ◌<◌, ◌^◌, ◌||◌, ◌==◌, ℕ, suc, Bool, true, false, List, [], ◌∷◌, map, Option, Result, Ok, refl, sym, ap, subst, ◌∙◌, arith}
+use Rattle.std.specs.Prelude.{is_none, if◌then◌else◌}
+use Rattle.std.specs.List.{All, list_any}
+use Rattle.std.proofs.lemmas.List.Elements.{All-nil, All-cons}
+use Rattle.ds_base.specs.declared.dwarf.TheConstants.{DW_AT_stmt_list}
+use Rattle.ds_base.specs.declared.fault.Fault.{Fault}
+use Rattle.ds_base.specs.Reading.{◌>>=◌}
+use Rattle.ds_base.proofs.Passing.{bind_ok, ok_is}
+use Rattle.dwarf_types.specs.declared.entry.Attr.{Attr}
+use Rattle.dwarf_types.specs.declared.entry.Entry.{Entry}
+use Rattle.dwarf_types.specs.declared.value.Value.{Value}
+use Rattle.dwarf_types.specs.WellRoots.{is_split}
+use Rattle.linked_laws.specs.Given.{IsGivenAttr, IsGivenValue, has_lines, is_lines, names_lines_first}
+use Rattle.object_view.specs.Attributes.{all_marked, attr_by, attrs_by, each_of, entries_by, entry_by, entry_marked, lines_marked, lines_value, with_value}
+use Rattle.object_view.proofs.Names.{each_all}
+use Rattle.object_laws.proofs.Marked.{first_kept, has_kept, marked_first, seen}
+use Rattle.object_laws.proofs.Read.{IsReadAttr, IsReadEntry, IsReadRoot}
+use Rattle.object_laws.proofs.Stored.{IsStored}
+use Rattle.object_laws.proofs.Values.{IsGivenAs, IsPlainly, lines_given}
+
+-- ---- steps
+
+-- what is seen of each item stays, where the items keep to P
+each_seen : {X V : Type 0} (view : X → V) (P : X → Type 0) (f : X → Result X Fault) → ((x y : X) → P x → f x ≡ Ok y → view y ≡ view x) → (xs ys : List X) → All P xs → each_of f xs ≡ Ok ys → map view ys ≡ map view xs
+each_seen view P f keeps [] ys h e = ap (map view) (sym (ok_is [] ys e))
+each_seen view P f keeps (x ∷ xs) ys h e =
+    let first = bind_ok (f x) (λ here. each_of f xs >>= λ others. Ok (here ∷ others)) ys e in
+    let others = bind_ok (each_of f xs) (λ others. Ok (first.0 ∷ others)) ys first.2 in
+    ap (map view) (sym (ok_is (first.0 ∷ others.0) ys others.2)) ∙ rw (keeps x first.0 (h 0 x (omega arith)) first.1, each_seen view P f keeps xs others.0 (λ k d lt. h (suc k) d (omega arith)) others.1) refl
+
+module _ (f : Attr → Result Value Fault) (P Q : Attr → Type 0) (keeps : (a : Attr) (v : Value) → P a → f a ≡ Ok v → Q (with_value a v)) where
+  attr_step : (a b : Attr) → P a → attr_by f a ≡ Ok b → Q b
+  attr_step a b h e =
+      let value = bind_ok (f a) (λ value. Ok (with_value a value)) b e in
+      subst Q (ok_is (with_value a value.0) b value.2) (keeps a value.0 h value.1)
+
+  attrs_step : (attrs now : List Attr) → All P attrs → attrs_by f attrs ≡ Ok now → All Q now
+  attrs_step attrs now h e = each_all (attr_by f) P Q (λ a b p is. attr_step a b p is) attrs now e h
+
+  attr_seen : {V : Type 0} (view : Attr → V) → ((a : Attr) (v : Value) → P a → f a ≡ Ok v → view (with_value a v) ≡ view a) → (a b : Attr) → P a → attr_by f a ≡ Ok b → view b ≡ view a
+  attr_seen {V} view stays a b h e =
+      let value = bind_ok (f a) (λ value. Ok (with_value a value)) b e in
+      subst (λ (x : Attr). view x ≡ view a) (ok_is (with_value a value.0) b value.2) (stays a value.0 h value.1)
+
+  attrs_seen : {V : Type 0} (view : Attr → V) → ((a : Attr) (v : Value) → P a → f a ≡ Ok v → view (with_value a v) ≡ view a) → (attrs now : List Attr) → All P attrs → attrs_by f attrs ≡ Ok now → map view now ≡ map view attrs
+  attrs_seen view stays attrs now h e = each_seen view P (attr_by f) (λ a b p is. attr_seen view stays a b p is) attrs now h e
+
+-- ---- roots
+
+split_by_names : (attrs : List Attr) → list_any (λ a. is_split a.name) attrs ≡ list_any is_split (map (λ a. a.name) attrs)
+split_by_names [] = refl
+split_by_names (a ∷ attrs) = ap (λ (b : Bool). is_split a.name || b) (split_by_names attrs)
+
+root_kept : (e : Entry) (attrs : List Attr) → map (λ a. a.name) attrs ≡ map (λ a. a.name) e.attrs → IsReadRoot e → IsReadRoot (record e { attrs = attrs })
+root_kept e attrs same h = record { tag = h.tag; whole = split_by_names attrs ∙ ap (λ (names : List ℕ). list_any is_split names) same ∙ sym (split_by_names e.attrs) ∙ h.whole }
+
+-- ---- as units are read, with meanings
+
+pub record IsPlainAttr (a : Attr) : Type 0 where
+  pub given : IsGivenAttr a
+  pub plain : is_lines a.value ≡ false
+
+pub record IsPlainEntry (e : Entry) : Type 0 where
+  pub some : 0 < e.tag
+  pub fits : e.tag < 2 ^ 16
+  pub attrs : All IsPlainAttr e.attrs
+  pub root : is_none e.parent ≡ true → IsReadRoot e
+
+module _ (meant : ℕ → Attr → Result Value Fault) (given : (unit : ℕ) (a : Attr) (v : Value) → IsStored a.value → meant unit a ≡ Ok v → IsPlainly a.name v) where
+  attr_plain : (unit : ℕ) (a : Attr) (v : Value) → IsReadAttr a → meant unit a ≡ Ok v → IsPlainAttr (with_value a v)
+  attr_plain unit a v h e =
+      let p = given unit a v h.value e in
+      record { given = record { some = h.some; fits = h.fits; value = p.0 }; plain = p.1 }
+
+  entry_plain : (e now : Entry) → IsReadEntry e → entry_by (meant e.unit) e ≡ Ok now → IsPlainEntry now
+  entry_plain e now h is =
+      let attrs = bind_ok (attrs_by (meant e.unit) e.attrs) (λ attrs. Ok (record e { attrs = attrs })) now is in
+      let names = attrs_seen (meant e.unit) IsReadAttr IsPlainAttr (attr_plain e.unit) (λ a. a.name) (λ a v p i. refl) e.attrs attrs.0 h.attrs attrs.1 in
+      subst IsPlainEntry (ok_is (record e { attrs = attrs.0 }) now attrs.2)
+      (record { some = h.some; fits = h.fits; attrs = attrs_step (meant e.unit) IsReadAttr IsPlainAttr (attr_plain e.unit) e.attrs attrs.0 h.attrs attrs.1; root = λ none. root_kept e attrs.0 names (h.root none) })
+
+  pub entries_plain : (entries now : List Entry) → All IsReadEntry entries → entries_by meant entries ≡ Ok now → All IsPlainEntry now
+  entries_plain entries now h e = each_all (λ (x : Entry). entry_by (meant x.unit) x) IsReadEntry IsPlainEntry (λ x y p is. entry_plain x y p is) entries now e h
+
+-- ---- with line tables marked
+
+pub record IsMarkedEntry (e : Entry) : Type 0 where
+  pub some : 0 < e.tag
+  pub fits : e.tag < 2 ^ 16
+  pub attrs : All IsGivenAttr e.attrs
+  pub root : is_none e.parent ≡ true → IsReadRoot e
+  pub first : is_none e.parent ≡ true → names_lines_first e.attrs ≡ true
+  pub others : is_none e.parent ≡ false → has_lines e.attrs ≡ false
+
+pub unmarked : (attrs : List Attr) → All IsPlainAttr attrs → has_lines attrs ≡ false
+unmarked [] h = refl
+unmarked (a ∷ attrs) h = rw ((h 0 a (omega arith)).plain, unmarked attrs (λ k d lt. h (suc k) d (omega arith))) refl
+
+plain_given : (attrs : List Attr) → All IsPlainAttr attrs → All IsGivenAttr attrs
+plain_given attrs h k d lt = (h k d lt).given
+
+first_marked : (b : Bool) (a : Attr) (attrs others : List Attr) → IsPlainAttr a → All IsGivenAttr attrs → All IsGivenAttr others → All IsGivenAttr (if b then with_value a (lines_value a.value) ∷ attrs else a ∷ others)
+first_marked true a attrs others h behind marked =
+    let g = h.given in
+    All-cons IsGivenAttr (with_value a (lines_value a.value)) attrs (record { some = g.some; fits = g.fits; value = lines_given a.name a.value g.value }) behind
+first_marked false a attrs others h behind marked = All-cons IsGivenAttr a others h.given marked
+
+marked_given : (attrs : List Attr) → All IsPlainAttr attrs → All IsGivenAttr (lines_marked attrs)
+marked_given [] h = All-nil IsGivenAttr
+marked_given (a ∷ attrs) h =
+    let behind : All IsPlainAttr attrs = λ k d lt. h (suc k) d (omega arith) in
+    first_marked (a.name == DW_AT_stmt_list) a attrs (lines_marked attrs) (h 0 a (omega arith)) (plain_given attrs behind) (marked_given attrs behind)
+
+names_case : (b : Bool) (a : Attr) (attrs : List Attr) → map (λ x. x.name) (lines_marked attrs) ≡ map (λ x. x.name) attrs
+    → map (λ x. x.name) (if b then with_value a (lines_value a.value) ∷ attrs else a ∷ lines_marked attrs) ≡ a.name ∷ map (λ x. x.name) attrs
+names_case true a attrs h = refl
+names_case false a attrs h = ap (λ (names : List ℕ). a.name ∷ names) h
+
+marked_names : (attrs : List Attr) → map (λ a. a.name) (lines_marked attrs) ≡ map (λ a. a.name) attrs
+marked_names [] = refl
+marked_names (a ∷ attrs) = names_case (a.name == DW_AT_stmt_list) a attrs (marked_names attrs)
+
+both_ways : (b : Bool) → b ≡ true → b ≡ false → ⊥
+both_ways b p q = absurd cc
+
+marked_entry : (b : Bool) (e : Entry) → is_none e.parent ≡ b → IsPlainEntry e → IsMarkedEntry (if b then record e { attrs = lines_marked e.attrs } else e)
+marked_entry true e is h = record {
+  some = h.some;
+  fits = h.fits;
+  attrs = marked_given e.attrs h.attrs;
+  root = λ none. root_kept e (lines_marked e.attrs) (marked_names e.attrs) (h.root none);
+  first = λ none. marked_first e.attrs (unmarked e.attrs h.attrs);
+  others = λ other. absurd (both_ways (is_none e.parent) is other);
+}
+marked_entry false e is h = record {
+  some = h.some;
+  fits = h.fits;
+  attrs = plain_given e.attrs h.attrs;
+  root = h.root;
+  first = λ none. absurd (both_ways (is_none e.parent) none is);
+  others = λ other. unmarked e.attrs h.attrs;
+}
+
+pub entries_marked : (entries : List Entry) → All IsPlainEntry entries → All IsMarkedEntry (all_marked entries)
+entries_marked [] h = All-nil IsMarkedEntry
+entries_marked (e ∷ entries) h =
+    All-cons IsMarkedEntry (entry_marked e) (all_marked entries) (marked_entry (is_none e.parent) e refl (h 0 e (omega arith))) (entries_marked entries (λ k d lt. h (suc k) d (omega arith)))
+
+-- ---- with lists
+
+-- an entry's parent, and what is seen of its attributes
+abbrev pub entry_seen : Entry → Option ℕ × List (ℕ × Bool)
+entry_seen e = (e.parent, map seen e.attrs)
+
+module _ (meant : ℕ → Attr → Result Value Fault) (given : (unit : ℕ) (a : Attr) (v : Value) → IsGivenValue a.name a.value → meant unit a ≡ Ok v → IsGivenAs a.name a.value v) where
+  attr_kept : (unit : ℕ) (a : Attr) (v : Value) → IsGivenAttr a → meant unit a ≡ Ok v → IsGivenAttr (with_value a v)
+  attr_kept unit a v h e = record { some = h.some; fits = h.fits; value = (given unit a v h.value e).0 }
+
+  attr_seen_kept : (unit : ℕ) (a : Attr) (v : Value) → IsGivenAttr a → meant unit a ≡ Ok v → seen (with_value a v) ≡ seen a
+  attr_seen_kept unit a v h e = ap (λ (b : Bool). (a.name, b)) (given unit a v h.value e).1
+
+  seen_kept : (e : Entry) (attrs : List Attr) → All IsGivenAttr e.attrs → attrs_by (meant e.unit) e.attrs ≡ Ok attrs → map seen attrs ≡ map seen e.attrs
+  seen_kept e attrs h is = attrs_seen (meant e.unit) IsGivenAttr IsGivenAttr (attr_kept e.unit) seen (attr_seen_kept e.unit) e.attrs attrs h is
+
+  entry_kept : (e now : Entry) → IsMarkedEntry e → entry_by (meant e.unit) e ≡ Ok now → IsMarkedEntry now
+  entry_kept e now h is =
+      let attrs = bind_ok (attrs_by (meant e.unit) e.attrs) (λ attrs. Ok (record e { attrs = attrs })) now is in
+      let names = attrs_seen (meant e.unit) IsGivenAttr IsGivenAttr (attr_kept e.unit) (λ a. a.name) (λ a v p i. refl) e.attrs attrs.0 h.attrs attrs.1 in
+      let same = seen_kept e attrs.0 h.attrs attrs.1 in
+      subst IsMarkedEntry (ok_is (record e { attrs = attrs.0 }) now attrs.2) (record {
+        some = h.some;
+        fits = h.fits;
+        attrs = attrs_step (meant e.unit) IsGivenAttr IsGivenAttr (attr_kept e.unit) e.attrs attrs.0 h.attrs attrs.1;
+        root = λ none. root_kept e attrs.0 names (h.root none);
+        first = λ none. first_kept attrs.0 e.attrs same ∙ h.first none;
+        others = λ other. has_kept attrs.0 e.attrs same ∙ h.others other;
+      })
+
+  pub entries_listed : (entries now : List Entry) → All IsMarkedEntry entries → entries_by meant entries ≡ Ok now → All IsMarkedEntry now
+  entries_listed entries now h e = each_all (λ (x : Entry). entry_by (meant x.unit) x) IsMarkedEntry IsMarkedEntry (λ x y p is. entry_kept x y p is) entries now e h
+
+  entry_seen_kept : (e now : Entry) → IsMarkedEntry e → entry_by (meant e.unit) e ≡ Ok now → entry_seen now ≡ entry_seen e
+  entry_seen_kept e now h is =
+      let attrs = bind_ok (attrs_by (meant e.unit) e.attrs) (λ attrs. Ok (record e { attrs = attrs })) now is in
+      subst (λ (x : Entry). entry_seen x ≡ entry_seen e) (ok_is (record e { attrs = attrs.0 }) now attrs.2) (ap (λ (vs : List (ℕ × Bool)). (e.parent, vs)) (seen_kept e attrs.0 h.attrs attrs.1))
+
+  pub listed_seen : (entries now : List Entry) → All IsMarkedEntry entries → entries_by meant entries ≡ Ok now → map entry_seen now ≡ map entry_seen entries
+  listed_seen entries now h e = each_seen entry_seen IsMarkedEntry (λ (x : Entry). entry_by (meant x.unit) x) (λ x y p is. entry_seen_kept x y p is) entries now h e
