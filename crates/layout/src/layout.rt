@@ -156,7 +156,9 @@ pub fn range_rooms(layout: &Layout, unit: u32) -> &[Span]
     requires { unit < length layout.now.units }
     ensures { option_map (λ laid. laid.range_rooms) (slice_get layout.now.units unit) ≡ Some result.now }
 {
-    unit_in(layout.units.as_slice(), unit).range_rooms.as_slice()
+    unit_in(layout.units.as_slice(), unit)
+        .range_rooms
+        .as_slice()
 }
 
 /// Where each location list of a unit stands in `__debug_loc`, and where it ends, over nodes and values.
@@ -164,7 +166,9 @@ pub fn location_rooms(layout: &Layout, unit: u32) -> &[Span]
     requires { unit < length layout.now.units }
     ensures { option_map (λ laid. laid.location_rooms) (slice_get layout.now.units unit) ≡ Some result.now }
 {
-    unit_in(layout.units.as_slice(), unit).location_rooms.as_slice()
+    unit_in(layout.units.as_slice(), unit)
+        .location_rooms
+        .as_slice()
 }
 
 /// Where a list of a unit stands in its section, and where it ends.
