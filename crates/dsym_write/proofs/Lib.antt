@@ -1,0 +1,7 @@
+pub mod KeptSymbols
+pub mod Left
+pub mod Records
+pub mod SegmentCommands
+pub mod TheFile
+pub mod Told
+pub mod WorkedImage

@@ -1,0 +1,131 @@
+-- The sections of a graph, told by their sizes.
+use Rattle.std.proofs.Common.{◌≡◌, ℕ, ◌+◌, ◌*◌, ◌≤◌, ◌==◌, Bool, true, false, not, List, [], ◌∷◌, ◌++◌, length, map, filter, if◌then◌else◌, arith, refl, sym, ap, ◌∙◌, append-nil, length-append}
+use Rattle.std.specs.List.{flat_map}
+use Rattle.std.proofs.lemmas.Bool.{eqb-true}
+use Rattle.byteorder.specs.Endian.{little_bytes}
+use Rattle.ds_base.specs.declared.fault.Part.{Part}
+use Rattle.ds_base.specs.declared.fault.Part.TheVariants as parts
+use Rattle.ds_base.specs.declared.macho.TheConstants.{LC_SEGMENT_64, SEG_DWARF}
+use Rattle.dwarf_types.specs.declared.graph.Graph.{Graph}
+use Rattle.dwarf_types.specs.declared.graph.Written.{Written}
+use Rattle.dwarf_types.specs.Encode.{abbrev_section, aranges_section, encode, frame_section, has_bytes, info_section, line_section, loc_section, ranges_section, str_section}
+use Rattle.layout.specs.declared.sizes.Sizes.{Sizes}
+use Rattle.layout.specs.Laid.{sizes_of}
+use Rattle.macho_read.specs.declared.image.Image.{Image}
+use Rattle.macho_read.specs.ImageSpelling.{command_of}
+use Rattle.macho_read.specs.Spelling.{command_bytes, padded, section_bytes, segment_fields, spelled}
+use Rattle.macho_read.specs.Fields.{before_zero}
+use Rattle.dsym_write.specs.declared.protection.TheConstants.{VM_PROT_ALL, VM_PROT_DEFAULT}
+use Rattle.dsym_write.specs.Bundle.{contents, dwarf_command, dwarf_sections, end_of, name_of_part, page_end}
+use Rattle.dsym_write.specs.Pieces.{count_of, dwarf_section, records_from, segment_with, sized, total}
+use Rattle.dsym_write.proofs.SegmentCommands.{length-section}
+
+abbrev pub told : Written → Part × ℕ
+told s = (s.part, length s.bytes)
+
+count_told : (ws : List Written) → length (filter has_bytes ws) ≡ count_of (map told ws)
+count_told [] = refl
+count_told (s ∷ ws) = by (length s.bytes == 0) (filter has_bytes ws) (count_told ws)
+  where
+    by : (b : Bool) (rest : List Written) → length rest ≡ count_of (map told ws) → length (if not b then s ∷ rest else rest) ≡ (if b then count_of (map told ws) else 1 + count_of (map told ws))
+    by true rest e = e
+    by false rest e = omega (arith, e)
+
+total_told : (ws : List Written) → length (contents (filter has_bytes ws)) ≡ total (map told ws)
+total_told [] = refl
+total_told (s ∷ ws) = by (length s.bytes == 0) refl (filter has_bytes ws) (total_told ws)
+  where
+    by : (b : Bool) → (length s.bytes == 0) ≡ b → (rest : List Written) → length (contents rest) ≡ total (map told ws) → length (contents (if not b then s ∷ rest else rest)) ≡ length s.bytes + total (map told ws)
+    by true e rest h = omega (arith, h, eqb-true (length s.bytes) 0 e)
+    by false e rest h = omega (arith, h, length-append s.bytes (contents rest))
+
+records_told : (ws : List Written) (addr offset : ℕ) → flat_map section_bytes (dwarf_sections addr offset (filter has_bytes ws)) ≡ records_from addr offset (map told ws)
+records_told [] addr offset = refl
+records_told (s ∷ ws) addr offset = by (length s.bytes == 0) refl (filter has_bytes ws) (records_told ws)
+  where
+    by : (b : Bool) → (length s.bytes == 0) ≡ b → (rest : List Written) → ((a o : ℕ) → flat_map section_bytes (dwarf_sections a o rest) ≡ records_from a o (map told ws))
+        → flat_map section_bytes (dwarf_sections addr offset (if not b then s ∷ rest else rest))
+        ≡ (if b then [] else section_bytes (dwarf_section addr offset s.part (length s.bytes))) ++ records_from (addr + length s.bytes) (offset + length s.bytes) (map told ws)
+    by true e rest h =
+        let none = eqb-true (length s.bytes) 0 e in
+        let a : addr ≡ addr + length s.bytes = omega (arith, none) in
+        let o : offset ≡ offset + length s.bytes = omega (arith, none) in
+        h addr offset ∙ ap (λ (n : ℕ). records_from n offset (map told ws)) a ∙ ap (λ (n : ℕ). records_from (addr + length s.bytes) n (map told ws)) o
+    by false e rest h = ap (λ (more : List ℕ). section_bytes (dwarf_section addr offset s.part (length s.bytes)) ++ more) (h (addr + length s.bytes) (offset + length s.bytes))
+
+-- sections are told by these sizes
+pub record AreTold (ws : List Written) (sizes : Sizes) : Type 0 where
+  pub count : length ws ≡ count_of (sized sizes)
+  pub size : length (contents ws) ≡ total (sized sizes)
+  pub records : (addr offset : ℕ) → flat_map section_bytes (dwarf_sections addr offset ws) ≡ records_from addr offset (sized sizes)
+
+pub graph_told : (graph : Graph) → AreTold (encode graph) (sizes_of graph)
+graph_told graph =
+    let all : List Written =
+    record { part = parts.Abbrev; bytes = abbrev_section graph }
+    ∷ record { part = parts.Info; bytes = info_section graph }
+    ∷ record { part = parts.Str; bytes = str_section graph }
+    ∷ record { part = parts.Line; bytes = line_section graph }
+    ∷ record { part = parts.Ranges; bytes = ranges_section graph }
+    ∷ record { part = parts.Loc; bytes = loc_section graph }
+    ∷ record { part = parts.Aranges; bytes = aranges_section graph }
+    ∷ record { part = parts.Frame; bytes = frame_section graph } ∷ [] in
+    record { count = count_told all; size = total_told all; records = records_told all }
+
+-- ---- segment `__DWARF`
+
+name_short : (part : Part) → length (name_of_part part) ≤ 16
+name_short parts.Abbrev = omega arith
+name_short parts.Info = omega arith
+name_short parts.Str = omega arith
+name_short parts.Line = omega arith
+name_short parts.Ranges = omega arith
+name_short parts.Loc = omega arith
+name_short parts.Aranges = omega arith
+name_short parts.Frame = omega arith
+name_short _ = omega arith
+
+length-dwarf : (ws : List Written) (addr offset : ℕ) → length (flat_map section_bytes (dwarf_sections addr offset ws)) ≡ 80 * length ws
+length-dwarf [] addr offset = refl
+length-dwarf (s ∷ ws) addr offset =
+    let one = dwarf_section addr offset s.part (length s.bytes) in
+    omega (
+      arith,
+      length-append (section_bytes one) (flat_map section_bytes (dwarf_sections (addr + length s.bytes) (offset + length s.bytes) ws)),
+      length-section one (name_short s.part) (omega arith),
+      length-dwarf ws (addr + length s.bytes) (offset + length s.bytes),
+    )
+
+abbrev pub dwarf_with : ℕ → ℕ → ℕ → ℕ → List ℕ → List ℕ
+dwarf_with vmaddr offset size count records =
+    flat_map (little_bytes 4) (LC_SEGMENT_64 ∷ (72 + 80 * count) ∷ [])
+    ++ (SEG_DWARF
+    ++ (spelled
+    (segment_fields offset size
+    (segment_with []
+    (record {
+      vmaddr = vmaddr;
+      vmsize = page_end size;
+      fileoff = offset;
+      filesize = size;
+      maxprot = VM_PROT_ALL;
+      initprot = VM_PROT_DEFAULT;
+      sections = count;
+      flags = 0;
+    })))
+    ++ records))
+
+module _ (program : Image) (offset : ℕ) (ws : List Written) where
+  abbrev pub mine : List ℕ
+  mine = flat_map section_bytes (dwarf_sections (page_end (end_of program.segments)) offset ws)
+
+  pub dwarf_is : dwarf_with (page_end (end_of program.segments)) offset (length (contents ws)) (length ws) mine ≡ command_bytes (command_of (dwarf_command program offset ws))
+  dwarf_is =
+      let numbers = spelled (segment_fields offset (length (contents ws)) (segment_with [] (record { vmaddr = page_end (end_of program.segments); vmsize = page_end (length (contents ws)); fileoff = offset; filesize = length (contents ws); maxprot = VM_PROT_ALL; initprot = VM_PROT_DEFAULT; sections = length ws; flags = 0 }))) in
+      let body = (padded (before_zero SEG_DWARF) ++ numbers) ++ (mine ++ []) in
+      let size : 72 + 80 * length ws ≡ 8 + length body = omega (arith, ap length (append-nil mine), length-dwarf ws (page_end (end_of program.segments)) offset) in
+      ap (λ (n : ℕ). flat_map (little_bytes 4) (LC_SEGMENT_64 ∷ n ∷ []) ++ (SEG_DWARF ++ (numbers ++ mine))) size
+      ∙ ap (λ (back : List ℕ). flat_map (little_bytes 4) (LC_SEGMENT_64 ∷ (8 + length body) ∷ []) ++ (SEG_DWARF ++ (numbers ++ back))) (sym (append-nil mine))
+
+  pub length-dwarf_with : length (command_bytes (command_of (dwarf_command program offset ws))) ≡ 72 + 80 * length ws
+  length-dwarf_with = omega (arith, ap length (append-nil mine), length-dwarf ws (page_end (end_of program.segments)) offset)

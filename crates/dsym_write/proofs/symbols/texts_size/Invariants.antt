@@ -1,0 +1,7 @@
+use Rattle.std.proofs.Common.{◌≡◌, ◌+◌, length, drop}
+use Rattle.std.specs.List.{flat_map}
+use Rattle.dsym_write.specs.Pieces.{text_of}
+use Rattle.dsym_write.proofs.symbols.texts_size.Given as goal
+
+abbrev pub invariant-loop-symbol : goal.invariant-loop-symbol
+invariant-loop-symbol l = l.size + length (flat_map text_of (drop l.symbol-index l.symbols)) ≡ length (flat_map text_of l.symbols)

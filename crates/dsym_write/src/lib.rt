@@ -1,0 +1,26 @@
+//! The two files of a bundle: the dSYM image and Info.plist.
+//!
+//! Layer: writers. [`image_bytes`] measures the parts of the image, takes its memory once, and fills it from the front:
+//! header, commands, symbols, strings, and the sections of the graph in a page of their own (mach-o/loader.h,
+//! mach-o/nlist.h). What it writes is `image_file` of the program and the graph (`specs/Bundle.antt`); a file of 2^32
+//! bytes or more is refused. [`plist_text`] is the text of Info.plist (`specs/Plist.antt`).
+#![tactic(auto)]
+
+mod commands;
+mod dwarf;
+mod error;
+mod fields;
+mod image;
+mod places;
+mod plist;
+mod protection;
+mod segments;
+mod sums;
+mod symbols;
+
+pub use error::WriteError;
+pub use image::image_bytes;
+pub use plist::plist_text;
+
+#[cfg(test)]
+mod tests;
