@@ -12,7 +12,7 @@ use Rattle.link_core.specs.declared.status.Status.{Status}
 use Rattle.link_core.specs.Files.{World, world, HeldFile, content_in, ReadsFiles, all_held, is_held, is_read, is_unread, unread_status}
 use Rattle.link_core.specs.Seen.{held_seen}
 
-abbrev file_seen : Bor (List ℕ) × List ℕ → HeldFile
+abbrev pub file_seen : Bor (List ℕ) × List ℕ → HeldFile
 file_seen e = record { name = e.0.now; bytes = e.1 }
 
 content_lookup : (es : List (Bor (List ℕ) × List ℕ)) (name : List ℕ) → content_in (map file_seen es) name ≡ lookup (λ k. bytes_eq name k.now) es

@@ -1,11 +1,4 @@
-pub mod Ends
-pub mod FlatEncoding
-pub mod FlatWorkedGraph
-pub mod Fronts
-pub mod Functions
 pub mod Holding
 pub mod LastPart
 pub mod LinkSteps
-pub mod OpenedArchives
-pub mod SectionLoop
-pub mod UnitTexts
+pub mod Sources

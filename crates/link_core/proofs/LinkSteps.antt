@@ -1,45 +1,71 @@
 -- The steps of a link, from what the outside answered.
-use Rattle.std.proofs.Common.{◌≡◌, ℕ, ◌-◌, ◌^◌, ◌≤◌, List, length, Option, Some, Ok, Err, refl, sym, ap, subst, ◌∙◌}
+use Rattle.std.proofs.Common.{◌≡◌, ℕ, ◌-◌, ◌^◌, ◌≤◌, List, length, Option, Some, Result, Ok, Err, refl, sym, ap, subst, ◌∙◌}
 use Rattle.std.specs.Option.{option_map}
 use Rattle.std.specs.FinMap as map
+use Rattle.std.specs.Result.{IsErrAnd}
+use Rattle.macho_read.specs.declared.image.Image.{Image}
 use Rattle.ds_files.specs.Outside.{Contents, Counts, IsLater, Told, ReadFails, ReplaceFails}
 use Rattle.ds_files.specs.declared.files.FileError.{FileError}
+use Rattle.object_link.specs.declared.bundle.Linked.{Linked}
+use Rattle.object_link.specs.declared.refusal.Refusal.{Refusal}
+use Rattle.object_link.specs.declared.refusal.Refusal.TheVariants as refusals
+use Rattle.object_link.specs.Linked.{Bundles, Source, no_memory}
 use Rattle.link_core.specs.declared.status.Status.{Status}
 use Rattle.link_core.specs.declared.status.Status.TheVariants as statuses
-use Rattle.link_core.specs.declared.status.Refusal.{Refusal}
-use Rattle.link_core.specs.declared.status.Refusal.TheVariants as refusals
 use Rattle.link_core.specs.declared.program.Program.{Program}
-use Rattle.link_core.specs.Words.{image_name}
+use Rattle.link_core.specs.Words.{image_name, last_part, plist_name}
 use Rattle.link_core.specs.Files.{World, world, most_input, unread_status, HeldFile, ReadsFile}
-use Rattle.link_core.specs.Linked.{LiveUnit}
-use Rattle.link_core.specs.Refusals.{Answers, program_of, units_from}
-use Rattle.link_core.specs.Answer.{Writes, not_written, written, unwritten_status, LinksUnits, units_unknown, object_refused, objects_found, LinksObjects, LinksProgram, program_unread, program_unknown, program_refused, program_found, linked_image, refused_status}
+use Rattle.link_core.specs.Refusals.{Answers, program_of}
+use Rattle.link_core.specs.Answer.{Replaces, Writes, plist_unwritten, image_unwritten, written, unwritten_status, sources_in, LinksSources, refused, bundled, LinksObjects, LinksProgram, program_unread, program_unknown, program_refused, program_found, refused_status}
 
--- the image was written under the name that was made
-pub written_as : (name made bytes shown : List ℕ) (old new : Option Contents) (before now : Counts) → made ≡ name → shown ≡ bytes
-    → new ≡ option_map (λ m. map.insert m made shown) old → Writes name bytes (world old before) (world new now) statuses.Done
-written_as name made bytes shown old new before now is_name is_bytes is =
-    written (is ∙ ap (λ (n : List ℕ). option_map (λ m. map.insert m n shown) old) is_name ∙ ap (λ (b : List ℕ). option_map (λ m. map.insert m name b) old) is_bytes)
+-- ---- the bundle
 
-pub not_written_as : (name made bytes : List ℕ) (old new : Option Contents) (before now : Counts) (error : FileError) (status : Status) → made ≡ name → status ≡ unwritten_status error
-    → ReplaceFails old new made before now error → Writes name bytes (world old before) (world new now) status
-not_written_as name made bytes old new before now error status is_name is_status fails =
-    subst (λ (s : Status). Writes name bytes (world old before) (world new now) s) (sym is_status)
-    (not_written error (subst (λ (n : List ℕ). ReplaceFails old new n before now error) is_name fails))
+-- a file was written under the name that was made
+pub replaces_as : (name made bytes shown : List ℕ) (old new : Option Contents) (before now : Counts) → made ≡ name → shown ≡ bytes
+    → new ≡ option_map (λ m. map.insert m made shown) old → Replaces name bytes (world old before) (world new now)
+replaces_as name made bytes shown old new before now is_name is_bytes is =
+    is ∙ ap (λ (n : List ℕ). option_map (λ m. map.insert m n shown) old) is_name ∙ ap (λ (b : List ℕ). option_map (λ m. map.insert m name b) old) is_bytes
+
+module _ (exe : List ℕ) (linked : Linked) where
+  pub plist_unwritten_as : (made : List ℕ) (old new : Option Contents) (before now : Counts) (error : FileError) (status : Status) → made ≡ plist_name exe → status ≡ unwritten_status 0 error
+      → ReplaceFails old new made before now error → Writes exe linked (world old before) (world new now) status
+  plist_unwritten_as made old new before now error status is_name is_status fails =
+      subst (λ (s : Status). Writes exe linked (world old before) (world new now) s) (sym is_status)
+      (plist_unwritten error (subst (λ (n : List ℕ). ReplaceFails old new n before now error) is_name fails))
+
+  pub image_unwritten_as : (made : List ℕ) (old mid new : Option Contents) (before middle now : Counts) (error : FileError) (status : Status) → made ≡ image_name exe → status ≡ unwritten_status 1 error
+      → Replaces (plist_name exe) linked.plist (world old before) (world mid middle) → ReplaceFails mid new made middle now error → Writes exe linked (world old before) (world new now) status
+  image_unwritten_as made old mid new before middle now error status is_name is_status first fails =
+      subst (λ (s : Status). Writes exe linked (world old before) (world new now) s) (sym is_status)
+      (image_unwritten (world mid middle) error first (subst (λ (n : List ℕ). ReplaceFails mid new n middle now error) is_name fails))
+
+  pub written_as : (made_first made shown_first shown : List ℕ) (old mid new : Option Contents) (before middle now : Counts) → made_first ≡ plist_name exe → shown_first ≡ linked.plist
+      → mid ≡ option_map (λ m. map.insert m made_first shown_first) old → made ≡ image_name exe → shown ≡ linked.image → new ≡ option_map (λ m. map.insert m made shown) mid
+      → Writes exe linked (world old before) (world new now) statuses.Done
+  written_as made_first made shown_first shown old mid new before middle now is_first is_plist first is_name is_image second =
+      written (world mid middle) (replaces_as (plist_name exe) made_first linked.plist shown_first old mid before middle is_first is_plist first)
+      (replaces_as (image_name exe) made linked.image shown mid new middle now is_name is_image second)
 
 -- ---- the objects
 
-module _ (exe : List ℕ) (program : Program) (held : List HeldFile) where
-  pub found_as : (found shown : List LiveUnit) (before after : World) (status : Status) → units_from program.image.cpu held 1 program.objects ≡ Ok found → shown ≡ found
-      → Writes (image_name exe) (linked_image program.image shown) before after status → LinksUnits exe program held before after status
-  found_as found shown before after status units is writes =
-      objects_found found status units (subst (λ (us : List LiveUnit). Writes (image_name exe) (linked_image program.image us) before after status) is writes)
+pub bundles_as : (program : Image) (name : List ℕ) (given sources : List Source) (answer : Result Linked Refusal) → given ≡ sources → Bundles program name given answer → Bundles program name sources answer
+bundles_as program name given sources answer is bundles = subst (λ (s : List Source). Bundles program name s answer) is bundles
 
-  pub refused_as : (refusal : Refusal) (now : World) (status : Status) → status ≡ refused_status refusal → Answers (λ (us : List LiveUnit). us) (Err refusal) (units_from program.image.cpu held 1 program.objects)
-      → LinksUnits exe program held now now status
-  refused_as (refusals.Faulty file fault) now status is why = subst (LinksUnits exe program held now now) (sym is) (object_refused (refusals.Faulty file fault) refl why)
-  refused_as (refusals.Limit which number) now status is why = subst (LinksUnits exe program held now now) (sym is) (object_refused (refusals.Limit which number) refl why)
-  refused_as refusals.NoMemory now status is why = subst (LinksUnits exe program held now now) (sym is) (units_unknown refl)
+pub wants_memory : (program : Image) (name : List ℕ) (sources : List Source) (answer : Result Linked Refusal) → IsErrAnd answer (λ refusal. refusal ≡ refusals.NoMemory) → Bundles program name sources answer
+wants_memory program name sources (Ok linked) h = absurd h
+wants_memory program name sources (Err refusal) h = subst (λ (r : Refusal). Bundles program name sources (Err r)) (sym h) no_memory
+
+module _ (exe name : List ℕ) (program : Program) (held : List HeldFile) (is_name : name ≡ last_part exe) where
+  pub refused_as : (refusal : Refusal) (now : World) (status : Status) → status ≡ refused_status refusal → Bundles program.image name (sources_in held program.objects) (Err refusal)
+      → LinksSources exe program held now now status
+  refused_as refusal now status is why =
+      subst (LinksSources exe program held now now) (sym is)
+      (refused refusal refl (subst (λ (n : List ℕ). Bundles program.image n (sources_in held program.objects) (Err refusal)) is_name why))
+
+  pub bundled_as : (linked : Linked) (before after : World) (status : Status) → Bundles program.image name (sources_in held program.objects) (Ok linked) → Writes exe linked before after status
+      → LinksSources exe program held before after status
+  bundled_as linked before after status why writes =
+      bundled linked status (subst (λ (n : List ℕ). Bundles program.image n (sources_in held program.objects) (Ok linked)) is_name why) writes
 
 -- ---- the program
 

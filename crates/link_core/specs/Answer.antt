@@ -1,26 +1,21 @@
 -- The answer of a link: its status with its cause, and what stands in the files then. The cases of each step stand in the order of the work, so that of two refusals the first one comes.
-use Rattle.std.specs.Prelude.{◌≡◌, ℕ, ◌-◌, List, [], length, Some, None, Ok, Err}
+use Rattle.std.specs.Prelude.{◌≡◌, ℕ, ◌-◌, List, [], length, map, Some, None, Ok, Err}
 use Rattle.std.specs.Option.{option_map}
-use Rattle.std.specs.FinMap as map
+use Rattle.std.specs.FinMap as fin
 use Rattle.ds_files.specs.Outside.{ReplaceFails}
 use Rattle.ds_files.specs.declared.files.FileError.{FileError}
 use Rattle.ds_files.specs.declared.files.FileError.TheVariants as errors
-use Rattle.link_core.specs.FlatEncode.{encode}
-use Rattle.macho_read.specs.declared.image.Image.{Image}
+use Rattle.stab_map.specs.declared.object.MapObject.{MapObject}
+use Rattle.object_link.specs.declared.bundle.Linked.{Linked}
 use Rattle.link_core.specs.declared.status.Status.{Status}
 use Rattle.link_core.specs.declared.status.Status.TheVariants as statuses
-use Rattle.link_core.specs.declared.status.Refusal.{Refusal}
-use Rattle.link_core.specs.declared.status.Refusal.TheVariants as refusals
+use Rattle.object_link.specs.declared.refusal.Refusal.{Refusal}
+use Rattle.object_link.specs.declared.refusal.Refusal.TheVariants as refusals
 use Rattle.link_core.specs.declared.program.Program.{Program}
-use Rattle.link_core.specs.Files.{World, most_input, ReadsFile, MissesFile, unread_status, HeldFile, ReadsFiles}
-use Rattle.link_core.specs.Linked.{LiveUnit, graph_of}
-use Rattle.link_core.specs.Refusals.{program_of, units_from}
-use Rattle.link_core.specs.Image.{image, end_of}
-use Rattle.link_core.specs.Words.{program_named, image_name}
-
--- the image of a program that is linked to these units
-abbrev pub linked_image : Image → List LiveUnit → List ℕ
-linked_image program units = image program.cpu program.sub (end_of program.segments) (encode (graph_of units))
+use Rattle.link_core.specs.Files.{World, most_input, ReadsFile, MissesFile, unread_status, HeldFile, ReadsFiles, content_in}
+use Rattle.object_link.specs.Linked.{Bundles, Source}
+use Rattle.link_core.specs.Refusals.{program_of}
+use Rattle.link_core.specs.Words.{program_named, image_name, last_part, plist_name}
 
 -- the status for what the content of the files refuses
 abbrev pub refused_status : Refusal → Status
@@ -28,29 +23,38 @@ refused_status (refusals.Faulty file fault) = statuses.Faulty file fault
 refused_status (refusals.Limit which number) = statuses.Limit which number
 refused_status refusals.NoMemory = statuses.NoMemory
 
--- the status for the image that was not written
-abbrev pub unwritten_status : FileError → Status
-unwritten_status errors.NoMemory = statuses.NoMemory
-unwritten_status _ = statuses.WriteFault 1
+-- the status for a file of the bundle that was not written: 0 is Info.plist, and 1 the image
+abbrev pub unwritten_status : ℕ → FileError → Status
+unwritten_status file errors.NoMemory = statuses.NoMemory
+unwritten_status file _ = statuses.WriteFault file
 
--- The image is written: the files have it under its name, and are as before else.
-pub data Writes (name : List ℕ) (bytes : List ℕ) (before after : World) : Status → Type 0 where
-  not_made : after.files ≡ before.files → Writes name bytes before after statuses.NoMemory
-  not_written : (error : FileError) → ReplaceFails before.files after.files name before.counts after.counts error → Writes name bytes before after (unwritten_status error)
-  written : after.files ≡ option_map (λ files. map.insert files name bytes) before.files → Writes name bytes before after statuses.Done
+-- a file has these bytes now, and all others are as before
+abbrev pub Replaces : List ℕ → List ℕ → World → World → Type 0
+Replaces name bytes before after = after.files ≡ option_map (λ files. fin.insert files name bytes) before.files
 
--- The objects of a program are linked from the files that are held, and the image is written.
-pub data LinksUnits (exe : List ℕ) (program : Program) (held : List HeldFile) (before after : World) : Status → Type 0 where
-  units_unknown : after.files ≡ before.files → LinksUnits exe program held before after statuses.NoMemory
-  object_refused : (refusal : Refusal) → after ≡ before → units_from program.image.cpu held 1 program.objects ≡ Err refusal → LinksUnits exe program held before after (refused_status refusal)
-  objects_found : (units : List LiveUnit) (status : Status) → units_from program.image.cpu held 1 program.objects ≡ Ok units
-      → Writes (image_name exe) (linked_image program.image units) before after status → LinksUnits exe program held before after status
+-- The two files of a bundle are written, Info.plist first.
+pub data Writes (exe : List ℕ) (linked : Linked) (before after : World) : Status → Type 0 where
+  not_made : after.files ≡ before.files → Writes exe linked before after statuses.NoMemory
+  plist_unwritten : (error : FileError) → ReplaceFails before.files after.files (plist_name exe) before.counts after.counts error → Writes exe linked before after (unwritten_status 0 error)
+  image_unwritten : (middle : World) (error : FileError) → Replaces (plist_name exe) linked.plist before middle
+      → ReplaceFails middle.files after.files (image_name exe) middle.counts after.counts error → Writes exe linked before after (unwritten_status 1 error)
+  written : (middle : World) → Replaces (plist_name exe) linked.plist before middle → Replaces (image_name exe) linked.image middle after → Writes exe linked before after statuses.Done
+
+-- the objects of a debug map with the bytes of their files, as far as those are held
+abbrev pub sources_in : List HeldFile → List MapObject → List Source
+sources_in held objects = map (λ object. record { object = object; file = content_in held object.file }) objects
+
+-- The objects of a program are linked from the files that are held, and the bundle is written.
+pub data LinksSources (exe : List ℕ) (program : Program) (held : List HeldFile) (before after : World) : Status → Type 0 where
+  refused : (refusal : Refusal) → after ≡ before → Bundles program.image (last_part exe) (sources_in held program.objects) (Err refusal) → LinksSources exe program held before after (refused_status refusal)
+  bundled : (linked : Linked) (status : Status) → Bundles program.image (last_part exe) (sources_in held program.objects) (Ok linked) → Writes exe linked before after status
+      → LinksSources exe program held before after status
 
 -- The files of a program's objects, which have at most so many bytes together, are read, and the objects are linked.
 pub data LinksObjects (exe : List ℕ) (program : Program) (most : ℕ) (before after : World) : Status → Type 0 where
   file_unread : (status : Status) → ReadsFiles 1 program.objects [] most before after (Err status) → LinksObjects exe program most before after status
   files_read : (held : List HeldFile) (middle : World) (status : Status) → ReadsFiles 1 program.objects [] most before middle (Ok held)
-      → LinksUnits exe program held middle after status → LinksObjects exe program most before after status
+      → LinksSources exe program held middle after status → LinksObjects exe program most before after status
 
 -- The program of a name is read, and linked with its objects.
 pub data LinksProgram (exe : List ℕ) (before after : World) : Status → Type 0 where

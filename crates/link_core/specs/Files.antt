@@ -10,7 +10,7 @@ use Rattle.ds_files.specs.declared.files.FileError.TheVariants as errors
 use Rattle.stab_map.specs.declared.object.MapObject.{MapObject}
 use Rattle.link_core.specs.declared.status.Status.{Status}
 use Rattle.link_core.specs.declared.status.Status.TheVariants as statuses
-use Rattle.link_core.specs.declared.status.LimitKind.TheVariants as limits
+use Rattle.object_link.specs.declared.refusal.LimitKind.TheVariants as limits
 
 -- the files, where they are told, and what went wrong so far
 pub record World : Type 0 where

@@ -1,17 +1,7 @@
 pub mod Answer
 pub mod Codes
 pub mod Files
-pub mod FlatAbbreviations
-pub mod FlatEncode
-pub mod FlatEntries
-pub mod FlatForm
-pub mod FlatGraph
-pub mod FlatUnit
-pub mod FlatValues
 pub mod Holding
-pub mod Image
-pub mod Linked
-pub mod OpenedArchives
 pub mod Refusals
 pub mod Seen
 pub mod Words

@@ -1,19 +1,17 @@
 //! Reading the files of a link.
 
-ghost use Rattle.std.specs.Prelude.{◌≡◌, ◌+◌, ◌<◌, ◌≤◌, ◌^◌, ◌∷◌, [], true, length, Ok, Err, Result as Outcome, List as Listed};
-ghost use Rattle.std.specs.Option.{option_copied};
+ghost use Rattle.std.specs.Prelude.{◌≡◌, ◌+◌, ◌<◌, ◌≤◌, ◌^◌, ◌∷◌, [], true, length, map, IfOk};
 ghost use Rattle.std.specs.Str.{is_utf8};
-ghost use Rattle.stab_map.specs.declared.object.MapObject.{MapObject as Mapped};
-ghost use Rattle.link_core.specs.declared.status.Status.{Status as Ending};
-ghost use Rattle.link_core.specs.Files.{World, world, HeldFile, ReadsFiles, ReadsFile, MissesFile, content_in, unread_status};
-ghost use Rattle.link_core.specs.Seen.{HaveNames, held_seen};
+ghost use Rattle.indexmap.specs.IndexMap.{values};
+ghost use Rattle.link_core.specs.Files.{world, ReadsFiles, unread_status};
+ghost use Rattle.link_core.specs.Seen.{HaveNames, number_in};
 ghost use Rattle.link_core.specs.Holding.{held_answer, Holds};
-ghost use Rattle.link_core.specs.Files as spec;
 
-use crate::status::{LimitKind, Status};
-use ds_base::Bytes;
+use crate::status::Status;
+use ds_base::{Bytes, List, NoMemory};
 use ds_files::{FileError, Files};
 use indexmap::IndexMap;
+use object_link::LimitKind;
 use stab_map::MapObject;
 use std::alloc::Global;
 
@@ -85,14 +83,43 @@ fn file_name(object: &MapObject) -> &str
     }
 }
 
-/// The bytes of the file of this name, if it is held.
-pub(crate) fn content_in<'a>(held: &'a HeldFiles, name: &[u8]) -> Option<&'a [u8]>
-    ensures { option_copied result ≡ spec.content_in (held_seen held.now.files) name.now }
+/// For each object the number of its file, in the order of reading. All are held.
+pub(crate) fn numbers_of(
+    alloc: Global,
+    objects: &[MapObject],
+    held: &HeldFiles,
+) -> Result<List<Option<u32>>, NoMemory>
+    ensures { IfOk result (λ numbers. numbers ≡ map (λ o. number_in held.now.files o.file) objects.now) }
 {
-    match held.files.get(name) {
-        Some(bytes) => Some(bytes.as_slice()),
-        None => None,
+    let mut numbers = List::new(alloc);
+    for object in objects {
+        numbers.push(number_of(held, object.file.as_slice())?)?;
     }
+    Ok(numbers)
+}
+
+/// The number of the file of this name, if it is held.
+fn number_of(held: &HeldFiles, name: &[u8]) -> Result<Option<u32>, NoMemory>
+    ensures { IfOk result (λ number. number ≡ number_in held.now.files name.now) }
+{
+    match held.files.get_index_of(name) {
+        Some(number) => match u32::try_from(number) {
+            Ok(number) => Ok(Some(number)),
+            Err(_) => Err(NoMemory),
+        },
+        None => Ok(None),
+    }
+}
+
+/// The bytes of the files that were read, in the order of reading.
+pub(crate) fn contents_of(alloc: Global, held: HeldFiles) -> Result<List<Bytes>, NoMemory>
+    ensures { IfOk result (λ contents. contents ≡ values held.entry.files) }
+{
+    let mut contents = List::new(alloc);
+    for bytes in held.files.into_values() {
+        contents.push(bytes)?;
+    }
+    Ok(contents)
 }
 
 /// The status for a file that was not read.

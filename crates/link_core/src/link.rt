@@ -1,29 +1,25 @@
 //! One link, from the words to the bundle.
 
-ghost use Rattle.std.specs.Prelude.{◌≡◌, ◌<◌, ◌≤◌, ◌^◌, Ok, length, map, IfOk};
+ghost use Rattle.std.specs.Prelude.{◌≡◌, ◌<◌, ◌≤◌, ◌^◌, Ok, length, map};
 ghost use Rattle.std.specs.String.{string_bytes};
 ghost use Rattle.macho_read.specs.declared.kind.Role.TheVariants as roles;
 ghost use Rattle.macho_read.specs.Kind.{kind_of};
 ghost use Rattle.macho_read.specs.Sound.{IsSound as IsSoundImage};
-ghost use Rattle.link_core.specs.Answer.{Links, LinksProgram, LinksObjects, LinksUnits, Writes, linked_image, refused_status, unwritten_status};
+ghost use Rattle.object_link.specs.Linked.{Bundles};
+ghost use Rattle.link_core.specs.Answer.{Links, LinksProgram, LinksObjects, LinksSources, refused_status, sources_in};
 ghost use Rattle.link_core.specs.Files.{world};
-ghost use Rattle.link_core.specs.Seen.{HaveNames, held_seen, live_unit_seen};
-ghost use Rattle.link_core.specs.Words as spec;
+ghost use Rattle.link_core.specs.Seen.{AreSmall, HaveNames, held_seen};
 
-use crate::encode::sections;
-use crate::files::{HeldFiles, MOST_INPUT, read_files, unread};
-use crate::image::{end_of, image};
-use crate::live::LiveUnit;
+use crate::files::{HeldFiles, MOST_INPUT, contents_of, numbers_of, read_files, unread};
+use crate::output::write_bundle;
 use crate::program::{Program, read_program};
-use crate::status::{Refusal, Status};
-use crate::units::read_units;
-use crate::words::{image_name, program_named};
-use ds_base::{Bytes, NoMemory};
-use ds_files::{FileError, Files, Gate, Sink};
-use macho_read::Image;
+use crate::status::Status;
+use crate::words::{last_part, program_named};
+use ds_files::{Files, Gate, Sink};
+use object_link::{Linked, Options, Refusal, link_objects};
 use std::alloc::Global;
 
-/// Links a program with its objects and writes the image into the program's bundle.
+/// Links a program with its objects and writes the program's bundle: Info.plist and the image.
 ///
 /// The words are one, the program's name. Files are numbered: 0 is the program, and its objects follow from 1 in the
 /// order of its debug map.
@@ -37,15 +33,19 @@ pub fn link_main<F: Files, S: Sink, G: Gate + Sync>(
     ensures { Links (map string_bytes words.now) (world (F.files files.old) (F.counts files.old)) (world (F.files files.new) (F.counts files.new)) result }
 {
     let _ = messages;
-    let _ = gate;
     match program_named(words) {
-        Some(exe) => link_program(alloc, exe, files),
+        Some(exe) => link_program(alloc, exe, files, gate),
         None => Status::Usage,
     }
 }
 
 /// Links the program of a name.
-fn link_program<F: Files>(alloc: Global, exe: &str, files: &mut F) -> Status
+fn link_program<F: Files, G: Gate + Sync>(
+    alloc: Global,
+    exe: &str,
+    files: &mut F,
+    gate: &G,
+) -> Status
     ensures { LinksProgram exe.now (world (F.files files.old) (F.counts files.old)) (world (F.files files.new) (F.counts files.new)) result }
 {
     let bytes = match files.read(alloc, exe, MOST_INPUT) {
@@ -53,89 +53,90 @@ fn link_program<F: Files>(alloc: Global, exe: &str, files: &mut F) -> Status
         Err(error) => return unread(0, error),
     };
     match read_program(alloc, bytes.as_slice()) {
-        Ok(program) => {
-            link_objects(alloc, exe, &program, MOST_INPUT - bytes.len() as u64, files)
-        }
+        Ok(program) => link_files(
+            alloc,
+            exe,
+            &program,
+            MOST_INPUT - bytes.len() as u64,
+            files,
+            gate,
+        ),
         Err(refusal) => refused(refusal),
     }
 }
 
 /// Links a program with its objects, whose files have at most `most` bytes together.
-fn link_objects<F: Files>(
+fn link_files<F: Files, G: Gate + Sync>(
     alloc: Global,
     exe: &str,
     program: &Program,
     most: u64,
     files: &mut F,
+    gate: &G,
 ) -> Status
     requires sound { IsSoundImage program.now.image }
     requires kind { kind_of program.now.image roles.Program ≡ Ok tt }
     requires few { length program.now.objects < 2 ^ 16 }
     requires names { HaveNames program.now.objects }
+    requires bounded { most ≤ 2 ^ 29 }
     ensures { LinksObjects exe.now program.now most (world (F.files files.old) (F.counts files.old)) (world (F.files files.new) (F.counts files.new)) result }
 {
     match read_files(alloc, program.objects.as_slice(), most, files) {
-        Ok(held) => link_units(alloc, exe, program, &held, files),
+        Ok(held) => link_held(alloc, exe, program, held, files, gate),
         Err(status) => status,
     }
 }
 
 /// Links a program with its objects, whose files are held.
-fn link_units<F: Files>(
+fn link_held<F: Files, G: Gate + Sync>(
     alloc: Global,
     exe: &str,
     program: &Program,
-    held: &HeldFiles,
+    held: HeldFiles,
     files: &mut F,
+    gate: &G,
 ) -> Status
     requires sound { IsSoundImage program.now.image }
     requires kind { kind_of program.now.image roles.Program ≡ Ok tt }
     requires few { length program.now.objects < 2 ^ 16 }
-    ensures { LinksUnits exe.now program.now (held_seen held.now.files) (world (F.files files.old) (F.counts files.old)) (world (F.files files.new) (F.counts files.new)) result }
+    requires small { AreSmall (held_seen held.files) }
+    ensures { LinksSources exe.now program.now (held_seen held.entry.files) (world (F.files files.old) (F.counts files.old)) (world (F.files files.new) (F.counts files.new)) result }
 {
-    match read_units(alloc, program, held) {
-        Ok(units) => write_image(alloc, exe, &program.image, units.as_slice(), files),
+    match bundle(alloc, last_part(exe), program, held, gate) {
+        Ok(linked) => write_bundle(alloc, exe, &linked, files),
         Err(refusal) => refused(refusal),
     }
 }
 
-/// Writes the image of a program that is linked to units.
-fn write_image<F: Files>(
+/// The bundle of a program of this name with its objects, whose files are held.
+fn bundle<G: Gate + Sync>(
     alloc: Global,
-    exe: &str,
-    program: &Image,
-    units: &[LiveUnit],
-    files: &mut F,
-) -> Status
-    requires sound { IsSoundImage program.now }
-    requires kind { kind_of program.now roles.Program ≡ Ok tt }
-    ensures { Writes (spec.image_name exe.now) (linked_image program.now (map live_unit_seen units.now)) (world (F.files files.old) (F.counts files.old)) (world (F.files files.new) (F.counts files.new)) result }
+    name: &str,
+    program: &Program,
+    held: HeldFiles,
+    gate: &G,
+) -> Result<Linked, Refusal>
+    requires sound { IsSoundImage program.now.image }
+    requires kind { kind_of program.now.image roles.Program ≡ Ok tt }
+    requires few { length program.now.objects < 2 ^ 16 }
+    requires small { AreSmall (held_seen held.files) }
+    ensures { Bundles program.now.image name.now (sources_in (held_seen held.entry.files) program.now.objects) result }
 {
-    let Ok(image) = link_image(alloc, program, units) else {
-        return Status::NoMemory;
-    };
-    let Ok(name) = image_name(alloc, exe) else {
-        return Status::NoMemory;
-    };
-    match files.replace(alloc, name.as_str(), image.as_slice()) {
-        Ok(()) => Status::Done,
-        Err(error) => unwritten(error),
-    }
-}
-
-/// The image of a program that is linked to units.
-fn link_image(alloc: Global, program: &Image, units: &[LiveUnit]) -> Result<Bytes, NoMemory>
-    requires sound { IsSoundImage program.now }
-    requires kind { kind_of program.now roles.Program ≡ Ok tt }
-    ensures { IfOk result (λ bytes. bytes ≡ linked_image program.now (map live_unit_seen units.now)) }
-{
-    let sections = sections(alloc, units)?;
-    image(
+    let objects = program.objects.as_slice();
+    let source = numbers_of(alloc, objects, &held)?;
+    let contents = contents_of(alloc, held)?;
+    link_objects(
         alloc,
-        program.cpu,
-        program.sub,
-        end_of(program),
-        sections.as_slice(),
+        &program.image,
+        name,
+        objects,
+        contents.as_slice(),
+        source.as_slice(),
+        &Options {
+            odr: false,
+            workers: 1,
+        },
+        gate,
     )
 }
 
@@ -147,17 +148,5 @@ fn refused(refusal: Refusal) -> Status
         Refusal::Faulty { file, fault } => Status::Faulty { file, fault },
         Refusal::Limit { which, number } => Status::Limit { which, number },
         Refusal::NoMemory => Status::NoMemory,
-    }
-}
-
-/// The status for the image that was not written.
-fn unwritten(error: FileError) -> Status
-    ensures { result ≡ unwritten_status error }
-{
-    match error {
-        FileError::NoMemory => Status::NoMemory,
-        FileError::Missing | FileError::Failed | FileError::TooLong => Status::WriteFault {
-            file: 1,
-        },
     }
 }

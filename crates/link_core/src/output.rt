@@ -1,55 +1,45 @@
-//! Numbers put behind the bytes that were written so far, the lowest byte first.
+//! The two files of a bundle.
 
-ghost use Rattle.std.specs.Prelude.{◌≡◌, ◌++◌, OnOk};
-ghost use Rattle.byteorder.specs.Endian.{little_bytes};
-ghost use Rattle.link_core.specs.Image.{numbers};
+ghost use Rattle.std.specs.Prelude.{◌≡◌};
+ghost use Rattle.link_core.specs.Answer.{Writes, unwritten_status};
+ghost use Rattle.link_core.specs.Files.{world};
 
-use byteorder::{ByteOrder, LittleEndian};
-use ds_base::{Bytes, NoMemory};
+use crate::status::Status;
+use crate::words::{image_name, plist_name};
+use ds_files::{FileError, Files};
+use object_link::Linked;
+use std::alloc::Global;
 
-/// A number of two bytes.
-pub(crate) fn push_u16(out: &mut Bytes, n: u16) -> Result<(), NoMemory>
-    ensures { OnOk result (out.new ≡ out.old ++ little_bytes 2 n) }
+/// Writes the files of a program's bundle: Info.plist, and then the image. Both names are made first.
+pub(crate) fn write_bundle<F: Files>(
+    alloc: Global,
+    exe: &str,
+    linked: &Linked,
+    files: &mut F,
+) -> Status
+    ensures { Writes exe.now linked.now (world (F.files files.old) (F.counts files.old)) (world (F.files files.new) (F.counts files.new)) result }
 {
-    let mut bytes = [0; 2];
-    LittleEndian::write_u16(&mut bytes, n);
-    out.extend(&bytes)
-}
-
-/// A number of four bytes.
-pub(crate) fn push_u32(out: &mut Bytes, n: u32) -> Result<(), NoMemory>
-    ensures { OnOk result (out.new ≡ out.old ++ little_bytes 4 n) }
-{
-    let mut bytes = [0; 4];
-    LittleEndian::write_u32(&mut bytes, n);
-    out.extend(&bytes)
-}
-
-/// A number of eight bytes.
-pub(crate) fn push_u64(out: &mut Bytes, n: u64) -> Result<(), NoMemory>
-    ensures { OnOk result (out.new ≡ out.old ++ little_bytes 8 n) }
-{
-    let mut bytes = [0; 8];
-    LittleEndian::write_u64(&mut bytes, n);
-    out.extend(&bytes)
-}
-
-/// Numbers of four bytes, one after the other.
-pub(crate) fn push_u32s(out: &mut Bytes, ns: &[u32]) -> Result<(), NoMemory>
-    ensures { OnOk result (out.new ≡ out.old ++ numbers 4 ns.now) }
-{
-    for n in ns {
-        push_u32(out, *n)?;
+    let Ok(plist) = plist_name(alloc, exe) else {
+        return Status::NoMemory;
+    };
+    let Ok(image) = image_name(alloc, exe) else {
+        return Status::NoMemory;
+    };
+    if let Err(error) = files.replace(alloc, plist.as_str(), linked.plist.as_slice()) {
+        return unwritten(0, error);
     }
-    Ok(())
+    match files.replace(alloc, image.as_str(), linked.image.as_slice()) {
+        Ok(()) => Status::Done,
+        Err(error) => unwritten(1, error),
+    }
 }
 
-/// Numbers of eight bytes, one after the other.
-pub(crate) fn push_u64s(out: &mut Bytes, ns: &[u64]) -> Result<(), NoMemory>
-    ensures { OnOk result (out.new ≡ out.old ++ numbers 8 ns.now) }
+/// The status for a file of the bundle that was not written.
+fn unwritten(file: u32, error: FileError) -> Status
+    ensures { result ≡ unwritten_status file error }
 {
-    for n in ns {
-        push_u64(out, *n)?;
+    match error {
+        FileError::NoMemory => Status::NoMemory,
+        FileError::Missing | FileError::Failed | FileError::TooLong => Status::WriteFault { file },
     }
-    Ok(())
 }

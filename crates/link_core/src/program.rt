@@ -8,9 +8,9 @@ ghost use Rattle.macho_read.specs.Sound.{IsSound as IsSoundImage};
 ghost use Rattle.link_core.specs.Refusals as spec;
 ghost use Rattle.link_core.specs.Seen.{HaveNames};
 
-use crate::status::{LimitKind, Refusal};
 use ds_base::{List, ReadError};
 use macho_read::{Image, Role, check_kind, read_image};
+use object_link::{LimitKind, Refusal};
 use stab_map::{MapError, MapObject, debug_map};
 use std::alloc::Global;
 

@@ -1,4 +1,4 @@
-//! The command's words, and the name of the file that is written.
+//! The command's words, and the names of the files that are written.
 
 ghost use Rattle.std.specs.Prelude.{◌≡◌, ◌++◌, map, IfOk};
 ghost use Rattle.std.specs.Option.{option_map};
@@ -11,8 +11,11 @@ use std::alloc::Global;
 /// The folder in a bundle that holds the image.
 const BUNDLE_FOLDER: &str = ".dSYM/Contents/Resources/DWARF/";
 
+/// The property list in a bundle.
+const BUNDLE_PLIST: &str = ".dSYM/Contents/Info.plist";
+
 /// The part of a path behind its last slash, or all of it.
-fn last_part(path: &str) -> &str
+pub(crate) fn last_part(path: &str) -> &str
     ensures { result.now ≡ spec.last_part path.now }
 {
     match path.rsplit_once('/') {
@@ -39,13 +42,28 @@ pub(crate) fn program_named(words: &[String]) -> Option<&str>
     }
 }
 
+/// The name of the property list in the bundle of a program: for `bin/tool` it is `bin/tool.dSYM/Contents/Info.plist`.
+pub(crate) fn plist_name(alloc: Global, exe: &str) -> Result<String, NoMemory>
+    ensures { IfOk result (λ name. string_bytes name ≡ spec.plist_name exe.now) }
+{
+    name_behind(alloc, exe, BUNDLE_PLIST)
+}
+
 /// The name of the image in the bundle of a program: for `bin/tool` it is
 /// `bin/tool.dSYM/Contents/Resources/DWARF/tool`.
 pub(crate) fn image_name(alloc: Global, exe: &str) -> Result<String, NoMemory>
     ensures { IfOk result (λ name. string_bytes name ≡ spec.image_name exe.now) }
 {
-    let mut name = String::from_str(alloc, exe)?;
-    name.push_str(BUNDLE_FOLDER)?;
+    let mut name = name_behind(alloc, exe, BUNDLE_FOLDER)?;
     name.push_str(last_part(exe))?;
+    Ok(name)
+}
+
+/// A program's name with this text behind it.
+fn name_behind(alloc: Global, exe: &str, text: &str) -> Result<String, NoMemory>
+    ensures { IfOk result (λ name. string_bytes name ≡ exe.now ++ text.now) }
+{
+    let mut name = String::from_str(alloc, exe)?;
+    name.push_str(text)?;
     Ok(name)
 }

@@ -7,7 +7,7 @@ returns-in-Err g c = unread_as _ _ _ _ _ c.in-Err.error _ c.unread.ensures c.in-
 
 pub returns-in-Ok-read_program : goal.returns-in-Ok-read_program
 returns-in-Ok-read_program g c =
-    program_as _ _ _ _ _ _ c.in-Ok.ensures.found c.in-Ok.ensures.same c.in-Ok.ensures.later _ _ _ _ _ c.as_slice.ensures (ap (λ (n : ℕ). 2 ^ 29 - n) c.len.ensures) c.in-Ok-read_program.ensures.read c.link_objects.ensures
+    program_as _ _ _ _ _ _ c.in-Ok.ensures.found c.in-Ok.ensures.same c.in-Ok.ensures.later _ _ _ _ _ c.as_slice.ensures (ap (λ (n : ℕ). 2 ^ 29 - n) c.len.ensures) c.in-Ok-read_program.ensures.read c.link_files.ensures
 
 pub returns : goal.returns
 returns g c =

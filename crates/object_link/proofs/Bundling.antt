@@ -1,0 +1,38 @@
+-- What a link answers, by what its passes do.
+use Rattle.std.proofs.Common.{◌≡◌, ℕ, Bool, List, Result, Ok, Err, sym, ap, ◌∙◌}
+use Rattle.dwarf_types.specs.declared.analysis.Analysis.{Analysis}
+use Rattle.dwarf_types.specs.declared.graph.Graph.{Graph}
+use Rattle.macho_read.specs.declared.image.Image.{Image}
+use Rattle.dsym_write.specs.Bundle.{image_file}
+use Rattle.dsym_write.specs.Plist.{plist_bytes}
+use Rattle.object_link.specs.declared.bundle.Counts.{Counts}
+use Rattle.object_link.specs.declared.bundle.Linked.{Linked}
+use Rattle.object_link.specs.declared.refusal.Refusal.{Refusal}
+use Rattle.object_link.specs.declared.refusal.Refusal.TheVariants as refusals
+use Rattle.object_link.specs.Linked.{Bundles, MarkLive, Source, analyses_from, bundle, counts_of, fault, first_limit, graph_of, limit, no_memory}
+use Rattle.object_link.specs.Passes.{Analyses, Images, Links}
+
+pub links_refused : (program : Image) (name : List ℕ) (seen : List Analysis) (marks : List (List Bool)) (graph : Graph) (r : Refusal) → graph ≡ graph_of seen marks → Images program graph (Err r) → Links program name seen marks (Err r)
+links_refused program name seen marks graph (refusals.Faulty file why) is h = absurd h
+links_refused program name seen marks graph (refusals.Limit which n) is h = ap (first_limit program) (sym is) ∙ h
+links_refused program name seen marks graph refusals.NoMemory is h = tt
+
+pub links_made : (program : Image) (name : List ℕ) (seen : List Analysis) (marks : List (List Bool)) (graph : Graph) (image plist : List ℕ) (counts : Counts) → graph ≡ graph_of seen marks → Images program graph (Ok image)
+    → plist ≡ plist_bytes name → counts ≡ counts_of seen marks graph image → Links program name seen marks (Ok (record { image = image; plist = plist; counts = counts }))
+links_made program name seen marks graph image plist counts is h text counted =
+    (ap (first_limit program) (sym is) ∙ h.0, h.1 ∙ ap (image_file program) is, text, counted ∙ ap (λ (g : Graph). counts_of seen marks g image) is)
+
+module _ (program : Image) (name : List ℕ) (sources : List Source) where
+  pub bundle_refused : (r : Refusal) → Analyses (analyses_from program.cpu 1 sources) (Err r) → Bundles program name sources (Err r)
+  bundle_refused (refusals.Faulty file why) h = fault file why h
+  bundle_refused (refusals.Limit which n) h = absurd h
+  bundle_refused refusals.NoMemory h = no_memory
+
+  pub bundle_full : Bundles program name sources (Err refusals.NoMemory)
+  bundle_full = no_memory
+
+  pub bundle_made : (seen : List Analysis) (marks : List (List Bool)) (r : Result Linked Refusal) → analyses_from program.cpu 1 sources ≡ Ok seen → MarkLive seen marks → Links program name seen marks r → Bundles program name sources r
+  bundle_made seen marks (Ok linked) e live h = bundle seen marks linked e live h.0 h.1 h.2 h.3
+  bundle_made seen marks (Err (refusals.Faulty file why)) e live h = absurd h
+  bundle_made seen marks (Err (refusals.Limit which n)) e live h = limit seen marks (refusals.Limit which n) e live h
+  bundle_made seen marks (Err refusals.NoMemory) e live h = no_memory

@@ -1,0 +1,41 @@
+//! A bundle, and what a link counts.
+
+use ds_base::Bytes;
+
+/// How a link is to be made.
+#[derive(Clone, Copy, Debug, PartialEq, Eq)]
+pub struct Options {
+    /// Whether types of one name are merged. None is merged yet.
+    pub odr: bool,
+    /// How many threads work, from 1 to 64. One does yet.
+    pub workers: u32,
+}
+
+/// What a link counted.
+#[derive(Clone, Copy, Debug, PartialEq, Eq)]
+pub struct Counts {
+    /// The objects of the debug map.
+    pub objects: u64,
+    /// The entries of all objects.
+    pub entries: u64,
+    /// The live entries among them.
+    pub live: u64,
+    /// The live entries that are merged with others of their name.
+    pub pooled: u64,
+    /// The names of these.
+    pub names: u64,
+    /// The nodes of the linked graph, the roots of its units among them.
+    pub nodes: u64,
+    /// The bytes of the image.
+    pub bytes: u64,
+}
+
+/// The two files of a bundle.
+#[derive(Drop)]
+pub struct Linked {
+    /// The dSYM image.
+    pub image: Bytes,
+    /// The text of Info.plist.
+    pub plist: Bytes,
+    pub counts: Counts,
+}

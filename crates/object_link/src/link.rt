@@ -1,0 +1,83 @@
+//! The bundle of a program, from the bytes of its objects.
+
+ghost use Rattle.std.specs.Prelude.{◌≡◌, ◌<◌, ◌≤◌, ◌^◌, ℕ, List as Listed, IfSome, Ok, length};
+ghost use Rattle.std.specs.List.{All};
+ghost use Rattle.macho_read.specs.declared.kind.Role.TheVariants as roles;
+ghost use Rattle.macho_read.specs.Kind.{kind_of};
+ghost use Rattle.macho_read.specs.Sound.{IsSound as IsSoundImage};
+ghost use Rattle.dwarf_types.specs.Sound.{IsSound};
+ghost use Rattle.linked_laws.specs.Given.{IsGiven};
+ghost use Rattle.object_link.specs.Linked.{Bundles, MarkLive, sources_of};
+ghost use Rattle.object_link.specs.Passes.{Links};
+
+use crate::bundle::{Linked, Options};
+use crate::counts::counts_in;
+use crate::graph::graph_in;
+use crate::image::image_of;
+use crate::marks::marks_of;
+use crate::objects::analyses;
+use crate::refusal::Refusal;
+use ds_base::{BitRow, Bytes};
+use ds_files::Gate;
+use dsym_write::plist_text;
+use dwarf_types::Analysis;
+use macho_read::Image;
+use stab_map::MapObject;
+use std::alloc::Global;
+
+/// Links the objects of a program to its bundle: the image and Info.plist for a program of this name.
+///
+/// `source` tells for each object the number of its file among `files`; an object without one has no entries. Faults
+/// come in the order of the objects, which are numbered from 1, and behind them the limits: of units, of a unit's bytes,
+/// of a section's, of the image's. `options` and `gate` aren't looked at: nothing is merged, and one thread works.
+pub fn link_objects<G: Gate + Sync>(
+    alloc: Global,
+    program: &Image,
+    name: &str,
+    objects: &[MapObject],
+    files: &[Bytes],
+    source: &[Option<u32>],
+    options: &Options,
+    gate: &G,
+) -> Result<Linked, Refusal>
+    requires sound { IsSoundImage program.now }
+    requires kind { kind_of program.now roles.Program ≡ Ok tt }
+    requires few { length objects.now < 2 ^ 16 }
+    requires each { length source.now ≡ length objects.now }
+    requires held { All (λ k. IfSome k (λ n. n < length files.now)) source.now }
+    requires small { All (λ file. length file < 2 ^ 32) files.now }
+    requires workers { (1 ≤ options.now.workers) × (options.now.workers ≤ 64) }
+    ensures { Bundles program.now name.now (sources_of objects.now files.now source.now) result }
+{
+    let analysed = analyses(alloc, program.cpu, objects, files, source)?;
+    let seen = analysed.as_slice();
+    let rows = marks_of(alloc, seen)?;
+    let marks = rows.as_slice();
+    link_marked(alloc, program, name, seen, marks)
+}
+
+/// Links the marked entries of objects to the bundle of a program of this name.
+fn link_marked(
+    alloc: Global,
+    program: &Image,
+    name: &str,
+    seen: &[Analysis],
+    marks: &[BitRow],
+) -> Result<Linked, Refusal>
+    requires program { IsSoundImage program.now }
+    requires few { length seen.now < 2 ^ 16 }
+    requires sound { All IsSound seen.now }
+    requires given { All IsGiven seen.now }
+    requires live { MarkLive seen.now marks.now }
+    ensures { Links program.now name.now seen.now marks.now result }
+{
+    let graph = graph_in(alloc, seen, marks)?;
+    let image = image_of(alloc, program, &graph)?;
+    let plist = plist_text(alloc, name)?;
+    let counts = counts_in(seen, marks, &graph, image.as_slice())?;
+    Ok(Linked {
+        image,
+        plist,
+        counts,
+    })
+}
