@@ -1,0 +1,6 @@
+struct shape {
+    int width;
+    int height;
+};
+
+int area(const struct shape *shape);
