@@ -54,4 +54,3 @@ number_of kinds.BadIndex = 46
 number_of kinds.BadEntryFormat = 47
 number_of kinds.UnknownListEntry = 48
 number_of kinds.BadOutput = 49
-number_of kinds.NotBuilt = 50

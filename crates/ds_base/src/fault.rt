@@ -160,8 +160,6 @@ pub enum Kind {
     UnknownListEntry,
     /// The bytes are not the encoding of one graph.
     BadOutput,
-    /// The file is sound as far as it was read, and has a form that is not built yet.
-    NotBuilt,
 }
 
 impl Kind {
@@ -222,7 +220,6 @@ impl Kind {
             Kind::BadEntryFormat => 47,
             Kind::UnknownListEntry => 48,
             Kind::BadOutput => 49,
-            Kind::NotBuilt => 50,
         }
     }
 }

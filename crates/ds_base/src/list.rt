@@ -1,6 +1,6 @@
 //! A list that asks for memory where it grows.
 
-ghost use Rattle.std.specs.Prelude.{◌≡◌, ◌↔◌, [], ◌∷◌, ◌++◌, length, OnOk, OnErr, IsNone, slice_get, nat_eq};
+ghost use Rattle.std.specs.Prelude.{◌≡◌, ◌↔◌, [], ◌∷◌, ◌++◌, length, OnOk, OnErr, IfOk, IsNone, slice_get, nat_eq};
 ghost use Rattle.std.specs.Option.{option_copied, option_to_list};
 ghost use Rattle.std.specs.Borrow.{sem};
 
@@ -34,6 +34,15 @@ impl<T> List<T> {
         }
     }
 
+    /// The empty list, with memory for `count` items.
+    pub fn with_capacity(alloc: Global, count: usize) -> Result<List<T>, NoMemory>
+        ensures { IfOk result (λ made. made ≡ []) }
+    {
+        Ok(List {
+            items: Vec::with_capacity(alloc, count)?,
+        })
+    }
+
     /// The list of a vector's items.
     pub fn from_vec(items: Vec<T>) -> List<T>
         ensures { result ≡ items.items }
@@ -58,6 +67,13 @@ impl<T> List<T> {
         ensures none { IsNone result ↔ (self.old ≡ []) }
     {
         self.items.pop()
+    }
+
+    /// Gives back what memory it holds behind its last item.
+    pub fn shrink_to_fit(&mut self)
+        ensures { self.new ≡ self.old }
+    {
+        self.items.shrink_to_fit();
     }
 
     /// How many items there are.

@@ -107,5 +107,4 @@ fn kinds_have_their_numbers(rt: HostRuntime) {
     assert_eq!(rt; Kind::Truncated.number(), 1);
     assert_eq!(rt; Kind::RelocOverlap.number(), 19);
     assert_eq!(rt; Kind::BadOutput.number(), 49);
-    assert_eq!(rt; Kind::NotBuilt.number(), 50);
 }
