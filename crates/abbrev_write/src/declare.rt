@@ -49,7 +49,7 @@ pub(crate) fn declare(
 ) -> Result<Declaration, NoMemory>
     ensures { IfOk result (λ d. d ≡ record { tag = node.now.tag; children = children; attributes = map (λ a. (a.name, form_of number a.value)) node.now.attrs }) }
 {
-    let mut attributes = List::new(alloc);
+    let mut attributes = List::with_capacity(alloc, node.attrs.len())?;
     for attr in node.attrs.as_slice() {
         attributes.push((attr.name, form_in(number, &attr.value)))?;
     }

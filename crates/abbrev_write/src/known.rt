@@ -63,7 +63,8 @@ fn code_behind(count: usize) -> Result<u32, NoMemory>
 fn key_for(alloc: Global, declared: &Declaration) -> Result<Vec<u32>, NoMemory>
     ensures { IfOk result (λ key. key.items ≡ key_of declared.now) }
 {
-    let mut key = Vec::new(alloc);
+    let count = declared.attributes.len();
+    let mut key = Vec::with_capacity(alloc, count.saturating_mul(2).saturating_add(2))?;
     key.push(u32::from(declared.tag))?;
     key.push(u32::from(declared.children))?;
     for (name, form) in declared.attributes.as_slice() {

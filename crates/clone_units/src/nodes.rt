@@ -22,7 +22,7 @@ pub(crate) fn nodes_of(
 ) -> Result<List<Node>, NoMemory>
     ensures { IfOk result (λ nodes. nodes ≡ filter_map (node_at entries.now images.now spans.now) origins.now) }
 {
-    let mut nodes = List::new(alloc);
+    let mut nodes = List::with_capacity(alloc, origins.len())?;
     for origin in origins {
         let node = node_of(alloc, entries, images, spans, *origin)?;
         nodes.push(node)?;

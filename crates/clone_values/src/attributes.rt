@@ -27,7 +27,7 @@ pub fn attrs_of(
 ) -> Result<List<OutAttr>, NoMemory>
     ensures { IfOk result (λ attrs. attrs ≡ attrs_written (image_at images.now) entry.now) }
 {
-    let mut attrs = List::new(alloc);
+    let mut attrs = List::with_capacity(alloc, entry.attrs.len())?;
     for attr in entry.attrs.as_slice() {
         if let Some(written) = attr_written(alloc, images, entry, attr)? {
             attrs.push(written)?;

@@ -21,7 +21,7 @@ pub(crate) fn parts_of(
 ) -> Result<List<ExprPart>, NoMemory>
     ensures { IfOk result (λ parts. parts ≡ parts_of (image_at images.now) ops.now) }
 {
-    let mut parts = List::new(alloc);
+    let mut parts = List::with_capacity(alloc, 1)?;
     let mut stretch = None;
     for op in ops {
         stretch = add_op(alloc, images, op, &mut parts, stretch)?;

@@ -140,7 +140,7 @@ fn items_written(
 ) -> Result<List<OutLocation>, NoMemory>
     ensures { IfOk result (λ locations. locations ≡ filter_map (location_written (image_at images.now)) items.now) }
 {
-    let mut locations = List::new(alloc);
+    let mut locations = List::with_capacity(alloc, items.len())?;
     for item in items {
         if let Some(location) = item_written(alloc, images, item)? {
             locations.push(location)?;

@@ -72,7 +72,7 @@ fn read_ops(alloc: Global, bytes: &[u8], part: Part) -> Result<List<Op>, ReadErr
     ensures { Gives (λ ops. ops) result (expression_of (op_at part) part bytes.now) }
 {
     let mut cursor = Cursor::new(bytes, part, 0, bytes.len() as u64);
-    let mut ops = List::new(alloc);
+    let mut ops = List::with_capacity(alloc, 1)?;
     for _ in 0..bytes.len() {
         if cursor.left() == 0 {
             return Ok(ops);
@@ -87,7 +87,7 @@ fn read_plain_ops(alloc: Global, bytes: &[u8], part: Part) -> Result<List<PlainO
     ensures { Gives (λ ops. ops) result (expression_of plain_at part bytes.now) }
 {
     let mut cursor = Cursor::new(bytes, part, 0, bytes.len() as u64);
-    let mut ops = List::new(alloc);
+    let mut ops = List::with_capacity(alloc, 1)?;
     for _ in 0..bytes.len() {
         if cursor.left() == 0 {
             return Ok(ops);

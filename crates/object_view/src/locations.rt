@@ -96,7 +96,7 @@ fn locations_of(
     requires items { All IsItem items.now }
     ensures { Gives (λ locations. locations) result (items_given (context_in context.now) items.now) }
 {
-    let mut locations = List::new(alloc);
+    let mut locations = List::with_capacity(alloc, items.len())?;
     for item in items {
         add_item(alloc, context, item, &mut locations)?;
     }
@@ -166,7 +166,7 @@ fn add_copies(
 fn copy_ops(alloc: Global, ops: &List<Op>) -> Result<List<Op>, NoMemory>
     ensures { IfOk result (λ copy. copy ≡ ops.now) }
 {
-    let mut copy = List::new(alloc);
+    let mut copy = List::with_capacity(alloc, ops.len())?;
     for op in ops.as_slice() {
         copy.push(Op {
             code: op.code,
