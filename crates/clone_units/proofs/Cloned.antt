@@ -1,9 +1,9 @@
 -- What is cloned by the root of a unit's nodes is the unit of the linked graph.
-use Rattle.std.proofs.Common.{◌≡◌, ℕ, ◌+◌, ◌<◌, Bool, List, [], ◌∷◌, ◌++◌, length, map, get_or, slice_get, Option, Some, None, is_some, inl, inr, refl, sym, ap, subst, ◌∙◌, arith}
+use Rattle.std.proofs.Common.{◌≡◌, ℕ, ◌+◌, ◌-◌, ◌<◌, Bool, true, false, cond, eqb, List, [], ◌∷◌, ◌++◌, length, map, get_or, slice_get, Option, Some, None, is_some, inl, inr, refl, sym, ap, subst, ◌∙◌, arith}
 use Rattle.std.proofs.Math.Path.{fun_ext}
 use Rattle.std.specs.List.{All, cons_option, enumerate_from, filter_map, position}
 use Rattle.std.specs.Option.{option_and_then, option_map}
-use Rattle.std.proofs.lemmas.Bool.{and_parts, eqb-true}
+use Rattle.std.proofs.lemmas.Bool.{and_parts, eqb-false, eqb-true}
 use Rattle.std.proofs.lemmas.List.Elements.{All-filter, All-head, All-tail, filter_passes}
 use Rattle.std.proofs.lemmas.Option.{get_or_from_slice_get, same_Some, slice_get-get_or, slice_get-map, slice_get_cases, slice_get_past, slice_get_within}
 use Rattle.std.proofs.lemmas.List.FromFn.{length-enumerate_from}
@@ -28,7 +28,7 @@ use Rattle.link_graph.proofs.Shapes.{Parts, object_parts}
 use Rattle.link_graph.proofs.Stretches.{numbered_at, numbered_length}
 use Rattle.clone_units.specs.Nodes.{node_at, node_with}
 use Rattle.clone_units.specs.Pieces.{object_in}
-use Rattle.clone_units.specs.Units.{IsUnitOf, unit_with}
+use Rattle.clone_units.specs.Units.{IsUnitIn, IsUnitOf, number_of_object, object_of, unit_with}
 use Rattle.clone_units.proofs.Sources.{IsFrom, unit_from}
 
 -- ---- where the entries went
@@ -56,7 +56,7 @@ images_tell objects i o images at are = fun_ext (λ k.
 
 -- ---- nodes
 
-kept_stand : (o : Object) (u : ℕ) → All (λ e. slice_get o.seen.entries e.0 ≡ Some e.1) (kept_entries o u)
+pub kept_stand : (o : Object) (u : ℕ) → All (λ e. slice_get o.seen.entries e.0 ≡ Some e.1) (kept_entries o u)
 kept_stand o u = All-filter _ (λ (e : ℕ × Entry). slice_get o.seen.entries e.0 ≡ Some e.1) (numbered o) (All-enumerate o.seen.entries)
 
 gather_each : {A B C : Type 0} (f : B → Option C) (origin : A → B) (made : A → C) (xs : List A) → All (λ x. f (origin x) ≡ Some (made x)) xs → filter_map f (map origin xs) ≡ map made xs
@@ -82,19 +82,19 @@ nodes_are objects i o u images tell =
 -- ---- the unit
 
 -- the root is the first of the kept entries
-record IsRootOf (i : ℕ) (o : Object) (u : ℕ) (root : Origin) : Type 0 where
-  entry : Entry
-  object : root.object ≡ i + 1
-  stands : slice_get o.seen.entries root.entry ≡ Some entry
-  unit : entry.unit ≡ u
+pub record IsRootOf (i : ℕ) (o : Object) (u : ℕ) (root : Origin) : Type 0 where
+  pub entry : Entry
+  pub object : root.object ≡ i + 1
+  pub stands : slice_get o.seen.entries root.entry ≡ Some entry
+  pub unit : entry.unit ≡ u
 
-root_of : (i : ℕ) (o : Object) (u : ℕ) (root : Origin) (kept : List (ℕ × Entry)) → All (λ e. slice_get o.seen.entries e.0 ≡ Some e.1) kept → All (λ e. e.1.unit ≡ u) kept
+pub root_of : (i : ℕ) (o : Object) (u : ℕ) (root : Origin) (kept : List (ℕ × Entry)) → All (λ e. slice_get o.seen.entries e.0 ≡ Some e.1) kept → All (λ e. e.1.unit ≡ u) kept
     → slice_get (map (origin_of i o u) kept) 0 ≡ Some root → IsRootOf i o u root
 root_of i o u root [] stand units is = absurd cc
 root_of i o u root (e ∷ kept) stand units is =
     subst (IsRootOf i o u) (same_Some (origin_of i o u e) root is) (record { entry = e.1; object = refl; stands = stand 0 e (omega arith); unit = units 0 e (omega arith) })
 
-kept_units : (o : Object) (u : ℕ) → All (λ e. e.1.unit ≡ u) (kept_entries o u)
+pub kept_units : (o : Object) (u : ℕ) → All (λ e. e.1.unit ≡ u) (kept_entries o u)
 kept_units o u k d lt = eqb-true _ _ (and_parts _ _ (filter_passes _ (numbered o) k d lt)).0
 
 -- an object is told by its images
@@ -172,3 +172,17 @@ cloned seen shape n unit root object a images it is at first counted its_images 
     whole : it ≡ unit_written 0 objects s o from.is.unit
     whole = of.is ∙ ap (λ (x : Analysis). unit_with x images of.entry.unit of.unit unit.nodes) (sym seen_is)
         ∙ unit_is objects s o from.is.unit images of.entry of.unit unit.nodes (object_is o o.seen images refl kept_is) (images_tell objects s.object o images from.is.at images_are) its_number its_unit origins
+
+-- ---- the unit, whichever the other objects are
+
+pub counted_by : (k object : ℕ) (b : Bool) → eqb k 0 ≡ b → cond b None (Some (k - 1)) ≡ Some object → k ≡ object + 1
+counted_by k object true t e = absurd cc
+counted_by k object false t e = omega (arith, same_Some (k - 1) object e, eqb-false k 0 t)
+
+pub cloned_of : (a : Analysis) (shape : Shape) (n : ℕ) (unit : ShapeUnit) (root : Origin) (object : ℕ) (images : List (Option Target)) (it : OutUnit) → slice_get shape.units n ≡ Some unit
+    → slice_get unit.nodes 0 ≡ Some root → number_of_object root ≡ Some object → slice_get shape.images object ≡ Some images → IsUnitOf a images root.entry unit.nodes it → IsUnitIn a shape n it
+cloned_of a shape n unit root object images it at first number its_images of seen is its =
+    cloned seen shape n unit root object a images it is at first (counted_by root.object object (eqb root.object 0) refl number) its_images (sym (ap (option_and_then (slice_get seen)) named) ∙ its) of
+  where
+    named : object_of shape n ≡ Some object
+    named = ap (option_and_then (λ (u : ShapeUnit). option_and_then number_of_object (slice_get u.nodes 0))) at ∙ ap (option_and_then number_of_object) first ∙ number

@@ -3,4 +3,5 @@ pub mod Spans
 pub mod SpansInOrder
 pub mod Sources
 pub mod Cloned
+pub mod Order
 pub mod SoundTests

@@ -1,5 +1,5 @@
 -- The units of a shape and those of the linked graph have the same sources.
-use Rattle.std.proofs.Common.{◌≡◌, ℕ, zero, suc, Bool, true, false, cond, eqb, List, [], ◌∷◌, length, slice_get, Option, Some, None, is_some, inl, inr, refl, sym, ap, subst, ◌∙◌}
+use Rattle.std.proofs.Common.{◌≡◌, ℕ, zero, suc, Bool, true, false, cond, eqb, List, [], ◌∷◌, length, get_or, slice_get, Option, Some, None, is_some, inl, inr, refl, sym, ap, subst, ◌∙◌}
 use Rattle.std.specs.List.{All, cons_option, enumerate_from, filter_map}
 use Rattle.std.specs.Option.{option_and_then, option_map}
 use Rattle.std.proofs.lemmas.List.Elements.{All-head, All-tail, All-weaker}
@@ -47,6 +47,12 @@ all_sources objects = All-flat_map (IsSource objects) sources_in (enumerate_from
     (λ u is y e. subst (IsSource objects) (unless_some _ (record { object = x.0; unit = u.0 }) y e) (record { object = x.1; at = at; unit = u.1; is = is })) (enumerate_from 0 x.1.seen.units) (All-enumerate x.1.seen.units)))
     (enumerate_from 0 objects) (All-enumerate objects))
 
+-- those of an object name it
+pub all_same : (n : ℕ) (o : Object) → All (λ s. s.object ≡ n) (sources_in (n, o))
+all_same n o =
+    All-filter_map (λ (s : Source). s.object ≡ n) (source_of n o) (enumerate_from 0 o.seen.units)
+    (λ k d lt y e. ap (λ (s : Source). s.object) (sym (unless_some _ (record { object = n; unit = (get_or (enumerate_from 0 o.seen.units) k d).0 }) y e)))
+
 shape_of_source : (objects : List Object) (s : Source) (h : IsSource objects s) → shape_in objects s ≡ Some (unit_shape s h.object h.unit)
 shape_of_source objects s h = ap (option_and_then (λ (x : Object). option_map (unit_shape s x) (slice_get x.seen.units s.unit))) h.at ∙ ap (option_map (unit_shape s h.object)) h.is
 
@@ -58,6 +64,7 @@ written_of_source objects s h = ap (option_and_then (λ (x : Object). option_map
 -- the source of a unit of the shape, and the unit of the graph
 pub record IsFrom (objects : List Object) (n : ℕ) (shape : ShapeUnit) : Type 0 where
   pub source : Source
+  pub at : slice_get (sources objects) n ≡ Some source
   pub is : IsSource objects source
   pub shape_is : shape ≡ unit_shape source is.object is.unit
   pub linked_is : slice_get (linked objects).units n ≡ Some (unit_written 0 objects source is.object is.unit)
@@ -69,6 +76,7 @@ unit_from objects n shape at = elim (slice_get_cases (sources objects) n).1 [
       let found : Some shape ≡ Some (unit_shape s h.object h.unit) = sym at ∙ shapes ∙ ap (option_and_then (shape_in objects)) w.2 ∙ shape_of_source objects s h in
       record {
         source = s;
+        at = w.2;
         is = h;
         shape_is = same_Some shape (unit_shape s h.object h.unit) found;
         linked_is = units ∙ ap (option_and_then (written 0 objects)) w.2 ∙ written_of_source objects s h;

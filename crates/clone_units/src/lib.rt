@@ -2,7 +2,8 @@
 //!
 //! Layer: output graph. [`clone_unit`] gives one unit of `linked` (`dwarf_types/specs/LinkedGraph.antt`) for a shape of
 //! the objects: its nodes with what their entries say (`nodes`, by `clone_values`), a copy of its line table (`lines`),
-//! and the addresses of its code in order, each once (`ranges`). Units are cloned each for itself, in any order.
+//! and the addresses of its code in order, each once (`ranges`). Units are cloned each for itself, in any order;
+//! [`clone_unit_of`] asks for the analysis of the unit's object alone, which [`object_of`] names.
 #![tactic(auto)]
 
 mod lines;
@@ -10,7 +11,7 @@ mod nodes;
 mod ranges;
 mod unit;
 
-pub use unit::clone_unit;
+pub use unit::{clone_unit, clone_unit_of, object_of};
 
 #[cfg(test)]
 mod tests;

@@ -1,7 +1,7 @@
 //! One unit of the linked graph.
 
 ghost use Rattle.std.specs.Prelude.{◌≡◌, ◌<◌, length, slice_get, Some, All, IfOk};
-ghost use Rattle.clone_units.specs.Units.{IsUnitOf, unit_with};
+ghost use Rattle.clone_units.specs.Units.{IsUnitIn, IsUnitOf, number_of_object, object_of, unit_with};
 ghost use Rattle.dwarf_types.specs.LinkedGraph.{linked};
 ghost use Rattle.dwarf_types.specs.LinkedShape.{IsShape, objects_in};
 ghost use Rattle.dwarf_types.specs.Sound.{IsSound};
@@ -28,20 +28,63 @@ pub fn clone_unit(
     requires unit { unit < length shape.now.units }
     ensures { IfOk result (λ it. slice_get (linked (objects_in seen.now shape.now)).units unit ≡ Some it) }
 {
-    let origins = shape.units.as_slice()[unit as usize].nodes.as_slice();
-    let Some(root) = origins.first() else {
-        return Err(NoMemory);
-    };
-    let Some(object) = root.object.checked_sub(1) else {
-        return Err(NoMemory);
-    };
-    let Some(images) = shape.images.get(object as usize) else {
+    let Some(object) = object_of(shape, unit) else {
         return Err(NoMemory);
     };
     let Some(seen) = seen.get(object as usize) else {
         return Err(NoMemory);
     };
-    let made = unit_of_entry(alloc, seen, images.as_slice(), root.entry, origins)?;
+    let made = clone_unit_of(alloc, seen, shape, unit)?;
+    Ok(made)
+}
+
+/// The number of a unit's object among those of its shape, counted from 0. Each unit of a shape has one.
+pub fn object_of(shape: &Shape, unit: u32) -> Option<u32>
+    ensures { result ≡ object_of shape.now unit }
+{
+    let unit = shape.units.get(unit as usize)?;
+    let root = unit.nodes.get(0)?;
+    number_of_object(*root)
+}
+
+/// The number of a node's object, counted from 0.
+fn number_of_object(node: Origin) -> Option<u32>
+    ensures { result ≡ number_of_object node }
+{
+    if node.object == 0 {
+        return None;
+    }
+    Some(node.object - 1)
+}
+
+/// The same unit, of the analysis of its object alone: those of the other objects need not be there any more.
+pub fn clone_unit_of(
+    alloc: Global,
+    object: &Analysis,
+    shape: &Shape,
+    unit: u32,
+) -> Result<OutUnit, NoMemory>
+    requires sound { IsSound object.now }
+    requires unit { unit < length shape.now.units }
+    ensures { IfOk result (IsUnitIn object.now shape.now unit) }
+{
+    let its = &shape.units.as_slice()[unit as usize];
+    let Some(root) = its.nodes.get(0) else {
+        return Err(NoMemory);
+    };
+    let Some(number) = number_of_object(*root) else {
+        return Err(NoMemory);
+    };
+    let Some(images) = shape.images.get(number as usize) else {
+        return Err(NoMemory);
+    };
+    let made = unit_of_entry(
+        alloc,
+        object,
+        images.as_slice(),
+        root.entry,
+        its.nodes.as_slice(),
+    )?;
     Ok(made)
 }
 

@@ -1,5 +1,6 @@
 -- What a link answers, by what its passes do.
-use Rattle.std.proofs.Common.{◌≡◌, ℕ, Bool, List, Result, Ok, Err, sym, ap, ◌∙◌}
+use Rattle.std.proofs.Common.{◌≡◌, ℕ, Bool, List, length, Result, Ok, Err, refl, sym, ap, ◌∙◌}
+use Rattle.std.specs.List.{filter, sum_by}
 use Rattle.dwarf_types.specs.declared.analysis.Analysis.{Analysis}
 use Rattle.dwarf_types.specs.declared.graph.Graph.{Graph}
 use Rattle.macho_read.specs.declared.image.Image.{Image}
@@ -16,6 +17,11 @@ pub links_refused : (program : Image) (name : List ℕ) (seen : List Analysis) (
 links_refused program name seen marks graph (refusals.Faulty file why) is h = absurd h
 links_refused program name seen marks graph (refusals.Limit which n) is h = ap (first_limit program) (sym is) ∙ h
 links_refused program name seen marks graph refusals.NoMemory is h = tt
+
+pub counts_are : (seen : List Analysis) (marks : List (List Bool)) (graph : Graph) (image : List ℕ) (objects entries live nodes bytes : ℕ) → objects ≡ length seen → entries ≡ sum_by (λ object. length object.entries) seen
+    → live ≡ sum_by (λ row. length (filter (λ b. b) row)) marks → nodes ≡ sum_by (λ unit. length unit.nodes) graph.units → bytes ≡ length image
+    → record { objects = objects; entries = entries; live = live; pooled = 0; names = 0; nodes = nodes; bytes = bytes } ≡ counts_of seen marks graph image
+counts_are seen marks graph image objects entries live nodes bytes o e l n b = rw (o, e, l, n, b) refl
 
 pub links_made : (program : Image) (name : List ℕ) (seen : List Analysis) (marks : List (List Bool)) (graph : Graph) (image plist : List ℕ) (counts : Counts) → graph ≡ graph_of seen marks → Images program graph (Ok image)
     → plist ≡ plist_bytes name → counts ≡ counts_of seen marks graph image → Links program name seen marks (Ok (record { image = image; plist = plist; counts = counts }))

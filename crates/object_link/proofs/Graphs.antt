@@ -1,11 +1,13 @@
 -- The graph of the marked entries: its units and frames, its limit of units, and that it is well.
-use Rattle.std.proofs.Common.{◌≡◌, ◌<◌, ◌≤◌, ◌+◌, ◌-◌, ◌^◌, ℕ, Bool, true, List, [], ◌∷◌, ◌++◌, length, take, get_or, slice_get, Option, Some, None, is_some, if◌then◌else◌, Ok, refl, sym, ap, subst, ◌∙◌, arith}
+use Rattle.std.proofs.Common.{◌≡◌, ◌<◌, ◌≤◌, ◌+◌, ◌-◌, ◌^◌, ℕ, Bool, true, List, [], ◌∷◌, ◌++◌, length, take, drop, get_or, slice_get, Option, Some, None, is_some, if◌then◌else◌, Ok, refl, sym, ap, subst, ◌∙◌, arith, append-nil}
 use Rattle.std.specs.List.{All, flat_map, zip}
 use Rattle.std.specs.Option.{option_and_then, option_map}
 use Rattle.std.proofs.lemmas.Bool.{le-leb}
-use Rattle.std.proofs.lemmas.List.{take_all, take_more}
+use Rattle.std.proofs.lemmas.List.{drop_all, take_all, take_more}
 use Rattle.std.proofs.lemmas.Option.{get_or_from_slice_get, slice_get_within}
 use Rattle.std.proofs.lemmas.Slice.Zip.{get_or-zip, length-zip}
+use Rattle.clone_units.specs.Units.{object_of}
+use Rattle.clone_units.proofs.Order.{objects_rise}
 use Rattle.dwarf_types.specs.declared.analysis.Analysis.{Analysis}
 use Rattle.dwarf_types.specs.declared.frames.OutFrame.{OutFrame}
 use Rattle.dwarf_types.specs.declared.graph.Graph.{Graph}
@@ -27,7 +29,7 @@ use Rattle.object_link.specs.declared.refusal.LimitKind.TheVariants as limits
 use Rattle.object_link.specs.declared.refusal.Refusal.{Refusal}
 use Rattle.object_link.specs.declared.refusal.Refusal.TheVariants as refusals
 use Rattle.object_link.specs.Linked.{AreLive, MarkLive, first_limit, graph_of}
-use Rattle.object_link.specs.Passes.{Graphs}
+use Rattle.object_link.specs.Passes.{AreLeft, Graphs}
 
 -- ---- units
 
@@ -51,6 +53,35 @@ unit_more xs u units x at so_far =
 pub units_all : (seen : List Analysis) (shape : Shape) (u : ℕ) (units : List OutUnit) → IsShape seen shape → length shape.units ≤ u → units ≡ take u (linked (objects_in seen shape)).units → units ≡ (linked (objects_in seen shape)).units
 units_all seen shape u units h le so_far =
     so_far ∙ take_all u (linked (objects_in seen shape)).units (omega (arith, le, units_many (objects_in seen shape), ap (λ (s : Shape). length s.units) h.is))
+
+-- ---- the analyses that are left
+
+pub left_all : (all : List Analysis) → AreLeft 0 all all
+left_all all i le = refl
+
+pub left_from : (from to : ℕ) (all left : List Analysis) → from ≤ to → AreLeft from all left → AreLeft to all left
+left_from from to all left le h i le' = h i (omega (arith, le, le'))
+
+-- a list whose items were all lent has what they became
+pub lent_all : (became was : List Analysis) → length became ≡ length was → take (length was) (became ++ drop (length became) was) ≡ became
+lent_all became was same =
+    ap (λ (rest : List Analysis). take (length was) (became ++ rest)) (drop_all (length became) was (omega (arith, same)))
+    ∙ ap (take (length was)) (append-nil became) ∙ take_all (length was) became (omega (arith, same))
+
+pub left_sound : (all left : List Analysis) (from : ℕ) → All IsSound all → AreLeft from all left → (it : Analysis) → slice_get left from ≡ Some it → IsSound it
+left_sound all left from sound h it at =
+    let there : slice_get all from ≡ Some it = sym (h from (omega arith)) ∙ at in
+    subst IsSound (get_or_from_slice_get all from it it there) (sound from it (slice_get_within all from it there))
+
+-- no unit from this one on is of an object before a number
+abbrev pub Waits : Shape → ℕ → ℕ → Type 0
+Waits shape u gone = (object : ℕ) → object_of shape u ≡ Some object → gone ≤ object
+
+pub waits_first : (shape : Shape) → Waits shape 0 0
+waits_first shape object is = omega arith
+
+pub waits_on : (seen : List Analysis) (shape : Shape) (u object : ℕ) → IsShape seen shape → object_of shape u ≡ Some object → Waits shape (u + 1) object
+waits_on seen shape u object is at next at_next = objects_rise seen shape u object next is at at_next
 
 -- ---- frames
 

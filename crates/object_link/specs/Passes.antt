@@ -1,5 +1,5 @@
 -- What the passes of a link answer, each to the next. Want of memory says nothing.
-use Rattle.std.specs.Prelude.{◌≡◌, ◌<◌, ◌-◌, ℕ, ◌^◌, Bool, List, ◌++◌, length, Some, None, Result, Ok, Err}
+use Rattle.std.specs.Prelude.{◌≡◌, ◌<◌, ◌≤◌, ◌-◌, ℕ, ◌^◌, Bool, List, ◌++◌, length, slice_get, Some, None, Result, Ok, Err}
 use Rattle.ds_base.specs.declared.fault.Fault.{Fault}
 use Rattle.dwarf_types.specs.declared.analysis.Analysis.{Analysis}
 use Rattle.dwarf_types.specs.declared.graph.Graph.{Graph}
@@ -34,6 +34,10 @@ behind seen (Ok others) = Ok (seen ++ others)
 behind seen (Err refusal) = Err refusal
 
 -- ---- the graph
+
+-- of all analyses those from a number on are left
+abbrev pub AreLeft : ℕ → List Analysis → List Analysis → Type 0
+AreLeft from all left = (i : ℕ) → from ≤ i → slice_get left i ≡ slice_get all i
 
 -- the graph of the marked entries, or that it has too many units
 abbrev pub Graphs : List Analysis → List (List Bool) → Result Graph Refusal → Type 0

@@ -3,35 +3,12 @@
 ghost use Rattle.std.specs.Prelude.{◌≡◌, ◌+◌, length, IfOk};
 ghost use Rattle.std.specs.List.{filter, sum_by};
 ghost use Rattle.dwarf_types.specs.LinkedShape.{AreMarked};
-ghost use Rattle.object_link.specs.Linked.{counts_of};
 
-use crate::bundle::Counts;
 use ds_base::{BitRow, NoMemory};
-use dwarf_types::{Analysis, Graph, OutUnit};
-
-/// What is counted of a link: of its objects, of the marks of their live entries, of its graph, and of its image.
-pub(crate) fn counts_in(
-    seen: &[Analysis],
-    marks: &[BitRow],
-    graph: &Graph,
-    image: &[u8],
-) -> Result<Counts, NoMemory>
-    requires { AreMarked seen.now marks.now }
-    ensures { IfOk result (λ counts. counts ≡ counts_of seen.now marks.now graph.now image.now) }
-{
-    Ok(Counts {
-        objects: seen.len() as u64,
-        entries: count_entries(seen)?,
-        live: count_live(seen, marks)?,
-        pooled: 0,
-        names: 0,
-        nodes: count_nodes(graph.units.as_slice())?,
-        bytes: image.len() as u64,
-    })
-}
+use dwarf_types::{Analysis, OutUnit};
 
 /// The entries of all objects.
-fn count_entries(seen: &[Analysis]) -> Result<u64, NoMemory>
+pub(crate) fn count_entries(seen: &[Analysis]) -> Result<u64, NoMemory>
     ensures { IfOk result (λ n. n ≡ sum_by (λ object. length object.entries) seen.now) }
 {
     let mut n: u64 = 0;
@@ -42,7 +19,7 @@ fn count_entries(seen: &[Analysis]) -> Result<u64, NoMemory>
 }
 
 /// The live entries of all objects.
-fn count_live(seen: &[Analysis], marks: &[BitRow]) -> Result<u64, NoMemory>
+pub(crate) fn count_live(seen: &[Analysis], marks: &[BitRow]) -> Result<u64, NoMemory>
     requires { AreMarked seen.now marks.now }
     ensures { IfOk result (λ n. n ≡ sum_by (λ row. length (filter (λ b. b) row)) marks.now) }
 {
@@ -71,7 +48,7 @@ fn count_marks(row: &BitRow, size: usize) -> Result<u64, NoMemory>
 }
 
 /// The nodes of all units.
-fn count_nodes(units: &[OutUnit]) -> Result<u64, NoMemory>
+pub(crate) fn count_nodes(units: &[OutUnit]) -> Result<u64, NoMemory>
     ensures { IfOk result (λ n. n ≡ sum_by (λ unit. length unit.nodes) units.now) }
 {
     let mut n: u64 = 0;

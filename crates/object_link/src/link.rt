@@ -10,14 +10,14 @@ ghost use Rattle.linked_laws.specs.Given.{IsGiven};
 ghost use Rattle.object_link.specs.Linked.{Bundles, MarkLive, sources_of};
 ghost use Rattle.object_link.specs.Passes.{Links};
 
-use crate::bundle::{Linked, Options};
-use crate::counts::counts_in;
+use crate::bundle::{Counts, Linked, Options};
+use crate::counts::{count_entries, count_live, count_nodes};
 use crate::graph::graph_in;
 use crate::image::image_of;
 use crate::marks::marks_of;
 use crate::objects::analyses;
 use crate::refusal::Refusal;
-use ds_base::{BitRow, Bytes};
+use ds_base::{BitRow, Bytes, List};
 use ds_files::Gate;
 use dsym_write::plist_text;
 use dwarf_types::Analysis;
@@ -49,11 +49,9 @@ pub fn link_objects<G: Gate + Sync>(
     requires workers { (1 ≤ options.now.workers) × (options.now.workers ≤ 64) }
     ensures { Bundles program.now name.now (sources_of objects.now files.now source.now) result }
 {
-    let analysed = analyses(alloc, program.cpu, objects, files, source)?;
-    let seen = analysed.as_slice();
-    let rows = marks_of(alloc, seen)?;
-    let marks = rows.as_slice();
-    link_marked(alloc, program, name, seen, marks)
+    let seen = analyses(alloc, program.cpu, objects, files, source)?;
+    let marks = marks_of(alloc, seen.as_slice())?;
+    link_marked(alloc, program, name, seen, marks.as_slice())
 }
 
 /// Links the marked entries of objects to the bundle of a program of this name.
@@ -61,20 +59,31 @@ fn link_marked(
     alloc: Global,
     program: &Image,
     name: &str,
-    seen: &[Analysis],
+    seen: List<Analysis>,
     marks: &[BitRow],
 ) -> Result<Linked, Refusal>
     requires program { IsSoundImage program.now }
-    requires few { length seen.now < 2 ^ 16 }
-    requires sound { All IsSound seen.now }
-    requires given { All IsGiven seen.now }
-    requires live { MarkLive seen.now marks.now }
-    ensures { Links program.now name.now seen.now marks.now result }
+    requires few { length seen < 2 ^ 16 }
+    requires sound { All IsSound seen }
+    requires given { All IsGiven seen }
+    requires live { MarkLive seen marks.now }
+    ensures { Links program.now name.now seen marks.now result }
 {
+    let objects = seen.len() as u64;
+    let entries = count_entries(seen.as_slice())?;
+    let live = count_live(seen.as_slice(), marks)?;
     let graph = graph_in(alloc, seen, marks)?;
     let image = image_of(alloc, program, &graph)?;
     let plist = plist_text(alloc, name)?;
-    let counts = counts_in(seen, marks, &graph, image.as_slice())?;
+    let counts = Counts {
+        objects,
+        entries,
+        live,
+        pooled: 0,
+        names: 0,
+        nodes: count_nodes(graph.units.as_slice())?,
+        bytes: image.len() as u64,
+    };
     Ok(Linked {
         image,
         plist,

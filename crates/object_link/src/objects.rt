@@ -104,8 +104,8 @@ fn analysis(
     )
 }
 
-/// The analysis of an object that is left away.
-fn no_entries(alloc: Global) -> Analysis
+/// The analysis of an object without entries, as of one that is left away.
+pub(crate) fn no_entries(alloc: Global) -> Analysis
     ensures { result ≡ Rattle.object_link.specs.Linked.no_entries }
 {
     Analysis {

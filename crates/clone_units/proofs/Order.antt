@@ -1,0 +1,68 @@
+-- The units of a shape stand in the order of their objects.
+use Rattle.std.proofs.Common.{◌≡◌, ℕ, zero, suc, eqb, ◌+◌, ◌≤◌, List, [], ◌∷◌, ◌++◌, slice_get, Option, Some, None, refl, sym, ap, subst, ◌∙◌, arith}
+use Rattle.std.specs.List.{All, enumerate_from, flat_map}
+use Rattle.std.specs.Option.{option_and_then}
+use Rattle.std.proofs.lemmas.List.Elements.{All-head, All-tail}
+use Rattle.std.proofs.lemmas.Option.{same_Some}
+use Rattle.dwarf_types.specs.declared.analysis.Analysis.{Analysis}
+use Rattle.dwarf_types.specs.declared.shape.Shape.{Shape}
+use Rattle.dwarf_types.specs.declared.shape.ShapeUnit.{ShapeUnit}
+use Rattle.dwarf_types.specs.LinkedShape.{IsShape, objects_in}
+use Rattle.dwarf_types.specs.LinkedUnits.{Object, Source, kept_entries, sources, sources_in}
+use Rattle.clone_units.specs.Units.{number_of_object, object_of}
+use Rattle.clone_units.proofs.Cloned.{counted_by, kept_stand, kept_units, root_of}
+use Rattle.clone_units.proofs.Sources.{all_same, unit_from}
+
+-- ---- sources
+
+-- from one object on, none before another that stands before it
+abbrev Rises : ℕ → List Source → Type 0
+Rises from [] = Unit {0}
+Rises from (s ∷ xs) = (from ≤ s.object) × Rises s.object xs
+
+rises_before : (a b : ℕ) (xs : List Source) → a ≤ b → Rises b xs → Rises a xs
+rises_before a b [] le h = tt
+rises_before a b (s ∷ xs) le h = (omega (arith, le, h.0), h.1)
+
+rises_behind : (n : ℕ) (xs ys : List Source) → All (λ s. s.object ≡ n) xs → Rises (n + 1) ys → Rises n (xs ++ ys)
+rises_behind n [] ys same h = rises_before n (n + 1) ys (omega arith) h
+rises_behind n (s ∷ xs) ys same h =
+    let here : s.object ≡ n = All-head (λ (x : Source). x.object ≡ n) s xs same in
+    (omega (arith, here), subst (λ (m : ℕ). Rises m (xs ++ ys)) (sym here) (rises_behind n xs ys (All-tail (λ (x : Source). x.object ≡ n) s xs same) h))
+
+sources_rise : (n : ℕ) (objects : List Object) → Rises n (flat_map sources_in (enumerate_from n objects))
+sources_rise n [] = tt
+sources_rise n (o ∷ objects) = rises_behind n (sources_in (n, o)) (flat_map sources_in (enumerate_from (n + 1) objects)) (all_same n o) (sources_rise (n + 1) objects)
+
+rises_on : (from n m : ℕ) (xs : List Source) (a b : Source) → m ≡ n + 1 → Rises from xs → slice_get xs n ≡ Some a → slice_get xs m ≡ Some b → a.object ≤ b.object
+rises_on from n m [] a b e h at next = absurd cc
+rises_on from zero zero (s ∷ xs) a b e h at next = absurd (omega (arith, e))
+rises_on from zero (suc zero) (s ∷ []) a b e h at next = absurd cc
+rises_on from zero (suc zero) (s ∷ t ∷ xs) a b e h at next =
+    omega (arith, h.1.0, ap (λ (x : Source). x.object) (same_Some s a at), ap (λ (x : Source). x.object) (same_Some t b next))
+rises_on from zero (suc (suc m)) (s ∷ xs) a b e h at next = absurd (omega (arith, e))
+rises_on from (suc n) zero (s ∷ xs) a b e h at next = absurd (omega (arith, e))
+rises_on from (suc n) (suc m) (s ∷ xs) a b e h at next = rises_on s.object n m xs a b (omega (arith, e)) h.1 at next
+
+-- ---- units
+
+some_of : {A B : Type 0} (f : A → Option B) (o : Option A) (x : B) → option_and_then f o ≡ Some x → (y : A) × (o ≡ Some y) × (f y ≡ Some x)
+some_of f None x e = absurd cc
+some_of f (Some y) x e = (y, refl, e)
+
+source_at : (seen : List Analysis) (shape : Shape) (u a : ℕ) → IsShape seen shape → object_of shape u ≡ Some a → (s : Source) × (slice_get (sources (objects_in seen shape)) u ≡ Some s) × (s.object ≡ a)
+source_at seen shape u a is e =
+    let unit = some_of (λ (it : ShapeUnit). option_and_then number_of_object (slice_get it.nodes 0)) (slice_get shape.units u) a e in
+    let root = some_of number_of_object (slice_get unit.0.nodes 0) a unit.2 in
+    let from = unit_from (objects_in seen shape) u unit.0 (sym (ap (λ (x : Shape). slice_get x.units u) is.is) ∙ unit.1) in
+    let s = from.source in
+    let o = from.is.object in
+    let root_is = root_of s.object o s.unit root.0 (kept_entries o s.unit) (kept_stand o s.unit) (kept_units o s.unit) (sym (ap (λ (it : ShapeUnit). slice_get it.nodes 0) from.shape_is) ∙ root.1) in
+    (s, from.at, omega (arith, root_is.object, counted_by root.0.object a (eqb root.0.object 0) refl root.2))
+
+-- a unit's object is not before that of the unit before it
+pub objects_rise : (seen : List Analysis) (shape : Shape) (u a b : ℕ) → IsShape seen shape → object_of shape u ≡ Some a → object_of shape (u + 1) ≡ Some b → a ≤ b
+objects_rise seen shape u a b is e f =
+    let s = source_at seen shape u a is e in
+    let t = source_at seen shape (u + 1) b is f in
+    omega (arith, rises_on 0 u (u + 1) (sources (objects_in seen shape)) s.0 t.0 refl (sources_rise 0 (objects_in seen shape)) s.1 t.1, s.2, t.2)
