@@ -1,4 +1,7 @@
-//! Links of two objects, of which the first is left away.
+//! Links of no object, and of two, of which the first is left away.
+
+ghost use Rattle.std.specs.Prelude.{◌≡◌, ◌<◌, ◌^◌, IfSome, length};
+ghost use Rattle.std.specs.List.{All};
 
 use crate::bundle::{Counts, Linked, Options};
 use crate::link::link_objects;
@@ -25,42 +28,70 @@ fn object(alloc: Global) -> MapObject {
     }
 }
 
-/// Links two objects, the second of which has a file of three bytes where `held`.
-fn link_two(rt: &impl Abort, alloc: Global, held: bool) -> Result<Linked, Refusal> {
+/// Links these objects of the program.
+fn link(
+    rt: &impl Abort,
+    alloc: Global,
+    objects: &[MapObject],
+    files: &[Bytes],
+    source: &[Option<u32>],
+) -> Result<Linked, Refusal>
+    requires few { length objects.now < 2 ^ 16 }
+    requires each { length source.now ≡ length objects.now }
+    requires held { All (λ k. IfSome k (λ n. n < length files.now)) source.now }
+    requires small { All (λ file. length file < 2 ^ 32) files.now }
+{
     let program = read_image(alloc, PROGRAM).expect(rt, "a program");
     assert!(rt; check_kind(&program, Role::Program).is_ok());
+    let options = Options {
+        odr: false,
+        workers: 1,
+    };
+    let gate = OpenGate::new();
+    link_objects(
+        alloc, &program, "a.out", objects, files, source, &options, &gate,
+    )
+}
+
+/// Links two objects, the second of which has a file of three bytes where `held`.
+fn link_two(rt: &impl Abort, alloc: Global, held: bool) -> Result<Linked, Refusal> {
     let file = Bytes::from_slice(alloc, b"bad").expect(rt, "memory");
     assert!(rt; file.len() < 100);
     let second = if held { Some(0) } else { None };
-    link_objects(
+    link(
+        rt,
         alloc,
-        &program,
-        "a.out",
         &[object(alloc), object(alloc)],
         &[file],
         &[None, second],
-        &Options {
-            odr: false,
-            workers: 1,
-        },
-        &OpenGate::new(),
     )
+}
+
+/// What is counted of so many objects without entries, whose image has so many bytes.
+fn counts_of(objects: u64, bytes: usize) -> Counts {
+    Counts {
+        objects,
+        entries: 0,
+        live: 0,
+        pooled: 0,
+        names: 0,
+        nodes: 0,
+        bytes: bytes as u64,
+    }
+}
+
+#[test]
+fn a_program_without_objects_has_a_bundle(rt: HostRuntime) {
+    let linked = link(&rt, rt.alloc(), &[], &[], &[]).expect(&rt, "a bundle");
+    assert_eq!(rt; linked.counts, counts_of(0, linked.image.len()));
+    assert_eq!(rt; linked.image.get(12).copied(), Some(10));
 }
 
 // The file type is MH_DSYM, 10.
 #[test]
 fn objects_that_are_left_away_have_no_entries(rt: HostRuntime) {
     let linked = link_two(&rt, rt.alloc(), false).expect(&rt, "a bundle");
-    let counts = Counts {
-        objects: 2,
-        entries: 0,
-        live: 0,
-        pooled: 0,
-        names: 0,
-        nodes: 0,
-        bytes: linked.image.len() as u64,
-    };
-    assert_eq!(rt; linked.counts, counts);
+    assert_eq!(rt; linked.counts, counts_of(2, linked.image.len()));
     assert_eq!(rt; linked.image.get(12).copied(), Some(10));
     assert!(rt; linked.plist.as_slice().starts_with(b"<?xml version"));
 }
