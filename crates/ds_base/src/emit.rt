@@ -1,12 +1,12 @@
 //! Numbers, bytes and LEB numbers written into a room, one behind the other.
 //!
-//! Each call writes the item's bytes from `at` on, an index from 0, and answers the place behind them. What stood
-//! before `at` stays; of what stands behind the item nothing is said, so a writer fills its room from the front.
+//! Each call writes the item's bytes from `at` on, an index from 0, leaves every other byte, and answers the place
+//! behind the item.
 
-ghost use Rattle.std.specs.Prelude.{◌+◌, ◌<◌, ◌≤◌, ◌^◌, ◌∷◌, [], length, false};
+ghost use Rattle.std.specs.Prelude.{◌≡◌, ℕ, List as Listed, ◌+◌, ◌<◌, ◌≤◌, ◌^◌, ◌∷◌, [], length, false};
 ghost use Rattle.byteorder.specs.Endian.{little_bytes};
 ghost use Rattle.ds_base.specs.Leb.{leb_digits, sleb, uleb};
-ghost use Rattle.ds_base.specs.Room.{Adds};
+ghost use Rattle.ds_base.specs.Room.{Adds, put};
 
 use crate::leb::{sleb_len, uleb_len};
 use crate::put::{put_bytes, put_sleb, put_u8, put_u16, put_u32, put_u64, put_uleb, put_uleb4};
@@ -82,4 +82,10 @@ pub fn emit_sleb(room: &mut [u8], at: usize, n: i64) -> usize
 {
     put_sleb(room, at, n);
     at + sleb_len(n) as usize
+}
+
+/// What is said of an item that was emitted is what is said of one that was put, and where it ends.
+pub fn emitted_is_put()
+    ensures { (old bytes new : Listed ℕ) (at next : ℕ) → Adds old at bytes new next → (new ≡ put old at bytes) × (next ≡ at + length bytes) }
+{
 }

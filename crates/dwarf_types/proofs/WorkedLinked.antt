@@ -93,7 +93,7 @@ two_units = record {
         attr DW_AT_sibling (values.Ref 3) ∷ attr DW_AT_low_pc (address 4 (Some 0x1004) None) ∷ attr DW_AT_high_pc (address 8 None (Some 0x1008)) ∷ attr DW_AT_type (values.Ref 3)
         ∷ attr DW_AT_frame_base (values.Locations (record { span = span 0x1004 0x1006; ops = at None ∷ [] } ∷ record { span = span 0x1006 0x1008; ops = entry_value ∷ convert ∷ op 0x9f (0x9f ∷ []) ∷ op 0x12 (0x12 ∷ []) ∷ [] } ∷ [])) ∷ [])
         ∷ entry 0 0 DW_TAG_base_type (attr DW_AT_byte_size (values.Number DW_FORM_data1 4) ∷ [])
-        -- the address behind a call moved as an end; no piece of its ranges did; its length goes with its low_pc
+        -- the address behind a call moved as an end, and its length stays with it; no piece of its ranges moved
         ∷ entry 0 2 DW_TAG_GNU_call_site (attr DW_AT_low_pc (address 6 None (Some 0x1006)) ∷ attr DW_AT_high_pc (values.Number DW_FORM_data4 2) ∷ attr DW_AT_ranges (values.Ranges []) ∷ [])
         -- an address that moved, and a constant
         ∷ entry 0 0 DW_TAG_variable (attr DW_AT_location (values.Expr (op 0x12 (0x12 ∷ []) ∷ at (Some 0x3020100) ∷ [])) ∷ attr DW_AT_const_value (values.Number DW_FORM_data1 7) ∷ attr DW_AT_location (values.Expr (at None ∷ [])) ∷ [])
@@ -133,7 +133,7 @@ both = record {
               parts = parts.Nested 0xf3 (plain.Plain (0x55 ∷ []) ∷ []) ∷ parts.Typed 0xa8 [] (Some 2) [] ∷ parts.Plain (0x9f ∷ 0x12 ∷ []) ∷ [];
             } ∷ [])) ∷ [])
             ∷ node 0 DW_TAG_base_type (says DW_AT_byte_size (out.Number DW_FORM_data1 4) ∷ [])
-            ∷ node 1 DW_TAG_GNU_call_site (says DW_AT_low_pc (out.Address 0x1006) ∷ [])
+            ∷ node 1 DW_TAG_GNU_call_site (says DW_AT_low_pc (out.Address 0x1006) ∷ says DW_AT_high_pc (out.Number DW_FORM_data4 2) ∷ [])
             ∷ node 0 DW_TAG_variable (
             says DW_AT_location (out.Expr (parts.Plain (0x12 ∷ 0x03 ∷ 0x00 ∷ 0x01 ∷ 0x02 ∷ 0x03 ∷ 0 ∷ 0 ∷ 0 ∷ 0 ∷ []) ∷ []))
             ∷ says DW_AT_const_value (out.Number DW_FORM_data1 7) ∷ []) ∷ [];

@@ -1,7 +1,7 @@
 -- Which entries of an analysis are live: those to which a chain of needs leads from a root.
 use Rattle.std.specs.Prelude.{◌≡◌, ℕ, zero, suc, ◌==◌, ◌||◌, ◌&&◌, not, Bool, true, false, List, [], ◌∷◌, map, slice_get, Option, Some, None, is_some, if◌then◌else◌}
 use Rattle.std.specs.Option.{option_and_then}
-use Rattle.std.specs.List.{filter_map, flat_map, Contains}
+use Rattle.std.specs.List.{filter_map, find, flat_map, Contains}
 use Rattle.ds_base.specs.declared.dwarf.TheConstants.{DW_AT_const_value, DW_AT_low_pc, DW_AT_sibling, DW_TAG_imported_declaration, DW_TAG_imported_module, DW_TAG_label, DW_TAG_module, DW_TAG_namespace, DW_TAG_subprogram, DW_TAG_variable}
 use Rattle.dwarf_types.specs.declared.entry.Entry.{Entry}
 use Rattle.dwarf_types.specs.declared.expr.Base.{Base}
@@ -9,7 +9,7 @@ use Rattle.dwarf_types.specs.declared.expr.Base.TheVariants as bases
 use Rattle.dwarf_types.specs.declared.expr.Op.{Op}
 use Rattle.dwarf_types.specs.declared.value.Value.{Value}
 use Rattle.dwarf_types.specs.declared.value.Value.TheVariants as values
-use Rattle.dwarf_types.specs.Moves.{has_address, location_moves, moves, place_in, value_of}
+use Rattle.dwarf_types.specs.Moves.{address_moved, has_address, location_moves, moves, value_of}
 
 -- entry k is this one
 abbrev pub Stands : List Entry → ℕ → Entry → Type 0
@@ -17,9 +17,9 @@ Stands entries k e = slice_get entries k ≡ Some e
 
 -- ---- roots
 
--- its low_pc moved
+-- its low_pc moved; that of a call site tells where the call returns to, and moves as an end
 abbrev pub low_pc_moves : Entry → Bool
-low_pc_moves e = is_some (option_and_then (λ place. place.linked) (option_and_then place_in (value_of DW_AT_low_pc e)))
+low_pc_moves e = is_some (option_and_then (address_moved e.tag) (find (λ a. a.name == DW_AT_low_pc) e.attrs))
 
 -- n parents up from entry k stands this one
 abbrev pub IsAbove : List Entry → ℕ → ℕ → Entry → Type 0

@@ -1,7 +1,7 @@
 //! Whether an entry has an address, and whether that moved to the linked program.
 
 ghost use Rattle.std.specs.Prelude.{◌≡◌, ◌==◌, ◌&&◌, not, false, length, is_some, slice_get};
-ghost use Rattle.std.specs.List.{filter_map, list_any, list_all};
+ghost use Rattle.std.specs.List.{filter_map, find, list_any, list_all};
 ghost use Rattle.std.specs.Option.{option_copied, option_map_or, option_to_list};
 ghost use Rattle.dwarf_types.specs.Live.{low_pc_moves};
 ghost use Rattle.dwarf_types.specs.Moves.{address_moved, has_address, has_location, has_piece, location_in, location_moves, moves, op_fields, place_in, tells_end, value_of};
@@ -43,12 +43,15 @@ pub(crate) fn location_moves(entry: &Entry) -> bool
 pub(crate) fn value_of(entry: &Entry, name: u16) -> Option<&Value>
     ensures { option_copied result ≡ value_of name entry.now }
 {
-    let attr = entry
-        .attrs
-        .as_slice()
-        .iter()
-        .find(|attr| attr.name == name)?;
+    let attr = first_of(entry, name)?;
     Some(&attr.value)
+}
+
+/// The entry's first attribute of a name.
+fn first_of(entry: &Entry, name: u16) -> Option<&Attr>
+    ensures { option_copied result ≡ find (λ a. a.name == name) entry.now.attrs }
+{
+    entry.attrs.as_slice().iter().find(|attr| attr.name == name)
 }
 
 /// The address that a value of class address holds.
@@ -61,15 +64,12 @@ pub(crate) fn place_in(value: &Value) -> Option<Place>
     }
 }
 
-/// Whether an entry's low_pc moved.
+/// Whether an entry's low_pc moved. That of a call site tells where the call returns to, and moves as an end.
 pub fn low_pc_moves(entry: &Entry) -> bool
     ensures { result ≡ low_pc_moves entry.now }
 {
-    let Some(value) = value_of(entry, DW_AT_low_pc) else {
-        return false;
-    };
-    match place_in(value) {
-        Some(place) => place.linked.is_some(),
+    match first_of(entry, DW_AT_low_pc) {
+        Some(attr) => address_moved(entry.tag, attr).is_some(),
         None => false,
     }
 }
