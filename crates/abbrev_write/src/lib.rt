@@ -13,6 +13,3 @@ mod write;
 
 pub use abbreviations::{AbbrevTable, code_of, codes_of, table, table_size};
 pub use write::emit_table;
-
-#[cfg(test)]
-mod tests;

@@ -4,4 +4,3 @@ pub mod SpansInOrder
 pub mod Sources
 pub mod Cloned
 pub mod Order
-pub mod SoundTests

@@ -1,4 +1,3 @@
 pub mod Pieces
 pub mod Nodes
 pub mod Units
-pub mod SoundTests

@@ -12,8 +12,3 @@ mod ranges;
 mod unit;
 
 pub use unit::{clone_unit, clone_unit_of, object_of};
-
-#[cfg(test)]
-mod tests;
-#[cfg(test)]
-mod tests_sound;

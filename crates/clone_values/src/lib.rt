@@ -19,6 +19,3 @@ mod value;
 pub use attributes::attrs_of;
 pub use images::image_at;
 pub use value::copy_of_spans;
-
-#[cfg(test)]
-mod tests;

@@ -1,6 +1,6 @@
 -- A room that is filled from the front, piece by piece.
 use Rattle.std.proofs.Common.{◌≡◌, ◌<◌, ◌+◌, ◌++◌, ℕ, List, [], ◌∷◌, length, take, drop, get_or, append_assoc, append-nil, take_all, arith, refl, ◌≤◌, sym, ap, ◌∙◌, length-append}
-use Rattle.std.proofs.lemmas.List.{take_at, drop_at, drop-drop, length-take-le, length-drop, take_more, take-append-drop}
+use Rattle.std.proofs.lemmas.List.{take_at, length-take-le, length-drop, take_more, take-append-drop}
 use Rattle.std.proofs.lemmas.List.Concat.{flat_map-append}
 use Rattle.std.specs.List.{flat_map}
 use Rattle.ds_base.specs.Room.{Adds, put}
@@ -19,17 +19,12 @@ put_adds old bytes new at next fits is ends =
     record {
       size = ap length is ∙ length-put old bytes at fits;
       written = rw (is, ends, whole, take_at front rest (at + length bytes) seam) refl;
-      kept = rw (is, ends, whole, drop_at front rest (at + length bytes) seam) refl;
       behind = ends;
     }
 
 -- nothing is added
 pub adds_none : (old : List ℕ) (at : ℕ) → Adds old at [] old at
-adds_none old at = record { size = refl; written = sym (append-nil (take at old)); kept = refl; behind = omega arith }
-
--- every byte that stands behind what stood is behind it too
-kept_further : (old mid : List ℕ) (n more : ℕ) → drop n mid ≡ drop n old → drop (n + more) mid ≡ drop (n + more) old
-kept_further old mid n more kept = sym (drop-drop more n mid) ∙ ap (λ (back : List ℕ). drop more back) kept ∙ drop-drop more n old
+adds_none old at = record { size = refl; written = sym (append-nil (take at old)); behind = omega arith }
 
 -- one piece behind the other
 pub adds_more : (old mid new xs ys : List ℕ) (at n next : ℕ) → Adds old at xs mid n → Adds mid n ys new next → Adds old at (xs ++ ys) new next
@@ -37,7 +32,6 @@ adds_more old mid new xs ys at n next one two =
     record {
       size = two.size ∙ one.size;
       written = two.written ∙ ap (λ (front : List ℕ). front ++ ys) one.written ∙ append_assoc (take at old) xs ys;
-      kept = two.kept ∙ rw two.behind (kept_further old mid n (length ys) one.kept);
       behind = omega (arith, one.behind, two.behind, length-append xs ys);
     }
 
@@ -77,9 +71,3 @@ module _ {A : Type 0} (bytes_of : A → List ℕ) (items : List A) (i : ℕ) (d 
   adds_item old mid new at n next before one =
       adds_same old (flat_map bytes_of (take i items) ++ bytes_of (get_or items i d)) (flat_map bytes_of (take (i + 1) items)) new at next (sym next_item)
       (adds_more old mid new (flat_map bytes_of (take i items)) (bytes_of (get_or items i d)) at n next before one)
-
--- what is said of a room that is filled is what `put` says
-pub adds_put : (old bytes new : List ℕ) (at next : ℕ) → Adds old at bytes new next → new ≡ put old at bytes
-adds_put old bytes new at next h =
-    sym (take-append-drop next new) ∙ ap (λ (front : List ℕ). front ++ drop next new) h.written ∙ ap (λ (back : List ℕ). (take at old ++ bytes) ++ back) (h.kept ∙ ap (λ (n : ℕ). drop n old) h.behind)
-    ∙ append_assoc (take at old) bytes (drop (at + length bytes) old)

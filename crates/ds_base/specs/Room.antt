@@ -5,9 +5,8 @@ use Rattle.std.specs.Prelude.{◌≡◌, ℕ, ◌+◌, List, ◌++◌, length, t
 abbrev pub put : List ℕ → ℕ → List ℕ → List ℕ
 put room at bytes = take at room ++ (bytes ++ drop (at + length bytes) room)
 
--- a room of the same length, in which some bytes stand from a place on, up to the next; every other byte is as it was
+-- what a writer of several items adds: in a room of the same length some bytes stand behind those before a place, up to the next; nothing is said of what stands behind them
 pub record Adds (old : List ℕ) (at : ℕ) (bytes new : List ℕ) (next : ℕ) : Type 0 where
   pub size : length new ≡ length old
   pub written : take next new ≡ take at old ++ bytes
-  pub kept : drop next new ≡ drop next old
   pub behind : next ≡ at + length bytes

@@ -1,9 +1,9 @@
 //! Numbers, bytes and LEB numbers written into a room, one behind the other.
 //!
 //! Each call writes the item's bytes from `at` on, an index from 0, leaves every other byte, and answers the place
-//! behind the item.
+//! behind the item. A writer of several items joins what is added.
 
-ghost use Rattle.std.specs.Prelude.{◌≡◌, ℕ, List as Listed, ◌+◌, ◌<◌, ◌≤◌, ◌^◌, ◌∷◌, [], length, false};
+ghost use Rattle.std.specs.Prelude.{◌≡◌, ◌+◌, ◌<◌, ◌≤◌, ◌^◌, ◌∷◌, [], length, false};
 ghost use Rattle.byteorder.specs.Endian.{little_bytes};
 ghost use Rattle.ds_base.specs.Leb.{leb_digits, sleb, uleb};
 ghost use Rattle.ds_base.specs.Room.{Adds, put};
@@ -14,7 +14,8 @@ use crate::put::{put_bytes, put_sleb, put_u8, put_u16, put_u32, put_u64, put_ule
 /// Writes bytes.
 pub fn emit_bytes(room: &mut [u8], at: usize, bytes: &[u8]) -> usize
     requires fits { at + length bytes.now ≤ length room.old }
-    ensures { Adds room.old at bytes.now room.new result }
+    ensures put { room.new ≡ put room.old at bytes.now }
+    ensures adds { Adds room.old at bytes.now room.new result }
 {
     put_bytes(room, at, bytes);
     at + bytes.len()
@@ -23,7 +24,8 @@ pub fn emit_bytes(room: &mut [u8], at: usize, bytes: &[u8]) -> usize
 /// Writes a byte.
 pub fn emit_u8(room: &mut [u8], at: usize, n: u8) -> usize
     requires fits { at + 1 ≤ length room.old }
-    ensures { Adds room.old at (n ∷ []) room.new result }
+    ensures put { room.new ≡ put room.old at (n ∷ []) }
+    ensures adds { Adds room.old at (n ∷ []) room.new result }
 {
     put_u8(room, at, n);
     at + 1
@@ -32,7 +34,8 @@ pub fn emit_u8(room: &mut [u8], at: usize, n: u8) -> usize
 /// Writes a number of two bytes.
 pub fn emit_u16(room: &mut [u8], at: usize, n: u16) -> usize
     requires fits { at + 2 ≤ length room.old }
-    ensures { Adds room.old at (little_bytes 2 n) room.new result }
+    ensures put { room.new ≡ put room.old at (little_bytes 2 n) }
+    ensures adds { Adds room.old at (little_bytes 2 n) room.new result }
 {
     put_u16(room, at, n);
     at + 2
@@ -41,7 +44,8 @@ pub fn emit_u16(room: &mut [u8], at: usize, n: u16) -> usize
 /// Writes a number of four bytes.
 pub fn emit_u32(room: &mut [u8], at: usize, n: u32) -> usize
     requires fits { at + 4 ≤ length room.old }
-    ensures { Adds room.old at (little_bytes 4 n) room.new result }
+    ensures put { room.new ≡ put room.old at (little_bytes 4 n) }
+    ensures adds { Adds room.old at (little_bytes 4 n) room.new result }
 {
     put_u32(room, at, n);
     at + 4
@@ -50,7 +54,8 @@ pub fn emit_u32(room: &mut [u8], at: usize, n: u32) -> usize
 /// Writes a number of eight bytes.
 pub fn emit_u64(room: &mut [u8], at: usize, n: u64) -> usize
     requires fits { at + 8 ≤ length room.old }
-    ensures { Adds room.old at (little_bytes 8 n) room.new result }
+    ensures put { room.new ≡ put room.old at (little_bytes 8 n) }
+    ensures adds { Adds room.old at (little_bytes 8 n) room.new result }
 {
     put_u64(room, at, n);
     at + 8
@@ -59,7 +64,8 @@ pub fn emit_u64(room: &mut [u8], at: usize, n: u64) -> usize
 /// Writes the shortest LEB number without a sign (DWARF 4, section 7.6).
 pub fn emit_uleb(room: &mut [u8], at: usize, n: u64) -> usize
     requires fits { at + length (uleb n) ≤ length room.old }
-    ensures { Adds room.old at (uleb n) room.new result }
+    ensures put { room.new ≡ put room.old at (uleb n) }
+    ensures adds { Adds room.old at (uleb n) room.new result }
 {
     put_uleb(room, at, n);
     at + uleb_len(n) as usize
@@ -69,7 +75,8 @@ pub fn emit_uleb(room: &mut [u8], at: usize, n: u64) -> usize
 pub fn emit_uleb4(room: &mut [u8], at: usize, n: u32) -> usize
     requires small { n < 2 ^ 28 }
     requires fits { at + 4 ≤ length room.old }
-    ensures { Adds room.old at (leb_digits false 4 n) room.new result }
+    ensures put { room.new ≡ put room.old at (leb_digits false 4 n) }
+    ensures adds { Adds room.old at (leb_digits false 4 n) room.new result }
 {
     put_uleb4(room, at, n);
     at + 4
@@ -78,14 +85,9 @@ pub fn emit_uleb4(room: &mut [u8], at: usize, n: u32) -> usize
 /// Writes the shortest LEB number with a sign (DWARF 4, section 7.6).
 pub fn emit_sleb(room: &mut [u8], at: usize, n: i64) -> usize
     requires fits { at + length (sleb n) ≤ length room.old }
-    ensures { Adds room.old at (sleb n) room.new result }
+    ensures put { room.new ≡ put room.old at (sleb n) }
+    ensures adds { Adds room.old at (sleb n) room.new result }
 {
     put_sleb(room, at, n);
     at + sleb_len(n) as usize
-}
-
-/// What is said of an item that was emitted is what is said of one that was put, and where it ends.
-pub fn emitted_is_put()
-    ensures { (old bytes new : Listed ℕ) (at next : ℕ) → Adds old at bytes new next → (new ≡ put old at bytes) × (next ≡ at + length bytes) }
-{
 }

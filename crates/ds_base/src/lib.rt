@@ -23,7 +23,7 @@ pub use bit_row::BitRow;
 pub use bytes::Bytes;
 pub use cursor::Cursor;
 pub use emit::{
-    emit_bytes, emit_sleb, emit_u8, emit_u16, emit_u32, emit_u64, emit_uleb, emit_uleb4, emitted_is_put,
+    emit_bytes, emit_sleb, emit_u8, emit_u16, emit_u32, emit_u64, emit_uleb, emit_uleb4,
 };
 pub use fault::{Fault, Kind, NoMemory, Part, ReadError};
 pub use leb::{

@@ -21,6 +21,3 @@ mod symbols;
 pub use error::WriteError;
 pub use image::image_bytes;
 pub use plist::plist_text;
-
-#[cfg(test)]
-mod tests;

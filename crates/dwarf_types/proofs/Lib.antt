@@ -1,3 +1,4 @@
+pub mod Ancestors
 pub mod Lengths
 pub mod Readers
 pub mod WorkedGraph

@@ -1,5 +1,6 @@
 -- The entries of an output unit as bytes, and where each stands (DWARF 4, sections 7.5.1 and 7.5.2).
-use Rattle.std.specs.Prelude.{ℕ, ◌+◌, ◌-◌, List, [], ◌∷◌, ◌++◌, map, take, replicate, slice_index, Option, Some, None}
+use Rattle.std.specs.Prelude.{ℕ, zero, suc, ◌+◌, ◌-◌, List, [], ◌∷◌, ◌++◌, length, map, take, replicate, slice_get, Option, nat_lt, if◌then◌else◌}
+use Rattle.std.specs.Option.{option_and_then, option_map_or}
 use Rattle.std.specs.List.{enumerate_from, sum_by}
 use Rattle.byteorder.specs.Endian.{little_bytes}
 use Rattle.ds_base.specs.Leb.{uleb, uleb_len_of}
@@ -12,22 +13,25 @@ use Rattle.dwarf_types.specs.Values.{values_len, values_bytes}
 
 -- ---- the tree
 
--- how many ancestors a node has, by those of the nodes before it
-abbrev pub depth_below : List ℕ → Option ℕ → ℕ
-depth_below depths None = 0
-depth_below depths (Some parent) = slice_index depths parent + 1
+-- the parent of a node
+abbrev pub parent_of : List Node → ℕ → Option ℕ
+parent_of nodes k = option_and_then (λ n. n.parent) (slice_get nodes k)
 
--- the depths of some nodes and of those before them
-abbrev pub depths_after : List ℕ → List Node → List ℕ
-depths_after depths [] = depths
-depths_after depths (n ∷ ns) = depths_after (depths ++ depth_below depths n.parent ∷ []) ns
+-- the ancestors of a node from its parent up, each before the one below it, of which there are at most so many
+abbrev pub ancestors_up : ℕ → List Node → ℕ → List ℕ
+ancestors_up zero nodes k = []
+ancestors_up (suc most) nodes k = option_map_or (λ p. p ∷ (if nat_lt p k then ancestors_up most nodes p else [])) (parent_of nodes k) []
 
-abbrev pub depths_of : List Node → List ℕ
-depths_of nodes = depths_after [] nodes
+abbrev pub ancestors_of : List Node → ℕ → List ℕ
+ancestors_of nodes k = ancestors_up (k + 1) nodes k
 
--- how many lists of siblings end behind node k: those from its own depth up to that of the next, behind the last node all
+-- how deep a node stands
+abbrev pub depth_of : List Node → ℕ → ℕ
+depth_of nodes k = length (ancestors_of nodes k)
+
+-- how many lists of siblings end behind node k: as many as the next node has ancestors less, behind the last node all
 abbrev pub lists_ended : List Node → ℕ → ℕ
-lists_ended nodes k = slice_index (depths_of nodes) k - slice_index (depths_of nodes) (k + 1)
+lists_ended nodes k = depth_of nodes k - depth_of nodes (k + 1)
 
 -- an entry: the code of its abbreviation, its node, and how many lists of siblings end behind it
 pub record OutEntry : Type 0 where

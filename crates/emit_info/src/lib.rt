@@ -13,6 +13,3 @@ mod unit;
 mod values;
 
 pub use unit::emit_unit;
-
-#[cfg(test)]
-mod tests;

@@ -10,6 +10,3 @@ mod inner;
 mod typed;
 
 pub use expression::emit_expression;
-
-#[cfg(test)]
-mod tests;

@@ -12,6 +12,3 @@ mod frames;
 
 pub use aranges::emit_aranges;
 pub use frames::emit_frames;
-
-#[cfg(test)]
-mod tests;

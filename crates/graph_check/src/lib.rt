@@ -18,6 +18,3 @@ mod tree;
 mod values;
 
 pub use graph::is_well;
-
-#[cfg(test)]
-mod tests;

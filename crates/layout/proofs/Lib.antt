@@ -1,6 +1,7 @@
 pub mod FrameLengths
 pub mod Limits
 pub mod ListRooms
+pub mod NodeDepths
 pub mod NodePlaces
 pub mod Numbered
 pub mod OneUnit

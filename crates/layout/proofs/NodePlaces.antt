@@ -11,10 +11,12 @@ use Rattle.dwarf_types.specs.declared.graph.Node.{Node}
 use Rattle.dwarf_types.specs.declared.graph.OutAttr.{OutAttr}
 use Rattle.dwarf_types.specs.declared.graph.OutUnit.{OutUnit}
 use Rattle.dwarf_types.specs.Abbreviations.{code_in, declaration_of, table_of}
-use Rattle.dwarf_types.specs.Entries.{OutEntry, depths_of, entries_of, entry_len, entry_of, header_len, lists_ended, node_place, unit_len}
+use Rattle.dwarf_types.specs.Entries.{OutEntry, depth_of, entries_of, entry_len, entry_of, header_len, lists_ended, node_place, unit_len}
 use Rattle.dwarf_types.specs.Values.{values_len}
 use Rattle.abbrev_write.specs.Table.{Table, declared, unit_table}
 use Rattle.layout.specs.Laid.{node_places}
+use Rattle.layout.specs.Pass.{depths_of}
+use Rattle.layout.proofs.NodeDepths.{depth_is}
 use Rattle.layout.proofs.Numbered.{all_numbered, get_numbered, take_numbered, within_numbered}
 
 module _ (u : ℕ) (unit : OutUnit) where
@@ -63,7 +65,8 @@ module _ (u : ℕ) (unit : OutUnit) where
   next_size ns k node code ended here next table depths deep attrs same lt is table_is coded depths_is deep_is here_is next_is ends attrs_is =
       let all : deep ≡ depths_of unit.nodes = deep_is ∙ depths_is ∙ ap depths_of same in
       let ended_is : ended ≡ lists_ended unit.nodes k =
-      ends ∙ ap (λ (n : ℕ). n - next) here_is ∙ ap (λ (n : ℕ). slice_index deep k - n) next_is ∙ ap (λ (ds : List ℕ). slice_index ds k - slice_index ds (k + 1)) all in
+      ends ∙ ap (λ (n : ℕ). n - next) here_is ∙ ap (λ (n : ℕ). slice_index deep k - n) next_is ∙ ap (λ (ds : List ℕ). slice_index ds k - slice_index ds (k + 1)) all
+      ∙ ap (λ (n : ℕ). n - slice_index (depths_of unit.nodes) (k + 1)) (depth_is unit.nodes k) ∙ ap (λ (n : ℕ). depth_of unit.nodes k - n) (depth_is unit.nodes (k + 1)) in
       next_place k node code ended (omega (arith, ap length same)) (is ∙ ap (λ (l : List Node). get_or l k node) same) (coded ∙ ap (λ (t : Table). slice_index t.codes k) table_is) ended_is
       ∙ ap (λ (xs : List OutAttr). node_place u unit k + (uleb_len_of code + (values_len xs + ended))) (sym attrs_is)
 

@@ -1,6 +1,6 @@
 -- Stations between the code and the definitions: unit by unit, list by list, text by text.
 use Rattle.std.specs.Prelude.{◌≡◌, ℕ, ◌+◌, ◌^◌, ◌<◌, ◌≤◌, List, [], ◌∷◌, ◌++◌, fold, length, map, Option, Some, None, Result, Ok, Err, slice_get}
-use Rattle.std.specs.List.{sum_by}
+use Rattle.std.specs.List.{range_with_len, sum_by}
 use Rattle.std.specs.Option.{option_map}
 use Rattle.dwarf_types.specs.declared.graph.Graph.{Graph}
 use Rattle.dwarf_types.specs.declared.graph.Node.{Node}
@@ -10,7 +10,7 @@ use Rattle.dwarf_types.specs.declared.graph.OutValue.{OutValue}
 use Rattle.dwarf_types.specs.declared.graph.OutValue.TheVariants as values
 use Rattle.dwarf_types.specs.Abbreviations.{table_bytes}
 use Rattle.dwarf_types.specs.Aranges.{aranges_len}
-use Rattle.dwarf_types.specs.Entries.{node_locations_len, node_ranges_len, unit_len}
+use Rattle.dwarf_types.specs.Entries.{depth_of, node_locations_len, node_ranges_len, unit_len}
 use Rattle.dwarf_types.specs.Layout.{before_unit, lines_place, lists_place, numbered_units, table_place, unit_start}
 use Rattle.dwarf_types.specs.LineTable.{line_table_bytes, lines_bytes}
 use Rattle.dwarf_types.specs.Lists.{location_list_len, range_list_len}
@@ -25,6 +25,10 @@ use Rattle.layout.specs.declared.units.MeasuredUnits.{MeasuredUnits}
 use Rattle.layout.specs.Laid.{laid_unit, list_lens, location_list_in, long_unit, node_places, range_list_in, room, rooms_from}
 
 -- ---- nodes
+
+-- how deep each node stands
+abbrev pub depths_of : List Node → List ℕ
+depths_of nodes = map (depth_of nodes) (range_with_len 0 (length nodes))
 
 -- none where the unit is too long
 abbrev pub MeasuresNodes : ℕ → OutUnit → Option MeasuredNodes → Type 0

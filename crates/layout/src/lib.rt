@@ -23,6 +23,3 @@ pub use layout::{
     Layout, lines_room, list_room, location_rooms, measure, node_offset, node_offsets, node_place,
     range_rooms, section_size, table_of, table_room, text_place, texts, unit_start,
 };
-
-#[cfg(test)]
-mod tests;

@@ -12,6 +12,3 @@ mod sizes;
 mod table;
 
 pub use table::emit_lines;
-
-#[cfg(test)]
-mod tests;

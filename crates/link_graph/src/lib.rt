@@ -13,8 +13,3 @@ mod shape;
 mod unit;
 
 pub use shape::build;
-
-#[cfg(test)]
-mod tests;
-#[cfg(test)]
-mod tests_sound;

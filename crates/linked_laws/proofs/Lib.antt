@@ -1,5 +1,6 @@
 pub mod Attributes
 pub mod Chains
+pub mod Ended
 pub mod ExpressionLengths
 pub mod Expressions
 pub mod Images

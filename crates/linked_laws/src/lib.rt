@@ -3,9 +3,10 @@
 //! Layer: laws. [`linked_is_well`] says that the linked graph of objects (`dwarf_types/specs/LinkedGraph.antt`)
 //! keeps to what every writer asks of a graph (`dwarf_types/specs/Well.antt`), where the objects' analyses are sound and
 //! say what the bytes of an object can say (`specs/Given.antt`), and where whatever an entry that is written needs is
-//! written too (`specs/Kept.antt`). [`live_entries_are_closed`] says the last of the live entries. Nothing here runs.
+//! written too (`specs/Kept.antt`). [`live_entries_are_closed`] says the last of the live entries, and
+//! [`lists_end_by_ancestors`] which lists of siblings end behind a node of a well unit. Nothing here runs.
 #![tactic(auto)]
 
 mod laws;
 
-pub use laws::{linked_is_well, live_entries_are_closed};
+pub use laws::{linked_is_well, lists_end_by_ancestors, live_entries_are_closed};

@@ -12,6 +12,3 @@ mod spans;
 
 pub use locations::emit_locations;
 pub use ranges::emit_ranges;
-
-#[cfg(test)]
-mod tests;

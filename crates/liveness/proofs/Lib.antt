@@ -6,4 +6,3 @@ pub mod RootTests
 pub mod ChildChains
 pub mod NeedLists
 pub mod Spreading
-pub mod SoundTests

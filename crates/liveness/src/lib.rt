@@ -17,8 +17,3 @@ mod spread;
 
 pub use moves::{address_moved, all_fields_moved, low_pc_moves};
 pub use spread::live;
-
-#[cfg(test)]
-mod tests;
-#[cfg(test)]
-mod tests_sound;

@@ -16,6 +16,3 @@ pub use expression::expression_size;
 pub use lines::lines_size;
 pub use lists::{aranges_size, locations_size, ranges_size};
 pub use value::{value_size, values_size};
-
-#[cfg(test)]
-mod tests;

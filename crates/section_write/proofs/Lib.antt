@@ -1,7 +1,6 @@
 pub mod InTurn
 pub mod Laying
 pub mod OneList
-pub mod OneUnit
 pub mod Pieces
 pub mod Rooms
 pub mod SubRooms

@@ -12,6 +12,3 @@ mod sections;
 mod units;
 
 pub use sections::emit_sections;
-
-#[cfg(test)]
-mod tests;

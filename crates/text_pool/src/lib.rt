@@ -12,6 +12,3 @@ mod pool;
 pub use pool::{
     TextError, TextPool, add, emit_texts, new_pool, offset_of, pool_of_uses_is_each_once, pool_size,
 };
-
-#[cfg(test)]
-mod tests;

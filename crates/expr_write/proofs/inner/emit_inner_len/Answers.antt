@@ -14,4 +14,4 @@ pub returns : goal.returns
 returns c =
     let small : length c.args.room.now < 2 ^ 64 = omega arith in
     let is : c.inner_size.result ≡ inner_len c.args.parts.now = omega (arith, small, c.inner_size.ensures, c.requires) in
-    adds_same _ (uleb c.inner_size.result) _ _ _ _ (ap uleb is) c.emit_uleb.ensures
+    adds_same _ (uleb c.inner_size.result) _ _ _ _ (ap uleb is) c.emit_uleb.ensures.adds

@@ -3,5 +3,5 @@ use Rattle.frame_write.proofs.frames.emit_described.Goals as goal
 
 pub returns : goal.returns
 returns c =
-    adds_more _ _ _ _ _ _ _ _ c.emit_u64-at.ensures
-    (adds_more _ _ _ _ _ _ _ _ c.emit_u64-at-2.ensures (adds_same _ _ _ _ _ _ c.as_slice.ensures c.emit_bytes.ensures))
+    adds_more _ _ _ _ _ _ _ _ c.emit_u64-at.ensures.adds
+    (adds_more _ _ _ _ _ _ _ _ c.emit_u64-at-2.ensures.adds (adds_same _ _ _ _ _ _ c.as_slice.ensures c.emit_bytes.ensures.adds))

@@ -20,4 +20,4 @@ emit_uleb-requires c = record {
 pub returns : goal.returns
 returns c =
     adds_same _ _ _ _ _ _ (sym (discriminator_parts c.args.n c.uleb_len.result c.uleb_len.ensures.is))
-    (adds_more _ _ _ _ _ _ _ _ c.emit_extended-at.ensures c.emit_uleb.ensures)
+    (adds_more _ _ _ _ _ _ _ _ c.emit_extended-at.ensures c.emit_uleb.ensures.adds)

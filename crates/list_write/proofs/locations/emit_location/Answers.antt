@@ -12,6 +12,6 @@ emit_expression-requires-clause-fits c =
       c.requires.fits,
       c.emit_span-at.ensures.size,
       c.emit_span-at.ensures.behind,
-      c.emit_u16-at.ensures.size,
-      c.emit_u16-at.ensures.behind,
+      c.emit_u16-at.ensures.adds.size,
+      c.emit_u16-at.ensures.adds.behind,
     )

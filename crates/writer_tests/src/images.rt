@@ -1,0 +1,375 @@
+//! Images of programs, laid out by hand (mach-o/loader.h, mach-o/nlist.h), and the text of an Info.plist.
+
+ghost use Rattle.std.specs.Prelude.{◌≡◌, Ok, length};
+ghost use Rattle.dwarf_types.specs.Encode.{info_section};
+ghost use Rattle.dwarf_types.specs.Well.{IsWell};
+ghost use Rattle.layout.specs.Laid.{Measures};
+ghost use Rattle.macho_read.specs.Sound.{IsSound};
+
+use ds_base::dwarf::{
+    DW_AT_high_pc, DW_AT_language, DW_AT_location, DW_AT_low_pc, DW_AT_name, DW_AT_ranges,
+    DW_AT_stmt_list, DW_FORM_data2, DW_FORM_data4, DW_OP_dup, DW_OP_stack_value,
+    DW_TAG_compile_unit, DW_TAG_subprogram, DW_TAG_variable,
+};
+use ds_base::{Bytes, List, Part};
+use dsym_write::{image_bytes, plist_text};
+use dwarf_types::{
+    ExprPart, Graph, Node, OutAttr, OutFrame, OutLines, OutLocation, OutUnit, OutValue, Span,
+};
+use emit_info::emit_unit;
+use graph_check::is_well;
+use layout::{Layout, measure, section_size};
+use macho_read::{Image, read_image};
+use std::alloc::Global;
+use std::process::Abort;
+
+// ---- a program, a graph and the image
+
+fn program_in(rt: &impl Abort, alloc: Global, bytes: &[u8]) -> Image
+    ensures { IsSound result }
+{
+    read_image(alloc, bytes).expect(rt, "a program")
+}
+
+// Writes the information section of a graph of one unit.
+fn put_info(graph: &Graph, layout: &Layout, room: &mut [u8])
+    requires well { IsWell graph.now }
+    requires measured { Measures graph.now (Ok layout.now) }
+    requires one { length graph.now.units ≡ 1 }
+    requires size { length room.old ≡ length (info_section graph.now) }
+    ensures { room.new ≡ info_section graph.now }
+{
+    emit_unit(graph, layout, 0, room);
+}
+
+// An image begins with some bytes, and has zeros behind them up to 4096.
+fn begins_with(rt: &impl Abort, image: &[u8], front: &[u8]) {
+    assert!(rt; front.len() <= 4096 && image.len() >= 4096);
+    assert_eq!(rt; &image[..front.len()], front);
+    assert!(rt; are_zeros(&image[front.len()..4096]));
+}
+
+// From 4096 on an image has its sections, one behind the other.
+fn sections_are(rt: &impl Abort, image: &[u8], sections: &[u8]) {
+    assert_eq!(rt; image.len(), 4096 + sections.len());
+    assert_eq!(rt; &image[4096..], sections);
+}
+
+fn are_zeros(bytes: &[u8]) -> bool {
+    bytes.iter().all(|b| *b == 0)
+}
+
+// The image of a program and a graph of one unit, whose information section has the size of a room.
+fn image_of(
+    rt: &impl Abort,
+    alloc: Global,
+    program: &[u8],
+    graph: &Graph,
+    info: &mut [u8],
+) -> Bytes {
+    let program = program_in(rt, alloc, program);
+    assert!(rt; is_well(graph));
+    assert_eq!(rt; graph.units.len(), 1);
+    let layout = measure(alloc, graph).expect(rt, "a layout");
+    assert_eq!(rt; section_size(&layout, Part::Info), info.len() as u64);
+    put_info(graph, &layout, info);
+    image_bytes(alloc, &program, graph, &layout, info).expect(rt, "an image")
+}
+
+// ---- graphs
+
+// Puts an item last.
+fn add<T: Drop>(rt: &impl Abort, items: &mut List<T>, item: T) {
+    assert!(rt; items.push(item).is_ok());
+}
+
+fn one<T: Drop>(rt: &impl Abort, alloc: Global, item: T) -> List<T> {
+    let mut items = List::new(alloc);
+    add(rt, &mut items, item);
+    items
+}
+
+fn bytes(rt: &impl Abort, alloc: Global, from: &[u8]) -> Bytes {
+    Bytes::from_slice(alloc, from).expect(rt, "memory for bytes")
+}
+
+fn text(rt: &impl Abort, alloc: Global, from: &[u8]) -> OutValue {
+    OutValue::Text(bytes(rt, alloc, from))
+}
+
+fn add_attr(rt: &impl Abort, attrs: &mut List<OutAttr>, name: u16, value: OutValue) {
+    add(rt, attrs, OutAttr { name, value });
+}
+
+fn code(rt: &impl Abort, alloc: Global) -> List<Span> {
+    let span = Span {
+        low: 0x1_0000_3f50,
+        high: 0x1_0000_3f7a,
+    };
+    one(rt, alloc, span)
+}
+
+fn root(rt: &impl Abort, alloc: Global) -> Node {
+    let mut attrs = List::new(alloc);
+    let language = OutValue::Number {
+        form: DW_FORM_data2,
+        bits: 12,
+    };
+    let ranges = OutValue::Ranges(code(rt, alloc));
+    add_attr(rt, &mut attrs, DW_AT_name, text(rt, alloc, b"m.c"));
+    add_attr(rt, &mut attrs, DW_AT_language, language);
+    add_attr(rt, &mut attrs, DW_AT_low_pc, OutValue::Address(0));
+    add_attr(rt, &mut attrs, DW_AT_ranges, ranges);
+    Node {
+        parent: None,
+        tag: DW_TAG_compile_unit,
+        attrs,
+    }
+}
+
+fn function(rt: &impl Abort, alloc: Global) -> Node {
+    let mut attrs = List::new(alloc);
+    let length = OutValue::Number {
+        form: DW_FORM_data4,
+        bits: 0x2a,
+    };
+    add_attr(
+        rt,
+        &mut attrs,
+        DW_AT_low_pc,
+        OutValue::Address(0x1_0000_3f50),
+    );
+    add_attr(rt, &mut attrs, DW_AT_high_pc, length);
+    add_attr(rt, &mut attrs, DW_AT_name, text(rt, alloc, b"main"));
+    Node {
+        parent: Some(0),
+        tag: DW_TAG_subprogram,
+        attrs,
+    }
+}
+
+// A unit of one function.
+fn unit(rt: &impl Abort, alloc: Global) -> OutUnit {
+    let mut nodes = one(rt, alloc, root(rt, alloc));
+    add(rt, &mut nodes, function(rt, alloc));
+    OutUnit {
+        version: 4,
+        nodes,
+        lines: None,
+        ranges: code(rt, alloc),
+    }
+}
+
+// ---- images
+
+// The program has a UUID, a segment with a section, a function, and the stabs of the object that has it.
+#[rattlefmt::skip]
+#[test]
+fn an_image_has_the_commands_of_its_program_and_the_sections_of_its_graph(rt: HostRuntime) {
+    let alloc = rt.alloc();
+    let program = [
+        // the header
+        0xcf, 0xfa, 0xed, 0xfe,  0x0c, 0, 0, 1,  0, 0, 0, 0,  2, 0, 0, 0,  3, 0, 0, 0,  0xc8, 0, 0, 0,  0x85, 0, 0, 0,  0, 0, 0, 0,
+        // the UUID
+        0x1b, 0, 0, 0,  0x18, 0, 0, 0,  0, 0x11, 0x22, 0x33, 0x44, 0x55, 0x66, 0x77, 0x88, 0x99, 0xaa, 0xbb, 0xcc, 0xdd, 0xee, 0xff,
+        // the symbol table: at 232, three symbols; at 280, 10 bytes
+        2, 0, 0, 0,  0x18, 0, 0, 0,  0xe8, 0, 0, 0,  3, 0, 0, 0,  0x18, 1, 0, 0,  0x0a, 0, 0, 0,
+        // __TEXT
+        0x19, 0, 0, 0,  0x98, 0, 0, 0,  b'_', b'_', b'T', b'E', b'X', b'T', 0, 0, 0, 0, 0, 0, 0, 0, 0, 0,
+        0, 0, 0, 0, 1, 0, 0, 0,  0, 0x40, 0, 0, 0, 0, 0, 0,  0, 0, 0, 0, 0, 0, 0, 0,  0, 0x40, 0, 0, 0, 0, 0, 0,
+        5, 0, 0, 0,  5, 0, 0, 0,  1, 0, 0, 0,  0, 0, 0, 0,
+        b'_', b'_', b't', b'e', b'x', b't', 0, 0, 0, 0, 0, 0, 0, 0, 0, 0,
+        b'_', b'_', b'T', b'E', b'X', b'T', 0, 0, 0, 0, 0, 0, 0, 0, 0, 0,
+        0x50, 0x3f, 0, 0, 1, 0, 0, 0,  0x2a, 0, 0, 0, 0, 0, 0, 0,
+        0x50, 0x3f, 0, 0,  4, 0, 0, 0,  7, 0, 0, 0,  9, 0, 0, 0,  0, 4, 0, 0x80,  0, 0, 0, 0,  0, 0, 0, 0,  0, 0, 0, 0,
+        // two stabs and _main
+        1, 0, 0, 0,  0x66, 3,  1, 0,  0, 0, 0, 0, 0, 0, 0, 0,
+        4, 0, 0, 0,  0x24, 1,  0, 0,  0x50, 0x3f, 0, 0, 1, 0, 0, 0,
+        4, 0, 0, 0,  0x0f, 1,  0, 0,  0x50, 0x3f, 0, 0, 1, 0, 0, 0,
+        0,  b'/', b'm', 0,  b'_', b'm', b'a', b'i', b'n', 0,
+    ];
+    let front = [
+        // the header
+        0xcf, 0xfa, 0xed, 0xfe,  0x0c, 0, 0, 1,  0, 0, 0, 0,  0x0a, 0, 0, 0,  4, 0, 0, 0,  0xa0, 2, 0, 0,  0, 0, 0, 0,  0, 0, 0, 0,
+        // the UUID
+        0x1b, 0, 0, 0,  0x18, 0, 0, 0,  0, 0x11, 0x22, 0x33, 0x44, 0x55, 0x66, 0x77, 0x88, 0x99, 0xaa, 0xbb, 0xcc, 0xdd, 0xee, 0xff,
+        // the symbol table: at 704, a symbol; at 720, 7 bytes
+        2, 0, 0, 0,  0x18, 0, 0, 0,  0xc0, 2, 0, 0,  1, 0, 0, 0,  0xd0, 2, 0, 0,  7, 0, 0, 0,
+        // __TEXT
+        0x19, 0, 0, 0,  0x98, 0, 0, 0,  b'_', b'_', b'T', b'E', b'X', b'T', 0, 0, 0, 0, 0, 0, 0, 0, 0, 0,
+        0, 0, 0, 0, 1, 0, 0, 0,  0, 0x40, 0, 0, 0, 0, 0, 0,  0, 0, 0, 0, 0, 0, 0, 0,  0, 0, 0, 0, 0, 0, 0, 0,
+        5, 0, 0, 0,  5, 0, 0, 0,  1, 0, 0, 0,  0, 0, 0, 0,
+        b'_', b'_', b't', b'e', b'x', b't', 0, 0, 0, 0, 0, 0, 0, 0, 0, 0,
+        b'_', b'_', b'T', b'E', b'X', b'T', 0, 0, 0, 0, 0, 0, 0, 0, 0, 0,
+        0x50, 0x3f, 0, 0, 1, 0, 0, 0,  0x2a, 0, 0, 0, 0, 0, 0, 0,
+        0, 0, 0, 0,  4, 0, 0, 0,  0, 0, 0, 0,  0, 0, 0, 0,  0, 4, 0, 0x80,  0, 0, 0, 0,  0, 0, 0, 0,  0, 0, 0, 0,
+        // __DWARF, and its sections in the page of 4096
+        0x19, 0, 0, 0,  0xd8, 1, 0, 0,  b'_', b'_', b'D', b'W', b'A', b'R', b'F', 0, 0, 0, 0, 0, 0, 0, 0, 0,
+        0, 0x40, 0, 0, 1, 0, 0, 0,  0, 0x10, 0, 0, 0, 0, 0, 0,  0, 0x10, 0, 0, 0, 0, 0, 0,  0xa2, 0, 0, 0, 0, 0, 0, 0,
+        7, 0, 0, 0,  3, 0, 0, 0,  5, 0, 0, 0,  0, 0, 0, 0,
+        b'_', b'_', b'd', b'e', b'b', b'u', b'g', b'_', b'a', b'b', b'b', b'r', b'e', b'v', 0, 0,
+        b'_', b'_', b'D', b'W', b'A', b'R', b'F', 0, 0, 0, 0, 0, 0, 0, 0, 0,
+        0, 0x40, 0, 0, 1, 0, 0, 0,  0x19, 0, 0, 0, 0, 0, 0, 0,
+        0, 0x10, 0, 0,  0, 0, 0, 0,  0, 0, 0, 0,  0, 0, 0, 0,  0, 0, 0, 2,  0, 0, 0, 0,  0, 0, 0, 0,  0, 0, 0, 0,
+        b'_', b'_', b'd', b'e', b'b', b'u', b'g', b'_', b'i', b'n', b'f', b'o', 0, 0, 0, 0,
+        b'_', b'_', b'D', b'W', b'A', b'R', b'F', 0, 0, 0, 0, 0, 0, 0, 0, 0,
+        0x19, 0x40, 0, 0, 1, 0, 0, 0,  0x30, 0, 0, 0, 0, 0, 0, 0,
+        0x19, 0x10, 0, 0,  0, 0, 0, 0,  0, 0, 0, 0,  0, 0, 0, 0,  0, 0, 0, 2,  0, 0, 0, 0,  0, 0, 0, 0,  0, 0, 0, 0,
+        b'_', b'_', b'd', b'e', b'b', b'u', b'g', b'_', b's', b't', b'r', 0, 0, 0, 0, 0,
+        b'_', b'_', b'D', b'W', b'A', b'R', b'F', 0, 0, 0, 0, 0, 0, 0, 0, 0,
+        0x49, 0x40, 0, 0, 1, 0, 0, 0,  9, 0, 0, 0, 0, 0, 0, 0,
+        0x49, 0x10, 0, 0,  0, 0, 0, 0,  0, 0, 0, 0,  0, 0, 0, 0,  0, 0, 0, 2,  0, 0, 0, 0,  0, 0, 0, 0,  0, 0, 0, 0,
+        b'_', b'_', b'd', b'e', b'b', b'u', b'g', b'_', b'r', b'a', b'n', b'g', b'e', b's', 0, 0,
+        b'_', b'_', b'D', b'W', b'A', b'R', b'F', 0, 0, 0, 0, 0, 0, 0, 0, 0,
+        0x52, 0x40, 0, 0, 1, 0, 0, 0,  0x20, 0, 0, 0, 0, 0, 0, 0,
+        0x52, 0x10, 0, 0,  0, 0, 0, 0,  0, 0, 0, 0,  0, 0, 0, 0,  0, 0, 0, 2,  0, 0, 0, 0,  0, 0, 0, 0,  0, 0, 0, 0,
+        b'_', b'_', b'd', b'e', b'b', b'u', b'g', b'_', b'a', b'r', b'a', b'n', b'g', b'e', b's', 0,
+        b'_', b'_', b'D', b'W', b'A', b'R', b'F', 0, 0, 0, 0, 0, 0, 0, 0, 0,
+        0x72, 0x40, 0, 0, 1, 0, 0, 0,  0x30, 0, 0, 0, 0, 0, 0, 0,
+        0x72, 0x10, 0, 0,  0, 0, 0, 0,  0, 0, 0, 0,  0, 0, 0, 0,  0, 0, 0, 2,  0, 0, 0, 0,  0, 0, 0, 0,  0, 0, 0, 0,
+        // _main, and the strings
+        1, 0, 0, 0,  0x0f, 1,  0, 0,  0x50, 0x3f, 0, 0, 1, 0, 0, 0,
+        0,  b'_', b'm', b'a', b'i', b'n', 0,
+    ];
+    let sections = [
+        // __debug_abbrev
+        1, 0x11, 1,  3, 0x0e,  0x13, 5,  0x11, 1,  0x55, 0x17,  0, 0,
+        2, 0x2e, 0,  0x11, 1,  0x12, 6,  3, 0x0e,  0, 0,
+        0,
+        // __debug_info
+        0x2c, 0, 0, 0,  4, 0,  0, 0, 0, 0,  8,
+        1,  0, 0, 0, 0,  0x0c, 0,  0, 0, 0, 0, 0, 0, 0, 0,  0, 0, 0, 0,
+        2,  0x50, 0x3f, 0, 0, 1, 0, 0, 0,  0x2a, 0, 0, 0,  4, 0, 0, 0,
+        0,
+        // __debug_str
+        b'm', b'.', b'c', 0,  b'm', b'a', b'i', b'n', 0,
+        // __debug_ranges
+        0x50, 0x3f, 0, 0, 1, 0, 0, 0,  0x7a, 0x3f, 0, 0, 1, 0, 0, 0,
+        0, 0, 0, 0, 0, 0, 0, 0,  0, 0, 0, 0, 0, 0, 0, 0,
+        // __debug_aranges
+        0x2c, 0, 0, 0,  2, 0,  0, 0, 0, 0,  8,  0,  0, 0, 0, 0,
+        0x50, 0x3f, 0, 0, 1, 0, 0, 0,  0x2a, 0, 0, 0, 0, 0, 0, 0,
+        0, 0, 0, 0, 0, 0, 0, 0,  0, 0, 0, 0, 0, 0, 0, 0,
+    ];
+    let graph = Graph {
+        units: one(&rt, alloc, unit(&rt, alloc)),
+        frames: List::new(alloc),
+    };
+    let image = image_of(&rt, alloc, &program, &graph, &mut [0; 48]);
+    begins_with(&rt, image.as_slice(), &front);
+    sections_are(&rt, image.as_slice(), &sections);
+}
+
+// ---- a graph with a part in each section
+
+// A variable below the root, that stands on the expression stack at four addresses.
+fn variable(rt: &impl Abort, alloc: Global) -> Node {
+    let expression = ExprPart::Plain(bytes(rt, alloc, &[DW_OP_dup, DW_OP_stack_value]));
+    let item = OutLocation {
+        span: Span {
+            low: 0x1000,
+            high: 0x1004,
+        },
+        parts: one(rt, alloc, expression),
+    };
+    let mut attrs = List::new(alloc);
+    let locations = OutValue::Locations(one(rt, alloc, item));
+    add_attr(rt, &mut attrs, DW_AT_location, locations);
+    Node {
+        parent: Some(0),
+        tag: DW_TAG_variable,
+        attrs,
+    }
+}
+
+// Its root has a name, a line table, and the code of the unit.
+fn full_unit(rt: &impl Abort, alloc: Global) -> OutUnit {
+    let span = Span {
+        low: 0x1000,
+        high: 0x1010,
+    };
+    let mut attrs = List::new(alloc);
+    add_attr(rt, &mut attrs, DW_AT_name, text(rt, alloc, b"m.c"));
+    add_attr(rt, &mut attrs, DW_AT_stmt_list, OutValue::Lines);
+    add_attr(rt, &mut attrs, DW_AT_low_pc, OutValue::Address(0));
+    let ranges = OutValue::Ranges(one(rt, alloc, span));
+    add_attr(rt, &mut attrs, DW_AT_ranges, ranges);
+    let root = Node {
+        parent: None,
+        tag: DW_TAG_compile_unit,
+        attrs,
+    };
+    let mut nodes = one(rt, alloc, root);
+    add(rt, &mut nodes, variable(rt, alloc));
+    OutUnit {
+        version: 4,
+        nodes,
+        lines: Some(OutLines {
+            dirs: List::new(alloc),
+            files: List::new(alloc),
+            sequences: List::new(alloc),
+        }),
+        ranges: one(rt, alloc, span),
+    }
+}
+
+fn frame(rt: &impl Abort, alloc: Global) -> OutFrame {
+    OutFrame {
+        cie: bytes(rt, alloc, &[4, 0, 8, 0, 1, 0x78, 0x1e, 0]),
+        address: 0x1000,
+        length: 0x10,
+        code: Bytes::new(alloc),
+    }
+}
+
+// The program has neither segments nor symbols.
+#[rattlefmt::skip]
+#[test]
+fn eight_sections_stand_one_behind_the_other(rt: HostRuntime) {
+    let alloc = rt.alloc();
+    let program = [
+        0xcf, 0xfa, 0xed, 0xfe,  7, 0, 0, 1,  3, 0, 0, 0,  2, 0, 0, 0,  0, 0, 0, 0,  0, 0, 0, 0,  0, 0, 0, 0,  0, 0, 0, 0,
+    ];
+    let graph = Graph {
+        units: one(&rt, alloc, full_unit(&rt, alloc)),
+        frames: one(&rt, alloc, frame(&rt, alloc)),
+    };
+    let sections = [
+        // __debug_abbrev
+        1, 0x11, 1,  3, 0x0e,  0x10, 0x17,  0x11, 1,  0x55, 0x17,  0, 0,
+        2, 0x34, 0,  2, 0x17,  0, 0,
+        0,
+        // __debug_info
+        0x22, 0, 0, 0,  4, 0,  0, 0, 0, 0,  8,
+        1,  0, 0, 0, 0,  0, 0, 0, 0,  0, 0, 0, 0, 0, 0, 0, 0,  0, 0, 0, 0,
+        2,  0, 0, 0, 0,
+        0,
+        // __debug_str
+        b'm', b'.', b'c', 0,
+        // __debug_line
+        0x1a, 0, 0, 0,  4, 0,  0x14, 0, 0, 0,  1, 1, 1, 0xfb, 0x0e, 0x0d,  0, 1, 1, 1, 1, 0, 0, 0, 1, 0, 0, 1,  0,  0,
+        // __debug_ranges
+        0, 0x10, 0, 0, 0, 0, 0, 0,  0x10, 0x10, 0, 0, 0, 0, 0, 0,
+        0, 0, 0, 0, 0, 0, 0, 0,  0, 0, 0, 0, 0, 0, 0, 0,
+        // __debug_loc
+        0, 0x10, 0, 0, 0, 0, 0, 0,  4, 0x10, 0, 0, 0, 0, 0, 0,  2, 0,  0x12, 0x9f,
+        0, 0, 0, 0, 0, 0, 0, 0,  0, 0, 0, 0, 0, 0, 0, 0,
+        // __debug_aranges
+        0x2c, 0, 0, 0,  2, 0,  0, 0, 0, 0,  8,  0,  0, 0, 0, 0,
+        0, 0x10, 0, 0, 0, 0, 0, 0,  0x10, 0, 0, 0, 0, 0, 0, 0,
+        0, 0, 0, 0, 0, 0, 0, 0,  0, 0, 0, 0, 0, 0, 0, 0,
+        // __debug_frame
+        0x0c, 0, 0, 0,  0xff, 0xff, 0xff, 0xff,  4, 0, 8, 0, 1, 0x78, 0x1e, 0,
+        0x14, 0, 0, 0,  0, 0, 0, 0,  0, 0x10, 0, 0, 0, 0, 0, 0,  0x10, 0, 0, 0, 0, 0, 0, 0,
+    ];
+    let image = image_of(&rt, alloc, &program, &graph, &mut [0; 38]);
+    sections_are(&rt, image.as_slice(), &sections);
+}
+
+#[test]
+fn a_property_list_names_the_program(rt: HostRuntime) {
+    let text = plist_text(rt.alloc(), "a&b").expect(&rt, "memory for a text");
+    assert_eq!(rt; text.len(), 636);
+    let want = b"<string>com.apple.xcode.dsym.a&amp;b</string>\n\t\t<key>CFBundle";
+    assert_eq!(rt; &text.as_slice()[281..342], want.as_slice());
+}
