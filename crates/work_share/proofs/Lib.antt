@@ -1,0 +1,4 @@
+pub mod Totals
+pub mod Rules
+pub mod Places
+pub mod Working

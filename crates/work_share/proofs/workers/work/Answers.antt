@@ -1,0 +1,26 @@
+use Rattle.std.proofs.Common.{refl, ap, ◌∙◌}
+use Rattle.work_share.specs.declared.view.TaskView.{TaskView}
+use Rattle.work_share.specs.Seats.{known}
+use Rattle.work_share.proofs.Working.{worked_none, worked_more, comes_nearer, finished_alone}
+use Rattle.work_share.proofs.workers.work.Goals as goal
+
+pub loop-item-init : goal.loop-item-init
+loop-item-init g c = (c.requires.seat.belongs, refl, rw c.new-done.ensures.items (worked_none _ _ _ c.requires.seat.idle))
+
+pub loop-item-smaller : goal.loop-item-smaller
+loop-item-smaller g c =
+    let some = c.in-Some.ensures.some in
+    comes_nearer c.args.tasks.now.count c.in-Some.item (known c.loop-item.seat).drawn (known c.claim.new.seat).drawn some.0 some.1 (ap (λ (v : TaskView). v.drawn) some.2)
+
+pub loop-item-preserved : goal.loop-item-preserved
+loop-item-preserved g c =
+    let some = c.in-Some.ensures.some in (
+      c.in-Some.ensures.belongs,
+      ap (λ (v : TaskView). v.share) some.2 ∙ c.loop-item.invariant.1,
+      rw (c.in_ok-push.ensures.items, some.2) (worked_more (g.J.Job.gives c.args.job.now) c.args.tasks.now.count (known c.loop-item.seat).drawn c.loop-item.done.items c.in-Some.item _ c.loop-item.invariant.2 some.0 c.run-out.ensures),
+    )
+
+pub returns : goal.returns
+returns g c =
+    finished_alone (g.J.Job.gives c.args.job.now) c.args.tasks.now _ c.loop-item.seat c.claim.new.seat c.loop-item.done.items c.loop-item.invariant.1 c.loop-item.invariant.2 c.in_default.ensures.belongs
+    (c.in_default.ensures.ended.0 refl) (c.in_default.ensures.none)
