@@ -24,3 +24,6 @@ pub use job::Job;
 pub use opening::tasks;
 pub use view::TaskView;
 pub use workers::each;
+
+#[cfg(test)]
+mod tests;

@@ -1,0 +1,120 @@
+ghost use Rattle.std.specs.Prelude.{◌≡◌, ◌<◌, ◌≤◌, length, slice_index};
+
+use crate::{Job, each, tasks};
+use ds_files::{Gate, OpenGate};
+use std::alloc::Global;
+use std::hint::spin_loop;
+use std::process::Abort;
+use std::sync::atomic::AtomicBool;
+use std::sync::atomic::Ordering::SeqCst;
+use std::test::Fail;
+use std::thread::Threads;
+
+/// The number that stands at an item's place.
+#[derive(Drop)]
+struct NumberAt<'a> {
+    numbers: &'a [u32],
+}
+
+impl<'a> Job for NumberAt<'a> {
+    type Out = u32;
+
+    ghost takes = { λ job item. item < length job.numbers.now };
+
+    ghost gives = { λ job item out. out ≡ slice_index job.numbers.now item };
+
+    fn run(&self, item: u32) -> u32 {
+        self.numbers[item as usize]
+    }
+}
+
+/// The gate holds item 0 until item 1 has passed, for so many turns at most.
+#[derive(Drop)]
+struct HoldsFirst {
+    second_passed: AtomicBool,
+    gave_up: AtomicBool,
+}
+
+const TURNS: u32 = 1 << 24;
+
+impl Gate for HoldsFirst {
+    fn pass(&self, _phase: u32, item: u32) {
+        if item == 1 {
+            self.second_passed.store(true, SeqCst);
+        }
+        if item != 0 {
+            return;
+        }
+        for _ in 0..TURNS {
+            if self.second_passed.load(SeqCst) {
+                return;
+            }
+            spin_loop();
+        }
+        self.gave_up.store(true, SeqCst);
+    }
+}
+
+/// So many workers give each number at its place.
+fn gives_all<R: Threads + Abort + Sync, G: Gate + Sync>(
+    rt: &R,
+    alloc: Global,
+    workers: u32,
+    numbers: &[u32],
+    gate: &G,
+)
+    requires { (1 ≤ workers) × (workers ≤ 64) × (length numbers.now < 100) }
+{
+    let job = NumberAt { numbers };
+    match each(rt, alloc, workers, numbers.len() as u32, 0, gate, &job) {
+        Ok(outs) => assert_eq!(rt; outs.as_slice(), numbers, "{workers} workers"),
+        Err(_) => panic!(rt; "no memory"),
+    }
+}
+
+#[test]
+fn one_seat_draws_each_number_and_then_none(rt: HostRuntime) -> Result<(), Fail> {
+    let (counter, mut seat) = tasks(rt.alloc(), 2)?;
+    assert_eq!(rt; counter.claim(&mut seat), Some(0));
+    assert_eq!(rt; counter.claim(&mut seat), Some(1));
+    assert_eq!(rt; counter.claim(&mut seat), None);
+    assert_eq!(rt; counter.claim(&mut seat), None);
+    Ok(())
+}
+
+#[test]
+fn seats_share_the_numbers(rt: HostRuntime) -> Result<(), Fail> {
+    let (counter, mut left) = tasks(rt.alloc(), 3)?;
+    let Some(mut right) = counter.split(&mut left) else {
+        panic!(rt; "one share")
+    };
+    assert_eq!(rt; (left.share(), right.share()), (32, 32));
+    assert_eq!(rt; counter.claim(&mut right), Some(0));
+    assert_eq!(rt; counter.claim(&mut left), Some(1));
+    assert_eq!(rt; counter.claim(&mut right), Some(2));
+    assert_eq!(rt; counter.claim(&mut right), None);
+    counter.join(&mut left, right);
+    assert_eq!(rt; left.share(), 64);
+    assert_eq!(rt; counter.claim(&mut left), None);
+    Ok(())
+}
+
+#[test]
+fn results_stand_in_the_order_of_the_items(rt: HostRuntime) {
+    let alloc = rt.alloc();
+    let numbers = [7, 1, 9, 2, 5, 0, 3];
+    gives_all(&rt, alloc, 3, &[], &OpenGate::new());
+    gives_all(&rt, alloc, 1, &numbers, &OpenGate::new());
+    gives_all(&rt, alloc, 3, &numbers, &OpenGate::new());
+    gives_all(&rt, alloc, 64, &numbers, &OpenGate::new());
+}
+
+#[test]
+fn two_workers_run_two_items_beside_each_other(rt: HostRuntime) {
+    let gate = HoldsFirst {
+        second_passed: AtomicBool::new(false),
+        gave_up: AtomicBool::new(false),
+    };
+    gives_all(&rt, rt.alloc(), 2, &[4, 6], &gate);
+    assert!(rt; !gate.gave_up.load(SeqCst), "item 0 waited for all turns");
+}
