@@ -2,3 +2,4 @@ mod Standing
 mod Trying
 mod Missing
 mod Telling
+mod Refused

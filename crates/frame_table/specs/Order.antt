@@ -1,5 +1,5 @@
 -- What the parts of the reader know of one another: where entries stand, and which of several faults comes first.
-use Rattle.std.specs.Prelude.{◌≡◌, ℕ, ◌+◌, ◌<◌, ◌≤◌, ◌&&◌, Bool, true, false, List, [], ◌∷◌, ◌++◌, length, slice_index_or, Option, Some, None, Result, Ok, Err, nat_le, if◌then◌else◌}
+use Rattle.std.specs.Prelude.{◌≡◌, ℕ, ◌+◌, ◌<◌, ◌≤◌, ◌&&◌, Bool, true, false, List, slice_index_or, Option, Some, None, Result, Ok, nat_le, if◌then◌else◌}
 use Rattle.std.specs.List.{All, AllPairs, filter_map}
 use Rattle.ds_base.specs.declared.fault.Fault.{Fault}
 use Rattle.ds_base.specs.Reading.{◌>>=◌}
@@ -10,29 +10,20 @@ use Rattle.frame_table.specs.declared.entry.FrameEntry.{FrameEntry}
 use Rattle.frame_table.specs.declared.naming.Missed.{Missed}
 use Rattle.frame_table.specs.Naming.{is_due, lacks_cie}
 use Rattle.frame_table.specs.Description.{values_at}
-use Rattle.frame_table.specs.Frames.{tried, entries_from, frame_of}
+use Rattle.frame_table.specs.Frames.{entries_of, tried, in_turn, frame_of}
 
 -- each entry has its length and id, and ends before those behind it begin
 pub record StandApart (entries : List FrameEntry) : Type 0 where
   pub rise : AllPairs (λ e later. e.end ≤ later.place) entries
   pub filled : All (λ e. e.place + 8 ≤ e.end) entries
 
--- entries tried one after the other, behind those before
-abbrev pub tries : List ℕ → List FrameEntry → List FrameEntry → Result (Unit {0}) Fault
-tries bytes before [] = Ok tt
-tries bytes before (entry ∷ entries) = tried bytes before entry >>= λ _. tries bytes (before ++ entry ∷ []) entries
-
-abbrev pub stopped : {A : Type 0} → Option Fault → A → Result A Fault
-stopped None x = Ok x
-stopped (Some f) x = Err f
-
--- these are the entries of the section up to the first whose length or id is faulty
+-- these are the entries of the section, up to the first whose length or id is faulty
 abbrev pub AreAllEntries : List ℕ → List FrameEntry → Option Fault → Type 0
-AreAllEntries bytes entries stop = entries_from (length bytes) bytes [] 0 ≡ (tries bytes [] entries >>= λ _. stopped stop entries)
+AreAllEntries bytes entries stop = entries_of bytes ≡ record { entries = entries; stop = stop }
 
 -- the frames of entries that stand one after the other, or the first fault in them
 abbrev pub frames_among : Image → Relocs → List ℕ → List FrameEntry → Result (List RawFrame) Fault
-frames_among image relocs bytes entries = tries bytes [] entries >>= λ _. Ok (filter_map (frame_of image relocs bytes entries) entries)
+frames_among image relocs bytes entries = in_turn (tried bytes entries) entries >>= λ _. Ok (filter_map (frame_of image relocs bytes entries) entries)
 
 -- the frame of an entry, if it has one, or the fault in its values
 abbrev pub frame_at : Image → Relocs → List ℕ → List FrameEntry → FrameEntry → Result (Option RawFrame) Fault

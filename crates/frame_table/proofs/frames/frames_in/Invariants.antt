@@ -1,14 +1,13 @@
-use Rattle.std.proofs.Common.{◌≡◌, ◌≤◌, take, drop, [], IfSome}
+use Rattle.std.proofs.Common.{◌≡◌, ◌≤◌, take, drop, IfSome}
 use Rattle.std.specs.List.{filter_map}
-use Rattle.frame_table.specs.Frames.{frame_of}
-use Rattle.frame_table.specs.Order.{tries}
+use Rattle.frame_table.specs.Frames.{tried, in_turn, frame_of}
 use Rattle.frame_table.proofs.frames.frames_in.Given as goal
 
--- what is left to be tried, behind the entries so far, is what is tried in all; the frames are those of the entries so far, which miss no CIE
+-- what is left to be tried is what is tried in all; the frames are those of the entries so far, which miss no CIE
 abbrev pub invariant-loop-i : goal.invariant-loop-i
 invariant-loop-i l =
     record {
-      tried : tries l.bytes (take l.i l.entries) (drop l.i l.entries) ≡ tries l.bytes [] l.entries;
+      tried : in_turn (tried l.bytes l.entries) (drop l.i l.entries) ≡ in_turn (tried l.bytes l.entries) l.entries;
       frames : l.frames ≡ filter_map (frame_of l.image l.relocs l.bytes l.entries) (take l.i l.entries);
       behind : IfSome l.missed (λ m. l.i ≤ m.at);
     }
