@@ -1,10 +1,8 @@
 -- What every list keeps to, by its definition.
-use Rattle.std.proofs.Common.{◌≡◌, ℕ, zero, suc, ◌-◌, ◌<◌, ◌≤◌, ◌&&◌, Bool, true, false, List, [], ◌∷◌, ◌++◌, Result, Ok, refl, sym, ap, subst, ◌∙◌, arith, inl, inr}
+use Rattle.std.proofs.Common.{◌≡◌, ℕ, ◌-◌, ◌<◌, ◌≤◌, ◌&&◌, Bool, true, false, List, Some, None, IfSome, Ok, refl, sym, ap, subst, ◌∙◌, arith, inl, inr}
 use Rattle.std.specs.Prelude.{not, nat_le, ◌==◌, if◌then◌else◌}
 use Rattle.std.specs.List.{All}
 use Rattle.std.proofs.lemmas.Bool.{ltb-false, leb-true, eqb-true, eqb-false, not-false, cases_lt}
-use Rattle.std.proofs.lemmas.List.Elements.{All-append, All-cons, All-nil}
-use Rattle.ds_base.specs.declared.fault.Fault.{Fault}
 use Rattle.ds_base.specs.Spot.{Spot, after}
 use Rattle.ds_base.specs.Reading.{number_at}
 use Rattle.ds_base.proofs.Passing.{bind_ok, passed, guard_ok, ok_is}
@@ -18,7 +16,8 @@ use Rattle.list_items.specs.declared.item.Item.TheVariants as items
 use Rattle.list_items.specs.declared.item.Word.{Word}
 use Rattle.list_items.specs.Ends.{are_of_one_class, number_of, belong_together, is_empty}
 use Rattle.list_items.specs.Reading.{word_at, span_at, item_of, item_at}
-use Rattle.list_items.specs.Lists.{Behind, kept_at, given, list_at}
+use Rattle.list_items.specs.Lists.{Behind, Says, ends, selects, spans, said_at, whole_at, items_from, given, list_of}
+use Rattle.list_items.proofs.Given.{all_given}
 use Rattle.list_items.specs.Sound.{Rise, IsSoundSpan}
 
 -- ---- spans
@@ -80,9 +79,9 @@ span_ordered first span item e =
     let p = passed (not (belong_together span)) _ _ item e in
     subst IsOrdered (ok_is (items.Span span) item p.1) (not-false (belong_together span) p.0)
 
-item_ordered : (ends selects : Bool) (selected : Addr) (first : Spot) (span : RawSpan) (item : Item)
-    → (if ends then Ok items.End else if selects then Ok (items.Base selected) else span_at first span) ≡ Ok item → IsOrdered item
-item_ordered true selects selected first span item e = subst IsOrdered (ok_is items.End item e) tt
+item_ordered : (is_last is_base : Bool) (selected : Addr) (first : Spot) (span : RawSpan) (item : Item)
+    → (if is_last then Ok items.End else if is_base then Ok (items.Base selected) else span_at first span) ≡ Ok item → IsOrdered item
+item_ordered true is_base selected first span item e = subst IsOrdered (ok_is items.End item e) tt
 item_ordered false true selected first span item e = subst IsOrdered (ok_is (items.Base selected) item e) tt
 item_ordered false false selected first span item e = span_ordered first span item e
 
@@ -107,36 +106,29 @@ KeepsEnd {A = A} behind = (first : Spot) (span : RawSpan) (s : Spot) (x : A) (t 
 abbrev pub Keeps : {A : Type 0} → (A → Type 0) → ℕ → Behind A → Type 0
 Keeps {A = A} P end behind = (first : Spot) (span : RawSpan) (s : Spot) (x : A) (t : Spot) → s.end ≡ end → IsSoundSpan span → behind first span s ≡ Ok (x, t) → P x
 
-all_kept : {A : Type 0} (P : A → Type 0) (empty : Bool) (x : A) → (empty ≡ false → P x) → All P (if empty then [] else x ∷ [])
-all_kept P true x h = All-nil P
-all_kept P false x h = All-cons P x [] (h refl) (All-nil P)
+if_given : {A : Type 0} (P : A → Type 0) (empty : Bool) (x : A) → (empty ≡ false → P x) → IfSome (if empty then None else Some x) P
+if_given P true x h = tt
+if_given P false x h = h refl
 
-kept_sound : {A : Type 0} (P : A → Type 0) (end : ℕ) (behind : Behind A) → KeepsEnd behind → Keeps P end behind
-    → (first : Spot) (span : RawSpan) (s : Spot) (ys : List A) (t : Spot) → s.end ≡ end → belong_together span ≡ true → kept_at behind first span s ≡ Ok (ys, t) → All P ys × (t.end ≡ end)
-kept_sound {A = A} P end behind same keeps first span s ys t at le e =
-    let p = bind_ok (behind first span s) _ (ys, t) e in
-    let is = ok_is _ (ys, t) p.2 in (
-      subst (All P) (ap (λ (r : List A × Spot). r.0) is) (all_kept P (is_empty span) p.0.0 (λ differ. keeps first span s p.0.0 p.0.1 at (sound_from span le differ) p.1)),
-      sym (ap (λ (r : List A × Spot). r.1.end) is) ∙ same first span s p.0.0 p.0.1 p.1 ∙ at,
+said_sound : {A : Type 0} (P : A → Type 0) (end : ℕ) (behind : Behind A) → KeepsEnd behind → Keeps P end behind
+    → (first : Spot) (item : Item) (s : Spot) (y : Says A × Spot) → s.end ≡ end → IsOrdered item → said_at behind first item s ≡ Ok y → IfSome (given y.0) P × (y.1.end ≡ end)
+said_sound {A = A} P end behind same keeps first items.End s y at ordered e = subst (λ (r : Says A × Spot). IfSome (given r.0) P × (r.1.end ≡ end)) (ok_is (ends, s) y e) (tt, at)
+said_sound {A = A} P end behind same keeps first (items.Base selected) s y at ordered e = subst (λ (r : Says A × Spot). IfSome (given r.0) P × (r.1.end ≡ end)) (ok_is (selects selected, s) y e) (tt, at)
+said_sound {A = A} P end behind same keeps first (items.Span span) s y at ordered e =
+    let p = bind_ok (behind first span s) _ y e in
+    subst (λ (r : Says A × Spot). IfSome (given r.0) P × (r.1.end ≡ end)) (ok_is (spans span p.0.0, p.0.1) y p.2) (
+      if_given P (is_empty span) p.0.0 (λ differ. keeps first span s p.0.0 p.0.1 at (sound_from span ordered differ) p.1),
+      same first span s p.0.0 p.0.1 p.1 ∙ at,
     )
 
-given_sound : {A : Type 0} (P : A → Type 0) (end : ℕ) (behind : Behind A) → KeepsEnd behind → Keeps P end behind
-    → (others : Addr → Spot → Result (List A) Fault) → ((base : Addr) (s : Spot) (ys : List A) → s.end ≡ end → others base s ≡ Ok ys → All P ys)
-    → (base : Addr) (first : Spot) (item : Item) (s : Spot) (xs : List A) → s.end ≡ end → IsOrdered item → given behind others base first item s ≡ Ok xs → All P xs
-given_sound P end behind same keeps others sound base first items.End s xs at ordered e = subst (All P) (ok_is [] xs e) (All-nil P)
-given_sound P end behind same keeps others sound base first (items.Base selected) s xs at ordered e = sound selected s xs at e
-given_sound P end behind same keeps others sound base first (items.Span span) s xs at ordered e =
-    let here = bind_ok (kept_at behind first span s) _ xs e in
-    let more = bind_ok (others base here.0.1) _ xs here.2 in
-    let kept = kept_sound P end behind same keeps first span s here.0.0 here.0.1 at ordered here.1 in
-    subst (All P) (ok_is (here.0.0 ++ more.0) xs more.2) (All-append P here.0.0 more.0 kept.0 (sound base here.0.1 more.0 kept.1 more.1))
+whole_sound : {A : Type 0} (P : A → Type 0) (end : ℕ) (image : Image) (relocs : Relocs) (behind : Behind A) → KeepsEnd behind → Keeps P end behind
+    → (base : Addr) (s : Spot) (y : Says A × Spot) → s.end ≡ end → whole_at image relocs behind base s ≡ Ok y → IfSome (given y.0) P × (y.1.end ≡ end)
+whole_sound P end image relocs behind same keeps base s y at e =
+    let item = bind_ok (item_at image relocs base s) _ y e in
+    let kept = item_keeps image relocs base s item.0.0 item.0.1 item.1 in
+    said_sound P end behind same keeps s item.0.0 item.0.1 y (kept.1 ∙ at) kept.0 item.2
 
 pub list_sound : {A : Type 0} (P : A → Type 0) (end : ℕ) (image : Image) (relocs : Relocs) (behind : Behind A) → KeepsEnd behind → Keeps P end behind
-    → (left : ℕ) (base : Addr) (s : Spot) (xs : List A) → s.end ≡ end → list_at image relocs behind left base s ≡ Ok xs → All P xs
-unfolding list_at
-list_sound P end image relocs behind same keeps zero base s xs at e = absurd cc
-list_sound P end image relocs behind same keeps (suc left) base s xs at e =
-    let item = bind_ok (item_at image relocs base s) _ xs e in
-    let kept = item_keeps image relocs base s item.0.0 item.0.1 item.1 in
-    given_sound P end behind same keeps (list_at image relocs behind left) (λ b t ys onward is. list_sound P end image relocs behind same keeps left b t ys onward is)
-    base s item.0.0 item.0.1 xs (kept.1 ∙ at) kept.0 item.2
+    → (left : ℕ) (base : Addr) (s : Spot) (xs : List A) → s.end ≡ end → list_of (items_from (whole_at image relocs behind) left base s) ≡ Ok xs → All P xs
+list_sound P end image relocs behind same keeps left base s xs at e =
+    all_given P (λ (t : Spot). t.end ≡ end) (whole_at image relocs behind) (whole_sound P end image relocs behind same keeps) left base s xs at e

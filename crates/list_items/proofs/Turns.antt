@@ -1,5 +1,6 @@
 -- The loop over the items of a list: what it has, what it still reads, the ways out and the way on.
-use Rattle.std.proofs.Common.{◌≡◌, ℕ, true, false, suc, ◌+◌, ◌-◌, ◌<◌, ◌≤◌, List, [], ◌∷◌, ◌++◌, Result, Ok, Err, refl, sym, ap, ◌∙◌, append_assoc, append-nil, arith}
+use Rattle.std.proofs.Common.{◌≡◌, ℕ, true, false, suc, ◌+◌, ◌-◌, ◌<◌, ◌≤◌, List, [], ◌∷◌, ◌++◌, Option, Some, None, Result, Ok, Err, refl, sym, ap, ◌∙◌, append_assoc, append-nil, arith}
+use Rattle.std.specs.List.{filter_map}
 use Rattle.ds_base.specs.declared.fault.Fault.{Fault}
 use Rattle.ds_base.specs.declared.fault.Kind.TheVariants as kinds
 use Rattle.ds_base.specs.Spot.{Spot, fault_at}
@@ -11,7 +12,11 @@ use Rattle.reloc_table.specs.declared.relocation.Relocs.{Relocs}
 use Rattle.list_items.specs.declared.item.Item.TheVariants as items
 use Rattle.list_items.specs.Reading.{item_at}
 use Rattle.list_items.specs.Ends.{is_empty}
-use Rattle.list_items.specs.Lists.{Behind, given, list_at}
+use Rattle.list_items.specs.Lists.{Behind, whole_at, Listing, behind_it, listed, items_from, given, unless_stopped, list_of}
+
+-- what the items from a spot on give
+abbrev pub list_at : {A : Type 0} → Image → Relocs → Behind A → ℕ → Addr → Spot → Result (List A) Fault
+list_at image relocs behind left base s = list_of (items_from (whole_at image relocs behind) left base s)
 
 -- what was read before the rest of the list
 abbrev pub before : {A : Type 0} → List A → Result (List A) Fault → Result (List A) Fault
@@ -21,10 +26,6 @@ before xs (Err f) = Err f
 before_none : {A : Type 0} (r : Result (List A) Fault) → before [] r ≡ r
 before_none (Ok ys) = refl
 before_none (Err f) = refl
-
-before_more : {A : Type 0} (xs here : List A) (r : Result (List A) Fault) → before xs (r >>= λ more. Ok (here ++ more)) ≡ before (xs ++ here) r
-before_more {A = A} xs here (Ok ys) = ap (λ (zs : List A). Ok zs) (sym (append_assoc xs here ys))
-before_more {A = A} xs here (Err f) = refl
 
 -- nothing is read yet
 pub list_starts : {A : Type 0} (image : Image) (relocs : Relocs) (behind : Behind A) (left : ℕ) (base : Addr) (s : Spot)
@@ -36,11 +37,19 @@ list_starts image relocs behind left base s =
 -- one more item, whatever it is
 turn : {A : Type 0} (image : Image) (relocs : Relocs) (behind : Behind A) (left i : ℕ) (xs : List A) (base : Addr) (s : Spot) (total : Result (List A) Fault) → i < left
     → before xs (list_at image relocs behind (left - i) base s) ≡ total
-    → total ≡ before xs (item_at image relocs base s >>= λ item. given behind (list_at image relocs behind (left - (i + 1))) base s item.0 item.1)
-unfolding list_at
+    → total ≡ before xs (list_of (listed s (whole_at image relocs behind base s) (λ says t. behind_it says base (λ b. items_from (whole_at image relocs behind) (left - (i + 1)) b t))))
 turn image relocs behind left i xs base s total lt so_far =
     let k : left - i ≡ suc (left - (i + 1)) = omega arith in
     sym so_far ∙ ap (λ (n : ℕ). before xs (list_at image relocs behind n base s)) k
+
+-- ---- what an item adds to those behind it
+
+-- an item that gives something
+one_given : {A : Type 0} (xs : List A) (x : A) (stop : Option Fault) (ys : List A) → before xs (unless_stopped stop >>= λ _. Ok (x ∷ ys)) ≡ before (xs ++ x ∷ []) (unless_stopped stop >>= λ _. Ok ys)
+one_given {A = A} xs x None ys = ap (λ (zs : List A). Ok zs) (sym (append_assoc xs (x ∷ []) ys))
+one_given xs x (Some f) ys = refl
+
+-- ---- the ways out and the way on
 
 pub item_refused : {A : Type 0} (image : Image) (relocs : Relocs) (behind : Behind A) (left i : ℕ) (xs : List A) (base : Addr) (s : Spot) (f : Fault) (total : Result (List A) Fault) → i < left
     → item_at image relocs base s ≡ Err f
@@ -67,21 +76,20 @@ pub span_kept : {A : Type 0} (image : Image) (relocs : Relocs) (behind : Behind 
     → item_at image relocs base s ≡ Ok (items.Span span, t) → behind s span t ≡ Ok (x, u) → is_empty span ≡ false
     → before xs (list_at image relocs behind (left - i) base s) ≡ total
     → before (xs ++ x ∷ []) (list_at image relocs behind (left - (i + 1)) base u) ≡ total
-span_kept image relocs behind left i xs x base span s t u total lt item read some so_far =
-    sym (turn image relocs behind left i xs base s total lt so_far ∙ rw (item, read, some) (before_more xs (x ∷ []) (list_at image relocs behind (left - (i + 1)) base u)))
+span_kept {A = A} image relocs behind left i xs x base span s t u total lt item read some so_far =
+    let more : Listing A = items_from (whole_at image relocs behind) (left - (i + 1)) base u in
+    sym (turn image relocs behind left i xs base s total lt so_far ∙ rw (item, read, some) (one_given xs x more.stop (filter_map (λ item. given item.says) more.items)))
 
 pub span_dropped : {A : Type 0} (image : Image) (relocs : Relocs) (behind : Behind A) (left i : ℕ) (xs : List A) (x : A) (base : Addr) (span : RawSpan) (s t u : Spot) (total : Result (List A) Fault) → i < left
     → item_at image relocs base s ≡ Ok (items.Span span, t) → behind s span t ≡ Ok (x, u) → is_empty span ≡ true
     → before xs (list_at image relocs behind (left - i) base s) ≡ total
     → before xs (list_at image relocs behind (left - (i + 1)) base u) ≡ total
-span_dropped {A = A} image relocs behind left i xs x base span s t u total lt item read none so_far =
-    let others : Result (List A) Fault = list_at image relocs behind (left - (i + 1)) base u in
-    sym (turn image relocs behind left i xs base s total lt so_far ∙ rw (item, read, none) (before_more xs [] others ∙ ap (λ (ys : List A). before ys others) (append-nil xs)))
+span_dropped image relocs behind left i xs x base span s t u total lt item read none so_far =
+    sym (turn image relocs behind left i xs base s total lt so_far ∙ rw (item, read, none) refl)
 
 -- no byte is left
 pub bytes_end : {A : Type 0} (image : Image) (relocs : Relocs) (behind : Behind A) (left i : ℕ) (xs : List A) (base : Addr) (s : Spot) (total : Result (List A) Fault) → left ≤ i
     → before xs (list_at image relocs behind (left - i) base s) ≡ total → total ≡ Err (fault_at s kinds.Truncated)
-unfolding list_at
 bytes_end image relocs behind left i xs base s total le so_far =
     let none : left - i ≡ 0 = omega arith in
     sym so_far ∙ ap (λ (n : ℕ). before xs (list_at image relocs behind n base s)) none

@@ -2,3 +2,4 @@ pub mod Ends
 pub mod Reading
 pub mod Lists
 pub mod Sound
+pub mod Whole

@@ -1,5 +1,6 @@
--- A list up to its end (DWARF 4, sections 2.17.3 and 2.6.2), whatever follows its spans.
-use Rattle.std.specs.Prelude.{ℕ, zero, suc, ◌-◌, List, [], ◌∷◌, ◌++◌, length, Result, Ok, Err, if◌then◌else◌}
+-- A list (DWARF 4, sections 2.17.3 and 2.6.2), whatever follows its spans: a listing of its items, and what they give.
+use Rattle.std.specs.Prelude.{ℕ, zero, suc, ◌-◌, List, [], ◌∷◌, length, Option, Some, None, Result, Ok, Err, if◌then◌else◌}
+use Rattle.std.specs.List.{filter_map}
 use Rattle.ds_base.specs.declared.fault.Fault.{Fault}
 use Rattle.ds_base.specs.declared.fault.Kind.TheVariants as kinds
 use Rattle.ds_base.specs.declared.fault.Part.{Part}
@@ -14,36 +15,83 @@ use Rattle.list_items.specs.declared.item.Item.TheVariants as items
 use Rattle.list_items.specs.Ends.{is_empty}
 use Rattle.list_items.specs.Reading.{item_at}
 
+-- ---- an item
+
 -- what is read behind the two words of a span whose item begins at first
 abbrev pub Behind : Type 0 → Type 0
 Behind A = Spot → RawSpan → Spot → Result (A × Spot) Fault
 
--- what a span gives with what is read behind it: nothing where it is empty
-abbrev pub kept_at : {A : Type 0} → Behind A → Spot → RawSpan → Spot → Result (List A × Spot) Fault
-kept_at behind first span s = do
-  x ← behind first span s
-  Ok (if is_empty span then [] else x.0 ∷ [], x.1)
+-- what an item says: that the list ends, the base of the items behind it, or a span with what is read behind its words
+pub data Says (A : Type 0) : Type 0 where
+  ends : Says A
+  selects : Addr → Says A
+  spans : RawSpan → A → Says A
 
--- what an item gives that begins at first, and after it all others, whose base is the one that was selected last
-abbrev pub given : {A : Type 0} → Behind A → (Addr → Spot → Result (List A) Fault) → Addr → Spot → Item → Spot → Result (List A) Fault
-given behind others base first items.End s = Ok []
-given behind others base first (items.Base selected) s = others selected s
-given behind others base first (items.Span span) s = do
-  here ← kept_at behind first span s
-  more ← others base here.1
-  Ok (here.0 ++ more)
+-- what follows the two words
+abbrev pub said_at : {A : Type 0} → Behind A → Spot → Item → Spot → Result (Says A × Spot) Fault
+said_at behind first items.End s = Ok (ends, s)
+said_at behind first (items.Base selected) s = Ok (selects selected, s)
+said_at behind first (items.Span span) s = behind first span s >>= λ x. Ok (spans span x.0, x.1)
 
--- The items up to the end of the list. Each takes a byte at least, so the count of the bytes that are left bounds them.
-unfoldable pub list_at : {A : Type 0} → Image → Relocs → Behind A → ℕ → Addr → Spot → Result (List A) Fault
-list_at image relocs behind zero base s = Err (fault_at s kinds.Truncated)
-list_at image relocs behind (suc left) base s = do
-  item ← item_at image relocs base s
-  given behind (list_at image relocs behind left) base s item.0 item.1
+-- the next item of a list that has this base: its two words, and what follows them
+abbrev pub whole_at : {A : Type 0} → Image → Relocs → Behind A → Addr → Spot → Result (Says A × Spot) Fault
+whole_at image relocs behind base s = item_at image relocs base s >>= λ item. said_at behind s item.0 item.1
+
+-- ---- the items of a list
+
+-- an item of a list: where it begins and where it ends, and what it says
+pub record ListItem (A : Type 0) : Type 0 where
+  pub place : ℕ
+  pub end : ℕ
+  pub says : Says A
+
+-- the items of a list, up to the mark that ends it or the first that is faulty
+pub record Listing (A : Type 0) : Type 0 where
+  pub items : List (ListItem A)
+  pub stop : Option Fault
+
+-- the items behind one that says so: none behind the mark that ends the list, else those under the base that was selected last
+abbrev pub behind_it : {A : Type 0} → Says A → Addr → (Addr → Listing A) → Listing A
+behind_it ends base more = record { items = []; stop = None }
+behind_it (selects selected) base more = more selected
+behind_it (spans span x) base more = more base
+
+-- an item before those behind it
+abbrev pub listed : {A : Type 0} → Spot → Result (Says A × Spot) Fault → (Says A → Spot → Listing A) → Listing A
+listed first (Ok item) more =
+    record (more item.0 item.1) { items = record { place = first.place; end = item.1.place; says = item.0 } ∷ (more item.0 item.1).items }
+listed first (Err f) more = record { items = []; stop = Some f }
+
+-- The items from where a cursor stands, in a list that has this base. Each takes a byte at least, so the count of the bytes that are left bounds them; where it runs out, no item is left to be read.
+abbrev pub items_from : {A : Type 0} → (Addr → Spot → Result (Says A × Spot) Fault) → ℕ → Addr → Spot → Listing A
+items_from read zero base s = record { items = []; stop = Some (fault_at s kinds.Truncated) }
+items_from read (suc left) base s = listed s (read base s) (λ says t. behind_it says base (λ b. items_from read left b t))
 
 abbrev pub list_spot : Part → List ℕ → ℕ → Spot
 list_spot part bytes offset = record { bytes = bytes; part = part; place = offset; end = length bytes }
 
+-- the items of the list that begins at a place of the section
+abbrev pub items_in : {A : Type 0} → Part → List ℕ → Image → Relocs → Behind A → ℕ → Addr → Listing A
+items_in part bytes image relocs behind offset base =
+    let s = list_spot part bytes offset in items_from (whole_at image relocs behind) (s.end - s.place) base s
+
+-- ---- what they give
+
+-- a span that is not empty gives what is read behind it
+abbrev pub given : {A : Type 0} → Says A → Option A
+given ends = None
+given (selects selected) = None
+given (spans span x) = if is_empty span then None else Some x
+
+-- the list came to its end
+abbrev pub unless_stopped : Option Fault → Result (Unit {0}) Fault
+unless_stopped None = Ok tt
+unless_stopped (Some f) = Err f
+
+-- what a listing means
+abbrev pub list_of : {A : Type 0} → Listing A → Result (List A) Fault
+list_of listing = unless_stopped listing.stop >>= λ _. Ok (filter_map (λ item. given item.says) listing.items)
+
 -- the list that begins at a place of the section
 abbrev pub list_in : {A : Type 0} → Part → List ℕ → Image → Relocs → Behind A → ℕ → Addr → Result (List A) Fault
-list_in part bytes image relocs behind offset base =
-    let s = list_spot part bytes offset in list_at image relocs behind (s.end - s.place) base s
+list_in part bytes image relocs behind offset base = list_of (items_in part bytes image relocs behind offset base)

@@ -1,2 +1,3 @@
 mod Expressions
 mod Items
+mod Whole

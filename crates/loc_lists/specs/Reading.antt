@@ -10,7 +10,7 @@ use Rattle.dwarf_types.specs.declared.lists.RawSpan.{RawSpan}
 use Rattle.dwarf_types.specs.SectionBytes.{SectionBytes}
 use Rattle.macho_read.specs.declared.image.Image.{Image}
 use Rattle.reloc_table.specs.declared.relocation.Relocs.{Relocs}
-use Rattle.list_items.specs.Lists.{list_in}
+use Rattle.list_items.specs.Lists.{Listing, items_in, list_of}
 
 -- the place of an expression's first byte and its bytes, behind their length of two bytes
 unfoldable pub expression_at : Spot → Result ((ℕ × List ℕ) × Spot) Fault
@@ -26,5 +26,9 @@ location_at first span s = do
   Ok (record { span = span; place = first.place; first = expression.0.0; bytes = expression.0.1 }, expression.1)
 
 -- the items of the list at a place, whose base at first is the unit's
+abbrev pub location_items : SectionBytes → Relocs → Image → ℕ → Addr → Listing RawLocation
+location_items sections relocs image offset base = items_in parts.Loc sections.loc image relocs location_at offset base
+
+-- the locations that they give
 unfoldable pub locations_of : SectionBytes → Relocs → Image → ℕ → Addr → Result (List RawLocation) Fault
-locations_of sections relocs image offset base = list_in parts.Loc sections.loc image relocs location_at offset base
+locations_of sections relocs image offset base = list_of (location_items sections relocs image offset base)

@@ -2,13 +2,13 @@
 //!
 //! Layer: object readers. Reads lists of version 4 (DWARF 4, section 2.6.2). [`read_locations`] is the crate's one call.
 //! It gives `locations_of` the sections (`specs/Reading.antt`), or the first fault in the order of the list's items. The
-//! items are those of `list_items`, each span with an expression behind it. Spans keep the object's addresses:
-//! `addr_map` moves them. Expressions are kept as bytes: `expr_walk` reads their operations.
+//! items are those of `list_items`, each span with an expression behind it; no byte of a list that is read is left out
+//! ([`items_fill_a_location_list`]), and faults are of the kinds that [`kinds_of_location_faults`] names. Spans keep the
+//! object's addresses: `addr_map` moves them. Expressions are kept as bytes: `expr_walk` reads their operations.
 #![tactic(auto)]
 
+mod laws;
 mod locations;
 
+pub use laws::{items_fill_a_location_list, kinds_of_location_faults};
 pub use locations::read_locations;
-
-#[cfg(test)]
-mod tests;

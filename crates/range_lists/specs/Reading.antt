@@ -8,12 +8,16 @@ use Rattle.dwarf_types.specs.declared.lists.RawSpan.{RawSpan}
 use Rattle.dwarf_types.specs.SectionBytes.{SectionBytes}
 use Rattle.macho_read.specs.declared.image.Image.{Image}
 use Rattle.reloc_table.specs.declared.relocation.Relocs.{Relocs}
-use Rattle.list_items.specs.Lists.{list_in}
+use Rattle.list_items.specs.Lists.{Listing, items_in, list_of}
 
 -- nothing follows the two words of a span
 abbrev pub range_at : Spot → RawSpan → Spot → Result (RawSpan × Spot) Fault
 range_at first span s = Ok (span, s)
 
--- the spans of the list at a place, whose base at first is the unit's
+-- the items of the list at a place, whose base at first is the unit's
+abbrev pub range_items : SectionBytes → Relocs → Image → ℕ → Addr → Listing RawSpan
+range_items sections relocs image offset base = items_in parts.Ranges sections.ranges image relocs range_at offset base
+
+-- the spans that they give
 unfoldable pub ranges_of : SectionBytes → Relocs → Image → ℕ → Addr → Result (List RawSpan) Fault
-ranges_of sections relocs image offset base = list_in parts.Ranges sections.ranges image relocs range_at offset base
+ranges_of sections relocs image offset base = list_of (range_items sections relocs image offset base)

@@ -1,8 +1,7 @@
 use Rattle.std.proofs.Common.{◌≡◌, ◌-◌}
 use Rattle.ds_base.specs.Spot.{IsSmall}
 use Rattle.dwarf_types.specs.SectionBytes.{bytes_in}
-use Rattle.list_items.specs.Lists.{list_at}
-use Rattle.list_items.proofs.Turns.{before}
+use Rattle.list_items.proofs.Turns.{list_at, before}
 use Rattle.loc_lists.specs.Reading.{location_at, locations_of}
 use Rattle.loc_lists.proofs.locations.read_locations.Given as goal
 

@@ -1,8 +1,7 @@
 use Rattle.std.proofs.Common.{◌≡◌, ◌-◌}
 use Rattle.ds_base.specs.Spot.{IsSmall}
 use Rattle.dwarf_types.specs.SectionBytes.{bytes_in}
-use Rattle.list_items.specs.Lists.{list_at}
-use Rattle.list_items.proofs.Turns.{before}
+use Rattle.list_items.proofs.Turns.{list_at, before}
 use Rattle.range_lists.specs.Reading.{range_at, ranges_of}
 use Rattle.range_lists.proofs.ranges.read_ranges.Given as goal
 
