@@ -305,7 +305,9 @@ module _ (image : Image) (relocs : Relocs) (none : relocs.list ≡ []) (dirs : L
 
   -- nothing is left
   all_done : (k : ℕ) (ss : List RawSequence) (s : Spot) → At s [] → going image relocs none dirs files k ss [] start s ≡ Ok (record { dirs = dirs; files = files; sequences = ss })
-  all_done zero ss s h = refl
+  all_done zero ss s h =
+      let done : s.end - s.place ≡ 0 = omega (arith, h.end_is) in
+      rw done refl
   all_done (suc k) ss s h =
       let done : s.end - s.place ≡ 0 = omega (arith, h.end_is) in
       rw done refl

@@ -6,3 +6,5 @@ pub mod ProgramLoop
 pub mod Programs
 pub mod Steps
 pub mod RisingRows
+mod Whole
+mod Refused

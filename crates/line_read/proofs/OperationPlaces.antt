@@ -1,5 +1,5 @@
 -- Where the cursor stands behind a header's fields, and behind an operation.
-use Rattle.std.proofs.Common.{◌≡◌, ℕ, zero, suc, ◌-◌, ◌≤◌, Bool, true, false, Option, Some, None, Result, Ok, refl, subst}
+use Rattle.std.proofs.Common.{◌≡◌, ℕ, zero, suc, ◌-◌, ◌≤◌, Bool, true, false, Option, Some, None, Result, Ok, refl, subst, arith}
 use Rattle.std.proofs.lemmas.Bool.{ltb-false}
 use Rattle.std.specs.Prelude.{nat_lt, nat_le, ◌==◌, ◌||◌, if◌then◌else◌}
 use Rattle.ds_base.specs.declared.dwarf.TheConstants.{DW_LNS_extended_op}
@@ -7,7 +7,7 @@ use Rattle.ds_base.specs.declared.fault.Fault.{Fault}
 use Rattle.ds_base.specs.declared.fault.Kind.TheVariants as kinds
 use Rattle.ds_base.specs.Spot.{Spot, after, fault_at}
 use Rattle.ds_base.specs.Reading.{bytes_at, number_at, uleb_at, sleb_at}
-use Rattle.ds_base.proofs.Passing.{bind_ok, passed, ok_is}
+use Rattle.ds_base.proofs.Passing.{bind_ok, passed, guard_ok, ok_is}
 use Rattle.macho_read.specs.declared.image.Image.{Image}
 use Rattle.reloc_table.specs.declared.relocation.Relocs.{Relocs}
 use Rattle.line_read.specs.declared.header.LineHeader.{LineHeader}
@@ -19,7 +19,7 @@ use Rattle.line_read.specs.declared.operation.LineOp.TheVariants as ops
 use Rattle.line_read.specs.Codes.{standard_of}
 use Rattle.line_read.specs.Header.{bad, version_at, program_at}
 use Rattle.line_read.specs.Operation.{made, standard_at, ulebs_at, operand_count, low_at, bad_op, body_at, inside, part_at, extended_at, op_at}
-use Rattle.ds_base.proofs.Onward.{Onward, stays, onward_then, number_onward, bytes_onward, uleb_onward, sleb_onward}
+use Rattle.ds_base.proofs.Onward.{Onward, Further, stays, onward_then, further_then, number_onward, bytes_onward, uleb_onward, sleb_onward}
 
 -- ---- an operation
 
@@ -89,14 +89,25 @@ choice_onward true extended op s one other y a b e = here op s y e
 choice_onward false true op s one other y a b e = a y e
 choice_onward false false op s one other y a b e = b y e
 
-pub op_onward : (header : LineHeader) (image : Image) (relocs : Relocs) (s : Spot) (y : LineOp × Spot) → op_at header image relocs s ≡ Ok y → Onward s y.1
+-- a byte
+byte_further : (s : Spot) (y : ℕ × Spot) → number_at 1 s ≡ Ok y → Further s y.1
+unfolding number_at
+byte_further s y e =
+    let p = guard_ok (nat_lt (s.end - s.place) 1) (fault_at s kinds.Truncated) _ y e in
+    subst (λ (r : ℕ × Spot). Further s r.1) p.1 (record { onward = record { by = 1; is = refl; fits = ltb-false _ _ p.0 }; some = omega arith })
+
+-- an operation goes on by its code at least
+pub op_further : (header : LineHeader) (image : Image) (relocs : Relocs) (s : Spot) (y : LineOp × Spot) → op_at header image relocs s ≡ Ok y → Further s y.1
 unfolding op_at
-op_onward header image relocs s y e =
+op_further header image relocs s y e =
     let code = bind_ok (number_at 1 s) _ y e in
-    onward_then s code.0.1 y.1 (number_onward 1 s code.0 code.1) (
+    further_then s code.0.1 y.1 (byte_further s code.0 code.1) (
     choice_onward (nat_le header.opcode_base code.0.0) (code.0.0 == DW_LNS_extended_op) (ops.Special (code.0.0 - header.opcode_base)) code.0.1
     (extended_at image relocs s code.0.1) (low_at header code.0.0 (standard_of code.0.0) code.0.1) y
     (extended_onward image relocs s code.0.1) (low_onward header code.0.0 (standard_of code.0.0) code.0.1) code.2)
+
+pub op_onward : (header : LineHeader) (image : Image) (relocs : Relocs) (s : Spot) (y : LineOp × Spot) → op_at header image relocs s ≡ Ok y → Onward s y.1
+op_onward header image relocs s y e = let f = op_further header image relocs s y e in f.onward
 
 -- ---- the header
 

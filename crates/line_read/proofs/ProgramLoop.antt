@@ -10,6 +10,11 @@ use Rattle.line_read.specs.declared.operation.LineOp.{LineOp}
 use Rattle.line_read.specs.declared.program.Matrix.{Matrix}
 use Rattle.line_read.specs.Pass.{step_of, run_at}
 
+-- all is run
+pub run_ends : (read : Spot → Result (LineOp × Spot) Fault) (header : LineHeader) (left : ℕ) (m : Matrix) (s : Spot) (total : Result Matrix Fault)
+    → left ≡ 0 → s.end - s.place ≡ 0 → run_at read header left m s ≡ total → total ≡ Ok m
+run_ends read header left m s total none done so_far = sym so_far ∙ rw (none, done) refl
+
 -- one more is run
 pub run_more : (read : Spot → Result (LineOp × Spot) Fault) (header : LineHeader) (left i : ℕ) (m new : Matrix) (s behind : Spot) (op : LineOp) (total : Result Matrix Fault)
     → i < left → eqb (s.end - s.place) 0 ≡ false → read s ≡ Ok (op, behind) → step_of header s.place op m ≡ Ok new

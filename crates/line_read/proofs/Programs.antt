@@ -6,7 +6,8 @@ use Rattle.std.proofs.lemmas.List.{append-nil}
 use Rattle.ds_base.specs.declared.fault.Fault.{Fault}
 use Rattle.ds_base.specs.declared.fault.ReadError.{ReadError}
 use Rattle.ds_base.specs.declared.fault.ReadError.TheVariants as errors
-use Rattle.ds_base.specs.Spot.{Spot}
+use Rattle.ds_base.specs.declared.fault.Kind.TheVariants as kinds
+use Rattle.ds_base.specs.Spot.{Spot, fault_at}
 use Rattle.ds_base.specs.Reading.{◌>>=◌, refuse_if, Gives}
 use Rattle.dwarf_types.specs.declared.address.Addr.{Addr}
 use Rattle.dwarf_types.specs.declared.lines.FileName.{FileName}
@@ -133,8 +134,13 @@ at_end : (b : Bool) (header : LineHeader) (dirs : List (List ℕ)) (m : Matrix) 
 at_end true header dirs m run more h = all_run header dirs m
 at_end false header dirs m run more h = h
 
+-- the count runs out
+run_out : (b : Bool) (f : Fault) (header : LineHeader) (dirs : List (List ℕ)) (m : Matrix) → ended dirs (if b then Ok m else Err f) ≡ left_of header dirs m (record { ops = []; stop = if b then None else Some f })
+run_out true f header dirs m = all_run header dirs m
+run_out false f header dirs m = refl
+
 run_is : (read : Spot → Result (LineOp × Spot) Fault) (header : LineHeader) (dirs : List (List ℕ)) (n : ℕ) (m : Matrix) (s : Spot) → ended dirs (run_at read header n m s) ≡ left_of header dirs m (ops_at read n s)
-run_is read header dirs zero m s = all_run header dirs m
+run_is read header dirs zero m s = run_out (s.end - s.place == 0) (fault_at s kinds.Truncated) header dirs m
 run_is read header dirs (suc n) m s =
     at_end (s.end - s.place == 0) header dirs m _ _
     (op_run header dirs s.place m (read s) (λ new t. run_at read header n new t) (λ t. ops_at read n t) (λ new t. run_is read header dirs n new t))

@@ -8,7 +8,7 @@ use Rattle.ds_base.specs.Spot.{Spot, after, fault_at}
 use Rattle.ds_base.specs.Reading.{◌>>=◌, refuse_if, number_at, items_at}
 use Rattle.line_read.specs.declared.header.LineHeader.{LineHeader}
 use Rattle.ds_base.specs.declared.dwarf.TheConstants.{LENGTH_RESERVED}
-use Rattle.line_read.specs.declared.header.TheConstants.{FIRST_VERSION, LAST_VERSION, MOST_OPERATIONS}
+use Rattle.line_read.specs.declared.header.TheConstants.{FIRST_VERSION, LAST_VERSION, OPERATIONS_SINCE, MOST_OPERATIONS}
 
 -- a place of the section
 abbrev pub line_at : List ℕ → ℕ → Spot
@@ -38,10 +38,10 @@ program_at first s = do
   _ ← refuse_if (nat_lt (len.1.end - len.1.place) len.0) (bad first)
   Ok (after len.1 len.0, len.1)
 
--- maximum_operations_per_instruction, which only version 4 has
+-- maximum_operations_per_instruction, which version 4 is the first to have
 unfoldable pub operations_at : Spot → ℕ → Spot → Result (Unit {0} × Spot) Fault
 operations_at first version s =
-    if version == LAST_VERSION then
+    if nat_le OPERATIONS_SINCE version then
     (number_at 1 s >>= λ most. refuse_if (nat_lt MOST_OPERATIONS most.0) (fault_at first kinds.VliwLine) >>= λ _. Ok (tt, most.1))
     else Ok (tt, s)
 

@@ -7,3 +7,4 @@ pub mod Program
 pub mod Rising
 pub mod Pass
 pub mod Bounds
+pub mod Whole

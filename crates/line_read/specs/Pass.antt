@@ -1,7 +1,8 @@
 -- The one pass over a program's operations: what has been made of those before.
-use Rattle.std.specs.Prelude.{ℕ, zero, suc, ◌-◌, ◌==◌, List, [], ◌∷◌, ◌++◌, length, Some, None, Result, Ok, if◌then◌else◌}
+use Rattle.std.specs.Prelude.{ℕ, zero, suc, ◌-◌, ◌==◌, List, [], ◌∷◌, ◌++◌, length, Some, None, Result, Ok, Err, if◌then◌else◌}
 use Rattle.ds_base.specs.declared.fault.Fault.{Fault}
-use Rattle.ds_base.specs.Spot.{Spot}
+use Rattle.ds_base.specs.declared.fault.Kind.TheVariants as kinds
+use Rattle.ds_base.specs.Spot.{Spot, fault_at}
 use Rattle.ds_base.specs.Reading.{◌>>=◌, refuse_if}
 use Rattle.dwarf_types.specs.declared.lines.FileName.{FileName}
 use Rattle.dwarf_types.specs.declared.lines.RawLines.{RawLines}
@@ -46,7 +47,7 @@ step_of header place op m = Ok (record m { registers = changed header op m.regis
 
 -- operations are read and run up to the end
 abbrev pub run_at : (Spot → Result (LineOp × Spot) Fault) → LineHeader → ℕ → Matrix → Spot → Result Matrix Fault
-run_at read header zero m s = Ok m
+run_at read header zero m s = if s.end - s.place == 0 then Ok m else Err (fault_at s kinds.Truncated)
 run_at read header (suc left) m s =
     if s.end - s.place == 0 then Ok m
     else (read s >>= λ op. step_of header s.place op.0 m >>= λ new. run_at read header left new op.1)

@@ -3,7 +3,7 @@ use Rattle.std.specs.Prelude.{ℕ, zero, suc, ◌-◌, ◌==◌, Bool, true, fal
 use Rattle.ds_base.specs.declared.fault.Fault.{Fault}
 use Rattle.ds_base.specs.declared.fault.Kind.TheVariants as kinds
 use Rattle.ds_base.specs.declared.fault.Part.TheVariants as parts
-use Rattle.ds_base.specs.Spot.{Spot}
+use Rattle.ds_base.specs.Spot.{Spot, fault_at}
 use Rattle.ds_base.specs.Reading.{◌>>=◌, refuse_if}
 use Rattle.dwarf_types.specs.declared.address.Addr.{Addr}
 use Rattle.dwarf_types.specs.declared.address.Addr.TheVariants as addrs
@@ -34,9 +34,9 @@ abbrev pub listed : ℕ → Result (LineOp × Spot) Fault → (Spot → Listing)
 listed place (Ok op) more = record (more op.1) { ops = (place, op.0) ∷ (more op.1).ops }
 listed place (Err f) more = record { ops = []; stop = Some f }
 
--- The operations up to the end. Each takes a byte at least, so the count of the bytes that are left bounds them.
+-- The operations up to the end. Each takes a byte at least, so the count of the bytes that are left bounds them; where it ran out before the end, that would be a fault.
 abbrev pub ops_at : (Spot → Result (LineOp × Spot) Fault) → ℕ → Spot → Listing
-ops_at read zero s = record { ops = []; stop = None }
+ops_at read zero s = record { ops = []; stop = if s.end - s.place == 0 then None else Some (fault_at s kinds.Truncated) }
 ops_at read (suc left) s = if s.end - s.place == 0 then record { ops = []; stop = None } else listed s.place (read s) (λ t. ops_at read left t)
 
 -- the files that operations define

@@ -15,6 +15,9 @@ const FIRST_VERSION: u16 = 2;
 /// The version of the tables of DWARF 4.
 const LAST_VERSION: u16 = 4;
 
+/// The first version that has maximum_operations_per_instruction.
+const OPERATIONS_SINCE: u16 = 4;
+
 /// The most operations that an instruction may have: programs for VLIW machines are not read.
 const MOST_OPERATIONS: u8 = 1;
 
@@ -117,12 +120,12 @@ pub(crate) fn read_fields(
     })
 }
 
-/// Reads maximum_operations_per_instruction, which only version 4 has.
+/// Reads maximum_operations_per_instruction, which version 4 is the first to have.
 #[tactic(auto, unfolding(crate::specs::Header::operations_at))]
 fn check_operations(cursor: &mut Cursor, first: &Cursor, version: u16) -> Result<(), Fault>
     ensures { Reads (λ _. tt) result cursor.new (operations_at first.now version cursor.old) }
 {
-    if version == LAST_VERSION && cursor.u8()? > MOST_OPERATIONS {
+    if version >= OPERATIONS_SINCE && cursor.u8()? > MOST_OPERATIONS {
         return Err(first.fault(Kind::VliwLine));
     }
     Ok(())

@@ -6,18 +6,18 @@
 //! (`specs/Header.antt`), directories and files (`specs/Names.antt`), one operation from its bytes
 //! (`specs/Operation.antt`), what an operation does to the registers (`specs/Registers.antt`), and the matrix of
 //! rows that the list of operations gives, cut into sequences (`specs/Program.antt`). Addresses stay the object's:
-//! `addr_map` moves them. Tables of version 5 are refused.
+//! `addr_map` moves them. Tables of version 5 are refused. No byte of a program that is read is left out
+//! ([`operations_fill_the_program`]), and faults are of the kinds that [`kinds_of_line_faults`] names.
 #![tactic(auto)]
 
 mod codes;
 mod header;
+mod laws;
 mod names;
 mod operation;
 mod program;
 mod registers;
 mod table;
 
+pub use laws::{kinds_of_line_faults, operations_fill_the_program};
 pub use table::read_lines;
-
-#[cfg(test)]
-mod tests;
