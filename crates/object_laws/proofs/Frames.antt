@@ -1,5 +1,5 @@
 -- The frames of a section are bytes and numbers, and so are those that went to the linked program.
-use Rattle.std.proofs.Common.{◌≡◌, ℕ, ◌-◌, ◌^◌, ◌<◌, List, [], ◌∷◌, length, Option, Some, None, IfSome, Result, Ok, Err, refl, subst, inl, inr}
+use Rattle.std.proofs.Common.{◌≡◌, ℕ, ◌-◌, ◌^◌, ◌<◌, List, [], ◌∷◌, Option, Some, None, IfSome, Result, Ok, Err, refl, subst, inl, inr}
 use Rattle.std.specs.List.{All, AllByRecursion, filter_map}
 use Rattle.std.specs.Option.{option_map}
 use Rattle.std.proofs.lemmas.Bool.{cases_Bool}
@@ -18,7 +18,7 @@ use Rattle.addr_map.specs.Moved.{moved}
 use Rattle.addr_map.specs.Sound.{IsSound}
 use Rattle.frame_table.specs.Description.{Said, description_at}
 use Rattle.frame_table.specs.Entry.{behind_id, is_cie}
-use Rattle.frame_table.specs.Frames.{entries_from, frame_from, frame_of, frames_of}
+use Rattle.frame_table.specs.Frames.{entries_of, tried, in_turn, unless_stopped, frame_from, frame_of, frames_of}
 use Rattle.frame_table.specs.Naming.{cie_at}
 use Rattle.moved_parts.specs.Frames.{framed_at, frame_moved, frames_moved}
 use Rattle.object_laws.proofs.FramesMoved.{Fits, moved_fits}
@@ -68,8 +68,10 @@ all_raw image relocs bytes entries (e ∷ es) h = more_if IsRaw (frame_of image 
 raw_frames : (image : Image) (relocs : Relocs) (bytes : List ℕ) (frames : List RawFrame) → IsBytes bytes → frames_of image relocs bytes ≡ Ok frames → AllByRecursion IsRaw frames
 unfolding frames_of
 raw_frames image relocs bytes frames h e =
-    let entries = bind_ok (entries_from (length bytes) bytes [] 0) _ frames e in
-    subst (AllByRecursion IsRaw) (ok_is (filter_map (frame_of image relocs bytes entries.0) entries.0) frames entries.2) (all_raw image relocs bytes entries.0 entries.0 h)
+    let listing = entries_of bytes in
+    let trials = bind_ok (in_turn (tried bytes listing.entries) listing.entries) _ frames e in
+    let stop = bind_ok (unless_stopped listing.stop) _ frames trials.2 in
+    subst (AllByRecursion IsRaw) (ok_is (filter_map (frame_of image relocs bytes listing.entries) listing.entries) frames stop.2) (all_raw image relocs bytes listing.entries listing.entries h)
 
 moved_is : (frame : RawFrame) (o : Option ℕ) → IsRaw frame → IfSome o Fits → IfSome (option_map (framed_at frame) o) IsFrame
 moved_is frame None raw fits = tt

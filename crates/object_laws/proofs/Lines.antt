@@ -60,7 +60,7 @@ here {A = A} x s y h e = subst (λ (p : A × Spot). Holds p.1) (ok_is (x, s) y e
 
 operations_hold : (first : Spot) (version : ℕ) (s : Spot) (y : Unit {0} × Spot) → Holds s → operations_at first version s ≡ Ok y → Holds y.1
 unfolding operations_at
-operations_hold first version s y h e = by (version == 4) e
+operations_hold first version s y h e = by (nat_le 4 version) e
   where
     by : (b : Bool) → (if b then (number_at 1 s >>= λ most. refuse_if (nat_lt 1 most.0) (fault_at first kinds.VliwLine) >>= λ u. Ok (tt, most.1)) else done_at tt s) ≡ Ok y → Holds y.1
     by false e = here tt s y h e

@@ -1,9 +1,7 @@
 -- The expressions of a location list are bytes, as its section is.
-use Rattle.std.proofs.Common.{◌≡◌, ℕ, zero, suc, Bool, true, false, List, [], ◌∷◌, ◌++◌, Result, Ok, subst}
+use Rattle.std.proofs.Common.{◌≡◌, ℕ, Bool, true, false, List, Some, None, IfSome, Ok, subst}
 use Rattle.std.specs.Prelude.{if◌then◌else◌}
 use Rattle.std.specs.List.{All}
-use Rattle.std.proofs.lemmas.List.Elements.{All-nil, All-cons, All-append}
-use Rattle.ds_base.specs.declared.fault.Fault.{Fault}
 use Rattle.ds_base.specs.Spot.{Spot}
 use Rattle.ds_base.specs.Reading.{bytes_at, number_at}
 use Rattle.ds_base.proofs.Passing.{bind_ok, ok_is}
@@ -18,7 +16,8 @@ use Rattle.reloc_table.specs.declared.relocation.Relocs.{Relocs}
 use Rattle.list_items.specs.declared.item.Item.{Item}
 use Rattle.list_items.specs.declared.item.Item.TheVariants as items
 use Rattle.list_items.specs.Ends.{is_empty}
-use Rattle.list_items.specs.Lists.{given, kept_at, list_at}
+use Rattle.list_items.specs.Lists.{Says, ends, selects, spans, said_at, whole_at, given}
+use Rattle.list_items.proofs.Given.{all_given}
 use Rattle.list_items.specs.Reading.{item_at, item_of, word_at}
 use Rattle.loc_lists.specs.Reading.{expression_at, location_at, locations_of}
 use Rattle.object_laws.proofs.LinesReads.{Holds, bytes_are, bytes_hold, number_holds}
@@ -55,33 +54,26 @@ location_holds first span s y h e =
     let p = bind_ok (expression_at s) _ y e in
     subst (λ (x : RawLocation × Spot). IsItem x.0 × Holds x.1) (ok_is _ y p.2) (expression_holds s p.0 h p.1)
 
-if_kept : (empty : Bool) (x : RawLocation) → IsItem x → All IsItem (if empty then [] else x ∷ [])
-if_kept true x h = All-nil IsItem
-if_kept false x h = All-cons IsItem x [] h (All-nil IsItem)
+if_given : (empty : Bool) (x : RawLocation) → IsItem x → IfSome (if empty then None else Some x) IsItem
+if_given true x h = tt
+if_given false x h = h
 
-kept_holds : (first : Spot) (span : RawSpan) (s : Spot) (y : List RawLocation × Spot) → Holds s → kept_at location_at first span s ≡ Ok y → All IsItem y.0 × Holds y.1
-kept_holds first span s y h e =
+abbrev Gives : Says RawLocation × Spot → Type 0
+Gives y = IfSome (given y.0) IsItem × Holds y.1
+
+said_holds : (first : Spot) (item : Item) (s : Spot) (y : Says RawLocation × Spot) → Holds s → said_at location_at first item s ≡ Ok y → Gives y
+said_holds first items.End s y h e = subst Gives (ok_is (ends, s) y e) (tt, h)
+said_holds first (items.Base selected) s y h e = subst Gives (ok_is (selects selected, s) y e) (tt, h)
+said_holds first (items.Span span) s y h e =
     let p = bind_ok (location_at first span s) _ y e in
     let here = location_holds first span s p.0 h p.1 in
-    subst (λ (x : List RawLocation × Spot). All IsItem x.0 × Holds x.1) (ok_is _ y p.2) (if_kept (is_empty span) p.0.0 here.0, here.1)
+    subst Gives (ok_is (spans span p.0.0, p.0.1) y p.2) (if_given (is_empty span) p.0.0 here.0, here.1)
 
-given_holds : (others : Addr → Spot → Result (List RawLocation) Fault) → ((base : Addr) (s : Spot) (ys : List RawLocation) → Holds s → others base s ≡ Ok ys → All IsItem ys)
-    → (base : Addr) (first : Spot) (item : Item) (s : Spot) (xs : List RawLocation) → Holds s → given location_at others base first item s ≡ Ok xs → All IsItem xs
-given_holds others sound base first items.End s xs h e = subst (All IsItem) (ok_is [] xs e) (All-nil IsItem)
-given_holds others sound base first (items.Base selected) s xs h e = sound selected s xs h e
-given_holds others sound base first (items.Span span) s xs h e =
-    let here = bind_ok (kept_at location_at first span s) _ xs e in
-    let more = bind_ok (others base here.0.1) _ xs here.2 in
-    let kept = kept_holds first span s here.0 h here.1 in
-    subst (All IsItem) (ok_is (here.0.0 ++ more.0) xs more.2) (All-append IsItem here.0.0 more.0 kept.0 (sound base here.0.1 more.0 kept.1 more.1))
-
-list_holds : (image : Image) (relocs : Relocs) (left : ℕ) (base : Addr) (s : Spot) (xs : List RawLocation) → Holds s → list_at image relocs location_at left base s ≡ Ok xs → All IsItem xs
-unfolding list_at
-list_holds image relocs zero base s xs h e = absurd cc
-list_holds image relocs (suc left) base s xs h e =
-    let item = bind_ok (item_at image relocs base s) _ xs e in
-    given_holds (list_at image relocs location_at left) (λ b t ys on is. list_holds image relocs left b t ys on is) base s item.0.0 item.0.1 xs (item_holds image relocs base s item.0 h item.1) item.2
+whole_holds : (image : Image) (relocs : Relocs) (base : Addr) (s : Spot) (y : Says RawLocation × Spot) → Holds s → whole_at image relocs location_at base s ≡ Ok y → Gives y
+whole_holds image relocs base s y h e =
+    let item = bind_ok (item_at image relocs base s) _ y e in
+    said_holds s item.0.0 item.0.1 y (item_holds image relocs base s item.0 h item.1) item.2
 
 pub locations_are : (sections : SectionBytes) (relocs : Relocs) (image : Image) (place : ℕ) (base : Addr) (xs : List RawLocation) → AreBytes sections.loc → locations_of sections relocs image place base ≡ Ok xs → All IsItem xs
 unfolding locations_of
-locations_are sections relocs image place base xs h e = list_holds image relocs _ base _ xs (IsBytes-from sections.loc h) e
+locations_are sections relocs image place base xs h e = all_given IsItem Holds (whole_at image relocs location_at) (whole_holds image relocs) _ base _ xs (IsBytes-from sections.loc h) e
