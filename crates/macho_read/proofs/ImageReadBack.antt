@@ -13,7 +13,7 @@ use Rattle.macho_read.specs.declared.records.Symtab.{Symtab}
 use Rattle.macho_read.specs.Fields.{number_of, name_of, text_len, is_named}
 use Rattle.macho_read.specs.Records.{segment_of, section_of, symtab_of, uuid_of}
 use Rattle.macho_read.specs.Commands.{area_of, commands_of, gathered, gathered_of, is_bad, is_bad_segment, last_end, nsects_of, sections_of, what_is_in}
-use Rattle.macho_read.specs.Header.{header_of}
+use Rattle.macho_read.specs.Header.{header_of, is_known_cpu}
 use Rattle.macho_read.specs.Symbols.{each, name_in, symbol_of, symbols_in, symbols_of}
 use Rattle.macho_read.specs.Image.{image_of}
 use Rattle.macho_read.specs.Spelling.{AllFit, Command, IsCommand, command_bytes, command_fields, padded, section_bytes, section_fields, segment_bytes, segment_fields, spelled}
@@ -249,7 +249,7 @@ all_symbols_again bytes (Some t) ss stands = table_again bytes t ss stands
 header_kept : File → Header
 header_kept file = record { cpu = file.cpu; sub = file.sub; filetype = file.filetype; ncmds = length file.commands; sizeofcmds = length (commands_bytes file) }
 
-known_cpu : (cpu : ℕ) → (cpu ≡ CPU_TYPE_X86_64) ⊎ (cpu ≡ CPU_TYPE_ARM64) → (not (cpu == CPU_TYPE_X86_64) && not (cpu == CPU_TYPE_ARM64)) ≡ false
+known_cpu : (cpu : ℕ) → (cpu ≡ CPU_TYPE_X86_64) ⊎ (cpu ≡ CPU_TYPE_ARM64) → not (is_known_cpu cpu) ≡ false
 known_cpu cpu (inl e) = rw e refl
 known_cpu cpu (inr e) = rw e refl
 

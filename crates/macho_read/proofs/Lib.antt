@@ -1,4 +1,6 @@
+pub mod FaultKinds
 pub mod Gathering
 pub mod ImageReadBack
 pub mod ReadBack
+pub mod Refused
 pub mod Soundness

@@ -1,15 +1,17 @@
 -- What was read is sound.
-use Rattle.std.proofs.Common.{◌≡◌, ℕ, zero, suc, ◌+◌, ◌*◌, ◌^◌, ◌<◌, ◌≤◌, ◌==◌, Bool, true, false, not, ◌||◌, ◌&&◌, cond, nat_le, slice_index, List, [], ◌∷◌, length, map, take, drop, Option, Some, None, Result, Ok, Err, IfOk, refl, subst, arith, ltb, inl, inr}
-use Rattle.std.specs.List.{All, sum_by, list_any, range_with_len}
+use Rattle.std.proofs.Common.{◌≡◌, ℕ, zero, suc, ◌+◌, ◌*◌, ◌^◌, ◌<◌, ◌≤◌, ◌==◌, Bool, true, false, not, ◌||◌, ◌&&◌, cond, nat_le, slice_index, List, [], ◌∷◌, ◌++◌, length, map, take, drop, Option, Some, None, Result, Ok, Err, IfOk, refl, ap, ◌∙◌, subst, arith, ltb, inl, inr}
+use Rattle.std.specs.List.{All, flat_map, sum_by, list_any, range_with_len}
 use Rattle.std.proofs.lemmas.Bool.{ltb-false, or_parts, cases_Bool}
-use Rattle.std.proofs.lemmas.List.{length-append, length-take}
+use Rattle.std.proofs.lemmas.List.{length-append, length-take, length-drop, take-append-drop}
 use Rattle.std.proofs.lemmas.List.Elements.{All-append, All-nil}
-use Rattle.std.proofs.lemmas.List.Sums.{sum_by-append}
+use Rattle.std.proofs.lemmas.List.Sums.{sum_by-append, sum_by-cons}
 use Rattle.std.proofs.lemmas.List.FromFn.{length-map-range_with_len}
 use Rattle.ds_base.specs.declared.fault.Fault.{Fault}
 use Rattle.ds_base.specs.declared.macho.TheConstants.{SEG_DWARF, LC_SEGMENT_64, LC_SYMTAB, LC_UUID}
 use Rattle.ds_base.specs.declared.fault.ReadError.{ReadError}
 use Rattle.ds_base.specs.Reading.{◌>>=◌, refuse_if, Gives}
+use Rattle.macho_read.specs.declared.image.Section.{Section}
+use Rattle.macho_read.specs.declared.image.Segment.{Segment}
 use Rattle.macho_read.specs.declared.image.Symbol.{Symbol}
 use Rattle.macho_read.specs.declared.commands.Commands.{Commands}
 use Rattle.macho_read.specs.declared.records.Symtab.{Symtab}
@@ -17,6 +19,7 @@ use Rattle.macho_read.specs.Fields.{number_of, name_of, text_len, before_zero, i
 use Rattle.macho_read.specs.Records.{segment_of, section_of}
 use Rattle.macho_read.specs.Commands.{bad_command, command_at, commands_of, gathered, gathered_of, is_bad, is_bad_segment, joined, last_end, nothing, nsects_of, sections_of, what_is_in}
 use Rattle.macho_read.specs.Symbols.{each, symbol_of, symbols_in, symbols_of, name_in, bad_symbols, ended_text}
+use Rattle.macho_read.specs.Kind.{with_sections}
 use Rattle.macho_read.specs.Sound.{IsSoundSegment, IsSoundSection, IsSoundSymbol}
 
 -- ---- steps that did not fail
@@ -198,3 +201,12 @@ counted read count (Ok symbols) gives few =
     let q = each_sound (λ symbol. Unit {0}) read (λ i x e. tt) count 0 symbols gives in
     omega (arith, few, q.count_is)
 counted read count (Err e) gives few = tt
+
+-- ---- each segment with its own sections
+
+pub all_own : (segments : List Segment) (sections : List Section) → sum_by (λ s. s.sections) segments ≡ length sections → flat_map (λ segment. segment.1) (with_sections segments sections) ≡ sections
+all_own [] [] e = refl
+all_own [] (s ∷ sections) e = absurd (omega (arith, e))
+all_own (segment ∷ others) sections e =
+    let left : sum_by (λ s. s.sections) others ≡ length (drop segment.sections sections) = omega (arith, e, sum_by-cons (λ s. s.sections) segment others, length-drop segment.sections sections) in
+    ap (λ (xs : List Section). take segment.sections sections ++ xs) (all_own others (drop segment.sections sections) left) ∙ take-append-drop segment.sections sections

@@ -18,6 +18,13 @@ pub(crate) struct Header {
     pub sizeofcmds: u32,
 }
 
+/// Whether a CPU type is one of the two that are read.
+pub(crate) fn is_known_cpu(cpu: u32) -> bool
+    ensures { result ≡ Rattle.macho_read.specs.Header.is_known_cpu cpu }
+{
+    cpu == CPU_TYPE_X86_64 || cpu == CPU_TYPE_ARM64
+}
+
 /// A fault at an offset in the header.
 pub(crate) fn header_fault(kind: Kind, place: u64) -> Fault
     ensures { result ≡ Rattle.macho_read.specs.Header.header_fault kind place }
@@ -44,7 +51,7 @@ pub(crate) fn read_header(bytes: &[u8]) -> Result<Header, Fault>
         return Err(header_fault(Kind::NotMachO, 0));
     }
     let cpu = u32_at(bytes, 4);
-    if cpu != CPU_TYPE_X86_64 && cpu != CPU_TYPE_ARM64 {
+    if !is_known_cpu(cpu) {
         return Err(header_fault(Kind::WrongCpu, 4));
     }
     let sizeofcmds = u32_at(bytes, 20);

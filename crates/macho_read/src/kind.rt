@@ -2,10 +2,10 @@
 
 ghost use Rattle.std.specs.Prelude.{◌≡◌, take, drop};
 ghost use Rattle.ds_base.specs.Reading.{Finds};
-ghost use Rattle.macho_read.specs.Kind.{kind_of, linked_from};
+ghost use Rattle.macho_read.specs.Kind.{dwarf_at, kind_of, not_linked};
 
 use crate::fields::is_named;
-use crate::header::header_fault;
+use crate::header::{header_fault, is_known_cpu};
 use crate::image::{Image, Section, Segment};
 use ds_base::macho::{MH_OBJECT, SEG_DWARF};
 use ds_base::{Fault, Kind, Part};
@@ -21,34 +21,48 @@ pub enum Role {
 
 /// Tests that an image can play a role.
 ///
-/// An object has the program's CPU type (`WrongCpu`, at the header's offset 4) and the file type MH_OBJECT
-/// (`BadFileType`, at 12); subtypes aren't compared. A program has any other file type, and neither a segment
-/// nor a section of `__DWARF` (`AlreadyLinked`, in the commands, at the segment's index, counted from 0).
+/// Its CPU type is one of the two that are read, and an object's is the program's (`WrongCpu`, at the header's
+/// offset 4); subtypes aren't compared. An object has the file type MH_OBJECT, and a program any other
+/// (`BadFileType`, at 12). A program has neither a segment nor a section of `__DWARF` (`AlreadyLinked`, in the
+/// commands, at the segment's index, counted from 0). They are tried in this order.
 pub fn check_kind(image: &Image, role: Role) -> Result<(), Fault>
     ensures { Finds (λ _. tt) result (kind_of image.now role) }
 {
+    if is_wrong_cpu(role, image.cpu) {
+        return Err(header_fault(Kind::WrongCpu, 4));
+    }
+    if is_wrong_type(role, image.filetype) {
+        return Err(header_fault(Kind::BadFileType, 12));
+    }
     match role {
-        Role::Program => {
-            if image.filetype == MH_OBJECT {
-                return Err(header_fault(Kind::BadFileType, 12));
-            }
-            check_not_linked(image.segments.as_slice(), image.sections.as_slice())
-        }
-        Role::Object { cpu } => {
-            if image.cpu != cpu {
-                return Err(header_fault(Kind::WrongCpu, 4));
-            }
-            if image.filetype != MH_OBJECT {
-                return Err(header_fault(Kind::BadFileType, 12));
-            }
-            Ok(())
-        }
+        Role::Program => check_not_linked(image.segments.as_slice(), image.sections.as_slice()),
+        Role::Object { .. } => Ok(()),
+    }
+}
+
+/// Whether a CPU type is none of the two, or an object's isn't the program's.
+fn is_wrong_cpu(role: Role, cpu: u32) -> bool
+    ensures { result ≡ Rattle.macho_read.specs.Kind.is_wrong_cpu role cpu }
+{
+    match role {
+        Role::Program => !is_known_cpu(cpu),
+        Role::Object { cpu: program } => !is_known_cpu(cpu) || cpu != program,
+    }
+}
+
+/// Whether a program is an object, or an object is anything else.
+fn is_wrong_type(role: Role, filetype: u32) -> bool
+    ensures { result ≡ Rattle.macho_read.specs.Kind.is_wrong_type role filetype }
+{
+    match role {
+        Role::Program => filetype == MH_OBJECT,
+        Role::Object { .. } => filetype != MH_OBJECT,
     }
 }
 
 /// Tests that no segment is named `__DWARF` and has no section of that segment.
 fn check_not_linked(segments: &[Segment], sections: &[Section]) -> Result<(), Fault>
-    ensures { Finds (λ _. tt) result (linked_from 0 segments.now sections.now) }
+    ensures { Finds (λ _. tt) result (not_linked (dwarf_at segments.now sections.now)) }
 {
     let mut rest = sections;
     for (k, segment) in segments.iter().enumerate() {
