@@ -1,1 +1,6 @@
+pub mod FaultKinds
+pub mod Filling
+pub mod Listing
+pub mod ReadBack
+pub mod Refused
 pub mod Table

@@ -1,5 +1,5 @@
 -- A table of members, and what is still found in the archive.
-use Rattle.std.proofs.Common.{◌≡◌, ℕ, zero, suc, ◌+◌, ◌-◌, ◌<◌, ◌≤◌, ◌==◌, Bool, true, false, List, [], ◌∷◌, ◌++◌, length, drop, Option, Some, None, is_some, Result, Ok, Err, Bor, if◌then◌else◌, refl, sym, ap, ◌∙◌, true≢false, arith}
+use Rattle.std.proofs.Common.{◌≡◌, ℕ, Bool, true, false, List, [], ◌∷◌, ◌++◌, Option, Some, None, is_some, Result, Ok, Bor, if◌then◌else◌, refl, sym, ap, ◌∙◌, true≢false}
 use Rattle.std.specs.Map.{lookup}
 use Rattle.std.specs.Option.{option_or}
 use Rattle.std.specs.Str.{bytes_eq}
@@ -7,10 +7,7 @@ use Rattle.std.specs.Cmp.Lexicographic.{nat_list_eq_equiv}
 use Rattle.std.proofs.lemmas.Slice.Eq.{bytes_eq-Decides}
 use Rattle.indexmap.specs.IndexMap.{IndexMap}
 use Rattle.ds_base.specs.declared.fault.Fault.{Fault}
-use Rattle.ds_base.specs.declared.fault.Kind.TheVariants as kinds
 use Rattle.ds_base.proofs.Lookups.{lookup-push}
-use Rattle.ar_read.specs.Header.{archive_fault, member_at, Named}
-use Rattle.ar_read.specs.Archive.{find_in, member_size}
 use Rattle.ar_read.specs.Table.{or_else, content_in, PutsBehind}
 
 -- ---- one more member in the table
@@ -40,30 +37,3 @@ puts_none old its content known name other = by (bytes_eq its name) refl
     by : (same : Bool) → bytes_eq its name ≡ same → or_else (content_in old name) other ≡ or_else (content_in old name) (if same then Ok content else other)
     by true e = found (content_in old name) (ap (λ (n : List ℕ). is_some (content_in old n)) (sym ((bytes_eq-Decides its name).0 e)) ∙ known) _ _
     by false e = refl
-
--- ---- what is still found
-
--- at a member it is that, or what is found behind it
-pub find_step : (count i end : ℕ) (name rest : List ℕ) (m : Named) → i < count → (length rest == 0) ≡ false → member_at (end - length rest) rest ≡ Ok m
-    → find_in (count - i) end name rest ≡ (if bytes_eq m.name name then Ok m.content else find_in (count - (i + 1)) end name (drop (member_size m.size) rest))
-find_step count i end name rest m lt some is =
-    let left : count - i ≡ suc (count - (i + 1)) = omega arith in
-    rw (left, some, is) refl
-
--- at a fault it is that
-pub find_fault : (count i end : ℕ) (name rest : List ℕ) (fault : Fault) → i < count → (length rest == 0) ≡ false → member_at (end - length rest) rest ≡ Err fault
-    → find_in (count - i) end name rest ≡ Err fault
-find_fault count i end name rest fault lt some is =
-    let left : count - i ≡ suc (count - (i + 1)) = omega arith in
-    rw (left, some, is) refl
-
--- at the archive's end there is none
-pub find_end : (count end : ℕ) (name rest : List ℕ) → (length rest == 0) ≡ true → find_in count end name rest ≡ Err (archive_fault kinds.NoMember 0)
-find_end zero end name rest none = refl
-find_end (suc count) end name rest none = rw none refl
-
--- nor behind so many bytes
-pub find_last : (count i end : ℕ) (name rest : List ℕ) → count ≤ i → find_in (count - i) end name rest ≡ Err (archive_fault kinds.NoMember 0)
-find_last count i end name rest le =
-    let left : count - i ≡ 0 = omega arith in
-    rw left refl

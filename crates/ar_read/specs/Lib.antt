@@ -3,3 +3,4 @@ pub mod Padding
 pub mod Header
 pub mod Archive
 pub mod Table
+pub mod Spelling

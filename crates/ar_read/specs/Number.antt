@@ -1,20 +1,20 @@
 -- Numbers in a header (ar.h): decimal digits, padded with spaces.
-use Rattle.std.specs.Prelude.{ℕ, ◌+◌, ◌-◌, ◌*◌, ◌==◌, Bool, List, [], ◌∷◌, Option, Some, None, if◌then◌else◌}
-use Rattle.std.specs.List.{list_all}
+use Rattle.std.specs.Prelude.{ℕ, ◌+◌, ◌-◌, ◌*◌, ◌==◌, ◌&&◌, not, Bool, List, take, drop, Option, Some, None, if◌then◌else◌}
+use Rattle.std.specs.List.{fold, list_all, prefix_len}
 use Rattle.std.specs.Char.{is_ascii_digit}
 
 abbrev pub are_spaces : List ℕ → Bool
 are_spaces bytes = list_all (λ b. b == 32) bytes
 
--- the number that goes on with the digits, up to the first byte that is none, from which on all are spaces
-abbrev pub digits_then_spaces : ℕ → List ℕ → Option ℕ
-digits_then_spaces number [] = Some number
-digits_then_spaces number (b ∷ bytes) =
-    if is_ascii_digit b then digits_then_spaces (10 * number + (b - 48)) bytes
-    else if are_spaces (b ∷ bytes) then Some number
-    else None
+-- the number that decimal digits spell, the highest first
+abbrev pub decimal : List ℕ → ℕ
+decimal digits = fold (λ number digit. 10 * number + (digit - 48)) 0 digits
 
--- the number of a field; its first byte is a digit
+-- how many digits a field begins with
+abbrev pub digit_count : List ℕ → ℕ
+digit_count field = prefix_len is_ascii_digit field
+
+-- the number of a field: it begins with a digit, and behind its digits are spaces alone
 unfoldable pub number_of : List ℕ → Option ℕ
-number_of [] = None
-number_of (b ∷ bytes) = if is_ascii_digit b then digits_then_spaces 0 (b ∷ bytes) else None
+number_of field =
+    if not (digit_count field == 0) && are_spaces (drop (digit_count field) field) then Some (decimal (take (digit_count field) field)) else None

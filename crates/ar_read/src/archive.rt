@@ -1,8 +1,8 @@
 //! An archive as a whole: its members one after the other, in a table by their names.
 
-ghost use Rattle.std.specs.Prelude.{◌≡◌, ◌+◌, ◌%◌, ◌≤◌, length, drop, IfOk, OnOk};
+ghost use Rattle.std.specs.Prelude.{◌≡◌, ◌+◌, ◌^◌, ◌<◌, IfOk, OnOk};
 ghost use Rattle.ds_base.specs.Reading.{Finds};
-ghost use Rattle.ar_read.specs.Archive.{member_of, member_size};
+ghost use Rattle.ar_read.specs.Archive.{found_in, member_of, member_size, members_of};
 ghost use Rattle.ar_read.specs.Table.{Walks, PutsBehind};
 
 use crate::header::{archive_fault, read_member};
@@ -67,6 +67,34 @@ impl<'a> Members<'a> {
     }
 }
 
+/// The content of the first member of this name, as [`Members::find`] of a table gives it.
+///
+/// It takes no memory, and reads the headers up to the member's own.
+#[tactic(auto, unfolding(crate::specs::Archive::member_of))]
+pub fn member<'a>(bytes: &'a [u8], name: &[u8]) -> Result<&'a [u8], Fault>
+    ensures { Finds (λ content. content.now) result (member_of bytes.now name.now) }
+{
+    if !bytes.starts_with(&ARMAG) {
+        return Err(archive_fault(Kind::NotArchive, 0));
+    }
+    find_member(bytes, name)
+}
+
+/// The same, for bytes that begin as an archive.
+fn find_member<'a>(bytes: &'a [u8], name: &[u8]) -> Result<&'a [u8], Fault>
+    ensures { Finds (λ content. content.now) result (found_in name.now (members_of bytes.now)) }
+{
+    let mut place = ARMAG.len();
+    while place < bytes.len() {
+        let member = read_member(bytes_from(bytes, place), place as u64)?;
+        if *member.name == *name {
+            return Ok(member.content);
+        }
+        place = behind(place, member.size);
+    }
+    Err(archive_fault(Kind::NoMember, 0))
+}
+
 /// Puts the members of an archive into a table, behind those that it has. The fault is for all names that it then hasn't.
 #[tactic(auto, unfolding(crate::specs::Archive::member_of))]
 fn put_members<'a>(
@@ -83,20 +111,16 @@ fn put_members<'a>(
 
 /// The same, for bytes that begin as an archive.
 fn walk<'a>(contents: &mut IndexMap<&'a [u8], &'a [u8]>, bytes: &'a [u8]) -> Result<Fault, NoMemory>
-    requires { 8 ≤ length bytes.now }
-    ensures { IfOk result (λ fault. Walks contents.old contents.new fault (λ name. Rattle.ar_read.specs.Archive.find_in (length bytes.now) (length bytes.now) name (drop 8 bytes.now))) }
+    ensures { IfOk result (λ fault. Walks contents.old contents.new fault (λ name. found_in name (members_of bytes.now))) }
 {
-    let mut rest = bytes_from(bytes, ARMAG.len());
-    for _ in 0..bytes.len() {
-        if rest.is_empty() {
-            break;
-        }
-        let member = match read_member(rest, (bytes.len() - rest.len()) as u64) {
+    let mut place = ARMAG.len();
+    while place < bytes.len() {
+        let member = match read_member(bytes_from(bytes, place), place as u64) {
             Ok(member) => member,
             Err(fault) => return Ok(fault),
         };
         put_behind(contents, member.name, member.content)?;
-        rest = behind(rest, member.size);
+        place = behind(place, member.size);
     }
     Ok(archive_fault(Kind::NoMember, 0))
 }
@@ -116,16 +140,10 @@ fn put_behind<'a>(
     Ok(())
 }
 
-/// The bytes behind a member of this size and its header. Members stand at even places.
-fn behind(rest: &[u8], size: u64) -> &[u8]
-    requires { 60 + size ≤ length rest.now }
-    ensures is { result.now ≡ drop (member_size size) rest.now }
-    ensures within { length result.now ≤ length rest.now }
+/// The place behind a member of this size, whose header stands at a place. Members stand at even places.
+fn behind(place: usize, size: u64) -> usize
+    requires { place + 60 + size < 2 ^ 63 }
+    ensures { result ≡ place + member_size size }
 {
-    let end = AR_HDR_SIZE as usize + size as usize;
-    if end < rest.len() {
-        bytes_from(rest, end + (size % 2) as usize)
-    } else {
-        &[]
-    }
+    place + AR_HDR_SIZE as usize + size as usize + (size % 2) as usize
 }

@@ -10,21 +10,10 @@ pub(crate) fn read_number(field: &[u8]) -> Option<u64>
     requires { length field.now ≤ 16 }
     ensures { result ≡ number_of field.now }
 {
-    if field.is_empty() || !field[0].is_ascii_digit() {
-        return None;
-    }
-    read_digits(field)
-}
-
-/// The same, where no digit is 0.
-fn read_digits(field: &[u8]) -> Option<u64>
-    requires { length field.now ≤ 16 }
-    ensures { result ≡ Rattle.ar_read.specs.Number.digits_then_spaces 0 field.now }
-{
     let mut number = 0;
     for (i, b) in field.iter().enumerate() {
         if !b.is_ascii_digit() {
-            return if are_spaces(&field[i..]) {
+            return if i > 0 && are_spaces(&field[i..]) {
                 Some(number)
             } else {
                 None
@@ -32,7 +21,7 @@ fn read_digits(field: &[u8]) -> Option<u64>
         }
         number = 10 * number + u64::from(*b - b'0');
     }
-    Some(number)
+    if field.is_empty() { None } else { Some(number) }
 }
 
 /// Whether all bytes are spaces.

@@ -44,7 +44,7 @@ pub either_kinds : {A : Type 0} (P : Kind → Type 0) (b : Bool) (x y : Result A
 either_kinds P true x y first other = first
 either_kinds P false x y first other = other
 
-found_kinds : {A : Type 0} (P : Kind → Type 0) (o : Option A) (f : Fault) → P f.kind → FaultsAre P (or_fault o f)
+pub found_kinds : {A : Type 0} (P : Kind → Type 0) (o : Option A) (f : Fault) → P f.kind → FaultsAre P (or_fault o f)
 found_kinds P (Some x) f is = ok_kinds P x
 found_kinds {A = A} P None f is = err_kinds {A = A} P f is
 

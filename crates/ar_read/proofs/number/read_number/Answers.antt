@@ -1,6 +1,6 @@
 use Rattle.std.proofs.Common.{ℕ, ◌^◌, ◌≤◌, ◌<◌, arith}
 use Rattle.std.proofs.Math.Nat.{pow-le-pow_right}
-use Rattle.ar_read.proofs.number.read_digits.Goals as goal
+use Rattle.ar_read.proofs.number.read_number.Goals as goal
 
 -- fewer than 16 digits
 small : (number i : ℕ) → number < 10 ^ i → i < 16 → number < 10 ^ 15
@@ -9,7 +9,7 @@ small number i lt few =
     omega (arith, le)
 
 pub overflow_mul-number : goal.overflow_mul-number
-overflow_mul-number c = omega (arith, small c.loop-i.number c.loop-i.i c.loop-i.invariant.1 (omega (arith, c.requires)))
+overflow_mul-number c = omega (arith, small c.loop-i.number c.loop-i.i c.loop-i.invariant.small (omega (arith, c.requires)))
 
 pub overflow_add-number : goal.overflow_add-number
-overflow_add-number c = omega (arith, small c.loop-i.number c.loop-i.i c.loop-i.invariant.1 (omega (arith, c.requires)), c.from.ensures)
+overflow_add-number c = omega (arith, small c.loop-i.number c.loop-i.i c.loop-i.invariant.small (omega (arith, c.requires)), c.from.ensures)
