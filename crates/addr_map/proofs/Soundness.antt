@@ -1,9 +1,9 @@
 -- The map that is built is sound.
-use Rattle.std.proofs.Common.{◌≡◌, ℕ, ◌+◌, ◌-◌, ◌^◌, ◌<◌, ◌≤◌, ◌&&◌, min, Bool, true, false, cond, List, [], ◌∷◌, nat_lt, Option, Some, None, IfSome, refl, arith, inl, inr}
+use Rattle.std.proofs.Common.{◌≡◌, ℕ, ◌+◌, ◌-◌, ◌^◌, ◌<◌, ◌≤◌, min, Bool, true, false, cond, List, [], ◌∷◌, nat_lt, Option, Some, None, IfSome, refl, arith, inl, inr}
 use Rattle.std.specs.Bool.{⊤}
 use Rattle.std.specs.List.{AllByRecursion, AllPairs, cons_option, filter_map}
 use Rattle.std.specs.Option.{option_and_then, option_map}
-use Rattle.std.proofs.lemmas.Bool.{and_parts, cases_Bool, ltb-true}
+use Rattle.std.proofs.lemmas.Bool.{cases_Bool, ltb-true}
 use Rattle.std.proofs.lemmas.List.Elements.{All-from_recursion}
 use Rattle.std.proofs.lemmas.List.Kept.{AllPairs-cons}
 use Rattle.macho_read.specs.declared.image.Image.{Image}
@@ -26,10 +26,14 @@ abbrev Fits : MapRange → Type 0
 Fits r = r.linked + (r.end - r.start) < 2 ^ 64
 
 range_fits : (linked start end : ℕ) → IfSome (range_from linked start end) Fits
-range_fits linked start end = elim (cases_Bool (nat_lt end (2 ^ 64) && nat_lt (linked + (end - start)) (2 ^ 64))) [
-  | inl is ↦ rw is (ltb-true (linked + (end - start)) (2 ^ 64) (and_parts (nat_lt end (2 ^ 64)) (nat_lt (linked + (end - start)) (2 ^ 64)) is).1)
+range_fits linked start end = elim (cases_Bool (nat_lt (linked + (end - start)) (2 ^ 64))) [
+  | inl is ↦ rw is (ltb-true (linked + (end - start)) (2 ^ 64) is)
   | inr other ↦ rw other tt
 ]
+
+ended_fits : (linked start : ℕ) (end : Option ℕ) → IfSome (option_and_then (λ e. range_from linked start e) end) Fits
+ended_fits linked start None = tt
+ended_fits linked start (Some end) = range_fits linked start end
 
 abbrev GivenFits : Given → Type 0
 GivenFits (givens.Range r) = Fits r
@@ -40,7 +44,7 @@ as_given None fits = tt
 as_given (Some r) fits = fits
 
 at_fits : (image : Image) (entry : MapEntry) (standing : Standing) (symbol start : ℕ) → IfSome (given_at image entry standing symbol start) GivenFits
-at_fits image entry (standings.Defined section) symbol start = as_given (range_from entry.linked start (end_of image entry.size section start)) (range_fits entry.linked start (end_of image entry.size section start))
+at_fits image entry (standings.Defined section) symbol start = as_given (option_and_then (λ e. range_from entry.linked start e) (end_of image entry.size section start)) (ended_fits entry.linked start (end_of image entry.size section start))
 at_fits image entry standings.Common symbol start = tt
 at_fits image entry standings.Undefined symbol start = tt
 at_fits image entry standings.Absolute symbol start = tt

@@ -1,9 +1,10 @@
 -- What an entry of the debug map gives to an object: a range of addresses that were linked, or the linked address of a symbol.
 use Rattle.std.specs.Prelude.{ℕ, ◌+◌, ◌-◌, ◌^◌, ◌==◌, ◌&&◌, not, min, Bool, List, slice_get, Option, Some, None, nat_lt, if◌then◌else◌}
 use Rattle.std.specs.List.{enumerate_from, filter_map, find, reduce}
-use Rattle.std.specs.Option.{option_and_then, option_map, option_map_or, unwrap_or}
+use Rattle.std.specs.Option.{option_and_then, option_map, option_or}
 use Rattle.std.specs.Str.{bytes_eq}
 use Rattle.macho_read.specs.declared.image.Image.{Image}
+use Rattle.macho_read.specs.declared.image.Section.{Section}
 use Rattle.macho_read.specs.declared.image.Symbol.{Symbol}
 use Rattle.stab_map.specs.declared.object.MapEntry.{MapEntry}
 use Rattle.macho_read.specs.declared.standing.Standing.{Standing}
@@ -44,25 +45,32 @@ above section start place = if place.0 == section && nat_lt start place.1 then S
 abbrev pub next_among : ℕ → ℕ → List (ℕ × ℕ) → Option ℕ
 next_among section start places = reduce min (filter_map (above section start) places)
 
--- the address behind the section of an ordinal, which counts from 1; of an ordinal that isn't there nothing is said
-abbrev pub section_end : Image → ℕ → ℕ
-section_end image section = option_map_or (λ s. s.addr + s.size) (slice_get image.sections (section - 1)) 0
+-- a number, unless it passes 2^64 - 1
+abbrev pub in_64_bits : ℕ → Option ℕ
+in_64_bits n = if nat_lt n (2 ^ 64) then Some n else None
+
+-- the section of an ordinal, which counts from 1, if it is there
+abbrev pub section_of : Image → ℕ → Option Section
+section_of image ordinal = if ordinal == 0 then None else slice_get image.sections (ordinal - 1)
+
+-- the address behind it
+abbrev pub section_end : Image → ℕ → Option ℕ
+section_end image ordinal = option_and_then (λ s. in_64_bits (s.addr + s.size)) (section_of image ordinal)
 
 -- a function ends behind its size, and a variable at the next symbol of its section, or else with the section
-abbrev pub end_of : Image → Option ℕ → ℕ → ℕ → ℕ
-end_of image (Some size) section start = start + size
-end_of image None section start = unwrap_or (next_among section start (places image)) (section_end image section)
+abbrev pub end_of : Image → Option ℕ → ℕ → ℕ → Option ℕ
+end_of image (Some size) section start = in_64_bits (start + size)
+end_of image None section start = option_or (next_among section start (places image)) (section_end image section)
 
 -- ---- what it is given
 
--- the range between two addresses of the object, unless it or where it was linked would pass 2^64 - 1
+-- the range between two addresses of the object, unless where it was linked would pass 2^64 - 1
 abbrev pub range_from : ℕ → ℕ → ℕ → Option MapRange
-range_from linked start end =
-    if nat_lt end (2 ^ 64) && nat_lt (linked + (end - start)) (2 ^ 64) then Some (record { start = start; end = end; linked = linked }) else None
+range_from linked start end = if nat_lt (linked + (end - start)) (2 ^ 64) then Some (record { start = start; end = end; linked = linked }) else None
 
 -- what an entry gives by its symbol: a range where that is defined in a section, and a linked address where it is common or undefined
 abbrev pub given_at : Image → MapEntry → Standing → ℕ → ℕ → Option Given
-given_at image entry (standings.Defined section) symbol start = option_map (λ r. givens.Range r) (range_from entry.linked start (end_of image entry.size section start))
+given_at image entry (standings.Defined section) symbol start = option_map (λ r. givens.Range r) (option_and_then (λ end. range_from entry.linked start end) (end_of image entry.size section start))
 given_at image entry standings.Common symbol start = Some (givens.Name (record { symbol = symbol; linked = entry.linked }))
 given_at image entry standings.Undefined symbol start = Some (givens.Name (record { symbol = symbol; linked = entry.linked }))
 given_at image entry standings.Absolute symbol start = None

@@ -1,9 +1,8 @@
 //! What an entry of the debug map gives.
 
-ghost use Rattle.std.specs.Prelude.{◌≡◌, ◌^◌, ◌<◌, ℕ, List as Listed, SomeIff, IsTrue};
+ghost use Rattle.std.specs.Prelude.{◌≡◌, ℕ, List as Listed};
 ghost use Rattle.std.specs.List.Sorted.{IsPermutation, IsSorted};
-ghost use Rattle.std.specs.Option.{option_map};
-ghost use Rattle.macho_read.specs.Standings.{has_section};
+ghost use Rattle.std.specs.Option.{option_and_then, option_map};
 ghost use Rattle.addr_map.specs.Entries.{end_of, given_of, named, places as places_of, range_from, section_end};
 ghost use Rattle.addr_map.specs.Tables.{index_in, place_cmp};
 
@@ -68,10 +67,9 @@ fn find_range(
     section: u8,
     start: u64,
 ) -> Option<MapRange>
-    requires there { IsTrue (has_section image.now section) }
     requires same { IsPermutation (places_of image.now) places.now }
     requires order { IsSorted place_cmp places.now }
-    ensures { result ≡ range_from entry.now.linked start (end_of image.now entry.now.size section start) }
+    ensures { result ≡ option_and_then (λ end. range_from entry.now.linked start end) (end_of image.now entry.now.size section start) }
 {
     let end = find_end(image, places, entry.size, section, start)?;
     entry.linked.checked_add(end.saturating_sub(start))?;
@@ -90,10 +88,9 @@ fn find_end(
     section: u8,
     start: u64,
 ) -> Option<u64>
-    requires there { IsTrue (has_section image.now section) }
     requires same { IsPermutation (places_of image.now) places.now }
     requires order { IsSorted place_cmp places.now }
-    ensures { SomeIff result (end_of image.now size section start < 2 ^ 64) (end_of image.now size section start) }
+    ensures { result ≡ end_of image.now size section start }
 {
     if let Some(size) = size {
         return start.checked_add(size);
@@ -104,11 +101,13 @@ fn find_end(
     }
 }
 
-/// The address behind a section, unless it passes 2^64 - 1. The ordinal counts from 1.
+/// The address behind a section, unless it passes 2^64 - 1, or the section isn't there. The ordinal counts from 1.
 fn find_section_end(image: &Image, ordinal: u8) -> Option<u64>
-    requires { IsTrue (has_section image.now ordinal) }
-    ensures { SomeIff result (section_end image.now ordinal < 2 ^ 64) (section_end image.now ordinal) }
+    ensures { result ≡ section_end image.now ordinal }
 {
-    let section = &image.sections.as_slice()[usize::from(ordinal) - 1];
+    if ordinal == 0 {
+        return None;
+    }
+    let section = image.sections.get(usize::from(ordinal) - 1)?;
     section.addr.checked_add(section.size)
 }

@@ -16,6 +16,3 @@ mod symbols;
 pub use map::{AddrMap, MapName, MapRange};
 pub use moving::{moved, moved_end, pieces};
 pub use ranges::build;
-
-#[cfg(test)]
-mod tests;
