@@ -1,5 +1,5 @@
 -- The item of a key, found by halves in a list whose keys rise.
-use Rattle.std.proofs.Common.{◌≡◌, ℕ, ◌+◌, ◌<◌, ◌==◌, Bool, cond, List, ◌∷◌, length, get_or, Some, None, refl, arith, inl, inr, Less, Equal, Greater}
+use Rattle.std.proofs.Common.{◌≡◌, ℕ, ◌+◌, ◌<◌, ◌==◌, Bool, List, length, get_or, Some, None, refl, arith, inl, inr, Less, Equal, Greater}
 use Rattle.std.specs.List.{AllPairs, find}
 use Rattle.std.specs.List.Sorted.{IsNonDecreasingBy, IsPartitionPoint, IsSortedByKey}
 use Rattle.std.specs.Ordering.{nat_cmp, ordering_index}

@@ -1,4 +1,5 @@
 pub mod AddressLemmas
-pub mod Origins
-pub mod StabPass
 pub mod Names
+pub mod Origins
+pub mod Refused
+pub mod StabPass

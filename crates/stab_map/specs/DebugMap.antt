@@ -1,6 +1,6 @@
 -- The debug map of a program (mach-o/stab.h): what its symbols say of the objects that it was linked from.
 use Rattle.std.specs.Prelude.{◌≡◌, ℕ, ◌+◌, not, List, [], ◌∷◌, length, Option, Some, None, Result, Ok, Err, nat_lt, if◌then◌else◌}
-use Rattle.std.specs.List.{find, before_first, cons_option}
+use Rattle.std.specs.List.{find, before_first, cons_option, Contains}
 use Rattle.std.specs.Option.{option_map, option_and_then}
 use Rattle.std.specs.Str.{is_utf8}
 use Rattle.ds_base.specs.declared.fault.Fault.{Fault}
@@ -104,3 +104,9 @@ Answers (Err errors.NoMemory) map = Unit {0}
 abbrev pub as_map_error : ReadError → MapError
 as_map_error (read_errors.Faulty fault) = errors.Faulty fault
 as_map_error read_errors.NoMemory = errors.NoMemory
+
+-- a program has no map: for a fault of one of these kinds, or since its objects are too many
+abbrev pub IsRefusal : MapError → Type 0
+IsRefusal (errors.Faulty fault) = Contains (kinds.BadStab ∷ kinds.BadPath ∷ []) fault.kind
+IsRefusal errors.Objects = Unit {0}
+IsRefusal errors.NoMemory = ⊥

@@ -2,19 +2,18 @@
 //!
 //! Layer: files. Reads the stabs in the symbol table of a linked program (mach-o/stab.h). [`debug_map`] gives
 //! `map_of` the image (`specs/DebugMap.antt`): the objects with their entries, the first fault in the order of
-//! the symbols, or that there are too many objects. No object's file is looked at, and the times in the stabs
-//! aren't read.
+//! the symbols, or that there are too many objects; a law says of which kinds the faults are. No object's file is
+//! looked at, and the times in the stabs aren't read.
 #![tactic(auto)]
 
 mod addresses;
+mod law;
 mod map;
 mod object;
 mod origin;
 mod pass;
 mod stab;
 
+pub use law::kinds_of_map_faults;
 pub use map::debug_map;
 pub use object::{MapEntry, MapError, MapObject};
-
-#[cfg(test)]
-mod tests;

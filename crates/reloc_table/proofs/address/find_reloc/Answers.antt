@@ -1,4 +1,4 @@
-use Rattle.std.proofs.Common.{◌≡◌, ◌≤◌, ◌+◌, ◌∙◌, ℕ, List, rules, sym, ap, arith, false}
+use Rattle.std.proofs.Common.{◌≡◌, ◌≤◌, ◌+◌, ◌∙◌, List, rules, sym, ap, arith, false}
 use Rattle.std.specs.List.{AllPairs, find}
 use Rattle.std.proofs.lemmas.Fn.{always_returns_same}
 use Rattle.reloc_table.specs.declared.relocation.Reloc.{Reloc}
