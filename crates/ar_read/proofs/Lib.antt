@@ -1,4 +1,3 @@
-pub mod FaultKinds
 pub mod Filling
 pub mod Listing
 pub mod ReadBack

@@ -11,7 +11,7 @@ use Rattle.ds_base.specs.Reading.{or_fault}
 use Rattle.ar_read.specs.Number.{number_of}
 use Rattle.ar_read.specs.Header.{Named, archive_fault, long_at, named_at, member_at}
 use Rattle.ar_read.specs.Archive.{Listing, Placed, content_of, listed, member_of, member_size, members_from, members_of}
-use Rattle.ar_read.proofs.FaultKinds.{FaultsAre, ok_kinds, err_kinds, bind_kinds, refuse_kinds, either_kinds, found_kinds}
+use Rattle.ds_base.proofs.FaultKinds.{FaultsAre, ok_kinds, err_kinds, bind_kinds, refuse_kinds, either_kinds, found_kinds}
 
 abbrev OfMember : Kind → Type 0
 OfMember = Contains (kinds.NotArchive ∷ kinds.BadMember ∷ kinds.NoMember ∷ [])

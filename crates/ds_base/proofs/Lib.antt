@@ -1,5 +1,6 @@
 pub mod Adding
 pub mod Backwards
+pub mod FaultKinds
 pub mod Finding
 pub mod Items
 pub mod LebLengths

@@ -7,7 +7,7 @@ use Rattle.ds_base.specs.declared.fault.Fault.{Fault}
 use Rattle.ds_base.specs.declared.fault.Kind.{Kind}
 use Rattle.ds_base.specs.declared.fault.Kind.TheVariants.{Truncated, BadFrame}
 use Rattle.ds_base.specs.Reading.{◌>>=◌, number_at, bytes_at}
-use Rattle.list_items.proofs.FaultKinds.{FaultsAre, ok_kinds, err_kinds, bind_kinds, refuse_kinds, either_kinds, bytes_kinds, number_kinds}
+use Rattle.ds_base.proofs.FaultKinds.{FaultsAre, ok_kinds, err_kinds, bind_kinds, refuse_kinds, either_kinds, bytes_kinds, number_kinds}
 use Rattle.macho_read.specs.declared.image.Image.{Image}
 use Rattle.reloc_table.specs.declared.relocation.Relocs.{Relocs}
 use Rattle.frame_table.specs.declared.entry.FrameEntry.{FrameEntry}

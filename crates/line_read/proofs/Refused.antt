@@ -10,7 +10,7 @@ use Rattle.ds_base.specs.declared.fault.Kind.TheVariants as kinds
 use Rattle.ds_base.specs.Reading.{refuse_if, bytes_at, number_at, text_at, uleb_at, sleb_at, items_at}
 use Rattle.ds_base.specs.Spot.{Spot, fault_at}
 use Rattle.dwarf_types.specs.declared.lines.FileName.{FileName}
-use Rattle.list_items.proofs.FaultKinds.{FaultsAre, ok_kinds, err_kinds, bind_kinds, refuse_kinds, either_kinds, bytes_kinds, number_kinds, text_kinds, uleb_kinds, sleb_kinds, items_kinds}
+use Rattle.ds_base.proofs.FaultKinds.{FaultsAre, ok_kinds, err_kinds, bind_kinds, refuse_kinds, either_kinds, bytes_kinds, number_kinds, text_kinds, uleb_kinds, sleb_kinds, items_kinds}
 use Rattle.macho_read.specs.declared.image.Image.{Image}
 use Rattle.reloc_table.specs.declared.relocation.Relocs.{Relocs}
 use Rattle.line_read.specs.declared.codes.ExtendedOp.{ExtendedOp}

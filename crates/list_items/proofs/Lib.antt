@@ -2,5 +2,4 @@ pub mod Given
 pub mod Turns
 pub mod Soundness
 pub mod Wholes
-pub mod FaultKinds
 pub mod Refused

@@ -17,7 +17,7 @@ use Rattle.list_items.specs.declared.item.Word.{Word}
 use Rattle.list_items.specs.Ends.{belong_together}
 use Rattle.list_items.specs.Lists.{Behind, Says, ends, selects, spans, said_at, whole_at, Listing, behind_it, listed, items_from, list_spot, items_in, unless_stopped, list_in}
 use Rattle.list_items.specs.Reading.{word_at, span_at, span_of, largest_offset, item_of, item_at}
-use Rattle.list_items.proofs.FaultKinds.{FaultsAre, ok_kinds, err_kinds, bind_kinds, refuse_kinds, either_kinds, number_kinds}
+use Rattle.ds_base.proofs.FaultKinds.{FaultsAre, ok_kinds, err_kinds, bind_kinds, refuse_kinds, either_kinds, number_kinds}
 
 module _ (P : Kind → Type 0) (cut : P Truncated) (bad : P BadList) where
   word_kinds : (image : Image) (relocs : Relocs) (s : Spot) → FaultsAre P (word_at image relocs s)

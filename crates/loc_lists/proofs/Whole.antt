@@ -15,7 +15,7 @@ use Rattle.dwarf_types.specs.SectionBytes.{SectionBytes}
 use Rattle.macho_read.specs.declared.image.Image.{Image}
 use Rattle.reloc_table.specs.declared.relocation.Relocs.{Relocs}
 use Rattle.list_items.specs.Whole.{IsWhole}
-use Rattle.list_items.proofs.FaultKinds.{FaultsAre, ok_kinds, bind_kinds, bytes_kinds, number_kinds}
+use Rattle.ds_base.proofs.FaultKinds.{FaultsAre, ok_kinds, bind_kinds, bytes_kinds, number_kinds}
 use Rattle.list_items.proofs.Refused.{list_kinds}
 use Rattle.list_items.proofs.Wholes.{GoesOn, list_whole}
 use Rattle.loc_lists.specs.Reading.{expression_at, location_at, location_items, locations_of}

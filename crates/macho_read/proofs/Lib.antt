@@ -1,4 +1,3 @@
-pub mod FaultKinds
 pub mod Gathering
 pub mod ImageReadBack
 pub mod ReadBack

@@ -21,7 +21,7 @@ use Rattle.macho_read.specs.Symbols.{bad_symbols, each, ended_text, name_in, sym
 use Rattle.macho_read.specs.Image.{image_of}
 use Rattle.macho_read.specs.Kind.{already_linked, dwarf_at, not_linked, is_wrong_cpu, is_wrong_type, holds_no_dwarf, kind_of}
 use Rattle.macho_read.specs.Debug.{bad_section, compressed, debug_part, is_compressed, named_part, section_in}
-use Rattle.macho_read.proofs.FaultKinds.{FaultsAre, ok_kinds, err_kinds, bind_kinds, refuse_kinds, either_kinds}
+use Rattle.ds_base.proofs.FaultKinds.{FaultsAre, ok_kinds, err_kinds, bind_kinds, refuse_kinds, either_kinds}
 
 -- so many readings, each by its index
 pub each_kinds : {A : Type 0} (P : Kind → Type 0) (read : ℕ → Result A Fault) → ((i : ℕ) → FaultsAre P (read i)) → (count i : ℕ) → FaultsAre P (each read count i)

@@ -13,7 +13,7 @@ use Rattle.macho_read.specs.declared.image.Image.{Image}
 use Rattle.reloc_table.specs.declared.relocation.Relocs.{Relocs}
 use Rattle.list_items.specs.Sound.{IsSoundSpan}
 use Rattle.list_items.specs.Whole.{IsWhole}
-use Rattle.list_items.proofs.FaultKinds.{FaultsAre, ok_kinds}
+use Rattle.ds_base.proofs.FaultKinds.{FaultsAre, ok_kinds}
 use Rattle.list_items.proofs.Refused.{list_kinds}
 use Rattle.list_items.proofs.Soundness.{KeepsEnd, Keeps, list_sound}
 use Rattle.list_items.proofs.Wholes.{GoesOn, list_whole}

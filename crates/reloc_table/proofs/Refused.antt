@@ -9,7 +9,7 @@ use Rattle.macho_read.specs.declared.image.Image.{Image}
 use Rattle.macho_read.specs.declared.image.Section.{Section}
 use Rattle.macho_read.specs.Debug.{debug_part}
 use Rattle.macho_read.specs.Symbols.{each}
-use Rattle.macho_read.proofs.FaultKinds.{FaultsAre, ok_kinds, bind_kinds, refuse_kinds}
+use Rattle.ds_base.proofs.FaultKinds.{FaultsAre, ok_kinds, bind_kinds, refuse_kinds}
 use Rattle.macho_read.proofs.Refused.{each_kinds}
 use Rattle.reloc_table.specs.declared.relocation.Reloc.{Reloc}
 use Rattle.reloc_table.specs.declared.relocation.TheConstants.{ADDRESS_SIZE}

@@ -8,7 +8,7 @@ use Rattle.ds_base.specs.declared.fault.Kind.TheVariants as kinds
 use Rattle.ds_base.specs.Reading.{or_fault}
 use Rattle.macho_read.specs.declared.image.Image.{Image}
 use Rattle.macho_read.specs.declared.image.Symbol.{Symbol}
-use Rattle.macho_read.proofs.FaultKinds.{FaultsAre, ok_kinds, bind_kinds, refuse_kinds, found_kinds}
+use Rattle.ds_base.proofs.FaultKinds.{FaultsAre, ok_kinds, bind_kinds, refuse_kinds, found_kinds}
 use Rattle.stab_map.specs.declared.object.MapObject.{MapObject}
 use Rattle.stab_map.specs.declared.object.MapError.{MapError}
 use Rattle.stab_map.specs.declared.object.MapError.TheVariants as errors
