@@ -11,11 +11,11 @@ use lib.ListN.{get_elem?}
 use Rattle.atomic_table.specs.Table.{State, Me, step, Allows, Splits, Joins, keeps}
 use Rattle.atomic_table.proofs.Lists.{at_set, at_snoc, set_again, set_else}
 use Rattle.work_share.specs.declared.view.TaskView.{TaskView}
-use Rattle.work_share.specs.Numbers.{times, once_below, above}
+use Rattle.work_share.specs.Numbers.{times, once_below, above, left}
 use Rattle.work_share.specs.Counter.{drew, stopped, kept_half, given_half, united, nobody, total, live, Fits, Rule, Sound}
 use Rattle.work_share.specs.Fair.{IsFair, Keeps}
 use Rattle.work_share.specs.Steps.{drawing, looking}
-use Rattle.work_share.proofs.Totals.{total_set, total_push, part_le, total_alone, times-append, times_other, below_yes, below_is, below_le, below_more, above_le, few_below}
+use Rattle.work_share.proofs.Totals.{total_set, total_push, part_le, total_alone, times-append, times_other, below_yes, below_is, below_le, below_more, above_le, few_below, comes_nearer}
 
 some_kept : (o : Option ℕ) → is_some o ≡ true → (k : ℕ) × (o ≡ Some k)
 some_kept None e = absurd (true≢false (sym e))
@@ -229,3 +229,10 @@ going (Some k) e = absurd (true≢false e)
 -- who keeps a number goes on keeping it
 pub keeps_on : (count : ℕ) (v : TaskView) → IsFair v → v.count ≡ count → is_some v.kept ≡ true → Keeps count v v
 keeps_on count v fair counts kept = let k = some_kept v.kept kept in (k.0, omega (arith, fair.kept k.0 k.1, counts), inl (k.1, refl))
+
+-- who drew a number below the count has fewer of them before it
+pub drawn_nearer : (count n : ℕ) (v w : TaskView) → v.count ≡ count → n < count → w ≡ cond (nat_lt n v.count) (drew v n) (stopped v n) → above v.drawn ≤ n → left count w.drawn < left count v.drawn
+drawn_nearer count n v w counts lt e le =
+    let test : nat_lt n v.count ≡ true = lt-ltb n v.count (omega (arith, lt, counts)) in
+    let is : w ≡ drew v n = e ∙ ap (λ b. cond b (drew v n) (stopped v n)) test in
+    comes_nearer count n v.drawn w.drawn lt le (ap (λ (u : TaskView). u.drawn) is)

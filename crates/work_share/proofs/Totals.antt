@@ -6,7 +6,7 @@ use mathlib.Core.Option.{some, some-injective, some-ne-none}
 use mathlib.Core.Logic.{⊎_elim}
 use lib.ListN.{get_elem?}
 use Rattle.work_share.specs.declared.view.TaskView.{TaskView}
-use Rattle.work_share.specs.Numbers.{times, once_below, above}
+use Rattle.work_share.specs.Numbers.{times, once_below, above, left}
 use Rattle.work_share.specs.Counter.{total}
 
 module _ (f : TaskView → ℕ) where
@@ -121,3 +121,11 @@ tally_le (suc n) xs h = let a = h n in let b = tally_le n xs h in omega arith
 
 pub few_below : (n : ℕ) (xs : List ℕ) → ((x : ℕ) → times x xs ≤ 1) → ((x : ℕ) → 1 ≤ times x xs → x < n) → length xs ≤ n
 few_below n xs once below = omega (arith, tally_all n xs below, tally_le n xs once)
+
+pub above_push : (xs : List ℕ) (n : ℕ) → above xs ≤ n → above (xs ++ n ∷ []) ≡ n + 1
+above_push [] n le = omega arith
+above_push (x ∷ xs) n le = let rest = above_push xs n (omega arith) in omega (arith, rest)
+
+-- who draws a number below the count comes nearer to the end
+pub comes_nearer : (count n : ℕ) (xs ys : List ℕ) → n < count → above xs ≤ n → ys ≡ xs ++ n ∷ [] → left count ys < left count xs
+comes_nearer count n xs ys lt le e = omega (arith, above_push xs n le, ap above e)

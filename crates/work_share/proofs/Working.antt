@@ -1,5 +1,5 @@
 -- What workers do, one number after the other and one worker beside the other.
-use Rattle.std.proofs.Common.{◌≡◌, ℕ, ◌+◌, ◌-◌, ◌<◌, ◌≤◌, true, List, [], ◌∷◌, ◌++◌, length, sym, refl, ap, subst, ◌∙◌, arith}
+use Rattle.std.proofs.Common.{◌≡◌, ℕ, ◌+◌, ◌<◌, ◌≤◌, true, List, [], ◌∷◌, ◌++◌, length, sym, refl, ap, subst, ◌∙◌, arith}
 use Rattle.std.specs.Prelude.{None, Some, Ok, Err, IfOk, is_some, slice_index_or}
 use Rattle.std.specs.declared.result.Result.{Result}
 use Rattle.std.specs.declared.option.Option.{Option}
@@ -20,14 +20,6 @@ use Rattle.work_share.specs.Worked.{items_of, Worked, InOrder}
 use Rattle.work_share.specs.Shares.{Finished}
 use Rattle.work_share.proofs.Totals.{times-append, times_other}
 use Rattle.work_share.proofs.Places.{items_append}
-
-pub above_push : (xs : List ℕ) (n : ℕ) → above xs ≤ n → above (xs ++ n ∷ []) ≡ n + 1
-above_push [] n le = omega arith
-above_push (x ∷ xs) n le = let rest = above_push xs n (omega arith) in omega (arith, rest)
-
--- a worker that draws a number below the count comes nearer to the end
-pub comes_nearer : (count n : ℕ) (xs ys : List ℕ) → n < count → above xs ≤ n → ys ≡ xs ++ n ∷ [] → count - above ys < count - above xs
-comes_nearer count n xs ys lt le e = omega (arith, above_push xs n le, ap above e)
 
 module _ {O : Type 0} (gives : ℕ → O → Type 0) (count : ℕ) where
   pub worked_none : (drawn : List ℕ) → drawn ≡ [] → Worked gives count drawn []

@@ -1,5 +1,5 @@
 -- Lists of numbers that were drawn.
-use Rattle.std.specs.Prelude.{ℕ, ◌+◌, max, cond, nat_eq, nat_lt, List, [], ◌∷◌}
+use Rattle.std.specs.Prelude.{ℕ, ◌+◌, ◌-◌, max, cond, nat_eq, nat_lt, List, [], ◌∷◌}
 
 -- how often x stands among the numbers
 abbrev pub times : ℕ → List ℕ → ℕ
@@ -14,3 +14,7 @@ once_below x n = cond (nat_lt x n) 1 0
 abbrev pub above : List ℕ → ℕ
 above [] = 0
 above (x ∷ xs) = max (x + 1) (above xs)
+
+-- how many numbers below the count are greater than all of these
+abbrev pub left : ℕ → List ℕ → ℕ
+left count xs = count - above xs

@@ -1,6 +1,6 @@
 //! The counter and its seats.
 ghost use Rattle.std.specs.Prelude.{◌≡◌, ◌^◌, ◌<◌, ◌≤◌, ◌↔◌, true, [], is_some, IfSome, IfNone, IsNone};
-ghost use Rattle.work_share.specs.Numbers.{above};
+ghost use Rattle.work_share.specs.Numbers.{above, left};
 ghost use Rattle.work_share.specs.Counter.{drew, kept_half, given_half, united};
 ghost use Rattle.work_share.specs.Fair.{IsFair, Keeps};
 
@@ -68,6 +68,7 @@ impl Tasks {
 
         // The seat drew a number below the count.
         ensures some { IfSome result (λ n. (n < self.now.count) × (above (known seat.old).drawn ≤ n) × (known seat.new ≡ drew (known seat.old) n)) }
+        ensures nearer { IfSome result (λ n. left self.now.count (known seat.new).drawn < left self.now.count (known seat.old).drawn) }
 
         // The seat keeps a number that is not below the count, since now or since before.
         ensures none { IfNone result (Keeps self.now.count (known seat.old) (known seat.new)) }

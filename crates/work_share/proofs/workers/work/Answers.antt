@@ -1,16 +1,11 @@
 use Rattle.std.proofs.Common.{refl, ap, ◌∙◌}
 use Rattle.work_share.specs.declared.view.TaskView.{TaskView}
 use Rattle.work_share.specs.Seats.{known}
-use Rattle.work_share.proofs.Working.{worked_none, worked_more, comes_nearer, finished_alone}
+use Rattle.work_share.proofs.Working.{worked_none, worked_more, finished_alone}
 use Rattle.work_share.proofs.workers.work.Goals as goal
 
 pub loop-item-init : goal.loop-item-init
 loop-item-init g c = (c.requires.seat.belongs, refl, rw c.new-done.ensures.items (worked_none _ _ _ c.requires.seat.idle))
-
-pub loop-item-smaller : goal.loop-item-smaller
-loop-item-smaller g c =
-    let some = c.in-Some.ensures.some in
-    comes_nearer c.args.tasks.now.count c.in-Some.item (known c.loop-item.seat).drawn (known c.claim.new.seat).drawn some.0 some.1 (ap (λ (v : TaskView). v.drawn) some.2)
 
 pub loop-item-preserved : goal.loop-item-preserved
 loop-item-preserved g c =
