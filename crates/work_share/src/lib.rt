@@ -24,6 +24,3 @@ pub use job::Job;
 pub use opening::tasks;
 pub use view::TaskView;
 pub use workers::each;
-
-#[cfg(test)]
-mod tests;

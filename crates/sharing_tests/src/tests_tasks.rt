@@ -1,6 +1,7 @@
+//! Numbers that are drawn from one counter, and jobs done by several workers.
+
 ghost use Rattle.std.specs.Prelude.{◌≡◌, ◌<◌, ◌≤◌, length, slice_index};
 
-use crate::{Job, each, tasks};
 use ds_files::{Gate, OpenGate};
 use std::alloc::Global;
 use std::hint::spin_loop;
@@ -9,6 +10,7 @@ use std::sync::atomic::AtomicBool;
 use std::sync::atomic::Ordering::SeqCst;
 use std::test::Fail;
 use std::thread::Threads;
+use work_share::{Job, each, tasks};
 
 /// The number that stands at an item's place.
 #[derive(Drop)]

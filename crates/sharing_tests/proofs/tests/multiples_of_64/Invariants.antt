@@ -1,5 +1,5 @@
 use Rattle.std.proofs.Common.{◌≡◌, length}
-use Rattle.pool_tests.proofs.tests_threads.thousand_names.Given as goal
+use Rattle.sharing_tests.proofs.tests.multiples_of_64.Given as goal
 
 abbrev pub invariant-loop-x : goal.invariant-loop-x
 invariant-loop-x g l = length l.keys.items ≡ l.x
