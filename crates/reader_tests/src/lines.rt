@@ -1,0 +1,119 @@
+//! Line tables, and the rows that they mean or their first fault.
+
+use crate::parts::{assert_refused, no_symbols, sections, two_relocs};
+use ds_base::{Kind, Part, ReadError};
+use dwarf_types::{Addr, RawLines, RawRow, Row};
+use line_read::read_lines;
+use std::alloc::Global;
+use std::process::Abort;
+
+/// The line table at the start of a section in which the numbers at 0x28 and 0x57 are relocated.
+fn read(rt: &impl Abort, alloc: Global, line: &[u8]) -> Result<RawLines, ReadError> {
+    assert!(rt; !line.is_empty() && line.len() < 1000);
+    let relocs = two_relocs(alloc, 0x28, 0x57)?;
+    let image = no_symbols(alloc);
+    let sections = sections(line, b"", b"", b"");
+    read_lines(alloc, &sections, &relocs, &image, 0, 4)
+}
+
+/// A table is refused so.
+fn refused(rt: &impl Abort, alloc: Global, label: &str, kind: Kind, place: u64, line: &[u8]) {
+    assert_refused(
+        rt,
+        label,
+        read(rt, alloc, line).err(),
+        Part::Line,
+        kind,
+        place,
+    );
+}
+
+/// The `__debug_line` that clang 14 writes for x86_64-apple-macos with `-g -gdwarf-4 -O1` of two functions in two
+/// sections, without the relocations.
+#[rattlefmt::skip]
+const COMPILED: &[u8; 120] = b"\x74\0\0\0\x04\0\x1b\0\0\0\x01\x01\x01\xfb\x0e\x0d\
+    \0\x01\x01\x01\x01\0\0\0\x01\0\0\x01\0\x6d\x2e\x63\
+    \0\0\0\0\0\0\x09\x02\0\0\0\0\0\0\0\0\
+    \x15\x05\x0f\x0a\xd7\x05\x17\x3d\x05\x05\x06\x2e\x03\x7a\x2e\x05\
+    \x19\x06\xb3\x05\x1d\x81\x05\x17\x06\x74\x05\x05\xac\x06\x30\x02\
+    \x12\0\x01\x01\0\x09\x02\x50\0\0\0\0\0\0\0\x03\
+    \x0b\x01\x05\x19\x0a\x08\xdf\x05\x1d\x81\x05\x17\x06\x74\x05\x05\
+    \x9e\x06\x35\x02\x0e\0\x01\x01";
+
+/// A row as llvm-dwarfdump prints it: address, line, column, and whether it has the flags is_stmt and prologue_end.
+fn printed(at: u64, line: u32, column: u64, is_stmt: bool, prologue_end: bool) -> RawRow {
+    RawRow {
+        at: Addr::Placed(at),
+        row: Row {
+            address: 0,
+            file: 1,
+            line,
+            column,
+            discriminator: 0,
+            isa: 0,
+            is_stmt,
+            basic_block: false,
+            prologue_end,
+            epilogue_begin: false,
+        },
+    }
+}
+
+/// A sequence of a table has these rows, and ends at an address of the object.
+fn assert_sequence(rt: &impl Abort, lines: &RawLines, index: usize, want: &[RawRow], end: u64) {
+    let Some(sequence) = lines.sequences.get(index) else {
+        panic!(rt; "no sequence {index}")
+    };
+    assert_eq!(rt; sequence.rows.as_slice(), want, "{index}");
+    assert_eq!(rt; sequence.end, Some(Addr::Placed(end)), "{index}");
+}
+
+#[test]
+#[rattlefmt::skip]
+fn a_compiled_table_has_the_rows_that_llvm_dwarfdump_prints(rt: HostRuntime) {
+    match read(&rt, rt.alloc(), COMPILED) {
+        Ok(lines) => {
+            assert_eq!(rt; (lines.dirs.len(), lines.files.len(), lines.sequences.len()), (0, 1, 2));
+            assert_sequence(&rt, &lines, 0, &[
+                printed(0, 4, 0, true, false),
+                printed(0x0e, 5, 15, true, true),
+                printed(0x11, 6, 23, true, false),
+                printed(0x13, 6, 5, false, false),
+                printed(0x15, 0, 5, false, false),
+                printed(0x20, 7, 25, true, false),
+                printed(0x28, 6, 29, true, false),
+                printed(0x2f, 6, 23, false, false),
+                printed(0x3a, 6, 5, false, false),
+                printed(0x3c, 8, 5, true, false),
+            ], 0x4e);
+            assert_sequence(&rt, &lines, 1, &[
+                printed(0x50, 12, 0, true, false),
+                printed(0x70, 7, 25, true, true),
+                printed(0x78, 6, 29, true, false),
+                printed(0x7f, 6, 23, false, false),
+                printed(0x89, 6, 5, false, false),
+                printed(0x8b, 13, 5, true, false),
+            ], 0x99);
+        }
+        Err(error) => panic!(rt; "{error:?}"),
+    }
+}
+
+#[test]
+#[rattlefmt::skip]
+fn the_first_item_that_is_wrong_is_told(rt: HostRuntime) {
+    let alloc = rt.alloc();
+    refused(&rt, alloc, "the table passes the section", Kind::BadLineHeader, 0, b"\x03\0\0\0\x04\0");
+    refused(&rt, alloc, "another version", Kind::LineVersion, 4, b"\x02\0\0\0\x05\0");
+    refused(&rt, alloc, "two operations an instruction", Kind::VliwLine, 0, b"\x08\0\0\0\x04\0\0\0\0\0\x01\x02");
+    refused(&rt, alloc, "no operand count", Kind::Truncated, 16, b"\x0c\0\0\0\x04\0\0\0\0\0\x01\x01\x01\xfb\x0e\x04");
+    // Tables of version 2 without names.
+    refused(&rt, alloc, "a wide number", Kind::LebTooWide, 20, b"\x1a\0\0\0\x02\0\x09\0\0\0\x01\x01\xff\x04\x03\0\x01\0\0\
+        \x02\xff\xff\xff\xff\xff\xff\xff\xff\xff\x02");
+    refused(&rt, alloc, "an extended operation of no length", Kind::BadLineOp, 18, b"\x10\0\0\0\x02\0\x07\0\0\0\x01\x01\xff\x04\x01\0\0\
+        \x01\0\0");
+    // 18 rows at a number, one at 5 of the object, and one at 4.
+    refused(&rt, alloc, "an address below the one before it", Kind::LineBackwards, 60, b"\x39\0\0\0\x02\0\x09\0\0\0\x01\x01\xff\x04\x03\0\x01\0\0\
+        \x01\x01\x01\x01\x01\x01\x01\x01\x01\x01\x01\x01\x01\x01\x01\x01\x01\x01\0\x09\x02\x05\0\0\0\0\0\0\0\
+        \x01\x02\xff\xff\xff\xff\xff\xff\xff\xff\xff\x01\x01");
+}

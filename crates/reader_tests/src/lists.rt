@@ -1,0 +1,91 @@
+//! Range lists and location lists, and what they give or their first fault.
+
+use crate::parts::{assert_refused, no_symbols, sections, two_relocs};
+use ds_base::{Kind, List, Part, ReadError};
+use dwarf_types::{Addr, RawLocation, RawSpan};
+use list_items::is_empty;
+use loc_lists::read_locations;
+use range_lists::read_ranges;
+use std::alloc::Global;
+use std::process::Abort;
+
+/// The base of the unit.
+const UNIT: Addr = Addr::Placed(0x100);
+
+/// The range list at the start of a section in which the first two words are relocated.
+fn ranges(rt: &impl Abort, alloc: Global, bytes: &[u8]) -> Result<List<RawSpan>, ReadError> {
+    assert!(rt; !bytes.is_empty() && bytes.len() < 1000);
+    let relocs = two_relocs(alloc, 0, 8)?;
+    let image = no_symbols(alloc);
+    let sections = sections(b"", bytes, b"", b"");
+    read_ranges(alloc, &sections, &relocs, &image, 0, 4, &UNIT)
+}
+
+/// The same of a location list.
+fn locations(rt: &impl Abort, alloc: Global, bytes: &[u8]) -> Result<List<RawLocation>, ReadError> {
+    assert!(rt; !bytes.is_empty() && bytes.len() < 1000);
+    let relocs = two_relocs(alloc, 0, 8)?;
+    let image = no_symbols(alloc);
+    let sections = sections(b"", b"", bytes, b"");
+    read_locations(alloc, &sections, &relocs, &image, 0, 4, &UNIT)
+}
+
+/// A range list gives these spans, of which none is empty.
+fn assert_ranges(rt: &impl Abort, alloc: Global, label: &str, bytes: &[u8], want: &[RawSpan]) {
+    match ranges(rt, alloc, bytes) {
+        Ok(spans) => {
+            assert_eq!(rt; spans.as_slice(), want, "{label}");
+            for span in spans.as_slice() {
+                assert!(rt; !is_empty(span), "{label}");
+            }
+        }
+        Err(error) => panic!(rt; "{label}: {error:?}"),
+    }
+}
+
+/// A range list is refused so.
+fn refused(rt: &impl Abort, alloc: Global, label: &str, kind: Kind, place: u64, bytes: &[u8]) {
+    assert_refused(
+        rt,
+        label,
+        ranges(rt, alloc, bytes).err(),
+        Part::Ranges,
+        kind,
+        place,
+    );
+}
+
+fn span(low: Addr, high: Addr) -> RawSpan {
+    RawSpan { low, high }
+}
+
+#[test]
+#[rattlefmt::skip]
+fn a_range_list_gives_its_spans_or_its_first_fault(rt: HostRuntime) {
+    let alloc = rt.alloc();
+    assert_ranges(&rt, alloc, "relocated",
+        b"\x18\0\0\0\0\0\0\0\x30\0\0\0\0\0\0\0\0\0\0\0\0\0\0\0\0\0\0\0\0\0\0\0", &[span(Addr::Placed(0x18), Addr::Placed(0x30))]);
+    assert_ranges(&rt, alloc, "a base, and numbers that count from it",
+        b"\xff\xff\xff\xff\xff\xff\xff\xff\0\x40\0\0\0\0\0\0\x01\0\0\0\0\0\0\0\x02\0\0\0\0\0\0\0\0\0\0\0\0\0\0\0\0\0\0\0\0\0\0\0",
+        &[span(Addr::Placed(0x4001), Addr::Placed(0x4002))]);
+    assert_ranges(&rt, alloc, "two zeros end a list, relocated as they are", b"\0\0\0\0\0\0\0\0\0\0\0\0\0\0\0\0", &[]);
+    refused(&rt, alloc, "low above high", Kind::BadList, 0, b"\x31\0\0\0\0\0\0\0\x30\0\0\0\0\0\0\0");
+    refused(&rt, alloc, "no end", Kind::Truncated, 16, b"\x18\0\0\0\0\0\0\0\x30\0\0\0\0\0\0\0");
+    refused(&rt, alloc, "half a span", Kind::Truncated, 8, b"\x18\0\0\0\0\0\0\0\x30\0\0\0\0\0\0");
+}
+
+#[test]
+#[rattlefmt::skip]
+fn a_location_list_gives_its_items(rt: HostRuntime) {
+    match locations(&rt, rt.alloc(), b"\x18\0\0\0\0\0\0\0\x30\0\0\0\0\0\0\0\x01\0\x50\0\0\0\0\0\0\0\0\0\0\0\0\0\0\0\0") {
+        Ok(items) => {
+            assert_eq!(rt; items.len(), 1);
+            for item in items.as_slice() {
+                assert_eq!(rt; (item.span, item.place, item.first), (span(Addr::Placed(0x18), Addr::Placed(0x30)), 0, 18));
+                assert_eq!(rt; item.bytes.as_slice(), b"\x50".as_slice());
+            }
+        }
+        Err(error) => panic!(rt; "{error:?}"),
+    }
+    assert_refused(&rt, "a cut expression", locations(&rt, rt.alloc(), b"\x18\0\0\0\0\0\0\0\x30\0\0\0\0\0\0\0\x02\0\x50").err(), Part::Loc, Kind::Truncated, 18);
+}
