@@ -52,14 +52,12 @@ found_none found a b is = ap (λ t. cond t a b) (eq-eqb found 0 is)
 pub found_some : (found : ℕ) (a b : View) → found ≢ 0 → cond (eqb found 0) a b ≡ b
 found_some found a b off = ap (λ t. cond t a b) (ne_eqb found 0 off)
 
--- after a load that found nothing, and an exchange
-pub put_there : (v u w : View) (cell new name found : ℕ) → u ≡ v → new - 1 ≡ name → found ≡ 0 → w ≡ cond (eqb found 0) (put u cell (new - 1)) (noted u cell (found - 1)) → w ≡ put v cell name
-put_there v u w cell new name found same is none tried = tried ∙ found_none found (put u cell (new - 1)) (noted u cell (found - 1)) none ∙ ap (λ (x : View). put x cell (new - 1)) same ∙ ap (put v cell) is
+pub stays_looked : (v w : View) (cell found : ℕ) → cell < v.cells → w ≡ cond (eqb found 0) v (noted v cell (found - 1)) → Stays v w
+stays_looked v w cell found inside is = dite (ℕ_discrete found 0)
+    (λ none. subst (Stays v) (sym (is ∙ found_none found v (noted v cell (found - 1)) none)) record { share = refl; cells = refl; names = refl; near = λ old. old })
+    (λ off. stays_noted v w cell (found - 1) inside (is ∙ found_some found v (noted v cell (found - 1)) off))
 
-pub noted_there : (v u w : View) (cell new found : ℕ) → u ≡ v → found ≢ 0 → w ≡ cond (eqb found 0) (put u cell (new - 1)) (noted u cell (found - 1)) → w ≡ noted v cell (found - 1)
-noted_there v u w cell new found same off tried = tried ∙ found_some found (put u cell (new - 1)) (noted u cell (found - 1)) off ∙ ap (λ (x : View). noted x cell (found - 1)) same
-
-pub stays_tried : (v u w : View) (cell new found : ℕ) → cell < v.cells → u ≡ v → w ≡ cond (eqb found 0) (put u cell (new - 1)) (noted u cell (found - 1)) → Stays v w
-stays_tried v u w cell new found inside same tried = dite (ℕ_discrete found 0)
-    (λ none. stays_put v w cell (new - 1) inside (put_there v u w cell new (new - 1) found same refl none tried))
-    (λ off. stays_noted v w cell (found - 1) inside (noted_there v u w cell new found same off tried))
+pub stays_brought : (v w : View) (cell name found : ℕ) → cell < v.cells → w ≡ cond (eqb found 0) (put v cell name) (noted v cell (found - 1)) → Stays v w
+stays_brought v w cell name found inside is = dite (ℕ_discrete found 0)
+    (λ none. stays_put v w cell name inside (is ∙ found_none found (put v cell name) (noted v cell (found - 1)) none))
+    (λ off. stays_noted v w cell (found - 1) inside (is ∙ found_some found (put v cell name) (noted v cell (found - 1)) off))

@@ -1,11 +1,12 @@
 -- What a seat knows, and which pool it belongs to.
-use Rattle.std.specs.Prelude.{◌≡◌, ℕ, ◌⊎◌, List, ◌∷◌}
+use Rattle.std.specs.Prelude.{◌≡◌, ℕ, ◌≤◌, ◌⊎◌, List, ◌∷◌, Option, None, Some}
 use Rattle.type_pool.specs.declared.view.View.{View}
 use Rattle.type_pool.specs.declared.seat.PoolSeat.{PoolSeat}
 use Rattle.type_pool.specs.declared.table.Pool.{Pool}
 use Rattle.type_pool.specs.declared.placing.Placing.{Placing}
 use Rattle.type_pool.specs.declared.placing.Placing.TheVariants.{Cell, Crowded}
 use Rattle.type_pool.specs.Pairs.{Has}
+use Rattle.type_pool.specs.Views.{given_half, kept_half}
 use Rattle.type_pool.specs.Standing.{IsCrowded, StandsAt}
 
 abbrev pub known : PoolSeat → View
@@ -30,3 +31,8 @@ Placed same notes start cells x Crowded = IsCrowded same (Has notes) start cells
 abbrev pub PutsAtMost : ℕ → Placing → List (ℕ × ℕ) → List (ℕ × ℕ) → Type 0
 PutsAtMost x (Cell cell) old new = (new ≡ old) ⊎ (new ≡ (cell, x) ∷ old)
 PutsAtMost x Crowded old new = new ≡ old
+
+-- one seat is two; or its share is 1, and it is as it was
+abbrev pub AreHalves : View → View → Option PoolSeat → Type 0
+AreHalves old new None = (old.share ≡ 1) × (new ≡ old)
+AreHalves old new (Some other) = (2 ≤ old.share) × (new ≡ kept_half old) × (known other ≡ given_half old)

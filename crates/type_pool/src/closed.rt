@@ -1,8 +1,9 @@
 //! A table that no thread shares any more: how it is closed, and what is found in it.
 
-ghost use Rattle.std.specs.Prelude.{◌≡◌, ℕ, ◌+◌, ◌*◌, ◌^◌, ◌<◌, ◌≤◌, length, slice_index, IfErr, IfOk, MatchOption, replicate};
+ghost use Rattle.std.specs.Prelude.{◌≡◌, ℕ, ◌+◌, ◌*◌, ◌^◌, ◌<◌, ◌≤◌, length, slice_index, IfErr, IfOk, replicate};
 ghost use Rattle.std.specs.Mem.Slots.{IsFull, slots_items, slots_len};
-ghost use Rattle.type_pool.specs.Standing.{EqualNamesShareACell, StandsIn};
+ghost use Rattle.type_pool.specs.Ends.{Closes, Finds};
+ghost use Rattle.type_pool.specs.Standing.{EqualNamesShareACell};
 
 use crate::probing::{PROBES, probed};
 use crate::seat::PoolSeat;
@@ -40,7 +41,6 @@ impl ClosedPool {
 }
 
 impl Pool {
-    ghost use Rattle.type_pool.specs.Ends.{Closes};
     ghost use Rattle.type_pool.specs.Seats.{Belongs, known};
 
     /// Closes the table, by the seat that has every share. Where there is no memory, pool and seat come back unchanged.
@@ -80,7 +80,7 @@ impl Pool {
 /// The cell at which the name `x` stands, with its least word. `None` exactly where it stands at none of its 64 cells.
 pub fn find<N: NameBook>(closed: &ClosedPool, names: &N, x: u32) -> Option<Found>
     requires book { (N.size names.now ≡ closed.now.names) × (x < N.size names.now) }
-    ensures { MatchOption result ((cell : ℕ) → StandsIn (N.same names.now) (N.start_of names.now) closed.now.state.cells x cell → ⊥) (λ found. StandsIn (N.same names.now) (N.start_of names.now) closed.now.state.cells x found.cell × (found.least ≡ slice_index closed.now.state.least found.cell)) }
+    ensures { Finds (N.same names.now) (N.start_of names.now) closed.now.state x result }
 {
     let start = names.start(x, closed.cells);
     let words = closed.state.cells.as_slice();

@@ -1,6 +1,6 @@
 //! The table that threads share.
 
-ghost use Rattle.std.specs.Prelude.{◌≡◌, ◌≢◌, ℕ, ◌*◌, ◌^◌, ◌<◌, ◌≤◌, [], ◌∷◌, IfSome, IfNone, IfOk, IfErr, MatchOption};
+ghost use Rattle.std.specs.Prelude.{◌≡◌, ℕ, ◌-◌, ◌*◌, ◌^◌, ◌<◌, ◌≤◌, ◌==◌, if◌then◌else◌, IfSome, IfNone};
 
 use crate::placing::Placing;
 use crate::probing::{PROBES, probed};
@@ -23,9 +23,9 @@ pub struct Pool {
 
 impl Pool {
     ghost use Rattle.type_pool.specs.Pairs.{Has, HasOneEach};
-    ghost use Rattle.type_pool.specs.Views.{bidden, given_half, kept_half, noted, put, united};
+    ghost use Rattle.type_pool.specs.Views.{bidden, noted, put, united};
     ghost use Rattle.type_pool.specs.Standing.{IsCrowded};
-    ghost use Rattle.type_pool.specs.Seats.{Belongs, known, Learns, Placed, PutsAtMost};
+    ghost use Rattle.type_pool.specs.Seats.{AreHalves, Belongs, known, Learns, Placed, PutsAtMost};
     ghost use Rattle.type_pool.specs.declared.placing.Placing.TheVariants.{Crowded};
 
     /// Finds the cell of the name `x`, or puts `x` into the first empty cell of those probed for it.
@@ -71,7 +71,7 @@ impl Pool {
         requires belongs { Belongs self.now seat.old }
         ensures belongs { Belongs self.now seat.new }
         ensures given { IfSome result (λ other. Belongs self.now other) }
-        ensures halves { MatchOption result (((known seat.old).share ≡ 1) × (known seat.new ≡ known seat.old)) (λ other. (2 ≤ (known seat.old).share) × (known seat.new ≡ kept_half (known seat.old)) × (known other ≡ given_half (known seat.old))) }
+        ensures halves { AreHalves (known seat.old) (known seat.new) result }
     {
         let given = seat.share / 2;
         if given == 0 {
@@ -111,19 +111,43 @@ impl Pool {
         ensures found { IfSome result (λ name. (name < self.now.names) × (known seat.new ≡ noted (known seat.old) cell name)) }
         ensures one_each { HasOneEach (known seat.new).notes }
     {
-        let word = 2 * cell as usize;
-        let standing = self.table.shared.load::<Looks>(&mut seat.seat, word);
+        let standing = self.look(seat, cell);
         if standing != 0 {
             return Some((standing - 1) as u32);
         }
-        let found = self
-            .table
-            .shared
-            .compare_exchange::<Tries>(&mut seat.seat, word, 0, u64::from(x) + 1);
+        let found = self.bring(seat, cell, x);
         if found == 0 {
             None
         } else {
             Some((found - 1) as u32)
         }
+    }
+
+    // The word of the name in a cell, which the seat notes where there is one.
+    fn look(&self, seat: &mut PoolSeat, cell: u32) -> u64
+        requires belongs { Belongs self.now seat.old }
+        requires inside { cell < self.now.cells }
+        ensures belongs { Belongs self.now seat.new }
+        ensures noted { known seat.new ≡ (if result == 0 then known seat.old else noted (known seat.old) cell (result - 1)) }
+        ensures one_each { HasOneEach (known seat.new).notes }
+        ensures named { (result ≤ self.now.names) × (result ≤ 2 ^ 32) }
+    {
+        self.table
+            .shared
+            .load::<Looks>(&mut seat.seat, 2 * cell as usize)
+    }
+
+    // The word that was there, as the name was brought to a cell.
+    fn bring(&self, seat: &mut PoolSeat, cell: u32, x: u32) -> u64
+        requires belongs { Belongs self.now seat.old }
+        requires inside { (cell < self.now.cells) × (x < self.now.names) }
+        ensures belongs { Belongs self.now seat.new }
+        ensures put { known seat.new ≡ (if result == 0 then put (known seat.old) cell x else noted (known seat.old) cell (result - 1)) }
+        ensures one_each { HasOneEach (known seat.new).notes }
+        ensures named { (result ≤ self.now.names) × (result ≤ 2 ^ 32) }
+    {
+        self.table
+            .shared
+            .compare_exchange::<Tries>(&mut seat.seat, 2 * cell as usize, 0, u64::from(x) + 1)
     }
 }
