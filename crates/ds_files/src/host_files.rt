@@ -1,9 +1,10 @@
 //! The files of the system.
 
-ghost use Rattle.std.specs.Prelude.{◌≡◌, ◌≤◌, length, IfOk};
+ghost use Rattle.std.specs.Prelude.{◌≡◌, ◌≢◌, ◌≤◌, length, IfOk};
+ghost use Rattle.ds_files.specs.declared.files.FileError.TheVariants as errors;
 
 use crate::files::{FileError, Files};
-use crate::streams::{read_whole, write_whole};
+use crate::streams::{read_sized, write_whole};
 use crate::tally::Tally;
 use ds_base::Bytes;
 use std::alloc::Global;
@@ -84,17 +85,25 @@ fn read_file<R: rt::Files>(rt: &R, alloc: Global, name: &str, most: u64) -> Resu
 {
     let mut file = match File::open(rt, name) {
         Ok(file) => file,
-        Err(error) if error.kind() == ErrorKind::NotFound => return Err(FileError::Missing),
-        Err(_) => return Err(FileError::Failed),
+        Err(error) => return Err(open_error(error.kind())),
     };
     let size = match file.metadata() {
         Ok(metadata) if metadata.is_file() => metadata.len(),
         _ => 0,
     };
-    if size > most {
-        return Err(FileError::TooLong);
+    read_sized(&mut file, alloc, size, most)
+}
+
+/// Why a file was not opened: it is `Missing` where the system finds no such path, and only there.
+fn open_error(kind: ErrorKind) -> FileError
+    ensures missing { kind ≡ ErrorKind.NotFound → result ≡ errors.Missing }
+    ensures failed { kind ≢ ErrorKind.NotFound → result ≡ errors.Failed }
+{
+    if kind == ErrorKind::NotFound {
+        FileError::Missing
+    } else {
+        FileError::Failed
     }
-    read_whole(&mut file, alloc, size, most)
 }
 
 /// Makes the folders that are missing, and the file anew.

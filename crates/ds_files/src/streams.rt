@@ -1,9 +1,11 @@
 //! A reader read to its end, and bytes written whole.
 
 ghost use Rattle.std.specs.Prelude.{◌≡◌, ◌≢◌, ◌+◌, ◌<◌, ◌≤◌, [], length, take, drop, vec_len, IfOk, IfErr, OnOk, OnErr};
+ghost use Rattle.std.specs.Result.{IsErrAnd};
 ghost use Rattle.std.specs.Io.KnownBytes.{ReadConsumes, Consumes, Keeps, IsAtEnd};
 ghost use Rattle.ds_files.specs.Outside.{Told};
 ghost use Rattle.ds_files.specs.Streams.{WholeFails, TakesBytes};
+ghost use Rattle.ds_files.specs.declared.files.FileError.TheVariants as errors;
 
 use crate::files::FileError;
 use ds_base::{Bytes, NoMemory};
@@ -13,6 +15,26 @@ use std::io::{ErrorKind, Read, Write};
 
 /// Bytes that are asked for at once.
 const CHUNK: usize = 1 << 17;
+
+/// All bytes of a reader that is said to have `size` bytes left. It is not read where that is more than `most`.
+///
+/// What is said may be wrong: a reader that has fewer than `size` bytes, or more, is read as it is.
+pub fn read_sized<R: Read>(
+    reader: &mut R,
+    alloc: Global,
+    size: u64,
+    most: u64,
+) -> Result<Bytes, FileError>
+    ensures within { IfOk result (λ b. length b ≤ most) }
+    ensures whole { IfOk result (λ b. Told (R.remaining reader.old) (λ bytes. b ≡ bytes)) }
+    ensures failed { size ≤ most → IfErr result (WholeFails (R.remaining reader.old) most) }
+    ensures long { most < size → IsErrAnd result (λ error. error ≡ errors.TooLong) }
+{
+    if size > most {
+        return Err(FileError::TooLong);
+    }
+    read_whole(reader, alloc, size, most)
+}
 
 /// All bytes that a reader has left, which are at most `most`. The reader is there, so it is never `Missing`.
 ///

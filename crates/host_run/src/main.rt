@@ -1,0 +1,66 @@
+//! Reads and replaces files of the system, and prints what they hold.
+//!
+//! Layer: top. A stored run of the trusted edge: `data/` has the files that [`HostFiles`] reads, and `stdout` what
+//! [`HostSink`] writes of them.
+#![tactic(auto)]
+
+use ds_files::{FileError, Files, HostFiles, HostSink, Sink};
+use std::alloc::Global;
+
+/// Puts a line of a file's name and what is said of it.
+fn tell<S: Sink>(sink: &mut S, name: &str, what: &[u8]) {
+    let _ = sink.put(name.as_bytes());
+    let _ = sink.put(b": ");
+    let _ = sink.put(what);
+    let _ = sink.put(b"\n");
+}
+
+/// The words for an error.
+fn words(error: FileError) -> &'static [u8] {
+    match error {
+        FileError::Missing => b"missing",
+        FileError::Failed => b"failed",
+        FileError::TooLong => b"too long",
+        FileError::NoMemory => b"no memory",
+    }
+}
+
+/// Reads a file of at most so many bytes.
+fn read<F: Files, S: Sink>(alloc: Global, files: &mut F, sink: &mut S, name: &str, most: u64) {
+    match files.read(alloc, name, most) {
+        Ok(bytes) => tell(sink, name, bytes.as_slice()),
+        Err(error) => tell(sink, name, words(error)),
+    }
+}
+
+/// Replaces a file.
+fn replace<F: Files, S: Sink>(
+    alloc: Global,
+    files: &mut F,
+    sink: &mut S,
+    name: &str,
+    bytes: &[u8],
+) {
+    match files.replace(alloc, name, bytes) {
+        Ok(()) => tell(sink, name, b"replaced"),
+        Err(error) => tell(sink, name, words(error)),
+    }
+}
+
+fn main(rt: HostRuntime) {
+    let alloc = rt.alloc();
+    let mut files = HostFiles::new(&rt);
+    let mut sink = HostSink::new(&rt);
+    read(alloc, &mut files, &mut sink, "text", 9);
+    read(alloc, &mut files, &mut sink, "text", 5);
+    read(alloc, &mut files, &mut sink, "text", 4);
+    read(alloc, &mut files, &mut sink, "empty", 0);
+    read(alloc, &mut files, &mut sink, "none", 9);
+    read(alloc, &mut files, &mut sink, ".", 9);
+    replace(alloc, &mut files, &mut sink, "a/b/new", b"longer text");
+    replace(alloc, &mut files, &mut sink, "a/b/new", b"new text");
+    read(alloc, &mut files, &mut sink, "a/b/new", 99);
+    replace(alloc, &mut files, &mut sink, "text/c", b"");
+    read(alloc, &mut files, &mut sink, "text/c", 9);
+    read(alloc, &mut files, &mut sink, "text", 9);
+}
