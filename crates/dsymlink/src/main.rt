@@ -1,44 +1,80 @@
 //! `dsymlink EXE`: links the debugging information of a program into its dSYM bundle.
 //!
-//! Layer: top. The program reads its words, hands the system's files to [`link_main`] and ends with the
-//! code of the status. It writes no message yet.
+//! Layer: top. The program reads its words, hands the system's files to [`link_main`] and ends with the code of the
+//! status. It writes no message yet.
 #![tactic(auto)]
+
+ghost use Rattle.std.specs.Prelude.{◌≡◌, ◌≢◌, IfOk, drop};
+ghost use Rattle.std.specs.Process.{exit_status};
+ghost use Rattle.std.specs.Vec.Iter.{into_iter_items};
+ghost use Rattle.link_core.specs.declared.status.Status.TheVariants as statuses;
+ghost use Rattle.dsymlink.specs.Runs.{Ends, Runs};
 
 use ds_files::{HostFiles, HostSink, OpenGate};
 use link_core::{Status, code, link_main};
-use std::io::{self, ErrorKind};
+use std::alloc::{AllocError, Global};
+use std::io::ErrorKind;
 use std::process::ExitCode;
 use std::rt::{Env, Files};
 use std::{env, rt};
 
-/// The command's words, without the program's own name.
-fn words<R: Env + AllocGlobal>(rt: &R) -> io::Result<Vec<String>> {
-    let mut words = Vec::new(rt.alloc());
-    for word in env::args(rt)?.skip(1) {
+#[cfg(test)]
+mod tests;
+
+fn main(rt: HostRuntime) -> ExitCode {
+    exit_code(&rt, &rt)
+}
+
+/// Links the program that the words name, and gives the code of the status. The words are those of `env`.
+fn exit_code<E: Env, R: Files + Print + AllocGlobal>(env: &E, rt: &R) -> ExitCode
+    ensures { Ends (exit_status result) }
+{
+    ExitCode::from(code(&run(env, rt)))
+}
+
+/// Links the program that the words name. Words that are not UTF-8 name none.
+fn run<E: Env, R: Files + Print + AllocGlobal>(env: &E, rt: &R) -> Status
+    ensures { Runs result }
+{
+    let alloc = rt.alloc();
+    let words = match env::args(&(env, alloc)) {
+        Ok(args) => words_of(alloc, args),
+        Err(error) => return unread(error.kind()),
+    };
+    match words {
+        Ok(words) => link_main(
+            alloc,
+            words.as_slice(),
+            &mut HostFiles::new(rt),
+            &mut HostSink::new(rt),
+            &OpenGate::new(),
+        ),
+        Err(_) => Status::NoMemory,
+    }
+}
+
+/// The words of the command: all arguments but the first, which is the program's own name.
+fn words_of(alloc: Global, args: env::Args) -> Result<Vec<String>, AllocError>
+    ensures { IfOk result (λ words. words.items ≡ drop 1 (into_iter_items args)) }
+{
+    let mut rest = args;
+    let _name = rest.next();
+    let mut words = Vec::new(alloc);
+    for word in rest {
         words.push(word)?;
     }
     Ok(words)
 }
 
-/// Links the program that the words name. Words that are not UTF-8 name none.
-fn run<R: Env + Files + Print + AllocGlobal>(rt: &R) -> Status {
-    let words = match words(rt) {
-        Ok(words) => words,
-        Err(error) if error.kind() == ErrorKind::OutOfMemory => return Status::NoMemory,
-        Err(_) => return Status::Usage,
-    };
-    let mut files = HostFiles::new(rt);
-    let mut messages = HostSink::new(rt);
-    let gate = OpenGate::new();
-    link_main(
-        rt.alloc(),
-        words.as_slice(),
-        &mut files,
-        &mut messages,
-        &gate,
-    )
-}
-
-fn main(rt: HostRuntime) -> ExitCode {
-    ExitCode::from(code(&run(&rt)))
+/// How the program ends where its arguments are not read.
+fn unread(kind: ErrorKind) -> Status
+    ensures runs { Runs result }
+    ensures memory { kind ≡ ErrorKind.OutOfMemory → result ≡ statuses.NoMemory }
+    ensures usage { kind ≢ ErrorKind.OutOfMemory → result ≡ statuses.Usage }
+{
+    if kind == ErrorKind::OutOfMemory {
+        Status::NoMemory
+    } else {
+        Status::Usage
+    }
 }

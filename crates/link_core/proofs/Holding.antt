@@ -9,7 +9,8 @@ use Rattle.ds_files.specs.Outside.{Contents, Counts, IsLater, Told, ReadFails}
 use Rattle.ds_files.specs.declared.files.FileError.{FileError}
 use Rattle.stab_map.specs.declared.object.MapObject.{MapObject}
 use Rattle.link_core.specs.declared.status.Status.{Status}
-use Rattle.link_core.specs.Files.{World, world, HeldFile, content_in, ReadsFiles, all_held, is_held, is_read, is_unread, unread_status}
+use Rattle.link_core.specs.declared.status.Status.TheVariants as statuses
+use Rattle.link_core.specs.Files.{World, world, HeldFile, content_in, ReadsFile, ReadsFiles, all_held, is_held, is_read, is_unread, is_not_kept, unread_status}
 use Rattle.link_core.specs.Seen.{held_seen}
 
 abbrev pub file_seen : Bor (List ℕ) × List ℕ → HeldFile
@@ -45,13 +46,24 @@ module _ (number : ℕ) (object : MapObject) (held : List HeldFile) (most : ℕ)
       by None e s = e
       by (Some bytes) e s = absurd (cc)
 
+  reads_as : (path bytes : List ℕ) (old mid : Option Contents) (before middle : Counts) → path ≡ object.file → (length bytes ≤ most) × Told old (λ m. fin.get m path ≡ Some bytes) → mid ≡ old
+      → IsLater before middle → ReadsFile object.file most bytes (world old before) (world mid middle)
+  reads_as path bytes old mid before middle is_path found same later =
+      record { few = found.0; told = subst (λ (n : List ℕ). Told old (λ m. fin.get m n ≡ Some bytes)) is_path found.1; same = same; later = later }
+
   pub stops_unread : (path : List ℕ) (old new : Option Contents) (before now : Counts) (error : FileError) (status : Status) → is_some (content_in held object.file) ≡ false → path ≡ object.file
-      → status ≡ unread_status number error → ReadFails old path most before now error → new ≡ old
+      → status ≡ unread_status number error → ReadFails old path most before now error → new ≡ old → IsLater before now
       → (objects : List MapObject) → ReadsFiles number (object ∷ objects) held most (world old before) (world new now) (Err status)
-  stops_unread path old new before now error status none is_path is_status fails same objects =
+  stops_unread path old new before now error status none is_path is_status fails same later objects =
       subst (λ (s : Status). ReadsFiles number (object ∷ objects) held most (world old before) (world new now) (Err s)) (sym is_status)
       (is_unread number object objects held most (world old before) (world new now) error (new_file none)
-      (record { cause = subst (λ (n : List ℕ). ReadFails old n most before now error) is_path fails; same = same }))
+      (record { cause = subst (λ (n : List ℕ). ReadFails old n most before now error) is_path fails; same = same; later = later }))
+
+  pub stops_unkept : (path bytes : List ℕ) (old mid : Option Contents) (before middle : Counts) → is_some (content_in held object.file) ≡ false → path ≡ object.file
+      → (length bytes ≤ most) × Told old (λ m. fin.get m path ≡ Some bytes) → mid ≡ old → IsLater before middle
+      → (objects : List MapObject) → ReadsFiles number (object ∷ objects) held most (world old before) (world mid middle) (Err statuses.NoMemory)
+  stops_unkept path bytes old mid before middle none is_path found same later objects =
+      is_not_kept number object objects held most (world old before) (world mid middle) bytes (new_file none) (reads_as path bytes old mid before middle is_path found same later)
 
   pub reads_one : (path bytes : List ℕ) (grown : List HeldFile) (left : ℕ) (old mid : Option Contents) (before middle : Counts) → is_some (content_in held object.file) ≡ false → path ≡ object.file
       → (length bytes ≤ most) × Told old (λ m. fin.get m path ≡ Some bytes) → mid ≡ old → IsLater before middle
@@ -60,7 +72,7 @@ module _ (number : ℕ) (object : MapObject) (held : List HeldFile) (most : ℕ)
       → ReadsFiles number (object ∷ objects) held most (world old before) after answer
   reads_one path bytes grown left old mid before middle none is_path found same later is_grown is_left objects after answer rest =
       is_read number object objects held most (world old before) (world mid middle) after bytes answer (new_file none)
-      (record { few = found.0; told = subst (λ (n : List ℕ). Told old (λ m. fin.get m n ≡ Some bytes)) is_path found.1; same = same; later = later })
+      (reads_as path bytes old mid before middle is_path found same later)
       (subst (λ (l : ℕ). ReadsFiles (number + 1) objects (held ++ record { name = object.file; bytes = bytes } ∷ []) l (world mid middle) after answer) is_left
       (subst (λ (h : List HeldFile). ReadsFiles (number + 1) objects h left (world mid middle) after answer) is_grown rest))
 

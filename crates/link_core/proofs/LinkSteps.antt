@@ -16,35 +16,43 @@ use Rattle.link_core.specs.declared.program.Program.{Program}
 use Rattle.link_core.specs.Words.{image_name, last_part, plist_name}
 use Rattle.link_core.specs.Files.{World, world, most_input, unread_status, HeldFile, ReadsFile}
 use Rattle.link_core.specs.Refusals.{Answers, program_of}
-use Rattle.link_core.specs.Answer.{Replaces, Writes, plist_unwritten, image_unwritten, written, unwritten_status, sources_in, LinksSources, refused, bundled, LinksObjects, LinksProgram, program_unread, program_unknown, program_refused, program_found, refused_status}
+use Rattle.link_core.specs.Answer.{Replaces, NotReplaced, Writes, plist_unwritten, image_unwritten, written, unwritten_status, sources_in, LinksSources, refused, bundled, LinksObjects, LinksProgram, program_unread, program_unknown, program_refused, program_found, refused_status}
 
 -- ---- the bundle
 
 -- a file was written under the name that was made
 pub replaces_as : (name made bytes shown : List ℕ) (old new : Option Contents) (before now : Counts) → made ≡ name → shown ≡ bytes
-    → new ≡ option_map (λ m. map.insert m made shown) old → Replaces name bytes (world old before) (world new now)
-replaces_as name made bytes shown old new before now is_name is_bytes is =
-    is ∙ ap (λ (n : List ℕ). option_map (λ m. map.insert m n shown) old) is_name ∙ ap (λ (b : List ℕ). option_map (λ m. map.insert m name b) old) is_bytes
+    → new ≡ option_map (λ m. map.insert m made shown) old → IsLater before now → Replaces name bytes (world old before) (world new now)
+replaces_as name made bytes shown old new before now is_name is_bytes is later = record {
+  files = is ∙ ap (λ (n : List ℕ). option_map (λ m. map.insert m n shown) old) is_name ∙ ap (λ (b : List ℕ). option_map (λ m. map.insert m name b) old) is_bytes;
+  later = later;
+}
+
+-- a file was not written under the name that was made
+not_replaced_as : (name made : List ℕ) (error : FileError) (old new : Option Contents) (before now : Counts) → made ≡ name → ReplaceFails old new made before now error → IsLater before now
+    → NotReplaced name error (world old before) (world new now)
+not_replaced_as name made error old new before now is_name fails later =
+    record { cause = subst (λ (n : List ℕ). ReplaceFails old new n before now error) is_name fails; later = later }
 
 module _ (exe : List ℕ) (linked : Linked) where
   pub plist_unwritten_as : (made : List ℕ) (old new : Option Contents) (before now : Counts) (error : FileError) (status : Status) → made ≡ plist_name exe → status ≡ unwritten_status 0 error
-      → ReplaceFails old new made before now error → Writes exe linked (world old before) (world new now) status
-  plist_unwritten_as made old new before now error status is_name is_status fails =
+      → ReplaceFails old new made before now error → IsLater before now → Writes exe linked (world old before) (world new now) status
+  plist_unwritten_as made old new before now error status is_name is_status fails later =
       subst (λ (s : Status). Writes exe linked (world old before) (world new now) s) (sym is_status)
-      (plist_unwritten error (subst (λ (n : List ℕ). ReplaceFails old new n before now error) is_name fails))
+      (plist_unwritten error (not_replaced_as (plist_name exe) made error old new before now is_name fails later))
 
   pub image_unwritten_as : (made : List ℕ) (old mid new : Option Contents) (before middle now : Counts) (error : FileError) (status : Status) → made ≡ image_name exe → status ≡ unwritten_status 1 error
-      → Replaces (plist_name exe) linked.plist (world old before) (world mid middle) → ReplaceFails mid new made middle now error → Writes exe linked (world old before) (world new now) status
-  image_unwritten_as made old mid new before middle now error status is_name is_status first fails =
+      → Replaces (plist_name exe) linked.plist (world old before) (world mid middle) → ReplaceFails mid new made middle now error → IsLater middle now
+      → Writes exe linked (world old before) (world new now) status
+  image_unwritten_as made old mid new before middle now error status is_name is_status first fails later =
       subst (λ (s : Status). Writes exe linked (world old before) (world new now) s) (sym is_status)
-      (image_unwritten (world mid middle) error first (subst (λ (n : List ℕ). ReplaceFails mid new n middle now error) is_name fails))
+      (image_unwritten (world mid middle) error first (not_replaced_as (image_name exe) made error mid new middle now is_name fails later))
 
-  pub written_as : (made_first made shown_first shown : List ℕ) (old mid new : Option Contents) (before middle now : Counts) → made_first ≡ plist_name exe → shown_first ≡ linked.plist
-      → mid ≡ option_map (λ m. map.insert m made_first shown_first) old → made ≡ image_name exe → shown ≡ linked.image → new ≡ option_map (λ m. map.insert m made shown) mid
+  pub written_as : (made shown : List ℕ) (old mid new : Option Contents) (before middle now : Counts) → Replaces (plist_name exe) linked.plist (world old before) (world mid middle)
+      → made ≡ image_name exe → shown ≡ linked.image → new ≡ option_map (λ m. map.insert m made shown) mid → IsLater middle now
       → Writes exe linked (world old before) (world new now) statuses.Done
-  written_as made_first made shown_first shown old mid new before middle now is_first is_plist first is_name is_image second =
-      written (world mid middle) (replaces_as (plist_name exe) made_first linked.plist shown_first old mid before middle is_first is_plist first)
-      (replaces_as (image_name exe) made linked.image shown mid new middle now is_name is_image second)
+  written_as made shown old mid new before middle now first is_name is_image second later =
+      written (world mid middle) first (replaces_as (image_name exe) made linked.image shown mid new middle now is_name is_image second later)
 
 -- ---- the objects
 
@@ -70,9 +78,10 @@ module _ (exe name : List ℕ) (program : Program) (held : List HeldFile) (is_na
 -- ---- the program
 
 module _ (exe : List ℕ) (old mid : Option Contents) (before middle : Counts) where
-  pub unread_as : (error : FileError) (status : Status) → status ≡ unread_status 0 error → ReadFails old exe (2 ^ 29) before middle error → mid ≡ old
+  pub unread_as : (error : FileError) (status : Status) → status ≡ unread_status 0 error → ReadFails old exe (2 ^ 29) before middle error → mid ≡ old → IsLater before middle
       → LinksProgram exe (world old before) (world mid middle) status
-  unread_as error status is fails same = subst (LinksProgram exe (world old before) (world mid middle)) (sym is) (program_unread error (record { cause = fails; same = same }))
+  unread_as error status is fails same later =
+      subst (LinksProgram exe (world old before) (world mid middle)) (sym is) (program_unread error (record { cause = fails; same = same; later = later }))
 
   module _ (bytes : List ℕ) (found : (length bytes ≤ 2 ^ 29) × Told old (λ m. map.get m exe ≡ Some bytes)) (same : mid ≡ old) (later : IsLater before middle) where
     read : ReadsFile exe most_input bytes (world old before) (world mid middle)
@@ -90,4 +99,4 @@ module _ (exe : List ℕ) (old mid : Option Contents) (before middle : Counts) w
         subst (LinksProgram exe (world old before) (world mid middle)) (sym is) (program_refused bytes (refusals.Faulty file fault) read (ap program_of (sym is_bytes) ∙ why))
     program_refused_as shown (refusals.Limit which number) status is_bytes is why =
         subst (LinksProgram exe (world old before) (world mid middle)) (sym is) (program_refused bytes (refusals.Limit which number) read (ap program_of (sym is_bytes) ∙ why))
-    program_refused_as shown refusals.NoMemory status is_bytes is why = subst (LinksProgram exe (world old before) (world mid middle)) (sym is) (program_unknown same)
+    program_refused_as shown refusals.NoMemory status is_bytes is why = subst (LinksProgram exe (world old before) (world mid middle)) (sym is) (program_unknown bytes read)

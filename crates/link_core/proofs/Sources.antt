@@ -1,5 +1,5 @@
 -- The files that are held by their numbers.
-use Rattle.std.proofs.Common.{◌≡◌, ℕ, suc, ◌+◌, ◌<◌, ◌≤◌, ◌^◌, Bool, true, false, cond, List, [], ◌∷◌, length, map, Option, Some, None, Result, IfSome, IfOk, Bor, refl, sym, ap, subst, ◌∙◌, arith, nat_lt, slice_index_or}
+use Rattle.std.proofs.Common.{◌≡◌, ℕ, suc, ◌+◌, ◌<◌, ◌≤◌, ◌^◌, Bool, true, false, cond, List, [], ◌∷◌, ◌++◌, length, length-append, map, Option, Some, None, Result, Ok, Err, IfSome, IfOk, Bor, refl, sym, ap, subst, ◌∙◌, arith, nat_lt, slice_index_or}
 use Rattle.std.proofs.lemmas.Bool.{lt-ltb, le-ltb, ltb-true, ltb-false}
 use Rattle.std.specs.HashMap.{HashMap, values}
 use Rattle.std.specs.List.{All, position, position_or_len}
@@ -11,7 +11,7 @@ use Rattle.stab_map.specs.declared.object.MapObject.{MapObject}
 use Rattle.object_link.specs.Linked.{Source, sources_of}
 use Rattle.link_core.specs.declared.status.Status.{Status}
 use Rattle.link_core.specs.Answer.{sources_in}
-use Rattle.link_core.specs.Files.{World, HeldFile, content_in, ReadsFiles, all_held, is_held, is_read, is_unread, no_memory}
+use Rattle.link_core.specs.Files.{World, HeldFile, content_in, ReadsFiles, all_held, is_held, is_read, is_unread, is_not_kept}
 use Rattle.link_core.specs.Seen.{AreSmall, held_seen, number_in}
 use Rattle.link_core.proofs.Holding.{file_seen}
 
@@ -85,7 +85,31 @@ module _ {S : Type 0} (held : HashMap (Bor (List ℕ)) (List ℕ) S) (contents :
         ap (λ (files : List (List ℕ)). sources_of objects files numbers) is ∙ ap (λ (ns : List (Option ℕ)). sources_of objects (values held) ns) numbered
         ∙ numbers_lead held objects ∙ ap (sources_in (held_seen held)) same
 
--- ---- sizes
+-- ---- how many, and sizes
+
+-- no more files are held than objects name
+pub held_few : {number : ℕ} {objects : List MapObject} {held : List HeldFile} {most : ℕ} {before after : World} {answer : Result (List HeldFile) Status}
+    → ReadsFiles number objects held most before after answer → IfOk answer (λ all. length all ≤ length held + length objects)
+held_few (all_held number held most now) = omega arith
+held_few (is_held number object objects held most before after bytes answer is rest) = by answer (held_few rest)
+  where
+    by : (a : Result (List HeldFile) Status) → IfOk a (λ all. length all ≤ length held + length objects) → IfOk a (λ all. length all ≤ length held + suc (length objects))
+    by (Ok all) few = omega (arith, few)
+    by (Err status) few = tt
+held_few (is_read number object objects held most before middle after bytes answer is reads rest) = by answer (held_few rest)
+  where
+    more : List HeldFile
+    more = record { name = object.file; bytes = bytes } ∷ []
+
+    by : (a : Result (List HeldFile) Status) → IfOk a (λ all. length all ≤ length (held ++ more) + length objects) → IfOk a (λ all. length all ≤ length held + suc (length objects))
+    by (Ok all) few = omega (arith, few, length-append held more)
+    by (Err status) few = tt
+held_few (is_unread number object objects held most before after error is misses) = tt
+held_few (is_not_kept number object objects held most before after bytes is reads) = tt
+
+pub few_files : {number : ℕ} {objects : List MapObject} {most : ℕ} {before after : World} {all : List HeldFile}
+    → ReadsFiles number objects [] most before after (Ok all) → length objects < 2 ^ 16 → length all < 2 ^ 16
+few_files reads few = let many = held_few reads in omega (arith, many, few)
 
 bytes_seen : (es : List (Bor (List ℕ) × List ℕ)) → map (λ (f : HeldFile). f.bytes) (map file_seen es) ≡ values_of es
 bytes_seen [] = refl
@@ -109,4 +133,4 @@ held_small (is_read number object objects held most before middle after bytes an
     let few = reads.few in
     held_small rest (omega arith) (All-push (λ (f : HeldFile). length f.bytes < 2 ^ 32) held (record { name = object.file; bytes = bytes }) small (omega arith))
 held_small (is_unread number object objects held most before after error is misses) bound small = tt
-held_small (no_memory number objects held most before after same) bound small = tt
+held_small (is_not_kept number object objects held most before after bytes is reads) bound small = tt

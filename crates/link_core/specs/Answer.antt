@@ -2,7 +2,7 @@
 use Rattle.std.specs.Prelude.{◌≡◌, ℕ, ◌-◌, List, [], length, map, Some, None, Ok, Err}
 use Rattle.std.specs.Option.{option_map}
 use Rattle.std.specs.FinMap as fin
-use Rattle.ds_files.specs.Outside.{ReplaceFails}
+use Rattle.ds_files.specs.Outside.{IsLater, ReplaceFails}
 use Rattle.ds_files.specs.declared.files.FileError.{FileError}
 use Rattle.ds_files.specs.declared.files.FileError.TheVariants as errors
 use Rattle.stab_map.specs.declared.object.MapObject.{MapObject}
@@ -28,16 +28,22 @@ abbrev pub unwritten_status : ℕ → FileError → Status
 unwritten_status file errors.NoMemory = statuses.NoMemory
 unwritten_status file _ = statuses.WriteFault file
 
--- a file has these bytes now, and all others are as before
-abbrev pub Replaces : List ℕ → List ℕ → World → World → Type 0
-Replaces name bytes before after = after.files ≡ option_map (λ files. fin.insert files name bytes) before.files
+-- a file has these bytes now, and all others are as before; no count fell
+pub record Replaces (name bytes : List ℕ) (before after : World) : Type 0 where
+  pub files : after.files ≡ option_map (λ files. fin.insert files name bytes) before.files
+  pub later : IsLater before.counts after.counts
 
--- The two files of a bundle are written, Info.plist first.
+-- a file was not replaced, and this is why; no count fell
+pub record NotReplaced (name : List ℕ) (error : FileError) (before after : World) : Type 0 where
+  pub cause : ReplaceFails before.files after.files name before.counts after.counts error
+  pub later : IsLater before.counts after.counts
+
+-- The two files of a bundle are written, Info.plist first. Want of memory comes before the first is replaced, or in one of the two replacements.
 pub data Writes (exe : List ℕ) (linked : Linked) (before after : World) : Status → Type 0 where
-  not_made : after.files ≡ before.files → Writes exe linked before after statuses.NoMemory
-  plist_unwritten : (error : FileError) → ReplaceFails before.files after.files (plist_name exe) before.counts after.counts error → Writes exe linked before after (unwritten_status 0 error)
-  image_unwritten : (middle : World) (error : FileError) → Replaces (plist_name exe) linked.plist before middle
-      → ReplaceFails middle.files after.files (image_name exe) middle.counts after.counts error → Writes exe linked before after (unwritten_status 1 error)
+  not_made : after ≡ before → Writes exe linked before after statuses.NoMemory
+  plist_unwritten : (error : FileError) → NotReplaced (plist_name exe) error before after → Writes exe linked before after (unwritten_status 0 error)
+  image_unwritten : (middle : World) (error : FileError) → Replaces (plist_name exe) linked.plist before middle → NotReplaced (image_name exe) error middle after
+      → Writes exe linked before after (unwritten_status 1 error)
   written : (middle : World) → Replaces (plist_name exe) linked.plist before middle → Replaces (image_name exe) linked.image middle after → Writes exe linked before after statuses.Done
 
 -- the objects of a debug map with the bytes of their files, as far as those are held
@@ -56,10 +62,10 @@ pub data LinksObjects (exe : List ℕ) (program : Program) (most : ℕ) (before 
   files_read : (held : List HeldFile) (middle : World) (status : Status) → ReadsFiles 1 program.objects [] most before middle (Ok held)
       → LinksSources exe program held middle after status → LinksObjects exe program most before after status
 
--- The program of a name is read, and linked with its objects.
+-- The program of a name is read, and linked with its objects. Where memory runs out behind the reading of its bytes, nothing more is known of it.
 pub data LinksProgram (exe : List ℕ) (before after : World) : Status → Type 0 where
   program_unread : (error : FileError) → MissesFile exe most_input error before after → LinksProgram exe before after (unread_status 0 error)
-  program_unknown : after.files ≡ before.files → LinksProgram exe before after statuses.NoMemory
+  program_unknown : (bytes : List ℕ) → ReadsFile exe most_input bytes before after → LinksProgram exe before after statuses.NoMemory
   program_refused : (bytes : List ℕ) (refusal : Refusal) → ReadsFile exe most_input bytes before after → program_of bytes ≡ Err refusal → LinksProgram exe before after (refused_status refusal)
   program_found : (bytes : List ℕ) (middle : World) (program : Program) (status : Status) → ReadsFile exe most_input bytes before middle → program_of bytes ≡ Ok program
       → LinksObjects exe program (most_input - length bytes) middle after status → LinksProgram exe before after status

@@ -35,6 +35,7 @@ pub record ReadsFile (name : List ℕ) (most : ℕ) (bytes : List ℕ) (before a
 pub record MissesFile (name : List ℕ) (most : ℕ) (error : FileError) (before after : World) : Type 0 where
   pub cause : ReadFails before.files name most before.counts after.counts error
   pub same : after.files ≡ before.files
+  pub later : IsLater before.counts after.counts
 
 -- the status for a file that was not read
 abbrev pub unread_status : ℕ → FileError → Status
@@ -52,7 +53,7 @@ pub record HeldFile : Type 0 where
 abbrev pub content_in : List HeldFile → List ℕ → Option (List ℕ)
 content_in held name = option_map (λ f. f.bytes) (find (λ f. bytes_eq name f.name) held)
 
--- The files of objects are read in the order of the objects, which have numbers from one on, each file once; those that are held are not read again. All files that are still to be read have at most so many bytes together. The answer is what is held then, or why a file is not.
+-- The files of objects are read in the order of the objects, which have numbers from one on, each file once; those that are held are not read again. All files that are still to be read have at most so many bytes together. The answer is what is held then, or why a file is not: it was not read, or memory ran out when it was to be kept.
 pub data ReadsFiles : (number : ℕ) → List MapObject → List HeldFile → (most : ℕ) → (before after : World) → Result (List HeldFile) Status → Type 0 where
   all_held : (number : ℕ) (held : List HeldFile) (most : ℕ) (now : World) → ReadsFiles number [] held most now now (Ok held)
   is_held : (number : ℕ) (object : MapObject) (objects : List MapObject) (held : List HeldFile) (most : ℕ) (before after : World) (bytes : List ℕ) (answer : Result (List HeldFile) Status)
@@ -62,4 +63,5 @@ pub data ReadsFiles : (number : ℕ) → List MapObject → List HeldFile → (m
       → ReadsFiles (number + 1) objects (held ++ record { name = object.file; bytes = bytes } ∷ []) (most - length bytes) middle after answer → ReadsFiles number (object ∷ objects) held most before after answer
   is_unread : (number : ℕ) (object : MapObject) (objects : List MapObject) (held : List HeldFile) (most : ℕ) (before after : World) (error : FileError)
       → content_in held object.file ≡ None → MissesFile object.file most error before after → ReadsFiles number (object ∷ objects) held most before after (Err (unread_status number error))
-  no_memory : (number : ℕ) (objects : List MapObject) (held : List HeldFile) (most : ℕ) (before after : World) → after.files ≡ before.files → ReadsFiles number objects held most before after (Err statuses.NoMemory)
+  is_not_kept : (number : ℕ) (object : MapObject) (objects : List MapObject) (held : List HeldFile) (most : ℕ) (before after : World) (bytes : List ℕ)
+      → content_in held object.file ≡ None → ReadsFile object.file most bytes before after → ReadsFiles number (object ∷ objects) held most before after (Err statuses.NoMemory)

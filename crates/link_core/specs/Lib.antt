@@ -4,4 +4,5 @@ pub mod Files
 pub mod Holding
 pub mod Refusals
 pub mod Seen
+pub mod Told
 pub mod Words

@@ -4,7 +4,7 @@ ghost use Rattle.std.specs.Prelude.{◌≡◌, ◌+◌, ◌<◌, ◌≤◌, ◌^
 ghost use Rattle.std.specs.Str.{is_utf8};
 ghost use Rattle.indexmap.specs.IndexMap.{values};
 ghost use Rattle.link_core.specs.Files.{world, ReadsFiles, unread_status};
-ghost use Rattle.link_core.specs.Seen.{HaveNames, number_in};
+ghost use Rattle.link_core.specs.Seen.{HaveNames, held_seen, number_in};
 ghost use Rattle.link_core.specs.Holding.{held_answer, Holds};
 
 use crate::status::Status;
@@ -89,25 +89,24 @@ pub(crate) fn numbers_of(
     objects: &[MapObject],
     held: &HeldFiles,
 ) -> Result<List<Option<u32>>, NoMemory>
+    requires few { length (held_seen held.now.files) < 2 ^ 16 }
     ensures { IfOk result (λ numbers. numbers ≡ map (λ o. number_in held.now.files o.file) objects.now) }
 {
     let mut numbers = List::new(alloc);
     for object in objects {
-        numbers.push(number_of(held, object.file.as_slice())?)?;
+        numbers.push(number_of(held, object.file.as_slice()))?;
     }
     Ok(numbers)
 }
 
 /// The number of the file of this name, if it is held.
-fn number_of(held: &HeldFiles, name: &[u8]) -> Result<Option<u32>, NoMemory>
-    ensures { IfOk result (λ number. number ≡ number_in held.now.files name.now) }
+fn number_of(held: &HeldFiles, name: &[u8]) -> Option<u32>
+    requires few { length (held_seen held.now.files) < 2 ^ 16 }
+    ensures { result ≡ number_in held.now.files name.now }
 {
     match held.files.get_index_of(name) {
-        Some(number) => match u32::try_from(number) {
-            Ok(number) => Ok(Some(number)),
-            Err(_) => Err(NoMemory),
-        },
-        None => Ok(None),
+        Some(number) => Some(number as u32),
+        None => None,
     }
 }
 

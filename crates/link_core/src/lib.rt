@@ -10,15 +10,14 @@
 #![tactic(auto)]
 
 mod files;
+mod laws;
 mod link;
 mod output;
 mod program;
 mod status;
 mod words;
 
+pub use laws::{links_answer_what_is_told, what_is_linkable_is_linked};
 pub use link::link_main;
 pub use object_link::{Counts, LimitKind, Linked, Options, Refusal};
 pub use status::{Status, code};
-
-#[cfg(test)]
-mod tests;

@@ -2,6 +2,7 @@
 
 ghost use Rattle.std.specs.Prelude.{◌≡◌, ◌<◌, ◌≤◌, ◌^◌, Ok, length, map};
 ghost use Rattle.std.specs.String.{string_bytes};
+ghost use Rattle.ds_files.specs.Outside.{IsLater};
 ghost use Rattle.macho_read.specs.declared.kind.Role.TheVariants as roles;
 ghost use Rattle.macho_read.specs.Kind.{kind_of};
 ghost use Rattle.macho_read.specs.Sound.{IsSound as IsSoundImage};
@@ -30,7 +31,12 @@ pub fn link_main<F: Files, S: Sink, G: Gate + Sync>(
     messages: &mut S,
     gate: &G,
 ) -> Status
-    ensures { Links (map string_bytes words.now) (world (F.files files.old) (F.counts files.old)) (world (F.files files.new) (F.counts files.new)) result }
+    ensures exact { Links (map string_bytes words.now) (world (F.files files.old) (F.counts files.old)) (world (F.files files.new) (F.counts files.new)) result }
+    ensures later { IsLater (F.counts files.old) (F.counts files.new) }
+
+    // No message is put.
+    ensures text { S.text messages.new ≡ S.text messages.old }
+    ensures silent { S.faults messages.new ≡ S.faults messages.old }
 {
     let _ = messages;
     match program_named(words) {
@@ -99,6 +105,7 @@ fn link_held<F: Files, G: Gate + Sync>(
     requires sound { IsSoundImage program.now.image }
     requires kind { kind_of program.now.image roles.Program ≡ Ok tt }
     requires few { length program.now.objects < 2 ^ 16 }
+    requires held { length (held_seen held.files) < 2 ^ 16 }
     requires small { AreSmall (held_seen held.files) }
     ensures { LinksSources exe.now program.now (held_seen held.entry.files) (world (F.files files.old) (F.counts files.old)) (world (F.files files.new) (F.counts files.new)) result }
 {
@@ -119,6 +126,7 @@ fn bundle<G: Gate + Sync>(
     requires sound { IsSoundImage program.now.image }
     requires kind { kind_of program.now.image roles.Program ≡ Ok tt }
     requires few { length program.now.objects < 2 ^ 16 }
+    requires held { length (held_seen held.files) < 2 ^ 16 }
     requires small { AreSmall (held_seen held.files) }
     ensures { Bundles program.now.image name.now (sources_in (held_seen held.entry.files) program.now.objects) result }
 {

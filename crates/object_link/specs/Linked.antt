@@ -122,3 +122,9 @@ pub data Bundles (program : Image) (name : List ℕ) (sources : List Source) : R
   limit : (seen : List Analysis) (marks : List (List Bool)) (refusal : Refusal) → analyses_from program.cpu 1 sources ≡ Ok seen → MarkLive seen marks
       → first_limit program (graph_of seen marks) ≡ Some refusal → Bundles program name sources (Err refusal)
   no_memory : Bundles program name sources (Err refusals.NoMemory)
+
+-- Nothing refuses the link of a program with its objects: none has a fault, and no limit is reached.
+pub record HasNoRefusal (program : Image) (sources : List Source) : Type 0 where
+  pub seen : List Analysis
+  pub sound : analyses_from program.cpu 1 sources ≡ Ok seen
+  pub fits : (marks : List (List Bool)) → MarkLive seen marks → first_limit program (graph_of seen marks) ≡ None

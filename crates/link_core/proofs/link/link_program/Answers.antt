@@ -3,7 +3,7 @@ use Rattle.link_core.proofs.LinkSteps.{unread_as, program_as, program_refused_as
 use Rattle.link_core.proofs.link.link_program.Goals as goal
 
 pub returns-in-Err : goal.returns-in-Err
-returns-in-Err g c = unread_as _ _ _ _ _ c.in-Err.error _ c.unread.ensures c.in-Err.ensures.failed c.in-Err.ensures.same
+returns-in-Err g c = unread_as _ _ _ _ _ c.in-Err.error _ c.unread.ensures c.in-Err.ensures.failed c.in-Err.ensures.same c.in-Err.ensures.later
 
 pub returns-in-Ok-read_program : goal.returns-in-Ok-read_program
 returns-in-Ok-read_program g c =

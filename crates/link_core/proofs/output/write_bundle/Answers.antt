@@ -11,13 +11,16 @@ returns-in_default-image_name g c = not_made refl
 
 pub returns-in-Err : goal.returns-in-Err
 returns-in-Err g c =
-    plist_unwritten_as _ _ _ _ _ _ _ c.in-Err.error _ (c.as_str.ensures.value ∙ c.in-Ok.ensures) c.unwritten.ensures c.in-Err.ensures.failed
+    plist_unwritten_as _ _ _ _ _ _ _ c.in-Err.error _ (c.as_str.ensures.value ∙ c.in-Ok.ensures) c.unwritten.ensures c.in-Err.ensures.failed c.in-Err.ensures.later
 
 pub returns-in-Ok-replace : goal.returns-in-Ok-replace
 returns-in-Ok-replace g c =
-    written_as _ _ _ _ _ _ _ _ _ _ (g.F.Files.counts c.replace.new.self) _ (c.as_str.ensures.value ∙ c.in-Ok.ensures) c.as_slice.ensures c.in_default-replace.ensures.done (c.as_str-2.ensures.value ∙ c.in-Ok-image_name.ensures) c.as_slice-2.ensures c.in-Ok-replace.ensures.done
+    written_as _ _ _ _ _ (g.F.Files.files c.replace.new.self) _ _ (g.F.Files.counts c.replace.new.self) _
+    (replaces_as _ _ _ _ _ _ (g.F.Files.counts c.args.files.now) (g.F.Files.counts c.replace.new.self) (c.as_str.ensures.value ∙ c.in-Ok.ensures) c.as_slice.ensures c.in_default-replace.ensures.done c.in_default-replace.ensures.later)
+    (c.as_str-2.ensures.value ∙ c.in-Ok-image_name.ensures) c.as_slice-2.ensures c.in-Ok-replace.ensures.done c.in-Ok-replace.ensures.later
 
 pub returns : goal.returns
 returns g c =
     image_unwritten_as _ _ _ _ (g.F.Files.files c.replace.new.self) _ _ (g.F.Files.counts c.replace.new.self) _ c.in-Err-replace.error _ (c.as_str-2.ensures.value ∙ c.in-Ok-image_name.ensures) c.unwritten-in-Err-replace.ensures
-    (replaces_as _ _ _ _ _ _ (g.F.Files.counts c.args.files.now) (g.F.Files.counts c.replace.new.self) (c.as_str.ensures.value ∙ c.in-Ok.ensures) c.as_slice.ensures c.in_default-replace.ensures.done) c.in-Err-replace.ensures.failed
+    (replaces_as _ _ _ _ _ _ (g.F.Files.counts c.args.files.now) (g.F.Files.counts c.replace.new.self) (c.as_str.ensures.value ∙ c.in-Ok.ensures) c.as_slice.ensures c.in_default-replace.ensures.done c.in_default-replace.ensures.later)
+    c.in-Err-replace.ensures.failed c.in-Err-replace.ensures.later

@@ -1,0 +1,9 @@
+//! Tests of whole links, over files in memory.
+//!
+//! Layer: top. The crate has no code of its own.
+#![tactic(auto)]
+
+#[cfg(test)]
+mod bytes;
+#[cfg(test)]
+mod tests;
