@@ -1,11 +1,17 @@
-//! Reads and replaces files of the system, and prints what they hold.
+//! Reads and replaces files of the system, links a program among them, and prints what they hold.
 //!
 //! Layer: top. A stored run of the trusted edge: `data/` has the files that [`HostFiles`] reads, and `stdout` what
 //! [`HostSink`] writes of them.
 #![tactic(auto)]
 
-use ds_files::{FileError, Files, HostFiles, HostSink, Sink};
-use std::alloc::Global;
+use ds_files::{FileError, Files, HostFiles, HostSink, OpenGate, Sink};
+use link_core::{Status, link_main};
+use std::alloc::{AllocError, Global};
+
+/// Where the bundle of `hello` has its property list and its image.
+const PLIST: &str = "hello.dSYM/Contents/Info.plist";
+
+const IMAGE: &str = "hello.dSYM/Contents/Resources/DWARF/hello";
 
 /// Puts a line of a file's name and what is said of it.
 fn tell<S: Sink>(sink: &mut S, name: &str, what: &[u8]) {
@@ -47,6 +53,28 @@ fn replace<F: Files, S: Sink>(
     }
 }
 
+/// Links the program of a name.
+fn link<F: Files, S: Sink>(
+    alloc: Global,
+    files: &mut F,
+    sink: &mut S,
+    name: &str,
+) -> Result<Status, AllocError> {
+    let mut words = Vec::new(alloc);
+    words.push(String::from_str(alloc, name)?)?;
+    let gate = OpenGate::new();
+    Ok(link_main(alloc, words.as_slice(), files, sink, &gate))
+}
+
+/// Says how a link of the program of a name ends.
+fn tell_link<F: Files, S: Sink>(alloc: Global, files: &mut F, sink: &mut S, name: &str) {
+    match link(alloc, files, sink, name) {
+        Ok(Status::Done) => tell(sink, name, b"linked"),
+        Ok(_) => tell(sink, name, b"not linked"),
+        Err(AllocError) => tell(sink, name, b"no memory"),
+    }
+}
+
 fn main(rt: HostRuntime) {
     let alloc = rt.alloc();
     let mut files = HostFiles::new(&rt);
@@ -63,4 +91,8 @@ fn main(rt: HostRuntime) {
     replace(alloc, &mut files, &mut sink, "text/c", b"");
     read(alloc, &mut files, &mut sink, "text/c", 9);
     read(alloc, &mut files, &mut sink, "text", 9);
+    tell_link(alloc, &mut files, &mut sink, "hello");
+    read(alloc, &mut files, &mut sink, PLIST, 4096);
+    read(alloc, &mut files, &mut sink, IMAGE, 4096);
+    tell_link(alloc, &mut files, &mut sink, "main.o");
 }
