@@ -40,7 +40,7 @@ members_from (suc left) bytes place =
 abbrev pub members_of : List ℕ → Listing
 members_of bytes = members_from (suc (length bytes)) bytes 8
 
--- Members end at a place: it is the archive's end, or the odd place behind an even one that the last member would be padded to; or the header there is wrong.
+-- Members end at a place: the archive ends there, or one byte before it, where the last member's padding is left out; or the header there is wrong.
 abbrev pub Ends : List ℕ → ℕ → Option Fault → Type 0
 Ends bytes place None = (length bytes ≤ place) × (place ≤ length bytes + 1)
 Ends bytes place (Some f) = (place < length bytes) × (member_at place (drop place bytes) ≡ Err f)
