@@ -1,3 +1,4 @@
 mod FieldLoop
 mod DeclarationLoop
 pub mod TableLaws
+pub mod Refused

@@ -11,8 +11,5 @@ mod codes;
 mod laws;
 mod table;
 
-pub use laws::tables_are_read_as_spelled;
+pub use laws::{kinds_of_table_faults, tables_are_read_as_spelled};
 pub use table::read_table;
-
-#[cfg(test)]
-mod tests;
