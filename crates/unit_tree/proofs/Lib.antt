@@ -1,6 +1,7 @@
 pub mod AttrLoop
 pub mod AttrLaws
 pub mod ChildLoop
+pub mod InsideLaws
 pub mod Onward
 pub mod Placed
 pub mod Places
@@ -12,3 +13,4 @@ pub mod TreeLaws
 pub mod UnitLaws
 pub mod UnitLoop
 pub mod UnitReads
+pub mod Refused

@@ -1,23 +1,21 @@
 -- The units and entries that are read follow one another, and each parent stands before its children in the unit.
-use Rattle.std.proofs.Common.{◌≡◌, ℕ, zero, suc, ◌+◌, ◌-◌, ◌<◌, ◌≤◌, ◌==◌, Bool, true, false, cond, List, [], ◌∷◌, ◌++◌, length, take, get_or, Option, Some, None, Ok, refl, sym, ap, subst, ◌∙◌, inl, inr, ◌⊎◌, arith}
-use Rattle.std.specs.Prelude.{is_none, slice_get}
+use Rattle.std.proofs.Common.{◌≡◌, ℕ, zero, suc, ◌+◌, ◌-◌, ◌<◌, ◌≤◌, ◌==◌, Bool, true, false, List, [], ◌∷◌, ◌++◌, length, take, get_or, Option, Some, None, Ok, refl, sym, ap, subst, ◌∙◌, inl, inr, ◌⊎◌, arith}
+use Rattle.std.specs.Prelude.{slice_get}
 use Rattle.std.proofs.lemmas.List.{length-append}
 use Rattle.std.proofs.lemmas.Option.{slice_get-get_or, slice_get_within}
 use Rattle.ds_base.specs.Spot.{Spot}
 use Rattle.dwarf_types.specs.declared.abbrev.Abbrev.{Abbrev}
 use Rattle.dwarf_types.specs.declared.entry.Entry.{Entry}
 use Rattle.dwarf_types.specs.declared.entry.InUnit.{InUnit}
-use Rattle.dwarf_types.specs.declared.entry.RawUnits.{RawUnits}
-use Rattle.dwarf_types.specs.Live.{Stands}
 use Rattle.dwarf_types.specs.SectionBytes.{SectionBytes}
-use Rattle.dwarf_types.specs.Sound.{AreUnits, IsIn, IsParent}
+use Rattle.dwarf_types.specs.Sound.{AreUnits, IsParent}
 use Rattle.unit_tree.specs.declared.attribute.Home.{Home}
 use Rattle.unit_tree.specs.declared.entry.Parsed.{Parsed}
 use Rattle.unit_tree.specs.declared.entry.TheConstants.{MOST_ENTRIES}
-use Rattle.unit_tree.specs.Entry.{entry_at, root_at, innermost, closed, opened, Walk, child_at, children_at, tree_at}
+use Rattle.unit_tree.specs.Entry.{entry_at, innermost, opened, Walk, child_at, children_at, tree_at}
 use Rattle.unit_tree.specs.Sound.{LiesInUnit, AreSound}
 use Rattle.unit_tree.specs.Unit.{unit_from, nothing, unit_at, units_at}
-use Rattle.unit_tree.proofs.Rising.{RisesBelow, units_rise}
+use Rattle.unit_tree.proofs.Rising.{units_rise}
 use Rattle.unit_tree.proofs.TreeLaws.{has_room}
 use Rattle.unit_tree.proofs.Steps.{entry_steps, root_steps, listed_steps, child_steps, children_end, children_steps, tree_steps, unit_steps, units_end, units_steps}
 

@@ -2,6 +2,7 @@ pub mod Attribute
 pub mod Bounds
 pub mod Entry
 pub mod Header
+pub mod Inside
 pub mod Meaning
 pub mod Reference
 pub mod Spelling

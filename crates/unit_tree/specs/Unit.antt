@@ -15,15 +15,16 @@ use Rattle.dwarf_types.specs.SectionBytes.{SectionBytes}
 use Rattle.dwarf_types.specs.declared.value.Value.{Value}
 use Rattle.dwarf_types.specs.declared.value.Value.TheVariants as values
 use Rattle.abbrev_read.specs.Reading.{table_at}
+use Rattle.form_value.specs.Forms.{is_flag}
 use Rattle.unit_tree.specs.declared.entry.Parsed.{Parsed}
 use Rattle.unit_tree.specs.declared.header.TheConstants.{DWARF_VERSION}
 use Rattle.unit_tree.specs.Header.{info_at, header_at}
 use Rattle.unit_tree.specs.Entry.{tree_at}
 use Rattle.unit_tree.specs.Reference.{resolved}
 
--- a constant of 16 bits, or 0
+-- a constant of 16 bits, or 0; a flag is no constant
 abbrev pub short_in : Value → ℕ
-short_in (values.Number form bits) = if nat_lt bits (2 ^ 16) then bits else 0
+short_in (values.Number form bits) = if is_flag form then 0 else if nat_lt bits (2 ^ 16) then bits else 0
 short_in _ = 0
 
 -- the language of a unit whose root has the attributes

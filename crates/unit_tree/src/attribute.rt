@@ -83,10 +83,7 @@ fn read_attr(
     let first = cursor.fork();
     let value = read_value(alloc, cursor, field, DWARF_VERSION, sections)?;
     let (value, reference) = understand(&first, sections, home, root, field, before, value)?;
-    // A section has fewer than 2^32 bytes.
-    let Ok(end) = u32::try_from(cursor.place()) else {
-        return Err(ReadError::NoMemory);
-    };
+    let end = cursor.place() as u32;
     let name = field.name;
     Ok((Attr { name, end, value }, reference))
 }

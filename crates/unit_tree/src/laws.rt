@@ -1,6 +1,9 @@
-//! What the definition of an object's units says of their spelling.
+//! What the definition of an object's units says of their spelling, and of their faults.
 
-ghost use Rattle.std.specs.Prelude.{◌≡◌, ◌<◌, ◌^◌, List, Ok, length};
+ghost use Rattle.std.specs.Prelude.{◌≡◌, ◌<◌, ◌^◌, List, Ok, length, [], ◌∷◌, Err};
+ghost use Rattle.std.specs.List.{Contains};
+ghost use Rattle.ds_base.specs.declared.fault.Fault.{Fault};
+ghost use Rattle.ds_base.specs.declared.fault.Kind.TheVariants.{BadAbbrev, BadOffset, BadReference, BadUnit, DuplicateCode, FormOutsideProfile, LebTooWide, LimitAttributes, LimitDepth, LimitEntries, SplitUnit, Truncated, UnclosedSiblings, UnknownCode, UnknownForm, UnsupportedVersion};
 ghost use Rattle.dwarf_types.specs.Spelled.{AreBytes};
 ghost use Rattle.dwarf_types.specs.declared.entry.RawUnits.{RawUnits};
 ghost use Rattle.dwarf_types.specs.SectionBytes.{SectionBytes};
@@ -14,4 +17,13 @@ pub fn units_are_read_as_spelled()
         units_of sections ≡ Ok units → IsSpelled sections units }
     ensures only { (sections : SectionBytes) (trees : List UnitTree) → length sections.info < 2 ^ 32 → AreBytes sections.info → AreBytes sections.abbrev_ →
         SpellsObject sections trees → units_of sections ≡ Ok (raw_units trees) }
+{}
+
+/// Each fault of an object's units is of one of these kinds.
+pub fn kinds_of_unit_faults()
+    ensures { (sections : SectionBytes) (f : Fault) →
+        units_of sections ≡ Err f → Contains (
+        Truncated ∷ LebTooWide ∷ UnknownForm ∷ FormOutsideProfile ∷ BadOffset ∷ BadAbbrev ∷ DuplicateCode ∷ LimitAttributes
+        ∷ UnsupportedVersion ∷ BadUnit ∷ SplitUnit ∷ UnknownCode ∷ UnclosedSiblings ∷ LimitDepth ∷ LimitEntries ∷ BadReference ∷ []
+        ) f.kind }
 {}

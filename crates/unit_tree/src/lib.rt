@@ -20,9 +20,6 @@ mod reference;
 mod table;
 mod unit;
 
-pub use laws::units_are_read_as_spelled;
+pub use laws::{kinds_of_unit_faults, units_are_read_as_spelled};
 pub use meaning::{Meaning, meaning_of_offset};
 pub use unit::read_units;
-
-#[cfg(test)]
-mod tests;

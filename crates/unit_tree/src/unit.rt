@@ -5,7 +5,9 @@ ghost use Rattle.std.specs.List.{find, list_all};
 ghost use Rattle.std.specs.Option.{option_copied};
 ghost use Rattle.ds_base.specs.Reading.{Finds, Gives};
 ghost use Rattle.dwarf_types.specs.SectionBytes.{bytes_in};
+ghost use Rattle.dwarf_types.specs.Spelled.{AreBytes};
 ghost use Rattle.unit_tree.specs.Bounds.{IsFew};
+ghost use Rattle.unit_tree.specs.Inside.{AreInside};
 ghost use Rattle.unit_tree.specs.Sound.{AreSound};
 ghost use Rattle.unit_tree.specs.Table.{AreRead};
 ghost use Rattle.unit_tree.specs.Unit.{short_in, language_of, unit_from, is_zero, zeros_at, unit_at, units_at, units_of, nothing};
@@ -18,6 +20,7 @@ use crate::table::{Tables, add_table, kept_table};
 use ds_base::dwarf::DW_AT_language;
 use ds_base::{Cursor, Fault, Kind, List, ReadError};
 use dwarf_types::{Attr, InUnit, RawUnits, Sections, Value};
+use form_value::is_flag;
 use std::alloc::Global;
 use std::collections::BTreeMap;
 
@@ -26,7 +29,7 @@ use std::collections::BTreeMap;
 /// Units and entries are numbered from 0 over the whole object; an entry stands before those below it.
 /// Places count bytes from the start of `__debug_info`. A reference is `Ref` of the place of its target,
 /// `DW_AT_sibling` too; every other value is as `form_value::read_value` gives it. A unit's language is
-/// its root's where that is a constant below 65536, else 0.
+/// its root's where that is a constant below 65536 and no flag, else 0.
 ///
 /// Faults are placed in `__debug_info`, those of an abbreviation table in `__debug_abbrev`. References
 /// are tried after all units. The time is linear in the sections, and `n log n` in the references.
@@ -37,6 +40,9 @@ pub fn read_units(alloc: Global, sections: &Sections) -> Result<RawUnits, ReadEr
 
     // Units follow one another and are all entries, and each parent stands before its children in the unit.
     ensures sound { IfOk result AreSound }
+
+    // Values stand before their ends, references lead to entries, and offsets are inside their sections.
+    ensures inside { AreBytes sections.now.info.now → AreBytes sections.now.abbrev.now → IfOk result (λ raw. AreInside (bytes_in sections.now) raw.entries) }
 {
     let mut parsed = Parsed {
         entries: List::new(alloc),
@@ -160,12 +166,12 @@ fn language_attr(attrs: &[Attr]) -> Option<&Attr>
     attrs.iter().find(|attr| attr.name == DW_AT_language)
 }
 
-/// A constant of 16 bits, or 0.
+/// A constant of 16 bits, or 0. A flag is no constant.
 fn short_of(value: &Value) -> u16
     ensures { result ≡ short_in value.now }
 {
     match value {
-        Value::Number { bits, .. } if *bits < 65536 => *bits as u16,
+        Value::Number { form, bits } if !is_flag(*form) && *bits < 65536 => *bits as u16,
         _ => 0,
     }
 }

@@ -1,4 +1,4 @@
-use Rattle.dwarf_types.specs.SectionBytes.{bytes_in}
+use Rattle.unit_tree.proofs.InsideLaws.{read_inside}
 use Rattle.unit_tree.proofs.Rising.{units_rise}
 use Rattle.unit_tree.proofs.Soundness.{units_sound}
 use Rattle.unit_tree.proofs.unit.read_units.Goals as goal
@@ -11,3 +11,7 @@ try_references-requires c =
 
 pub returns-clause-sound : goal.returns-clause-sound
 returns-clause-sound c = units_sound (bytes_in c.args.sections.now) _ _ _ c.in_ok-units.ensures.read
+
+pub returns-clause-inside : goal.returns-clause-inside
+returns-clause-inside c info abbrevs =
+    read_inside (bytes_in c.args.sections.now) _ _ c.requires.info info abbrevs c.in_ok-units.ensures.read (rw (c.as_slice.ensures, c.as_slice-2.ensures) at c.in_ok-try_references.ensures.exact)

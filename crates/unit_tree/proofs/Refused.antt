@@ -1,0 +1,229 @@
+-- Every fault of an object's units is of their reader's kinds.
+use Rattle.std.proofs.Common.{ℕ, zero, suc, ◌-◌, ◌==◌, ◌&&◌, Bool, not, List, [], ◌∷◌, ◌++◌, length, Option, None, Ok, Err, refl, arith, Some, Result}
+use Rattle.std.specs.Prelude.{is_none, nat_lt}
+use Rattle.std.specs.Option.{option_map_or}
+use Rattle.std.specs.List.{Contains, find, list_all}
+use Rattle.std.specs.Option.{option_to_list}
+use Rattle.std.proofs.lemmas.List.Elements.{All-contains, All-from_recursion, Contains-append_left}
+use Rattle.ds_base.specs.declared.dwarf.TheConstants.{DW_TAG_compile_unit}
+use Rattle.ds_base.specs.declared.fault.Fault.{Fault}
+use Rattle.ds_base.specs.declared.fault.Kind.{Kind}
+use Rattle.ds_base.specs.declared.fault.Kind.TheVariants as kinds
+use Rattle.ds_base.specs.declared.fault.Part.TheVariants as parts
+use Rattle.ds_base.specs.Spot.{Spot, fault_at}
+use Rattle.ds_base.specs.Reading.{◌>>=◌, or_fault, bytes_at, number_at, uleb_at, refuse_if}
+use Rattle.dwarf_types.specs.declared.abbrev.Abbrev.{Abbrev}
+use Rattle.dwarf_types.specs.declared.abbrev.Field.{Field}
+use Rattle.dwarf_types.specs.declared.entry.Attr.{Attr}
+use Rattle.dwarf_types.specs.declared.entry.Entry.{Entry}
+use Rattle.dwarf_types.specs.declared.entry.InUnit.{InUnit as AUnit}
+use Rattle.dwarf_types.specs.declared.value.Value.{Value}
+use Rattle.dwarf_types.specs.SectionBytes.{SectionBytes}
+use Rattle.abbrev_read.specs.Reading.{table_at}
+use Rattle.ds_base.proofs.FaultKinds.{FaultsAre, ok_kinds, err_kinds, bind_kinds, refuse_kinds, either_kinds, found_kinds, bytes_kinds, number_kinds, uleb_kinds}
+use Rattle.abbrev_read.proofs.Refused.{IsOne as IsTableKind, table_faults_kinds as table_faults}
+use Rattle.form_value.specs.Reading.{value_at}
+use Rattle.form_value.proofs.Refused.{IsOne as IsValueKind, value_faults}
+use Rattle.unit_tree.specs.declared.attribute.Home.{Home}
+use Rattle.unit_tree.specs.declared.entry.Parsed.{Parsed}
+use Rattle.unit_tree.specs.declared.entry.TheConstants.{MOST_OPEN}
+use Rattle.unit_tree.specs.declared.header.TheConstants.{DWARF_VERSION, ADDRESS_SIZE}
+use Rattle.unit_tree.specs.declared.meaning.Meaning.{Meaning}
+use Rattle.unit_tree.specs.declared.meaning.Meaning.TheVariants.{InUnit, InObject, LineTable, RangeList, LocationList, Other}
+use Rattle.unit_tree.specs.declared.reference.Reference.{Reference}
+use Rattle.unit_tree.specs.Attribute.{Described, attr_at, attrs_at, meant_at, names_lines, number_in, offset_in, value_meant_at}
+use Rattle.unit_tree.specs.Entry.{Walk, child_at, children_at, closed, declared_as, entry_at, innermost, is_full, is_split, listed_at, opened, root_at, tree_at}
+use Rattle.unit_tree.specs.Header.{behind_length, fields_at, header_at, info_at, is_bad_length}
+use Rattle.unit_tree.specs.Meaning.{meaning_of}
+use Rattle.unit_tree.specs.Reference.{leads, resolved}
+use Rattle.unit_tree.specs.Unit.{is_zero, nothing, unit_at, units_at, units_of, zeros_at}
+
+abbrev pub IsOne : Kind → Type 0
+IsOne = Contains (
+    kinds.Truncated ∷ kinds.LebTooWide ∷ kinds.UnknownForm ∷ kinds.FormOutsideProfile ∷ kinds.BadOffset ∷ kinds.BadAbbrev ∷ kinds.DuplicateCode ∷ kinds.LimitAttributes
+    ∷ kinds.UnsupportedVersion ∷ kinds.BadUnit ∷ kinds.SplitUnit ∷ kinds.UnknownCode ∷ kinds.UnclosedSiblings ∷ kinds.LimitDepth ∷ kinds.LimitEntries ∷ kinds.BadReference ∷ []
+    )
+
+-- a test before what follows
+tried_kinds : {A : Type 0} (b : Bool) (f : Fault) (next : Result A Fault) → IsOne f.kind → FaultsAre IsOne next → FaultsAre IsOne (refuse_if b f >>= λ u. next)
+tried_kinds b f next is later = bind_kinds IsOne (refuse_if b f) (λ u. next) (refuse_kinds IsOne b f is) (λ u. later)
+
+option_kinds : {A B : Type 0} (f : A → Result B Fault) (o : Option A) (none : Result B Fault) → ((x : A) → FaultsAre IsOne (f x)) → FaultsAre IsOne none → FaultsAre IsOne (option_map_or f o none)
+option_kinds f (Some x) none h k = h x
+option_kinds f None none h k = k
+
+cut : IsOne kinds.Truncated
+cut = (0, omega arith, refl)
+
+wide : IsOne kinds.LebTooWide
+wide = (1, omega arith, refl)
+
+offset_bad : IsOne kinds.BadOffset
+offset_bad = (4, omega arith, refl)
+
+version_bad : IsOne kinds.UnsupportedVersion
+version_bad = (8, omega arith, refl)
+
+unit_bad : IsOne kinds.BadUnit
+unit_bad = (9, omega arith, refl)
+
+split : IsOne kinds.SplitUnit
+split = (10, omega arith, refl)
+
+unknown : IsOne kinds.UnknownCode
+unknown = (11, omega arith, refl)
+
+unclosed : IsOne kinds.UnclosedSiblings
+unclosed = (12, omega arith, refl)
+
+deep : IsOne kinds.LimitDepth
+deep = (13, omega arith, refl)
+
+many : IsOne kinds.LimitEntries
+many = (14, omega arith, refl)
+
+dangling : IsOne kinds.BadReference
+dangling = (15, omega arith, refl)
+
+-- ---- those of values and of tables
+
+of_value : (k : Kind) → IsValueKind k → IsOne k
+of_value k h = Contains-append_left (kinds.Truncated ∷ kinds.LebTooWide ∷ kinds.UnknownForm ∷ kinds.FormOutsideProfile ∷ kinds.BadOffset ∷ []) (
+    kinds.BadAbbrev ∷ kinds.DuplicateCode ∷ kinds.LimitAttributes ∷ kinds.UnsupportedVersion ∷ kinds.BadUnit ∷ kinds.SplitUnit ∷ kinds.UnknownCode ∷ kinds.UnclosedSiblings ∷ kinds.LimitDepth ∷ kinds.LimitEntries ∷ kinds.BadReference ∷ []
+    ) k h
+
+of_table : (k : Kind) → IsTableKind k → IsOne k
+of_table k h = All-contains IsOne (kinds.Truncated ∷ kinds.LebTooWide ∷ kinds.BadAbbrev ∷ kinds.DuplicateCode ∷ kinds.LimitAttributes ∷ []) k
+    (All-from_recursion IsOne (kinds.Truncated ∷ kinds.LebTooWide ∷ kinds.BadAbbrev ∷ kinds.DuplicateCode ∷ kinds.LimitAttributes ∷ []) (cut, (wide, ((5, omega arith, refl), ((6, omega arith, refl), ((7, omega arith, refl), tt)))))) h
+
+-- ---- attributes
+
+offset_kinds : (section : List ℕ) (n : ℕ) (s : Spot) → FaultsAre IsOne (offset_in section n s)
+offset_kinds section n s = tried_kinds (not (nat_lt n (length section))) (fault_at s kinds.BadOffset) (Ok _) offset_bad (ok_kinds IsOne _)
+
+meant_kinds : (sections : SectionBytes) (home : Home) (lines : Bool) (meaning : Meaning) (n : ℕ) (s : Spot) → FaultsAre IsOne (meant_at sections home lines meaning n s)
+unfolding meant_at
+meant_kinds sections home lines InUnit n s = ok_kinds IsOne _
+meant_kinds sections home lines InObject n s = ok_kinds IsOne _
+meant_kinds sections home lines LineTable n s = either_kinds IsOne lines (offset_in sections.line n s) (Ok _) (offset_kinds sections.line n s) (ok_kinds IsOne _)
+meant_kinds sections home lines RangeList n s = offset_kinds sections.ranges n s
+meant_kinds sections home lines LocationList n s = offset_kinds sections.loc n s
+meant_kinds sections home lines Other n s = ok_kinds IsOne _
+
+value_meant_kinds : (sections : SectionBytes) (home : Home) (root : Bool) (field : Field) (before : List Attr) (value : Value) (s : Spot) → FaultsAre IsOne (value_meant_at sections home root field before value s)
+unfolding value_meant_at
+value_meant_kinds sections home root field before value s =
+    option_kinds (λ n. meant_at sections home (names_lines root before) (meaning_of field.form field.name) n s) (number_in value) (Ok (value, None))
+    (λ n. meant_kinds sections home (names_lines root before) (meaning_of field.form field.name) n s) (ok_kinds IsOne _)
+
+attr_kinds : (sections : SectionBytes) (home : Home) (root : Bool) (field : Field) (before : List Attr) (s : Spot) → FaultsAre IsOne (attr_at sections home root field before s)
+unfolding attr_at
+attr_kinds sections home root field before s =
+    bind_kinds IsOne (value_at field DWARF_VERSION sections s) _ (λ f e. of_value f.kind (value_faults field DWARF_VERSION sections s f e)) (λ read.
+    bind_kinds IsOne (value_meant_at sections home root field before read.0 s) _ (value_meant_kinds sections home root field before read.0 s) (λ meant. ok_kinds IsOne _))
+
+attrs_kinds : (sections : SectionBytes) (home : Home) (root : Bool) (fields : List Field) (before : Described) (s : Spot) → FaultsAre IsOne (attrs_at sections home root fields before s)
+unfolding attrs_at
+attrs_kinds sections home root [] before s = ok_kinds IsOne _
+attrs_kinds sections home root (field ∷ fields) before s =
+    bind_kinds IsOne (attr_at sections home root field before.0 s) _ (attr_kinds sections home root field before.0 s) (λ attr.
+    attrs_kinds sections home root fields (before.0 ++ attr.0.0 ∷ [], before.1 ++ option_to_list attr.0.1) attr.1)
+
+-- ---- entries
+
+entry_kinds : (sections : SectionBytes) (home : Home) (parent : Option ℕ) (place : ℕ) (declared : Abbrev) (before : Parsed) (s : Spot) → FaultsAre IsOne (entry_at sections home parent place declared before s)
+unfolding entry_at
+entry_kinds sections home parent place declared before s =
+    bind_kinds IsOne (attrs_at sections home (is_none parent) declared.fields ([], before.references) s) _ (attrs_kinds sections home (is_none parent) declared.fields ([], before.references) s) (λ read. ok_kinds IsOne _)
+
+root_kinds : (start : Spot) (sections : SectionBytes) (home : Home) (table : List Abbrev) (before : Parsed) (s : Spot) → FaultsAre IsOne (root_at start sections home table before s)
+unfolding root_at
+root_kinds start sections home table before s =
+    bind_kinds IsOne (uleb_at s) _ (uleb_kinds IsOne s cut wide) (λ code.
+    tried_kinds (code.0 == 0) (fault_at start kinds.BadUnit) _ unit_bad
+    (bind_kinds IsOne (or_fault (declared_as code.0 table) (fault_at s kinds.UnknownCode)) _ (found_kinds IsOne (declared_as code.0 table) (fault_at s kinds.UnknownCode) unknown) (λ declared.
+    tried_kinds (not (declared.tag == DW_TAG_compile_unit)) (fault_at start kinds.BadUnit) _ unit_bad
+    (tried_kinds (is_split declared) (fault_at s kinds.SplitUnit) _ split
+    (tried_kinds (is_full before) (fault_at s kinds.LimitEntries) _ many
+    (bind_kinds IsOne (entry_at sections home None s.place declared before code.1) _ (entry_kinds sections home None s.place declared before code.1) (λ read. ok_kinds IsOne _)))))))
+
+listed_kinds : (sections : SectionBytes) (home : Home) (declared : Abbrev) (walk : Walk) (first s : Spot) → FaultsAre IsOne (listed_at sections home declared walk first s)
+unfolding listed_at
+listed_kinds sections home declared walk first s =
+    tried_kinds (declared.children && not (nat_lt (length walk.1) MOST_OPEN)) (fault_at first kinds.LimitDepth) _ deep
+    (tried_kinds (is_full walk.0) (fault_at first kinds.LimitEntries) _ many
+    (bind_kinds IsOne (entry_at sections home (innermost walk.1) first.place declared walk.0 s) _ (entry_kinds sections home (innermost walk.1) first.place declared walk.0 s) (λ read. ok_kinds IsOne _)))
+
+child_kinds : (sections : SectionBytes) (home : Home) (table : List Abbrev) (walk : Walk) (s : Spot) → FaultsAre IsOne (child_at sections home table walk s)
+unfolding child_at
+child_kinds sections home table walk s =
+    bind_kinds IsOne (uleb_at s) _ (uleb_kinds IsOne s cut wide) (λ code.
+    either_kinds IsOne (code.0 == 0) (Ok ((walk.0, closed walk.1), code.1)) _ (ok_kinds IsOne _)
+    (bind_kinds IsOne (or_fault (declared_as code.0 table) (fault_at s kinds.UnknownCode)) _ (found_kinds IsOne (declared_as code.0 table) (fault_at s kinds.UnknownCode) unknown) (λ declared.
+    listed_kinds sections home declared walk s code.1)))
+
+children_kinds : (sections : SectionBytes) (home : Home) (table : List Abbrev) (left : ℕ) (walk : Walk) (s : Spot) → FaultsAre IsOne (children_at sections home table left walk s)
+unfolding children_at
+children_kinds sections home table zero walk s = either_kinds IsOne (length walk.1 == 0) (Ok (walk.0, s)) (Err (fault_at s kinds.UnclosedSiblings)) (ok_kinds IsOne _) (err_kinds IsOne (fault_at s kinds.UnclosedSiblings) unclosed)
+children_kinds sections home table (suc left) walk s =
+    either_kinds IsOne (length walk.1 == 0) (Ok (walk.0, s)) _ (ok_kinds IsOne _)
+    (either_kinds IsOne (s.end - s.place == 0) (Err (fault_at s kinds.UnclosedSiblings)) _ (err_kinds IsOne (fault_at s kinds.UnclosedSiblings) unclosed)
+    (bind_kinds IsOne (child_at sections home table walk s) _ (child_kinds sections home table walk s) (λ read. children_kinds sections home table left read.0 read.1)))
+
+tree_kinds : (start : Spot) (sections : SectionBytes) (home : Home) (table : List Abbrev) (before : Parsed) (s : Spot) → FaultsAre IsOne (tree_at start sections home table before s)
+unfolding tree_at
+tree_kinds start sections home table before s =
+    bind_kinds IsOne (root_at start sections home table before s) _ (root_kinds start sections home table before s) (λ root.
+    children_kinds sections home table (root.1.end - root.1.place) (root.0.1, opened root.0.0 (length before.entries) []) root.1)
+
+-- ---- units
+
+fields_kinds : (sections : SectionBytes) (first s : Spot) → FaultsAre IsOne (fields_at sections first s)
+unfolding fields_at
+fields_kinds sections first s =
+    bind_kinds IsOne (number_at 2 s) _ (number_kinds IsOne 2 s cut) (λ version.
+    tried_kinds (not (version.0 == DWARF_VERSION)) (fault_at s kinds.UnsupportedVersion) _ version_bad
+    (bind_kinds IsOne (number_at 4 version.1) _ (number_kinds IsOne 4 version.1 cut) (λ table.
+    tried_kinds (not (nat_lt table.0 (length sections.abbrev_))) (fault_at version.1 kinds.BadOffset) _ offset_bad
+    (bind_kinds IsOne (number_at 1 table.1) _ (number_kinds IsOne 1 table.1 cut) (λ size.
+    tried_kinds (not (size.0 == ADDRESS_SIZE)) (fault_at first kinds.BadUnit) (Ok _) unit_bad (ok_kinds IsOne _))))))
+
+header_kinds : (sections : SectionBytes) (place : ℕ) → FaultsAre IsOne (header_at sections place)
+unfolding header_at
+header_kinds sections place =
+    bind_kinds IsOne (number_at 4 (info_at sections place)) _ (number_kinds IsOne 4 (info_at sections place) cut) (λ len.
+    tried_kinds (is_bad_length sections place len.0) (fault_at (info_at sections place) kinds.BadUnit) _ unit_bad (fields_kinds sections (info_at sections place) (behind_length sections place len.0)))
+
+zeros_kinds : (start s : Spot) → FaultsAre IsOne (zeros_at start s)
+unfolding zeros_at
+zeros_kinds start s =
+    bind_kinds IsOne (bytes_at (s.end - s.place) s) _ (bytes_kinds IsOne (s.end - s.place) s cut) (λ others.
+    either_kinds IsOne (not (list_all is_zero others.0)) (Err (fault_at start kinds.BadUnit)) (Ok tt) (err_kinds IsOne (fault_at start kinds.BadUnit) unit_bad) (ok_kinds IsOne _))
+
+unit_read_kinds : (sections : SectionBytes) (number : ℕ) (before : Parsed) (place : ℕ) → FaultsAre IsOne (unit_at sections number before place)
+unfolding unit_at
+unit_read_kinds sections number before place =
+    bind_kinds IsOne (header_at sections place) _ (header_kinds sections place) (λ header.
+    bind_kinds IsOne (table_at sections.abbrev_ header.0.table) _
+    (λ f e. of_table f.kind (table_faults sections.abbrev_ header.0.table f e)) (λ table.
+    bind_kinds IsOne (tree_at (info_at sections place) sections (record { unit = number; place = place }) table before header.1) _
+    (tree_kinds (info_at sections place) sections (record { unit = number; place = place }) table before header.1) (λ tree.
+    bind_kinds IsOne (zeros_at (info_at sections place) tree.1) _ (zeros_kinds (info_at sections place) tree.1) (λ u. ok_kinds IsOne _))))
+
+units_read_kinds : (sections : SectionBytes) (left : ℕ) (units : List AUnit) (before : Parsed) (place : ℕ) → FaultsAre IsOne (units_at sections left units before place)
+unfolding units_at
+units_read_kinds sections zero units before place = ok_kinds IsOne _
+units_read_kinds sections (suc left) units before place =
+    either_kinds IsOne (place == length sections.info) (Ok (units, before)) _ (ok_kinds IsOne _)
+    (bind_kinds IsOne (unit_at sections (length units) before place) _ (unit_read_kinds sections (length units) before place) (λ read. units_read_kinds sections left (units ++ read.0.0 ∷ []) read.0.1 read.1))
+
+resolved_kinds : (entries : List Entry) (references : List Reference) → FaultsAre IsOne (resolved entries references)
+unfolding resolved
+resolved_kinds entries references =
+    option_kinds (λ r. Err (record { kind = kinds.BadReference; section = parts.Info; place = r.place })) (find (λ r. not (leads entries r)) references) (Ok entries) (λ r. err_kinds IsOne (record { kind = kinds.BadReference; section = parts.Info; place = r.place }) dangling) (ok_kinds IsOne _)
+
+pub unit_faults : (sections : SectionBytes) → FaultsAre IsOne (units_of sections)
+unfolding units_of
+unit_faults sections =
+    bind_kinds IsOne (units_at sections (length sections.info) [] nothing 0) _ (units_read_kinds sections (length sections.info) [] nothing 0) (λ read.
+    bind_kinds IsOne (resolved read.1.entries read.1.references) _ (resolved_kinds read.1.entries read.1.references) (λ entries. ok_kinds IsOne _))
