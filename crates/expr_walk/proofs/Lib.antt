@@ -1,3 +1,4 @@
 pub mod Operations
 pub mod Cuts
 pub mod SpellingLaws
+pub mod Refused

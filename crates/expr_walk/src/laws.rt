@@ -1,6 +1,9 @@
 //! What an expression's definition says of its spelling.
 
-ghost use Rattle.std.specs.Prelude.{◌≡◌, ℕ, List as Listed, Ok};
+ghost use Rattle.std.specs.Prelude.{◌≡◌, ℕ, List as Listed, Ok, [], ◌∷◌, Err};
+ghost use Rattle.std.specs.List.{Contains};
+ghost use Rattle.ds_base.specs.declared.fault.Fault.{Fault};
+ghost use Rattle.ds_base.specs.declared.fault.Kind.TheVariants.{LebTooWide, OpOutsideProfile, Truncated, UnknownOp};
 ghost use Rattle.ds_base.specs.declared.fault.Part.{Part};
 ghost use Rattle.dwarf_types.specs.Spelled.{AreBytes};
 ghost use Rattle.dwarf_types.specs.declared.expr.Op.{Op};
@@ -11,4 +14,10 @@ ghost use Rattle.expr_walk.specs.Spelling.{SpellsExpression};
 pub fn expressions_are_read_as_spelled()
     ensures found { (bytes : Listed ℕ) (part : Part) (first : ℕ) (ops : Listed Op) → AreBytes bytes → walk_of bytes part first ≡ Ok ops → SpellsExpression bytes ops }
     ensures only { (bytes : Listed ℕ) (part : Part) (first : ℕ) (ops : Listed Op) → AreBytes bytes → SpellsExpression bytes ops → walk_of bytes part first ≡ Ok ops }
+{}
+
+/// Each fault of an expression is of one of these kinds.
+pub fn kinds_of_walk_faults()
+    ensures { (bytes : Listed ℕ) (part : Part) (first : ℕ) (f : Fault) →
+        walk_of bytes part first ≡ Err f → Contains (Truncated ∷ LebTooWide ∷ UnknownOp ∷ OpOutsideProfile ∷ []) f.kind }
 {}

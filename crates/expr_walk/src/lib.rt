@@ -15,8 +15,5 @@ mod length;
 mod op;
 
 pub use expression::walk;
-pub use laws::expressions_are_read_as_spelled;
+pub use laws::{expressions_are_read_as_spelled, kinds_of_walk_faults};
 pub use length::{new_length, new_op_length, new_plain_length};
-
-#[cfg(test)]
-mod tests;
