@@ -17,6 +17,3 @@ pub use frames::move_frames;
 pub use lines::move_lines;
 pub use places::place;
 pub use spans::{move_spans, span_pieces};
-
-#[cfg(test)]
-mod tests;
