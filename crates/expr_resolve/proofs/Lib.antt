@@ -2,3 +2,4 @@ mod Bases
 mod Cutting
 mod Each
 mod Meant
+pub mod Refused

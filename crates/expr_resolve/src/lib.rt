@@ -8,6 +8,7 @@
 mod branches;
 mod context;
 mod expression;
+mod laws;
 mod length;
 mod lookup;
 mod operand;
@@ -15,6 +16,4 @@ mod operations;
 
 pub use context::{BaseType, ExprContext};
 pub use expression::read_expression;
-
-#[cfg(test)]
-mod tests;
+pub use laws::kinds_of_expression_faults;

@@ -1,0 +1,68 @@
+-- Of which kinds the faults of an expression that is understood are.
+use Rattle.std.proofs.Common.{ℕ, ◌+◌, List, [], ◌∷◌, Option, Some, None, Result, Ok, Err, refl, arith, Bool}
+use Rattle.std.specs.List.{Contains}
+use Rattle.std.proofs.lemmas.List.Elements.{Contains-append_left}
+use Rattle.ds_base.specs.declared.fault.Fault.{Fault}
+use Rattle.ds_base.specs.declared.fault.Kind.{Kind}
+use Rattle.ds_base.specs.declared.fault.Kind.TheVariants as kinds
+use Rattle.ds_base.specs.Reading.{◌>>=◌, or_fault, refuse_if}
+use Rattle.dwarf_types.specs.declared.expr.Base.{Base}
+use Rattle.dwarf_types.specs.declared.expr.Op.{Op}
+use Rattle.dwarf_types.specs.declared.expr.PlainOp.{PlainOp}
+use Rattle.ds_base.proofs.FaultKinds.{FaultsAre, ok_kinds, err_kinds, bind_kinds, refuse_kinds, either_kinds, found_kinds}
+use Rattle.expr_walk.specs.Reading.{walk_of}
+use Rattle.expr_walk.proofs.Refused.{walk_faults}
+use Rattle.expr_resolve.specs.Context.{Context}
+use Rattle.expr_resolve.specs.Expressions.{base_meant, base_named, branches_over, branches_tried, each_from, expression_of, fault_in, inner_start, inner_tried, op_meant, op_size, outer_part, plain_branches_over, plain_meant, plain_size}
+
+abbrev walks : List Kind
+walks = kinds.Truncated ∷ kinds.LebTooWide ∷ kinds.UnknownOp ∷ kinds.OpOutsideProfile ∷ []
+
+abbrev meant : List Kind
+meant = kinds.BadOperandType ∷ kinds.BranchOverRewrite ∷ []
+
+abbrev pub IsOne : Kind → Type 0
+IsOne = Contains (kinds.Truncated ∷ kinds.LebTooWide ∷ kinds.UnknownOp ∷ kinds.OpOutsideProfile ∷ kinds.BadOperandType ∷ kinds.BranchOverRewrite ∷ [])
+
+-- a test before what follows
+tried_kinds : {A : Type 0} (b : Bool) (f : Fault) (next : Result A Fault) → IsOne f.kind → FaultsAre IsOne next → FaultsAre IsOne (refuse_if b f >>= λ u. next)
+tried_kinds b f next is later = bind_kinds IsOne (refuse_if b f) (λ u. next) (refuse_kinds IsOne b f is) (λ u. later)
+
+no_type : IsOne kinds.BadOperandType
+no_type = (4, omega arith, refl)
+
+branches : IsOne kinds.BranchOverRewrite
+branches = (5, omega arith, refl)
+
+base_kinds : (s : Context) (place code : ℕ) (base : Option Base) → FaultsAre IsOne (base_meant s place code base)
+base_kinds s place code None = ok_kinds IsOne _
+base_kinds s place code (Some base) =
+    bind_kinds IsOne (or_fault (base_named s code base) (fault_in s kinds.BadOperandType place)) _ (found_kinds IsOne (base_named s code base) (fault_in s kinds.BadOperandType place) no_type) (λ meant. ok_kinds IsOne _)
+
+plain_kinds : (s : Context) (place : ℕ) (op : PlainOp) → FaultsAre IsOne (plain_meant s place op)
+plain_kinds s place op = bind_kinds IsOne (base_meant s place op.code op.base) _ (base_kinds s place op.code op.base) (λ base. ok_kinds IsOne _)
+
+each_kinds : {A B : Type 0} (len : A → ℕ) (meant : ℕ → A → Result B Fault) → ((place : ℕ) (x : A) → FaultsAre IsOne (meant place x)) → (place : ℕ) (xs : List A) → FaultsAre IsOne (each_from len meant place xs)
+each_kinds len meant h place [] = ok_kinds IsOne _
+each_kinds len meant h place (x ∷ xs) =
+    bind_kinds IsOne (meant place x) _ (h place x) (λ here. bind_kinds IsOne (each_from len meant (place + len x) xs) _ (each_kinds len meant h (place + len x) xs) (λ others. ok_kinds IsOne _))
+
+op_kinds : (s : Context) (place : ℕ) (op : Op) → FaultsAre IsOne (op_meant s place op)
+op_kinds s place op =
+    bind_kinds IsOne (plain_meant s place (outer_part op)) _ (plain_kinds s place (outer_part op)) (λ outer.
+    bind_kinds IsOne (each_from plain_size (plain_meant s) (inner_start place op) op.inner) _ (each_kinds plain_size (plain_meant s) (plain_kinds s) (inner_start place op) op.inner) (λ inner. ok_kinds IsOne _))
+
+inner_kinds : (s : Context) (place : ℕ) (op : Op) → FaultsAre IsOne (inner_tried s place op)
+inner_kinds s place op = either_kinds IsOne (plain_branches_over op.inner) (Err (fault_in s kinds.BranchOverRewrite (inner_start place op))) (Ok tt) (err_kinds IsOne (fault_in s kinds.BranchOverRewrite (inner_start place op)) branches) (ok_kinds IsOne _)
+
+branches_kinds : (s : Context) (first : ℕ) (ops : List Op) → FaultsAre IsOne (branches_tried s first ops)
+branches_kinds s first ops =
+    tried_kinds (branches_over ops) (fault_in s kinds.BranchOverRewrite first) _ branches
+    (bind_kinds IsOne (each_from op_size (inner_tried s) first ops) _ (each_kinds op_size (inner_tried s) (inner_kinds s) first ops) (λ u. ok_kinds IsOne _))
+
+pub expression_faults : (s : Context) (bytes : List ℕ) (first : ℕ) → FaultsAre IsOne (expression_of s bytes first)
+unfolding expression_of
+expression_faults s bytes first =
+    bind_kinds IsOne (walk_of bytes s.part first) _ (λ f e. Contains-append_left walks meant f.kind (walk_faults bytes s.part first f e)) (λ ops.
+    bind_kinds IsOne (each_from op_size (op_meant s) first ops) _ (each_kinds op_size (op_meant s) (op_kinds s) first ops) (λ meant.
+    bind_kinds IsOne (branches_tried s first ops) _ (branches_kinds s first ops) (λ u. ok_kinds IsOne _)))
