@@ -1,5 +1,5 @@
 -- Every analysis is sound, where the units that it was made of are.
-use Rattle.std.proofs.Common.{◌≡◌, ℕ, suc, ◌+◌, ◌<◌, ◌≤◌, ◌==◌, Bool, true, false, List, [], ◌∷◌, ◌++◌, map, Option, Some, None, length, get_or, slice_get, Result, Ok, Err, refl, sym, ap, subst, ◌∙◌, arith}
+use Rattle.std.proofs.Common.{◌≡◌, ℕ, suc, ◌+◌, ◌≤◌, ◌==◌, Bool, true, false, List, [], ◌∷◌, ◌++◌, map, Option, Some, None, length, get_or, slice_get, Result, Ok, Err, refl, sym, ap, subst, ◌∙◌, arith}
 use Rattle.std.specs.Prelude.{if◌then◌else◌, IfOk}
 use Rattle.std.specs.List.{All, enumerate_from, flat_map}
 use Rattle.std.specs.Option.{option_and_then}
@@ -20,7 +20,6 @@ use Rattle.dwarf_types.specs.declared.entry.Entry.{Entry}
 use Rattle.dwarf_types.specs.declared.entry.InUnit.{InUnit}
 use Rattle.dwarf_types.specs.declared.entry.RawUnits.{RawUnits}
 use Rattle.dwarf_types.specs.declared.lines.RawLines.{RawLines}
-use Rattle.dwarf_types.specs.declared.value.Value.{Value}
 use Rattle.dwarf_types.specs.Live.{Stands, bases_of, op_bases, operations_of}
 use Rattle.dwarf_types.specs.Sound.{AreCodeRanges, AreUnits, IsBaseType, IsParent, IsSound, IsSoundEntry}
 use Rattle.ds_base.proofs.Passing.{bind_ok, ok_is}
@@ -167,12 +166,6 @@ entry_sound raw a sound kept units good k e stands =
 kept_length : (now old : List Entry) → Kept now old → length now ≡ length old
 kept_length now old kept = sym (length-map now bare) ∙ ap (λ (es : List Entry). length es) kept ∙ length-map old bare
 
-abbrev IsRaw : ℕ → ℕ → Value → Type 0
-IsRaw count unit value = IsPlain value × (0 < count)
-
-raw_all : (entries : List Entry) → All IsPlainEntry entries → All (λ (e : Entry). All (λ (a : Attr). IsRaw (length entries) e.unit a.value) e.attrs) entries
-raw_all entries h k d lt i x within = (h k d lt i x within, omega (arith, lt))
-
 pub analysis_sound : (o : Opened) (m : AddrMap) (raw : RawUnits) (a : Analysis) → AreSound raw → All IsPlainEntry raw.entries → units_analysed o m raw ≡ Ok a → IsSound a
 unfolding units_analysed
 analysis_sound o m raw a sound plain e =
@@ -193,8 +186,8 @@ analysis_sound o m raw a sound plain e =
     let same_count : length entries.0 ≡ count = kept_length entries.0 raw.entries kept in
     let same_types : base_types entries.0 ≡ types = types_kept entries.0 raw.entries kept in
     let long : length (places_of raw.entries) ≡ count = length-map raw.entries (λ (x : Entry). x.place) in
-    let understood : AreGood types count meant.0 = step_all (λ unit x. value_meant (info_context o m raw.entries unit (unit_start raw.units raw.entries unit)) (places_of raw.entries) x x.value) (IsRaw count) (IsGood types count)
-    (λ unit x now r is. value_good (info_context o m raw.entries unit (unit_start raw.units raw.entries unit)) (places_of raw.entries) count long r.1 x x.value now r.0 is) raw.entries meant.0 meant.1 (raw_all raw.entries plain) in
+    let understood : AreGood types count meant.0 = step_all (λ unit x. value_meant (info_context o m raw.entries unit (unit_start raw.units raw.entries unit)) (places_of raw.entries) x x.value) (λ unit value. IsPlain value) (IsGood types count)
+    (λ unit x now r is. value_good (info_context o m raw.entries unit (unit_start raw.units raw.entries unit)) (places_of raw.entries) count long x x.value now r is) raw.entries meant.0 meant.1 plain in
     let with_ranges : AreGood types count ranged.0 = step_all (λ unit x. ranges_meant o m (unit_base raw.units meant.0 unit) x x.value) (IsGood types count) (IsGood types count)
     (λ unit x now r is. ranges_good o m types count unit (unit_base raw.units meant.0 unit) x x.value now r is) (all_marked meant.0) ranged.0 ranged.1 (all_marked_good types count meant.0 understood) in
     let located : AreGood types count entries.0 = step_all (λ unit x. locations_meant o (loc_context o m meant.0 unit (unit_start raw.units meant.0 unit)) (unit_base raw.units meant.0 unit) x x.value) (IsGood types count) (IsGood types count)

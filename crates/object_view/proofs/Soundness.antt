@@ -1,15 +1,14 @@
 -- Every analysis is sound: steps lead references to entries, and expressions name base types of their units.
-use Rattle.std.proofs.Common.{◌≡◌, ℕ, suc, ◌<◌, ◌==◌, Bool, true, false, List, [], ◌∷◌, Option, Some, None, length, get_or, Result, Ok, refl, sym, subst, ◌∙◌, arith, cond, not}
+use Rattle.std.proofs.Common.{◌≡◌, ℕ, suc, ◌<◌, ◌==◌, Bool, true, false, List, [], ◌∷◌, Option, Some, None, length, get_or, Result, Ok, refl, sym, subst, ◌∙◌, arith, not}
 use Rattle.std.specs.Prelude.{if◌then◌else◌, is_none, nat_lt}
-use Rattle.std.specs.Option.{unwrap_or}
-use Rattle.std.specs.List.{All, flat_map, position_or_len}
-use Rattle.std.proofs.lemmas.Bool.{ltb-true}
+use Rattle.std.specs.List.{All, flat_map}
+use Rattle.std.proofs.lemmas.List.Quantifiers.{position-Some}
 use Rattle.std.proofs.lemmas.List.Elements.{All-nil, All-cons, All-map}
 use Rattle.ds_base.specs.declared.dwarf.TheConstants.{DW_AT_stmt_list, DW_FORM_exprloc}
 use Rattle.ds_base.specs.declared.fault.Fault.{Fault}
 use Rattle.ds_base.specs.declared.fault.Kind.TheVariants as kinds
 use Rattle.ds_base.specs.declared.fault.Part.TheVariants as parts
-use Rattle.ds_base.specs.Reading.{◌>>=◌, refuse_if}
+use Rattle.ds_base.specs.Reading.{◌>>=◌, or_fault, refuse_if}
 use Rattle.dwarf_types.specs.declared.address.Addr.{Addr}
 use Rattle.dwarf_types.specs.declared.address.Span.{Span}
 use Rattle.dwarf_types.specs.declared.entry.Attr.{Attr}
@@ -21,7 +20,7 @@ use Rattle.dwarf_types.specs.declared.lists.RawSpan.{RawSpan}
 use Rattle.dwarf_types.specs.declared.value.Value.{Value}
 use Rattle.dwarf_types.specs.declared.value.Value.TheVariants as values
 use Rattle.dwarf_types.specs.Live.{operations_of, target_in}
-use Rattle.ds_base.proofs.Passing.{bind_ok, ok_is, passed}
+use Rattle.ds_base.proofs.Passing.{bind_ok, found_ok, ok_is, passed}
 use Rattle.addr_map.specs.declared.map.AddrMap.{AddrMap}
 use Rattle.expr_walk.specs.Length.{ops_len}
 use Rattle.loc_lists.specs.Reading.{locations_of}
@@ -34,7 +33,7 @@ use Rattle.unit_tree.specs.declared.meaning.Meaning.{Meaning}
 use Rattle.unit_tree.specs.declared.meaning.Meaning.TheVariants as meanings
 use Rattle.unit_tree.specs.Meaning.{table_of}
 use Rattle.object_view.specs.declared.locations.TheConstants.{EXPRESSION_LIMIT}
-use Rattle.object_view.specs.Attributes.{all_marked, attr_by, attrs_by, each_of, entries_by, entry_by, entry_marked, item_meant, item_moved, lines_marked, lines_value, locations_by_role, locations_meant, number_at, ranges_by_role, ranges_meant, value_meant, with_value}
+use Rattle.object_view.specs.Attributes.{all_marked, attr_by, attrs_by, dangling, each_of, entries_by, entry_by, entry_marked, item_meant, item_moved, lines_marked, lines_value, locations_by_role, locations_meant, number_at, ranges_by_role, ranges_meant, value_meant, with_value}
 use Rattle.object_view.specs.Opened.{Opened}
 use Rattle.object_view.proofs.KnownTypes.{IsKnownOp, ops_known}
 use Rattle.object_view.proofs.Names.{all_flat, all_map, each_all}
@@ -65,20 +64,13 @@ plain_good types count unit value none plain = record {
 
 -- ---- attributes of `__debug_info`
 
-inside : (n count : ℕ) (b : Bool) → 0 < count → nat_lt n count ≡ b → unwrap_or (cond b (Some n) None) 0 < count
-inside n count true some e = ltb-true n count e
-inside n count false some e = some
-
-number_inside : (places : List ℕ) (place : ℕ) → 0 < length places → number_at places place < length places
-number_inside places place some = inside (position_or_len (λ (p : ℕ). p == place) places) (length places) (nat_lt (position_or_len (λ (p : ℕ). p == place) places) (length places)) some refl
-
 abbrev as_it_is : Value → Result Value Fault
 as_it_is value = Ok value
 
-module _ (s : Context) (places : List ℕ) (count : ℕ) (long : length places ≡ count) (some : 0 < count) where
-  ref_good : (place : ℕ) → IsGood s.bases count s.unit (values.Ref (number_at places place))
-  ref_good place = record {
-    target = λ j e. let same : number_at places place ≡ j = cc in let h = number_inside places place (omega (arith, long, some)) in omega (arith, h, same, long);
+module _ (s : Context) (places : List ℕ) (count : ℕ) (long : length places ≡ count) where
+  ref_good : (place k : ℕ) → number_at places place ≡ Some k → IsGood s.bases count s.unit (values.Ref k)
+  ref_good place k found = record {
+    target = λ j e. let same : k ≡ j = cc in let h = position-Some (λ (p : ℕ). p == place) places k 0 found in omega (arith, h.0, same, long);
     known = All-nil (IsKnownOp s.bases s.unit);
   }
 
@@ -93,7 +85,9 @@ module _ (s : Context) (places : List ℕ) (count : ℕ) (long : length places �
 
   pub value_good : (a : Attr) (value now : Value) → IsPlain value → value_meant s places a value ≡ Ok now → IsGood s.bases count s.unit now
   value_good a (values.Address place) now plain e = kept_good _ now refl refl e
-  value_good a (values.Ref place) now plain e = subst (IsGood s.bases count s.unit) (ok_is _ now e) (ref_good place)
+  value_good a (values.Ref place) now plain e =
+      let k = bind_ok (or_fault (number_at places place) (dangling a)) (λ k. Ok (values.Ref k)) now e in
+      subst (IsGood s.bases count s.unit) (ok_is (values.Ref k.0) now k.2) (ref_good place k.0 (found_ok (number_at places place) (dangling a) k.0 k.1))
   value_good a (values.Block form bytes) now plain e = block_good (form == DW_FORM_exprloc) form bytes _ now e
   value_good a (values.Text text) now plain e = kept_good (values.Text text) now refl refl e
   value_good a (values.Number form bits) now plain e = kept_good (values.Number form bits) now refl refl e

@@ -6,7 +6,7 @@ use Rattle.ds_base.specs.declared.dwarf.TheConstants.{DW_AT_low_pc, DW_AT_stmt_l
 use Rattle.ds_base.specs.declared.fault.Fault.{Fault}
 use Rattle.ds_base.specs.declared.fault.Kind.TheVariants as kinds
 use Rattle.ds_base.specs.declared.fault.Part.TheVariants as parts
-use Rattle.ds_base.specs.Reading.{◌>>=◌, refuse_if}
+use Rattle.ds_base.specs.Reading.{◌>>=◌, or_fault, refuse_if}
 use Rattle.dwarf_types.specs.declared.address.Addr.{Addr}
 use Rattle.dwarf_types.specs.declared.address.Addr.TheVariants as addrs
 use Rattle.dwarf_types.specs.declared.entry.Attr.{Attr}
@@ -71,13 +71,17 @@ abbrev pub field_address : Context → ℕ → Addr → Addr
 field_address s end stored = address_of s.image s.relocs (end - 8) (number_of stored)
 
 -- the number of the entry that stands at a place
-abbrev pub number_at : List ℕ → ℕ → ℕ
-number_at places place = unwrap_or (position (λ p. p == place) places) 0
+abbrev pub number_at : List ℕ → ℕ → Option ℕ
+number_at places place = position (λ p. p == place) places
+
+-- a reference that leads to no entry; units in which one stands are refused before, so it is never met here
+abbrev pub dangling : Attr → Fault
+dangling a = record { kind = kinds.BadReference; section = parts.Info; place = a.end }
 
 -- a value as it was read, in a context of `__debug_info`
 abbrev pub value_meant : Context → List ℕ → Attr → Value → Result Value Fault
 value_meant s places a (values.Address place) = Ok (values.Address (place_of s.map (field_address s a.end place.at)))
-value_meant s places a (values.Ref place) = Ok (values.Ref (number_at places place))
+value_meant s places a (values.Ref place) = or_fault (number_at places place) (dangling a) >>= λ k. Ok (values.Ref k)
 value_meant s places a (values.Block form bytes) =
     if form == DW_FORM_exprloc then (expression_of s bytes (a.end - length bytes) >>= λ ops. Ok (values.Expr ops)) else Ok (values.Block form bytes)
 value_meant s places a value = Ok value

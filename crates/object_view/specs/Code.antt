@@ -1,8 +1,8 @@
 -- The code of an object's subprograms in the linked program (DWARF 4, section 2.17).
-use Rattle.std.specs.Prelude.{ℕ, ◌+◌, ◌^◌, ◌==◌, ◌||◌, List, [], ◌++◌, map, Option, Some, None, nat_lt, nat_le, if◌then◌else◌}
+use Rattle.std.specs.Prelude.{ℕ, ◌+◌, ◌^◌, ◌==◌, List, [], ◌++◌, map, Option, Some, None, nat_lt, nat_le, if◌then◌else◌}
 use Rattle.std.specs.List.{enumerate_from, flat_map}
 use Rattle.std.specs.Option.{option_and_then, option_map_or}
-use Rattle.ds_base.specs.declared.dwarf.TheConstants.{DW_AT_high_pc, DW_AT_low_pc, DW_AT_ranges, DW_FORM_flag, DW_FORM_flag_present, DW_FORM_sdata, DW_TAG_subprogram}
+use Rattle.ds_base.specs.declared.dwarf.TheConstants.{DW_AT_high_pc, DW_AT_low_pc, DW_AT_ranges, DW_FORM_sdata, DW_TAG_subprogram}
 use Rattle.dwarf_types.specs.declared.address.Span.{Span}
 use Rattle.dwarf_types.specs.declared.analysis.CodeRange.{CodeRange}
 use Rattle.dwarf_types.specs.declared.entry.Entry.{Entry}
@@ -11,6 +11,7 @@ use Rattle.dwarf_types.specs.declared.value.Value.TheVariants as values
 use Rattle.dwarf_types.specs.Moves.{place_in, spans_in, value_of}
 use Rattle.addr_map.specs.declared.map.AddrMap.{AddrMap}
 use Rattle.addr_map.specs.Moved.{pieces}
+use Rattle.form_value.specs.Forms.{is_flag}
 use Rattle.line_read.specs.Rising.{placed}
 
 -- an address of the object that a value is
@@ -20,7 +21,7 @@ object_address value = option_and_then (λ place. placed place.at) (place_in val
 -- a constant that is no length below zero
 abbrev pub length_of : ℕ → ℕ → Option ℕ
 length_of form bits =
-    if form == DW_FORM_flag || form == DW_FORM_flag_present then None
+    if is_flag form then None
     else if form == DW_FORM_sdata then (if nat_lt bits (2 ^ 63) then Some bits else None)
     else Some bits
 

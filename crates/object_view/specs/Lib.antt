@@ -1,10 +1,12 @@
 pub mod Analysis
 pub mod Attributes
 pub mod Code
+pub mod Faults
 pub mod Opened
 pub mod Parts
 pub mod Ready
 pub mod Seen
 pub mod Sound
+pub mod Spelled
 pub mod Stages
 pub mod Units

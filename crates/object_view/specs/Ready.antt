@@ -1,16 +1,20 @@
 -- Stations between the code and the definitions: the contexts of an object's expressions, and what must hold of them.
-use Rattle.std.specs.Prelude.{ℕ, ◌+◌, ◌-◌, ◌^◌, ◌<◌, ◌==◌, List, ◌++◌, length, slice_get, Result, Ok, if◌then◌else◌}
-use Rattle.std.specs.List.{AllPairs, flat_map}
-use Rattle.std.specs.Option.{unwrap_or}
+use Rattle.std.specs.Prelude.{◌≡◌, ℕ, ◌+◌, ◌-◌, ◌^◌, ◌<◌, ◌≤◌, ◌==◌, List, ◌++◌, length, slice_get, None, IsSome, IfSome, Result, Ok, if◌then◌else◌}
+use Rattle.std.specs.List.{All, AllPairs, flat_map}
+use Rattle.std.specs.Option.{option_and_then, unwrap_or}
 use Rattle.ds_base.specs.declared.dwarf.TheConstants.{DW_FORM_exprloc}
 use Rattle.ds_base.specs.declared.fault.Fault.{Fault}
 use Rattle.ds_base.specs.Reading.{◌>>=◌}
 use Rattle.dwarf_types.specs.declared.address.Addr.{Addr}
 use Rattle.dwarf_types.specs.declared.address.Addr.TheVariants as addrs
+use Rattle.dwarf_types.specs.declared.entry.Attr.{Attr}
+use Rattle.dwarf_types.specs.declared.entry.Entry.{Entry}
+use Rattle.dwarf_types.specs.declared.entry.InUnit.{InUnit}
 use Rattle.dwarf_types.specs.declared.lists.Location.{Location}
 use Rattle.dwarf_types.specs.declared.lists.RawLocation.{RawLocation}
 use Rattle.dwarf_types.specs.declared.value.Value.{Value}
 use Rattle.dwarf_types.specs.declared.value.Value.TheVariants as values
+use Rattle.dwarf_types.specs.SectionBytes.{SectionBytes}
 use Rattle.macho_read.specs.Sound.{IsSound as IsSoundImage}
 use Rattle.reloc_table.specs.Sound.{IsSound as AreSoundRelocs}
 use Rattle.addr_map.specs.declared.map.AddrMap.{AddrMap}
@@ -19,7 +23,9 @@ use Rattle.list_items.specs.Sound.{IsSoundSpan}
 use Rattle.expr_resolve.specs.Context.{Context, AreInOrder}
 use Rattle.expr_resolve.specs.Expressions.{expression_of}
 use Rattle.object_view.specs.declared.expressions.Expressions.{Expressions}
-use Rattle.object_view.specs.Attributes.{each_of, item_meant, item_moved}
+use Rattle.unit_tree.specs.Inside.{IsListInside}
+use Rattle.unit_tree.specs.Meaning.{table_of}
+use Rattle.object_view.specs.Attributes.{each_of, item_meant, item_moved, line_place, number_at}
 use Rattle.object_view.specs.Opened.{Opened}
 use Rattle.object_view.specs.Sound.{AreSmall, AreSound}
 
@@ -49,6 +55,30 @@ base_at bases unit = unwrap_or (slice_get bases unit) (addrs.Fixed 0)
 -- the places of entries rise
 abbrev pub Rise : List ℕ → Type 0
 Rise places = AllPairs (λ p later. p < later) places
+
+-- ---- what an attribute keeps to, so that a step can be taken
+
+abbrev pub AllAttrs : (Attr → Type 0) → List Entry → Type 0
+AllAttrs P entries = All (λ e. All P e.attrs) entries
+
+-- as it was read: its bytes stand before the place behind it, and a reference leads to one of these places
+abbrev pub IsReadValue : List ℕ → ℕ → Value → Type 0
+IsReadValue places end (values.Address place) = 8 ≤ end
+IsReadValue places end (values.Block form bytes) = length bytes ≤ end
+IsReadValue places end (values.Ref place) = IsSome (number_at places place)
+IsReadValue places end value = Unit {0}
+
+-- an offset that leads to a list is inside its section
+abbrev pub IsListAttr : SectionBytes → Attr → Type 0
+IsListAttr sections a = (n : ℕ) → a.value ≡ values.Offset n → IsListInside sections (table_of a.name) n
+
+-- the line table of the unit that begins with an entry of these is inside its section
+abbrev pub IsLinesInside : SectionBytes → List Entry → InUnit → Type 0
+IsLinesInside sections entries unit = IfSome (option_and_then line_place (slice_get entries unit.first)) (λ n. n < length sections.line)
+
+-- the first entry of a unit is its root
+abbrev pub IsRooted : List Entry → InUnit → Type 0
+IsRooted entries unit = IfSome (slice_get entries unit.first) (λ e. e.parent ≡ None)
 
 -- a block that ends at a place, where an expression means its operations
 abbrev pub block_meant : Context → ℕ → ℕ → List ℕ → Result Value Fault

@@ -1,14 +1,19 @@
 //! An object's analysis.
 
 ghost use Rattle.std.specs.Prelude.{◌≡◌, ◌^◌, ◌<◌, length, IfOk};
+ghost use Rattle.std.specs.List.{All};
 ghost use Rattle.ds_base.specs.Reading.{Gives};
+ghost use Rattle.dwarf_types.specs.SectionBytes.{bytes_in};
 ghost use Rattle.dwarf_types.specs.Sound.{IsSound};
+ghost use Rattle.unit_tree.specs.Inside.{AreInside};
 ghost use Rattle.unit_tree.specs.Sound.{AreSound as AreSoundUnits};
 ghost use Rattle.object_view.specs.Analysis.{analysis_of};
 ghost use Rattle.object_view.specs.Attributes.{entries_by};
 ghost use Rattle.object_view.specs.Opened.{opened_seen};
-ghost use Rattle.object_view.specs.Ready.{IsOpen};
+ghost use Rattle.object_view.specs.Ready.{AllAttrs, IsListAttr, IsOpen, IsReadValue, IsRooted};
+ghost use Rattle.object_view.specs.Spelled.{IsOfObject};
 ghost use Rattle.object_view.specs.Stages.{AreInOrder as AreInOrderTables, analysed, entries_analysed, finished, info_meant, lists_meant, tables_in};
+ghost use Rattle.object_view.specs.Units;
 
 use crate::attributes::InfoValues;
 use crate::code::code_of;
@@ -48,6 +53,9 @@ pub fn analyse(
     requires { length bytes.now < 2 ^ 32 }
     ensures exact { Gives (λ analysis. analysis) result (analysis_of bytes.now object.now cpu) }
     ensures sound { IfOk result IsSound }
+
+    // Units, entries and attributes are those that the sections spell, and a reference is the number of the entry at its place.
+    ensures spelled { IfOk result (IsOfObject bytes.now cpu) }
 {
     let opened = open_object(alloc, bytes, cpu)?;
     let raw = read_units(alloc, &opened.sections)?;
@@ -64,6 +72,8 @@ fn analyse_units(
 ) -> Result<Analysis, ReadError>
     requires open { IsOpen (opened_seen object.now) map.now }
     requires raw { AreSoundUnits raw }
+    requires inside { AreInside (bytes_in object.now.sections) raw.entries }
+    requires rooted { All (IsRooted raw.entries) raw.units }
     ensures { Gives (λ analysis. analysis) result (analysed (opened_seen object.now) map.now raw) }
 {
     let RawUnits { units, entries } = raw;
@@ -89,6 +99,9 @@ fn analyse_entries(
 ) -> Result<Analysis, ReadError>
     requires open { IsOpen (opened_seen object.now) map.now }
     requires tables { AreInOrderTables (tables_in tables.now) }
+    requires places { tables.now.places.now ≡ Units.places_of entries }
+    requires inside { AreInside (bytes_in object.now.sections) entries }
+    requires rooted { All (IsRooted entries) units }
     ensures { Gives (λ analysis. analysis) result (entries_analysed (opened_seen object.now) map.now (tables_in tables.now) units entries) }
 {
     let entries = understand_info(alloc, object, map, tables, entries)?;
@@ -108,6 +121,7 @@ fn understand_info(
 ) -> Result<List<Entry>, ReadError>
     requires open { IsOpen (opened_seen object.now) map.now }
     requires tables { AreInOrderTables (tables_in tables.now) }
+    requires fits { AllAttrs (λ a. IsReadValue tables.now.places.now a.end a.value) entries }
     ensures { Gives (λ entries. entries) result (entries_by (info_meant (opened_seen object.now) map.now (tables_in tables.now)) entries) }
 {
     let step = InfoValues {
@@ -135,6 +149,7 @@ fn read_lists(
 ) -> Result<List<Entry>, ReadError>
     requires open { IsOpen (opened_seen object.now) map.now }
     requires tables { AreInOrderTables (tables_in tables.now) }
+    requires fits { AllAttrs (IsListAttr (bytes_in object.now.sections)) entries }
     ensures { Gives (λ entries. entries) result (lists_meant (opened_seen object.now) map.now (tables_in tables.now) bases.now entries) }
 {
     let ranges = RangeLists { object, map, bases };
@@ -162,7 +177,8 @@ fn finish(
     units: List<InUnit>,
     entries: List<Entry>,
 ) -> Result<Analysis, ReadError>
-    requires { IsOpen (opened_seen object.now) map.now }
+    requires open { IsOpen (opened_seen object.now) map.now }
+    requires few { length entries < 2 ^ 32 }
     ensures { Gives (λ analysis. analysis) result (finished (opened_seen object.now) map.now units entries) }
 {
     let frames = read_frames(alloc, &object.sections, &object.relocs.frame, &object.image)?;

@@ -1,17 +1,17 @@
 //! Addresses, references and expressions of `__debug_info`.
 
-ghost use Rattle.std.specs.Prelude.{◌≡◌, ◌<◌, ◌^◌, length, IfOk};
+ghost use Rattle.std.specs.Prelude.{◌≡◌, ◌<◌, ◌≤◌, ◌^◌, length, Some, IsSome};
 ghost use Rattle.ds_base.specs.Reading.{Gives};
 ghost use Rattle.dwarf_types.specs.declared.entry.Attr.{Attr as AnAttr};
 ghost use Rattle.list_items.specs.Ends;
 ghost use Rattle.expr_resolve.specs.Context.{context_in};
 ghost use Rattle.object_view.specs.Attributes;
-ghost use Rattle.object_view.specs.Ready.{IsReady, Rise, block_meant};
+ghost use Rattle.object_view.specs.Ready.{IsReadValue, IsReady, Rise, block_meant};
 
 use crate::expressions::{Expressions, context};
 use crate::steps::Step;
 use ds_base::dwarf::DW_FORM_exprloc;
-use ds_base::{Bytes, NoMemory, ReadError};
+use ds_base::{Bytes, ReadError};
 use dwarf_types::{Addr, Attr, Boxed, Value};
 use expr_resolve::{ExprContext, read_expression};
 use moved_parts::place;
@@ -33,9 +33,11 @@ pub(crate) struct InfoValues<'a> {
 impl<'a> Step for InfoValues<'a> {
     ghost use Rattle.std.specs.Prelude.{ℕ, ◌<◌, ◌^◌, length};
     ghost use Rattle.object_view.specs.Attributes.{value_meant};
-    ghost use Rattle.object_view.specs.Ready.{IsReady, Rise, context_of};
+    ghost use Rattle.object_view.specs.Ready.{IsReadValue, IsReady, Rise, context_of};
 
     ghost ready = { λ s. ((unit : ℕ) → IsReady (context_of s.expressions unit)) × Rise s.places.now × (length s.places.now < 2 ^ 32) };
+
+    ghost fits = { λ s a. IsReadValue s.places.now a.end a.value };
 
     ghost meant = { λ s unit a. value_meant (context_of s.expressions unit) s.places.now a a.value };
 
@@ -58,11 +60,12 @@ fn understand(
     requires ready { IsReady (context_in context.now) }
     requires rise { Rise places.now }
     requires few { length places.now < 2 ^ 32 }
+    requires fits { IsReadValue places.now end value }
     ensures { (a : AnAttr) → a.end ≡ end → Gives (λ v. v) result (Attributes.value_meant (context_in context.now) places.now a value) }
 {
     match value {
         Value::Address(stored) => {
-            let at = field_address(context, end, &stored.get().at)?;
+            let at = field_address(context, end, &stored.get().at);
             Ok(Value::Address(Boxed::new(alloc, place(context.map, at))?))
         }
         Value::Ref(place) => Ok(Value::Ref(number_at(places, place))),
@@ -72,15 +75,13 @@ fn understand(
 }
 
 /// What the address of a field means that ends at a place.
-fn field_address(context: &ExprContext, end: u32, stored: &Addr) -> Result<Addr, NoMemory>
-    requires { IsReady (context_in context.now) }
-    ensures { IfOk result (λ at. at ≡ Attributes.field_address (context_in context.now) end stored.now) }
+fn field_address(context: &ExprContext, end: u32, stored: &Addr) -> Addr
+    requires ready { IsReady (context_in context.now) }
+    requires there { 8 ≤ end }
+    ensures { result ≡ Attributes.field_address (context_in context.now) end stored.now }
 {
-    // Every address that was read has its bytes.
-    let Some(place) = end.checked_sub(ADDRESS_SIZE) else {
-        return Err(NoMemory);
-    };
-    Ok(resolve(context.relocs, context.image, place, number_of(stored)))
+    let first = end - ADDRESS_SIZE;
+    resolve(context.relocs, context.image, first, number_of(stored))
 }
 
 /// The number as it is stored.
@@ -98,11 +99,12 @@ fn number_of(stored: &Addr) -> u64
 fn number_at(places: &[u32], place: u32) -> u32
     requires rise { Rise places.now }
     requires few { length places.now < 2 ^ 32 }
-    ensures { result ≡ Attributes.number_at places.now place }
+    requires there { IsSome (Attributes.number_at places.now place) }
+    ensures { Attributes.number_at places.now place ≡ Some result }
 {
     match places.binary_search(&place) {
         Ok(i) => i as u32,
-        Err(_) => 0,
+        Err(_) => unreachable!(),
     }
 }
 
@@ -114,16 +116,14 @@ fn block(
     form: u16,
     bytes: Bytes,
 ) -> Result<Value, ReadError>
-    requires { IsReady (context_in context.now) }
+    requires ready { IsReady (context_in context.now) }
+    requires there { length bytes ≤ end }
     ensures { Gives (λ v. v) result (block_meant (context_in context.now) end form bytes) }
 {
     if form != DW_FORM_exprloc {
         return Ok(Value::Block { form, bytes });
     }
-    // Every expression that was read has its bytes.
-    let Some(first) = u64::from(end).checked_sub(bytes.len() as u64) else {
-        return Err(ReadError::NoMemory);
-    };
+    let first = u64::from(end) - bytes.len() as u64;
     let ops = read_expression(alloc, context, bytes.as_slice(), first)?;
     Ok(Value::Expr(ops))
 }

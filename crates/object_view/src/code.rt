@@ -1,6 +1,6 @@
 //! The code of subprograms in the linked program (DWARF 4, section 2.17).
 
-ghost use Rattle.std.specs.Prelude.{◌≡◌, ◌++◌, map, IfOk, OnOk};
+ghost use Rattle.std.specs.Prelude.{◌≡◌, ◌<◌, ◌^◌, ◌++◌, length, map, IfOk, OnOk};
 ghost use Rattle.std.specs.Option.{option_and_then, option_copied};
 ghost use Rattle.dwarf_types.specs.Moves.{place_in, value_of};
 ghost use Rattle.addr_map.specs.Sound.{IsSound};
@@ -8,12 +8,10 @@ ghost use Rattle.line_read.specs.Rising.{placed};
 ghost use Rattle.object_view.specs.Code;
 
 use addr_map::{AddrMap, pieces};
-use ds_base::dwarf::{
-    DW_AT_high_pc, DW_AT_low_pc, DW_AT_ranges, DW_FORM_flag, DW_FORM_flag_present, DW_FORM_sdata,
-    DW_TAG_subprogram,
-};
+use ds_base::dwarf::{DW_AT_high_pc, DW_AT_low_pc, DW_AT_ranges, DW_FORM_sdata, DW_TAG_subprogram};
 use ds_base::{List, NoMemory};
 use dwarf_types::{Addr, CodeRange, Entry, Place, Span, Value};
+use form_value::is_flag;
 use std::alloc::Global;
 
 /// The pieces of the code of all subprograms, in the order of the entries.
@@ -22,16 +20,13 @@ pub(crate) fn code_of(
     map: &AddrMap,
     entries: &[Entry],
 ) -> Result<List<CodeRange>, NoMemory>
-    requires { IsSound map.now }
+    requires map { IsSound map.now }
+    requires few { length entries.now < 2 ^ 32 }
     ensures { IfOk result (λ code. code ≡ Code.code_of map.now entries.now) }
 {
     let mut code = List::new(alloc);
     for (i, entry) in entries.iter().enumerate() {
-        // An object has fewer entries than a section has bytes.
-        let Ok(number) = u32::try_from(i) else {
-            return Err(NoMemory);
-        };
-        add_code(alloc, map, number, entry, &mut code)?;
+        add_code(alloc, map, i as u32, entry, &mut code)?;
     }
     Ok(code)
 }
@@ -121,11 +116,10 @@ fn end_from(low: u64, value: &Value) -> Option<u64>
 fn length_of(form: u16, bits: u64) -> Option<u64>
     ensures { result ≡ Code.length_of form bits }
 {
-    match form {
-        DW_FORM_flag | DW_FORM_flag_present => None,
-        DW_FORM_sdata if bits >= 1 << 63 => None,
-        _ => Some(bits),
+    if is_flag(form) || form == DW_FORM_sdata && bits >= 1 << 63 {
+        return None;
     }
+    Some(bits)
 }
 
 /// The address of the object that a value is.

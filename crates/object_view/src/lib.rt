@@ -12,6 +12,7 @@ mod analysis;
 mod attributes;
 mod code;
 mod expressions;
+mod laws;
 mod line_tables;
 mod locations;
 mod open;
@@ -21,9 +22,5 @@ mod steps;
 mod units;
 
 pub use analysis::analyse;
+pub use laws::kinds_of_object_faults;
 pub use open::{DebugRelocs, OpenObject, open_object};
-
-#[cfg(test)]
-mod tests;
-#[cfg(test)]
-mod tests_analysis;

@@ -1,11 +1,13 @@
 //! The line tables of units (DWARF 4, section 3.1.1, the statement list).
 
 ghost use Rattle.std.specs.Prelude.{◌≡◌, slice_get};
+ghost use Rattle.std.specs.List.{All};
 ghost use Rattle.std.specs.Option.{option_and_then};
 ghost use Rattle.ds_base.specs.Reading.{Gives};
+ghost use Rattle.dwarf_types.specs.SectionBytes.{bytes_in};
 ghost use Rattle.object_view.specs.Attributes;
 ghost use Rattle.object_view.specs.Opened.{opened_seen};
-ghost use Rattle.object_view.specs.Ready.{IsOpen};
+ghost use Rattle.object_view.specs.Ready.{IsLinesInside, IsOpen};
 
 use crate::code::value_of;
 use crate::open::OpenObject;
@@ -25,7 +27,8 @@ pub(crate) fn read_line_tables(
     entries: &[Entry],
     mut units: List<InUnit>,
 ) -> Result<List<InUnit>, ReadError>
-    requires { IsOpen (opened_seen object.now) map.now }
+    requires open { IsOpen (opened_seen object.now) map.now }
+    requires inside { All (IsLinesInside (bytes_in object.now.sections) entries.now) units }
     ensures { Gives (λ units. units) result (Attributes.units_meant (opened_seen object.now) map.now entries.now units) }
 {
     read_each(alloc, object, map, entries, units.as_mut_slice())?;
@@ -40,7 +43,8 @@ fn read_each(
     entries: &[Entry],
     units: &mut [InUnit],
 ) -> Result<(), ReadError>
-    requires { IsOpen (opened_seen object.now) map.now }
+    requires open { IsOpen (opened_seen object.now) map.now }
+    requires inside { All (IsLinesInside (bytes_in object.now.sections) entries.now) units.old }
     ensures { Gives (λ _. units.new) result (Attributes.units_meant (opened_seen object.now) map.now entries.now units.old) }
 {
     for unit in units.iter_mut() {
@@ -57,16 +61,13 @@ fn read_unit_lines(
     entries: &[Entry],
     unit: &mut InUnit,
 ) -> Result<(), ReadError>
-    requires { IsOpen (opened_seen object.now) map.now }
+    requires open { IsOpen (opened_seen object.now) map.now }
+    requires inside { IsLinesInside (bytes_in object.now.sections) entries.now unit.old }
     ensures { Gives (λ _. unit.new) result (Attributes.unit_with_lines (opened_seen object.now) map.now unit.old (option_and_then Attributes.line_place (slice_get entries.now unit.old.first))) }
 {
     let Some(place) = place_of_lines(entries, unit.first) else {
         return Ok(());
     };
-    // Every offset of a line table was tried.
-    if place >= object.sections.line.len() as u64 {
-        return Err(ReadError::NoMemory);
-    }
     let lines = read_lines(
         alloc,
         &object.sections,

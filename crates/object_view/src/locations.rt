@@ -1,6 +1,6 @@
 //! Location lists (DWARF 4, section 2.6.2).
 
-ghost use Rattle.std.specs.Prelude.{◌≡◌, ◌++◌, map, OnOk, IfOk};
+ghost use Rattle.std.specs.Prelude.{◌≡◌, ◌<◌, ◌++◌, length, map, OnOk, IfOk};
 ghost use Rattle.std.specs.List.{All};
 ghost use Rattle.ds_base.specs.Reading.{Gives};
 ghost use Rattle.expr_resolve.specs.Context.{context_in};
@@ -36,11 +36,14 @@ pub(crate) struct LocationLists<'a> {
 
 impl<'a> Step for LocationLists<'a> {
     ghost use Rattle.std.specs.Prelude.{ℕ};
+    ghost use Rattle.dwarf_types.specs.SectionBytes.{bytes_in};
     ghost use Rattle.object_view.specs.Attributes.{locations_meant};
     ghost use Rattle.object_view.specs.Opened.{opened_seen};
-    ghost use Rattle.object_view.specs.Ready.{IsOpen, IsReady, base_at, context_of};
+    ghost use Rattle.object_view.specs.Ready.{IsListAttr, IsOpen, IsReady, base_at, context_of};
 
     ghost ready = { λ s. ((unit : ℕ) → IsReady (context_of s.expressions unit)) × IsOpen (opened_seen s.object.now) s.expressions.map.now };
+
+    ghost fits = { λ s a. IsListAttr (bytes_in s.object.now.sections) a };
 
     ghost meant = { λ s unit a. locations_meant (opened_seen s.object.now) (context_of s.expressions unit) (base_at s.bases.now unit) a a.value };
 
@@ -68,12 +71,9 @@ fn locations_at(
 ) -> Result<Value, ReadError>
     requires open { IsOpen (opened_seen object.now) context.now.map.now }
     requires ready { IsReady (context_in context.now) }
+    requires inside { place < length object.now.sections.loc.now }
     ensures { Gives (λ v. v) result (Attributes.locations_at (opened_seen object.now) (context_in context.now) base.now place) }
 {
-    // Every offset of a location list was tried.
-    if place >= object.sections.loc.len() as u64 {
-        return Err(ReadError::NoMemory);
-    }
     let items = read_locations(
         alloc,
         &object.sections,

@@ -1,6 +1,6 @@
 //! Range lists (DWARF 4, section 2.17.3).
 
-ghost use Rattle.std.specs.Prelude.{◌≡◌, ◌∷◌, map, length, slice_get, IfOk};
+ghost use Rattle.std.specs.Prelude.{◌≡◌, ◌<◌, map, length, slice_get, IfOk};
 ghost use Rattle.std.specs.List.{filter_map};
 ghost use Rattle.std.specs.Option.{option_map_or};
 ghost use Rattle.ds_base.specs.Reading.{Gives};
@@ -33,11 +33,14 @@ pub(crate) struct RangeLists<'a> {
 }
 
 impl<'a> Step for RangeLists<'a> {
+    ghost use Rattle.dwarf_types.specs.SectionBytes.{bytes_in};
     ghost use Rattle.object_view.specs.Attributes.{ranges_meant};
     ghost use Rattle.object_view.specs.Opened.{opened_seen};
-    ghost use Rattle.object_view.specs.Ready.{IsOpen, base_at};
+    ghost use Rattle.object_view.specs.Ready.{IsListAttr, IsOpen, base_at};
 
     ghost ready = { λ s. IsOpen (opened_seen s.object.now) s.map.now };
+
+    ghost fits = { λ s a. IsListAttr (bytes_in s.object.now.sections) a };
 
     ghost meant = { λ s unit a. ranges_meant (opened_seen s.object.now) s.map.now (base_at s.bases.now unit) a a.value };
 
@@ -62,13 +65,10 @@ fn ranges_at(
     base: &Addr,
     place: u64,
 ) -> Result<Value, ReadError>
-    requires { IsOpen (opened_seen object.now) map.now }
+    requires open { IsOpen (opened_seen object.now) map.now }
+    requires inside { place < length object.now.sections.ranges.now }
     ensures { Gives (λ v. v) result (Attributes.ranges_at (opened_seen object.now) map.now base.now place) }
 {
-    // Every offset of a range list was tried.
-    if place >= object.sections.ranges.len() as u64 {
-        return Err(ReadError::NoMemory);
-    }
     let spans = read_ranges(
         alloc,
         &object.sections,

@@ -1,7 +1,9 @@
 //! Steps over all attributes of an object, in document order.
 
+ghost use Rattle.std.specs.List.{All};
 ghost use Rattle.ds_base.specs.Reading.{Gives};
 ghost use Rattle.object_view.specs.Attributes.{attrs_by, entry_by, entries_by};
+ghost use Rattle.object_view.specs.Ready.{AllAttrs};
 
 use ds_base::{List, ReadError};
 use dwarf_types::{Attr, Entry};
@@ -18,12 +20,16 @@ pub(crate) trait Step {
     /// What must hold where the step is taken.
     ghost ready: { Self → Type 0 };
 
+    /// What an attribute must keep to.
+    ghost fits: { Self → AnAttr → Type 0 };
+
     /// What the value of an attribute means, by its entry's unit.
     ghost meant: { Self → ℕ → AnAttr → Result Value AFault };
 
     /// Changes the value of an attribute, whose entry is of the unit of this number.
     fn change(&self, alloc: Global, unit: u32, attr: &mut Attr) -> Result<(), ReadError>
-        requires { ready self.now }
+        requires ready { ready self.now }
+        requires fits { fits self.now attr.old }
         ensures { Gives (λ _. attr.new) result (attr_by (meant self.now unit) attr.old) };
 }
 
@@ -33,7 +39,8 @@ pub(crate) fn change_entries<S: Step>(
     step: &S,
     mut entries: List<Entry>,
 ) -> Result<List<Entry>, ReadError>
-    requires { S.ready step.now }
+    requires ready { S.ready step.now }
+    requires fits { AllAttrs (S.fits step.now) entries }
     ensures { Gives (λ entries. entries) result (entries_by (S.meant step.now) entries) }
 {
     change_each(alloc, step, entries.as_mut_slice())?;
@@ -42,7 +49,8 @@ pub(crate) fn change_entries<S: Step>(
 
 /// The same, in place.
 fn change_each<S: Step>(alloc: Global, step: &S, entries: &mut [Entry]) -> Result<(), ReadError>
-    requires { S.ready step.now }
+    requires ready { S.ready step.now }
+    requires fits { AllAttrs (S.fits step.now) entries.old }
     ensures { Gives (λ _. entries.new) result (entries_by (S.meant step.now) entries.old) }
 {
     for entry in entries.iter_mut() {
@@ -53,7 +61,8 @@ fn change_each<S: Step>(alloc: Global, step: &S, entries: &mut [Entry]) -> Resul
 
 /// Takes a step over the attributes of an entry.
 fn change_entry<S: Step>(alloc: Global, step: &S, entry: &mut Entry) -> Result<(), ReadError>
-    requires { S.ready step.now }
+    requires ready { S.ready step.now }
+    requires fits { All (S.fits step.now) entry.old.attrs }
     ensures { Gives (λ _. entry.new) result (entry_by (S.meant step.now entry.old.unit) entry.old) }
 {
     let unit = entry.unit;
@@ -67,7 +76,8 @@ fn change_attrs<S: Step>(
     unit: u32,
     attrs: &mut [Attr],
 ) -> Result<(), ReadError>
-    requires { S.ready step.now }
+    requires ready { S.ready step.now }
+    requires fits { All (S.fits step.now) attrs.old }
     ensures { Gives (λ _. attrs.new) result (attrs_by (S.meant step.now unit) attrs.old) }
 {
     for attr in attrs.iter_mut() {

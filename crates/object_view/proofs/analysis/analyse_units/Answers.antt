@@ -19,3 +19,6 @@ returns c =
     rw (c.as_slice-5.ensures, c.in_ok-types.ensures, c.as_slice.ensures, c.as_slice-6.ensures, c.in_ok-places.ensures, c.as_slice-2.ensures, c.as_slice-7.ensures, c.in_ok-starts.ensures, c.as_slice-3.ensures, c.as_slice-4.ensures)
     refl in
     subst (λ (t : MadeOnce). Gives (λ (a : Analysis). a) c.analyse_entries.result (entries_analysed (opened_seen c.args.object.now) c.args.map.now t c.args.raw.units c.args.raw.entries)) made c.analyse_entries.ensures
+
+pub analyse_entries-requires-clause-rooted : goal.analyse_entries-requires-clause-rooted
+analyse_entries-requires-clause-rooted c = c.requires.rooted

@@ -1,8 +1,8 @@
-use Rattle.std.proofs.Common.{◌<◌, length, arith}
+use Rattle.std.proofs.Common.{◌<◌, length, arith, subst, sym}
 use Rattle.std.proofs.lemmas.Result.{err_from_is_err_and}
 use Rattle.ds_base.proofs.Refusals.{refused_from_gives, refused_gives}
 use Rattle.object_view.specs.Attributes.{attr_by}
-use Rattle.object_view.proofs.EachOf.{changed_none, changed_more, changed_err, changed_all}
+use Rattle.object_view.proofs.EachOf.{changed_none, changed_more, changed_err, changed_all, unchanged}
 use Rattle.object_view.proofs.steps.change_attrs.Goals as goal
 
 pub loop-attr-init : goal.loop-attr-init
@@ -24,3 +24,11 @@ loop-attr-preserved g c =
 
 pub returns : goal.returns
 returns g c = changed_all _ _ _ c.loop-attr.attr-index (omega arith) c.loop-attr.invariant
+
+pub change-requires-clause-fits : goal.change-requires-clause-fits
+change-requires-clause-fits g c =
+    let lt : c.loop-attr.attr-index < length c.loop-attr.attrs = omega arith in
+    let meant = attr_by (g.S.Step.meant c.args.step.now c.args.unit) in
+    let same = unchanged meant c.args.attrs.now c.loop-attr.attrs c.loop-attr.attr-index c.attr-item.result lt c.loop-attr.invariant in
+    let long = c.loop-attr.invariant.long in
+    subst (g.S.Step.fits c.args.step.now) (sym same) (c.requires.fits c.loop-attr.attr-index c.attr-item.result (omega (arith, lt, long)))

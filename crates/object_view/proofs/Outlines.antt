@@ -1,0 +1,318 @@
+-- An analysis has the entries, attributes and references that its object's sections spell.
+use Rattle.std.proofs.Common.{◌≡◌, ℕ, zero, suc, ◌<◌, ◌==◌, Bool, true, false, List, [], ◌∷◌, length, map, get_or, slice_get, Option, Some, None, Result, Ok, refl, sym, ap, subst, ◌∙◌, arith}
+use Rattle.std.specs.Prelude.{IsSome, is_none, if◌then◌else◌}
+use Rattle.std.specs.List.{All}
+use Rattle.std.specs.Option.{option_and_then, option_map}
+use Rattle.std.proofs.lemmas.Bool.{eqb-true}
+use Rattle.std.proofs.lemmas.List.Quantifiers.{position-Some}
+use Rattle.std.proofs.lemmas.Option.{slice_get-map}
+use Rattle.ds_base.specs.declared.dwarf.TheConstants.{DW_AT_stmt_list, DW_FORM_exprloc}
+use Rattle.ds_base.specs.declared.fault.Fault.{Fault}
+use Rattle.ds_base.specs.Reading.{◌>>=◌, or_fault}
+use Rattle.ds_base.proofs.Passing.{bind_ok, found_ok, ok_is}
+use Rattle.dwarf_types.specs.declared.address.Addr.{Addr}
+use Rattle.dwarf_types.specs.declared.analysis.Analysis.{Analysis}
+use Rattle.dwarf_types.specs.declared.entry.Attr.{Attr}
+use Rattle.dwarf_types.specs.declared.entry.Entry.{Entry}
+use Rattle.dwarf_types.specs.declared.entry.InUnit.{InUnit}
+use Rattle.dwarf_types.specs.declared.entry.RawUnits.{RawUnits}
+use Rattle.dwarf_types.specs.declared.lines.RawLines.{RawLines}
+use Rattle.dwarf_types.specs.declared.lists.RawLocation.{RawLocation}
+use Rattle.dwarf_types.specs.declared.lists.RawSpan.{RawSpan}
+use Rattle.dwarf_types.specs.declared.value.Value.{Value}
+use Rattle.dwarf_types.specs.declared.value.Value.TheVariants as values
+use Rattle.dwarf_types.specs.Live.{Stands, target_in}
+use Rattle.addr_map.specs.declared.map.AddrMap.{AddrMap}
+use Rattle.frame_table.specs.Frames.{frames_of}
+use Rattle.line_read.specs.Program.{lines_of}
+use Rattle.loc_lists.specs.Reading.{locations_of}
+use Rattle.range_lists.specs.Reading.{ranges_of}
+use Rattle.moved_parts.specs.Frames.{frames_moved}
+use Rattle.moved_parts.specs.Lines.{lines_moved}
+use Rattle.moved_parts.specs.Spans.{spans_moved}
+use Rattle.expr_resolve.specs.Context.{Context}
+use Rattle.expr_resolve.specs.Expressions.{expression_of}
+use Rattle.unit_tree.specs.declared.meaning.Meaning.{Meaning}
+use Rattle.unit_tree.specs.declared.meaning.Meaning.TheVariants as meanings
+use Rattle.unit_tree.specs.Inside.{AreInside}
+use Rattle.unit_tree.specs.Meaning.{table_of}
+use Rattle.object_view.specs.Analysis.{units_analysed}
+use Rattle.object_view.specs.Attributes.{all_marked, attr_by, attrs_by, dangling, each_of, entries_by, entries_meant, entry_by, info_context, item_meant, item_moved, line_place, lines_marked, lines_value, loc_context, locations_by_role, locations_meant, number_at, ranges_by_role, ranges_meant, unit_base, unit_with_lines, units_meant, value_meant, with_value}
+use Rattle.object_view.specs.Code.{code_of}
+use Rattle.object_view.specs.Opened.{Opened}
+use Rattle.object_view.specs.Ready.{IsReadValue}
+use Rattle.object_view.specs.Spelled.{ByItem, IsAttr, IsEntry, IsUnit, LeadsAs}
+use Rattle.object_view.specs.Units.{places_of, unit_start}
+use Rattle.object_view.proofs.Fitting.{all_read}
+use Rattle.object_view.proofs.Kept.{bare}
+use Rattle.std.specs.List.{flat_map}
+
+-- ---- what is seen of attributes and entries
+
+abbrev Seen : Type 0
+Seen = ℕ × ℕ × Option ℕ
+
+-- an attribute's name, its end, and the entry to which it leads
+abbrev seen : Attr → Seen
+seen a = (a.name, a.end, target_in a.value)
+
+-- the same of one that was read, with the places of all entries
+abbrev led : List ℕ → Attr → Seen
+led places a = (a.name, a.end, option_and_then (number_at places) (target_in a.value))
+
+abbrev Outline : Type 0
+Outline = Entry × List Seen
+
+abbrev outline : Entry → Outline
+outline e = (bare e, map seen e.attrs)
+
+abbrev outline_led : List ℕ → Entry → Outline
+outline_led places e = (bare e, map (led places) e.attrs)
+
+-- ---- steps
+
+each_seen : {X V : Type 0} (view was : X → V) (f : X → Result X Fault) → ((x y : X) → f x ≡ Ok y → view y ≡ was x) → (xs ys : List X) → each_of f xs ≡ Ok ys → map view ys ≡ map was xs
+each_seen view was f keeps [] ys e = ap (map view) (sym (ok_is [] ys e))
+each_seen view was f keeps (x ∷ xs) ys e =
+    let first = bind_ok (f x) (λ here. each_of f xs >>= λ others. Ok (here ∷ others)) ys e in
+    let others = bind_ok (each_of f xs) (λ others. Ok (first.0 ∷ others)) ys first.2 in
+    ap (map view) (sym (ok_is (first.0 ∷ others.0) ys others.2)) ∙ rw (keeps x first.0 first.1, each_seen view was f keeps xs others.0 others.1) refl
+
+-- what a step makes of the targets of values
+abbrev Targets : (Option ℕ → Option ℕ) → (ℕ → Attr → Result Value Fault) → Type 0
+Targets through meant = (unit : ℕ) (a : Attr) (now : Value) → meant unit a ≡ Ok now → target_in now ≡ through (target_in a.value)
+
+module _ (through : Option ℕ → Option ℕ) (meant : ℕ → Attr → Result Value Fault) (targets : Targets through meant) where
+  abbrev was_seen : Attr → Seen
+  was_seen a = (a.name, a.end, through (target_in a.value))
+
+  attr_seen : (unit : ℕ) (a b : Attr) → attr_by (meant unit) a ≡ Ok b → seen b ≡ was_seen a
+  attr_seen unit a b e =
+      let value = bind_ok (meant unit a) (λ value. Ok (with_value a value)) b e in
+      ap seen (sym (ok_is (with_value a value.0) b value.2)) ∙ ap (λ (t : Option ℕ). (a.name, a.end, t)) (targets unit a value.0 value.1)
+
+  entry_seen : (e now : Entry) → entry_by (meant e.unit) e ≡ Ok now → outline now ≡ (bare e, map was_seen e.attrs)
+  entry_seen e now is =
+      let attrs = bind_ok (attrs_by (meant e.unit) e.attrs) (λ attrs. Ok (record e { attrs = attrs })) now is in
+      ap outline (sym (ok_is (record e { attrs = attrs.0 }) now attrs.2))
+      ∙ ap (λ (s : List Seen). (bare e, s)) (each_seen seen was_seen (attr_by (meant e.unit)) (λ x y i. attr_seen e.unit x y i) e.attrs attrs.0 attrs.1)
+
+  entries_seen : (entries now : List Entry) → entries_by meant entries ≡ Ok now → map outline now ≡ map (λ (e : Entry). (bare e, map was_seen e.attrs)) entries
+  entries_seen entries now e = each_seen outline (λ (e : Entry). (bare e, map was_seen e.attrs)) (λ (x : Entry). entry_by (meant x.unit) x) (λ x y i. entry_seen x y i) entries now e
+
+abbrev same : Option ℕ → Option ℕ
+same o = o
+
+-- ---- values
+
+module _ (s : Context) (places : List ℕ) where
+  block_target : (b : Bool) (form : ℕ) (bytes : List ℕ) (first : ℕ) (now : Value) → (if b then (expression_of s bytes first >>= λ ops. Ok (values.Expr ops)) else Ok (values.Block form bytes)) ≡ Ok now → target_in now ≡ None
+  block_target true form bytes first now e =
+      let ops = bind_ok (expression_of s bytes first) (λ ops. Ok (values.Expr ops)) now e in
+      ap target_in (sym (ok_is (values.Expr ops.0) now ops.2))
+  block_target false form bytes first now e = ap target_in (sym (ok_is (values.Block form bytes) now e))
+
+  value_target : (a : Attr) (value now : Value) → value_meant s places a value ≡ Ok now → target_in now ≡ option_and_then (number_at places) (target_in value)
+  value_target a (values.Address place) now e = ap target_in (sym (ok_is _ now e))
+  value_target a (values.Ref place) now e =
+      let k = bind_ok (or_fault (number_at places place) (dangling a)) (λ k. Ok (values.Ref k)) now e in
+      ap target_in (sym (ok_is (values.Ref k.0) now k.2)) ∙ sym (found_ok (number_at places place) (dangling a) k.0 k.1)
+  value_target a (values.Block form bytes) now e = block_target (form == DW_FORM_exprloc) form bytes _ now e
+  value_target a (values.Text text) now e = ap target_in (sym (ok_is (values.Text text) now e))
+  value_target a (values.Number form bits) now e = ap target_in (sym (ok_is (values.Number form bits) now e))
+  value_target a (values.Wide bytes) now e = ap target_in (sym (ok_is (values.Wide bytes) now e))
+  value_target a (values.Expr ops) now e = ap target_in (sym (ok_is (values.Expr ops) now e))
+  value_target a (values.Ranges spans) now e = ap target_in (sym (ok_is (values.Ranges spans) now e))
+  value_target a (values.Locations items) now e = ap target_in (sym (ok_is (values.Locations items) now e))
+  value_target a values.Lines now e = ap target_in (sym (ok_is values.Lines now e))
+  value_target a (values.Offset n) now e = ap target_in (sym (ok_is (values.Offset n) now e))
+
+lines_target : (value : Value) → target_in (lines_value value) ≡ target_in value
+lines_target (values.Offset n) = refl
+lines_target value = refl
+
+module _ (o : Opened) (m : AddrMap) (base : Addr) where
+  range_role_target : (role : Meaning) (place : ℕ) (now : Value) → ranges_by_role o m base role place ≡ Ok now → target_in now ≡ None
+  range_role_target meanings.RangeList place now e =
+      let spans = bind_ok (ranges_of o.sections o.relocs.ranges o.image place base) (λ (spans : List RawSpan). Ok (values.Ranges (spans_moved m spans))) now e in
+      ap target_in (sym (ok_is (values.Ranges (spans_moved m spans.0)) now spans.2))
+  range_role_target role place now e = ap target_in (sym (ok_is (values.Offset place) now e))
+
+  range_target : (a : Attr) (value now : Value) → ranges_meant o m base a value ≡ Ok now → target_in now ≡ target_in value
+  range_target a (values.Offset place) now e = range_role_target (table_of a.name) place now e
+  range_target a value now e = ap target_in (sym (ok_is value now e))
+
+module _ (o : Opened) (s : Context) (base : Addr) where
+  location_role_target : (role : Meaning) (place : ℕ) (now : Value) → locations_by_role o s base role place ≡ Ok now → target_in now ≡ None
+  location_role_target meanings.LocationList place now e =
+      let items = bind_ok (locations_of o.sections o.relocs.loc o.image place base) (λ (items : List RawLocation). each_of (item_meant s) items >>= λ meant. Ok (values.Locations (flat_map (item_moved s.map) meant))) now e in
+      let meant = bind_ok (each_of (item_meant s) items.0) (λ meant. Ok (values.Locations (flat_map (item_moved s.map) meant))) now items.2 in
+      ap target_in (sym (ok_is (values.Locations (flat_map (item_moved s.map) meant.0)) now meant.2))
+  location_role_target role place now e = ap target_in (sym (ok_is (values.Offset place) now e))
+
+  location_target : (a : Attr) (value now : Value) → locations_meant o s base a value ≡ Ok now → target_in now ≡ target_in value
+  location_target a (values.Offset place) now e = location_role_target (table_of a.name) place now e
+  location_target a value now e = ap target_in (sym (ok_is value now e))
+
+-- ---- line tables
+
+first_seen : (b : Bool) (a : Attr) (attrs others : List Attr) → map seen others ≡ map seen attrs → map seen (if b then with_value a (lines_value a.value) ∷ attrs else a ∷ others) ≡ seen a ∷ map seen attrs
+first_seen true a attrs others e = ap (λ (t : Option ℕ). (a.name, a.end, t) ∷ map seen attrs) (lines_target a.value)
+first_seen false a attrs others e = ap (λ (s : List Seen). seen a ∷ s) e
+
+marked_seen : (attrs : List Attr) → map seen (lines_marked attrs) ≡ map seen attrs
+marked_seen [] = refl
+marked_seen (a ∷ attrs) = first_seen (a.name == DW_AT_stmt_list) a attrs (lines_marked attrs) (marked_seen attrs)
+
+entry_marked_seen : (b : Bool) (e : Entry) → outline (if b then record e { attrs = lines_marked e.attrs } else e) ≡ outline e
+entry_marked_seen true e = ap (λ (s : List Seen). (bare e, s)) (marked_seen e.attrs)
+entry_marked_seen false e = refl
+
+all_marked_seen : (entries : List Entry) → map outline (all_marked entries) ≡ map outline entries
+all_marked_seen [] = refl
+all_marked_seen (e ∷ entries) = rw (entry_marked_seen (is_none e.parent) e, all_marked_seen entries) refl
+
+-- ---- units
+
+abbrev UnitSeen : Type 0
+UnitSeen = (ℕ × ℕ) × (ℕ × ℕ)
+
+abbrev unit_seen : InUnit → UnitSeen
+unit_seen u = ((u.first, u.count), (u.version, u.language))
+
+lines_seen : (o : Opened) (m : AddrMap) (u now : InUnit) (place : Option ℕ) → unit_with_lines o m u place ≡ Ok now → unit_seen now ≡ unit_seen u
+lines_seen o m u now None e = ap unit_seen (sym (ok_is u now e))
+lines_seen o m u now (Some place) e =
+    let lines = bind_ok (lines_of o.image o.relocs.line o.sections.line place) (λ (lines : RawLines). Ok (record u { lines = Some (lines_moved m lines) })) now e in
+    ap unit_seen (sym (ok_is (record u { lines = Some (lines_moved m lines.0) }) now lines.2))
+
+units_seen : (o : Opened) (m : AddrMap) (entries : List Entry) (units now : List InUnit) → units_meant o m entries units ≡ Ok now → map unit_seen now ≡ map unit_seen units
+units_seen o m entries units now e =
+    each_seen unit_seen unit_seen (λ (u : InUnit). unit_with_lines o m u (option_and_then line_place (slice_get entries u.first))) (λ x y i. lines_seen o m x y (option_and_then line_place (slice_get entries x.first)) i) units now e
+
+-- ---- item by item
+
+by_item : {X Y V : Type 0} (P : Y → Type 0) (Alike : Y → X → Type 0) (view : X → V) (was : Y → V) → ((y : Y) (x : X) → P y → view x ≡ was y → Alike y x) → (xs : List X) (ys : List Y) → All P ys → map view xs ≡ map was ys → ByItem Alike ys xs
+by_item P Alike view was alike [] [] h e = tt
+by_item P Alike view was alike [] (y ∷ ys) h e = absurd cc
+by_item P Alike view was alike (x ∷ xs) [] h e = absurd cc
+by_item P Alike view was alike (x ∷ xs) (y ∷ ys) h e =
+    let heads : view x ≡ was y = cc in
+    let tails : map view xs ≡ map was ys = cc in
+    (alike y x (h 0 y (omega arith)) heads, by_item P Alike view was alike xs ys (λ k d lt. h (suc k) d (omega arith)) tails)
+
+ref_of : (value : Value) (k : ℕ) → target_in value ≡ Some k → value ≡ values.Ref k
+ref_of (values.Ref j) k e = let number : j ≡ k = cc in ap (λ (n : ℕ). values.Ref n) number
+ref_of value k e = absurd cc
+
+some_of : (o : Option ℕ) → IsSome o → (k : ℕ) × (o ≡ Some k)
+some_of None h = absurd cc
+some_of (Some k) h = (k, refl)
+
+mapped_some : {X V : Type 0} (f : X → V) (o : Option X) (v : V) → option_map f o ≡ Some v → (x : X) × (o ≡ Some x) × (f x ≡ v)
+mapped_some f None v e = absurd cc
+mapped_some f (Some x) v e = (x, refl, cc)
+
+got : {X : Type 0} (xs : List X) (k : ℕ) (d : X) → k < length xs → slice_get xs k ≡ Some (get_or xs k d)
+got [] k d lt = absurd (omega (arith, lt))
+got (x ∷ xs) zero d lt = refl
+got (x ∷ xs) (suc k) d lt = got xs k d (omega (arith, lt))
+
+module _ (places : List ℕ) (all : List Entry) (are : places_of all ≡ places) where
+  -- the entry that stands at a place
+  target_there : (place k : ℕ) → number_at places place ≡ Some k → (target : Entry) × Stands all k target × (target.place ≡ place)
+  target_there place k e =
+      let found = position-Some (λ (p : ℕ). p == place) places k 0 e in
+      let number : get_or places k 0 ≡ place = eqb-true (get_or places k 0) place found.1 in
+      let there : slice_get places k ≡ Some (get_or places k 0) = got places k 0 found.0 in
+      let mapped : option_map (λ (x : Entry). x.place) (slice_get all k) ≡ Some place = sym (slice_get-map (λ (x : Entry). x.place) all k) ∙ ap (λ (ps : List ℕ). slice_get ps k) are ∙ there ∙ ap Some number in
+      let target = mapped_some (λ (x : Entry). x.place) (slice_get all k) place mapped in
+      (target.0, target.1, target.2)
+
+  value_leads : (end : ℕ) (spelled now : Value) → IsReadValue places end spelled → target_in now ≡ option_and_then (number_at places) (target_in spelled) → LeadsAs all spelled now
+  value_leads end (values.Ref place) now h e =
+      let k = some_of (number_at places place) h in
+      let target = target_there place k.0 k.1 in
+      (k.0, target.0, ref_of now k.0 (e ∙ k.1), target.1, target.2)
+  value_leads end (values.Address place) now h e = e
+  value_leads end (values.Block form bytes) now h e = e
+  value_leads end (values.Text text) now h e = e
+  value_leads end (values.Number form bits) now h e = e
+  value_leads end (values.Wide bytes) now h e = e
+  value_leads end (values.Expr ops) now h e = e
+  value_leads end (values.Ranges spans) now h e = e
+  value_leads end (values.Locations items) now h e = e
+  value_leads end values.Lines now h e = e
+  value_leads end (values.Offset n) now h e = e
+
+  attr_is : (spelled now : Attr) → IsReadValue places spelled.end spelled.value → seen now ≡ led places spelled → IsAttr all spelled now
+  attr_is spelled now h e = record {
+    name = ap (λ (s : Seen). s.0) e;
+    end = ap (λ (s : Seen). s.1) e;
+    leads = value_leads spelled.end spelled.value now.value h (ap (λ (s : Seen). s.2) e);
+  }
+
+  entry_is : (spelled now : Entry) → All (λ (a : Attr). IsReadValue places a.end a.value) spelled.attrs → outline now ≡ outline_led places spelled → IsEntry all spelled now
+  entry_is spelled now h e =
+      let bare_is : bare now ≡ bare spelled = ap (λ (o : Outline). o.0) e in
+      record {
+        parent = ap (λ (x : Entry). x.parent) bare_is;
+        unit = ap (λ (x : Entry). x.unit) bare_is;
+        place = ap (λ (x : Entry). x.place) bare_is;
+        tag = ap (λ (x : Entry). x.tag) bare_is;
+        attrs = by_item (λ (a : Attr). IsReadValue places a.end a.value) (IsAttr all) seen (led places) (λ y x r i. attr_is y x r i) now.attrs spelled.attrs h (ap (λ (o : Outline). o.1) e);
+      }
+
+unit_is : (spelled now : InUnit) → unit_seen now ≡ unit_seen spelled → IsUnit spelled now
+unit_is spelled now e = record {
+  first = ap (λ (s : UnitSeen). s.0.0) e;
+  count = ap (λ (s : UnitSeen). s.0.1) e;
+  version = ap (λ (s : UnitSeen). s.1.0) e;
+  language = ap (λ (s : UnitSeen). s.1.1) e;
+}
+
+-- ---- the analysis
+
+outline_places : (now : List Entry) → places_of now ≡ map (λ (o : Outline). o.0.place) (map outline now)
+outline_places [] = refl
+outline_places (e ∷ now) = ap (λ (ps : List ℕ). e.place ∷ ps) (outline_places now)
+
+led_places : (places : List ℕ) (old : List Entry) → places_of old ≡ map (λ (o : Outline). o.0.place) (map (outline_led places) old)
+led_places places [] = refl
+led_places places (e ∷ old) = ap (λ (ps : List ℕ). e.place ∷ ps) (led_places places old)
+
+places_from : (places : List ℕ) (now old : List Entry) → map outline now ≡ map (outline_led places) old → places_of now ≡ places_of old
+places_from places now old e = outline_places now ∙ ap (map (λ (o : Outline). o.0.place)) e ∙ sym (led_places places old)
+
+-- what was read, and what it is in an analysis
+pub record IsOfRaw (raw : RawUnits) (a : Analysis) : Type 0 where
+  pub units : ByItem IsUnit raw.units a.units
+  pub entries : ByItem (IsEntry a.entries) raw.entries a.entries
+
+pub analysis_of_raw : (o : Opened) (m : AddrMap) (raw : RawUnits) (a : Analysis) → AreInside o.sections raw.entries → units_analysed o m raw ≡ Ok a → IsOfRaw raw a
+unfolding units_analysed
+analysis_of_raw o m raw a inside e =
+    let places : List ℕ = places_of raw.entries in
+    let last : List InUnit → List Entry → Result Analysis Fault = λ units entries. (frames_of o.image o.relocs.frame o.sections.frame >>= λ frames. Ok (record { units = units; entries = entries; code = code_of m entries; frames = frames_moved m frames })) in
+    let locate : List Entry → List Entry → Result (List Entry) Fault = λ meant ranged. entries_by (λ unit x. locations_meant o (loc_context o m meant unit (unit_start raw.units meant unit)) (unit_base raw.units meant unit) x x.value) ranged in
+    let range : List Entry → Result (List Entry) Fault = λ meant. entries_by (λ unit x. ranges_meant o m (unit_base raw.units meant unit) x x.value) (all_marked meant) in
+    let meant = bind_ok (entries_meant o m raw.units raw.entries) (λ meant. units_meant o m meant raw.units >>= λ units. range meant >>= λ ranged. locate meant ranged >>= λ entries. last units entries) a e in
+    let units = bind_ok (units_meant o m meant.0 raw.units) (λ units. range meant.0 >>= λ ranged. locate meant.0 ranged >>= λ entries. last units entries) a meant.2 in
+    let ranged = bind_ok (range meant.0) (λ ranged. locate meant.0 ranged >>= λ entries. last units.0 entries) a units.2 in
+    let entries = bind_ok (locate meant.0 ranged.0) (λ entries. last units.0 entries) a ranged.2 in
+    let frames = bind_ok (frames_of o.image o.relocs.frame o.sections.frame) (λ frames. Ok (record { units = units.0; entries = entries.0; code = code_of m entries.0; frames = frames_moved m frames })) a entries.2 in
+    let done : Analysis = record { units = units.0; entries = entries.0; code = code_of m entries.0; frames = frames_moved m frames.0 } in
+    let seen_meant : map outline meant.0 ≡ map (outline_led places) raw.entries =
+    entries_seen (option_and_then (number_at places)) (λ unit x. value_meant (info_context o m raw.entries unit (unit_start raw.units raw.entries unit)) places x x.value)
+    (λ unit x now i. value_target (info_context o m raw.entries unit (unit_start raw.units raw.entries unit)) places x x.value now i) raw.entries meant.0 meant.1 in
+    let seen_ranged : map outline ranged.0 ≡ map outline (all_marked meant.0) =
+    entries_seen same (λ unit x. ranges_meant o m (unit_base raw.units meant.0 unit) x x.value) (λ unit x now i. range_target o m (unit_base raw.units meant.0 unit) x x.value now i) (all_marked meant.0) ranged.0 ranged.1 in
+    let seen_located : map outline entries.0 ≡ map outline ranged.0 =
+    entries_seen same (λ unit x. locations_meant o (loc_context o m meant.0 unit (unit_start raw.units meant.0 unit)) (unit_base raw.units meant.0 unit) x x.value)
+    (λ unit x now i. location_target o (loc_context o m meant.0 unit (unit_start raw.units meant.0 unit)) (unit_base raw.units meant.0 unit) x x.value now i) ranged.0 entries.0 entries.1 in
+    let whole : map outline entries.0 ≡ map (outline_led places) raw.entries = seen_located ∙ seen_ranged ∙ all_marked_seen meant.0 ∙ seen_meant in
+    let are : places_of entries.0 ≡ places = places_from places entries.0 raw.entries whole in
+    let u : ByItem IsUnit raw.units units.0 = by_item (λ (x : InUnit). Unit {0}) IsUnit unit_seen unit_seen (λ y x t i. unit_is y x i) units.0 raw.units (λ k d lt. tt) (units_seen o m meant.0 raw.units units.0 units.1) in
+    let es : ByItem (IsEntry entries.0) raw.entries entries.0 =
+    by_item (λ (x : Entry). All (λ (b : Attr). IsReadValue places b.end b.value) x.attrs) (IsEntry entries.0) outline (outline_led places) (λ y x r i. entry_is places entries.0 are y x r i) entries.0 raw.entries (all_read o.sections raw.entries inside) whole in
+    subst (IsOfRaw raw) (ok_is done a frames.2) (record { units = u; entries = es })

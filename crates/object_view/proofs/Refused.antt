@@ -1,0 +1,262 @@
+-- Of which kinds the faults of an object are: those of the readers of its parts.
+use Rattle.std.proofs.Common.{◌≡◌, ℕ, ◌-◌, ◌==◌, Bool, not, List, [], ◌∷◌, ◌++◌, length, Option, Some, None, Result, Ok, Err, refl, arith}
+use Rattle.std.specs.Prelude.{nat_lt, slice_get, if◌then◌else◌}
+use Rattle.std.specs.List.{Contains}
+use Rattle.std.specs.Option.{option_and_then}
+use Rattle.std.proofs.lemmas.List.Elements.{All-contains, All-from_recursion, Contains-append_left}
+use Rattle.ds_base.specs.declared.dwarf.TheConstants.{DW_FORM_exprloc}
+use Rattle.ds_base.specs.declared.fault.Fault.{Fault}
+use Rattle.ds_base.specs.declared.fault.Kind.{Kind}
+use Rattle.ds_base.specs.declared.fault.Kind.TheVariants as kinds
+use Rattle.ds_base.specs.declared.fault.Part.{Part}
+use Rattle.ds_base.specs.declared.fault.Part.TheVariants as parts
+use Rattle.ds_base.specs.Reading.{◌>>=◌, or_fault, refuse_if}
+use Rattle.ds_base.proofs.FaultKinds.{FaultsAre, ok_kinds, bind_kinds, refuse_kinds, either_kinds, found_kinds}
+use Rattle.dwarf_types.specs.declared.address.Addr.{Addr}
+use Rattle.dwarf_types.specs.declared.entry.Attr.{Attr}
+use Rattle.dwarf_types.specs.declared.entry.Entry.{Entry}
+use Rattle.dwarf_types.specs.declared.entry.InUnit.{InUnit}
+use Rattle.dwarf_types.specs.declared.entry.RawUnits.{RawUnits}
+use Rattle.dwarf_types.specs.declared.lists.RawLocation.{RawLocation}
+use Rattle.dwarf_types.specs.declared.value.Value.{Value}
+use Rattle.dwarf_types.specs.declared.value.Value.TheVariants as values
+use Rattle.dwarf_types.specs.SectionBytes.{SectionBytes}
+use Rattle.macho_read.specs.declared.image.Image.{Image}
+use Rattle.macho_read.specs.declared.image.Section.{Section}
+use Rattle.macho_read.specs.declared.kind.Role.TheVariants as roles
+use Rattle.macho_read.specs.Debug.{section_in}
+use Rattle.macho_read.specs.Header.{header_fault}
+use Rattle.macho_read.specs.Image.{image_of}
+use Rattle.macho_read.specs.Kind.{is_wrong_cpu, is_wrong_type, kind_of}
+use Rattle.stab_map.specs.declared.object.MapObject.{MapObject}
+use Rattle.reloc_table.specs.declared.relocation.Relocs.{Relocs}
+use Rattle.reloc_table.specs.Table.{relocs_of}
+use Rattle.addr_map.specs.declared.map.AddrMap.{AddrMap}
+use Rattle.addr_map.specs.Ranges.{map_of}
+use Rattle.expr_walk.specs.Length.{ops_len}
+use Rattle.line_read.specs.Program.{lines_of}
+use Rattle.frame_table.specs.Frames.{frames_of}
+use Rattle.range_lists.specs.Reading.{ranges_of}
+use Rattle.loc_lists.specs.Reading.{locations_of}
+use Rattle.expr_resolve.specs.Context.{Context}
+use Rattle.expr_resolve.specs.Expressions.{expression_of}
+use Rattle.unit_tree.specs.declared.meaning.Meaning.{Meaning}
+use Rattle.unit_tree.specs.declared.meaning.Meaning.TheVariants as meanings
+use Rattle.unit_tree.specs.Meaning.{table_of}
+use Rattle.unit_tree.specs.Unit.{units_of}
+use Rattle.object_view.specs.declared.locations.TheConstants.{EXPRESSION_LIMIT}
+use Rattle.object_view.specs.Analysis.{analysis_of, units_analysed}
+use Rattle.object_view.specs.Attributes.{all_marked, attr_by, attrs_by, dangling, each_of, entries_by, entries_meant, entry_by, info_context, item_meant, line_place, loc_context, locations_at, locations_by_role, locations_meant, number_at, ranges_at, ranges_by_role, ranges_meant, unit_base, unit_with_lines, units_meant, value_meant}
+use Rattle.object_view.specs.Faults.{object_kinds}
+use Rattle.object_view.specs.Opened.{Opened, opened_of, part_relocs, relocs_among, relocs_in}
+use Rattle.object_view.specs.Parts.{all_tried, is_tried, section_of, section_tried}
+use Rattle.object_view.specs.Units.{places_of, unit_start}
+
+abbrev IsOne : Kind → Type 0
+IsOne = Contains object_kinds
+
+-- what the laws of the readers of an object's parts say
+pub record Laws : Type 0 where
+  pub image : (bytes : List ℕ) (f : Fault) → image_of bytes ≡ Err f → Contains (kinds.Truncated ∷ kinds.NotMachO ∷ kinds.WrongCpu ∷ kinds.BadCommand ∷ kinds.BadSymbols ∷ []) f.kind
+  pub section : (bytes : List ℕ) (section : Section) (index : ℕ) (f : Fault) → section_in bytes section index ≡ Err f → Contains (kinds.CompressedSection ∷ kinds.BadSection ∷ []) f.kind
+  pub relocs : (bytes : List ℕ) (image : Image) (section : Section) (f : Fault) → relocs_of bytes image section ≡ Err f → Contains (kinds.Truncated ∷ kinds.RelocKind ∷ kinds.RelocPlace ∷ kinds.RelocSymbol ∷ kinds.RelocOverlap ∷ []) f.kind
+  pub units : (sections : SectionBytes) (f : Fault) → units_of sections ≡ Err f → Contains (
+      kinds.Truncated ∷ kinds.LebTooWide ∷ kinds.UnknownForm ∷ kinds.FormOutsideProfile ∷ kinds.BadOffset ∷ kinds.BadAbbrev ∷ kinds.DuplicateCode ∷ kinds.LimitAttributes
+      ∷ kinds.UnsupportedVersion ∷ kinds.BadUnit ∷ kinds.SplitUnit ∷ kinds.UnknownCode ∷ kinds.UnclosedSiblings ∷ kinds.LimitDepth ∷ kinds.LimitEntries ∷ kinds.BadReference ∷ []
+      ) f.kind
+  pub expression : (s : Context) (bytes : List ℕ) (first : ℕ) (f : Fault) → expression_of s bytes first ≡ Err f → Contains (kinds.Truncated ∷ kinds.LebTooWide ∷ kinds.UnknownOp ∷ kinds.OpOutsideProfile ∷ kinds.BadOperandType ∷ kinds.BranchOverRewrite ∷ []) f.kind
+  pub lines : (image : Image) (relocs : Relocs) (bytes : List ℕ) (offset : ℕ) (f : Fault) → lines_of image relocs bytes offset ≡ Err f
+      → Contains (kinds.Truncated ∷ kinds.LebTooWide ∷ kinds.LineVersion ∷ kinds.BadLineHeader ∷ kinds.VliwLine ∷ kinds.BadLineOp ∷ kinds.LineBackwards ∷ []) f.kind
+  pub ranges : (sections : SectionBytes) (relocs : Relocs) (image : Image) (offset : ℕ) (base : Addr) (f : Fault) → ranges_of sections relocs image offset base ≡ Err f → Contains (kinds.Truncated ∷ kinds.BadList ∷ []) f.kind
+  pub locations : (sections : SectionBytes) (relocs : Relocs) (image : Image) (offset : ℕ) (base : Addr) (f : Fault) → locations_of sections relocs image offset base ≡ Err f → Contains (kinds.Truncated ∷ kinds.BadList ∷ []) f.kind
+  pub frames : (image : Image) (relocs : Relocs) (bytes : List ℕ) (f : Fault) → frames_of image relocs bytes ≡ Err f → Contains (kinds.Truncated ∷ kinds.BadFrame ∷ []) f.kind
+
+cut : IsOne kinds.Truncated
+cut = (0, omega arith, refl)
+
+wide : IsOne kinds.LebTooWide
+wide = (1, omega arith, refl)
+
+-- ---- lists of items
+
+each_kinds : {A B : Type 0} (meant : A → Result B Fault) → ((x : A) → FaultsAre IsOne (meant x)) → (xs : List A) → FaultsAre IsOne (each_of meant xs)
+each_kinds meant h [] = ok_kinds IsOne _
+each_kinds meant h (x ∷ xs) = bind_kinds IsOne (meant x) _ (h x) (λ here. bind_kinds IsOne (each_of meant xs) _ (each_kinds meant h xs) (λ others. ok_kinds IsOne _))
+
+attr_kinds : (meant : Attr → Result Value Fault) → ((a : Attr) → FaultsAre IsOne (meant a)) → (a : Attr) → FaultsAre IsOne (attr_by meant a)
+attr_kinds meant h a = bind_kinds IsOne (meant a) _ (h a) (λ value. ok_kinds IsOne _)
+
+entry_kinds : (meant : Attr → Result Value Fault) → ((a : Attr) → FaultsAre IsOne (meant a)) → (e : Entry) → FaultsAre IsOne (entry_by meant e)
+entry_kinds meant h e = bind_kinds IsOne (attrs_by meant e.attrs) _ (each_kinds (attr_by meant) (attr_kinds meant h) e.attrs) (λ attrs. ok_kinds IsOne _)
+
+entries_kinds : (meant : ℕ → Attr → Result Value Fault) → ((unit : ℕ) (a : Attr) → FaultsAre IsOne (meant unit a)) → (entries : List Entry) → FaultsAre IsOne (entries_by meant entries)
+entries_kinds meant h entries = each_kinds (λ (e : Entry). entry_by (meant e.unit) e) (λ e. entry_kinds (meant e.unit) (h e.unit) e) entries
+
+module _ (laws : Laws) where
+  -- ---- the object
+
+  image_kinds : (bytes : List ℕ) → FaultsAre IsOne (image_of bytes)
+  image_kinds bytes f e =
+      let some : List Kind = kinds.Truncated ∷ kinds.NotMachO ∷ kinds.WrongCpu ∷ kinds.BadCommand ∷ kinds.BadSymbols ∷ [] in
+      All-contains IsOne some f.kind (All-from_recursion IsOne some (cut, ((21, omega arith, refl), ((22, omega arith, refl), ((23, omega arith, refl), ((24, omega arith, refl), tt)))))) (laws.image bytes f e)
+
+  role_kinds : (image : Image) (cpu : ℕ) → FaultsAre IsOne (kind_of image (roles.Object cpu))
+  role_kinds image cpu =
+      bind_kinds IsOne (refuse_if (is_wrong_cpu (roles.Object cpu) image.cpu) (header_fault kinds.WrongCpu 4)) _ (refuse_kinds IsOne (is_wrong_cpu (roles.Object cpu) image.cpu) (header_fault kinds.WrongCpu 4) (22, omega arith, refl)) (λ u.
+      bind_kinds IsOne (refuse_if (is_wrong_type (roles.Object cpu) image.filetype) (header_fault kinds.BadFileType 12)) _ (refuse_kinds IsOne (is_wrong_type (roles.Object cpu) image.filetype) (header_fault kinds.BadFileType 12) (25, omega arith, refl)) (λ v. ok_kinds IsOne _))
+
+  one_section_kinds : (bytes : List ℕ) (section : Section) (index : ℕ) → FaultsAre IsOne (section_in bytes section index)
+  one_section_kinds bytes section index f e =
+      let some : List Kind = kinds.CompressedSection ∷ kinds.BadSection ∷ [] in
+      All-contains IsOne some f.kind (All-from_recursion IsOne some ((26, omega arith, refl), ((27, omega arith, refl), tt))) (laws.section bytes section index f e)
+
+  section_kinds : (bytes : List ℕ) (before : List Section) (section : Section) → FaultsAre IsOne (section_tried bytes before section)
+  section_kinds bytes before section =
+      either_kinds IsOne (is_tried before section) _ (Ok tt) (bind_kinds IsOne (section_in bytes section (length before)) _ (one_section_kinds bytes section (length before)) (λ content. ok_kinds IsOne _)) (ok_kinds IsOne tt)
+
+  sections_kinds : (bytes : List ℕ) (before sections : List Section) → FaultsAre IsOne (all_tried bytes before sections)
+  sections_kinds bytes before [] = ok_kinds IsOne tt
+  sections_kinds bytes before (section ∷ others) = bind_kinds IsOne (section_tried bytes before section) _ (section_kinds bytes before section) (λ ok. sections_kinds bytes (before ++ section ∷ []) others)
+
+  one_relocs_kinds : (bytes : List ℕ) (image : Image) (section : Section) → FaultsAre IsOne (relocs_of bytes image section)
+  one_relocs_kinds bytes image section f e =
+      let some : List Kind = kinds.Truncated ∷ kinds.RelocKind ∷ kinds.RelocPlace ∷ kinds.RelocSymbol ∷ kinds.RelocOverlap ∷ [] in
+      All-contains IsOne some f.kind (All-from_recursion IsOne some (cut, ((28, omega arith, refl), ((29, omega arith, refl), ((30, omega arith, refl), ((31, omega arith, refl), tt)))))) (laws.relocs bytes image section f e)
+
+  among_kinds : (bytes : List ℕ) (image : Image) (section : Option Section) → FaultsAre IsOne (relocs_among bytes image section)
+  among_kinds bytes image None = ok_kinds IsOne _
+  among_kinds bytes image (Some section) = one_relocs_kinds bytes image section
+
+  part_kinds : {B : Type 0} (bytes : List ℕ) (image : Image) (part : Part) (f : Relocs → Result B Fault) → ((x : Relocs) → FaultsAre IsOne (f x)) → FaultsAre IsOne (part_relocs bytes image part >>= f)
+  part_kinds bytes image part f h = bind_kinds IsOne (part_relocs bytes image part) f (among_kinds bytes image (section_of image.sections part)) h
+
+  relocs_kinds : (bytes : List ℕ) (image : Image) → FaultsAre IsOne (relocs_in bytes image)
+  unfolding relocs_in
+  relocs_kinds bytes image =
+      part_kinds bytes image parts.Info _ (λ info. part_kinds bytes image parts.Abbrev _ (λ a. part_kinds bytes image parts.Str _ (λ s. part_kinds bytes image parts.StrOffs _ (λ o.
+      part_kinds bytes image parts.Addr _ (λ addr. part_kinds bytes image parts.Line _ (λ line. part_kinds bytes image parts.LineStr _ (λ l. part_kinds bytes image parts.Ranges _ (λ ranges.
+      part_kinds bytes image parts.Rnglists _ (λ rnglists. part_kinds bytes image parts.Loc _ (λ loc. part_kinds bytes image parts.Loclists _ (λ loclists. part_kinds bytes image parts.Aranges _ (λ r.
+      part_kinds bytes image parts.Frame _ (λ frame. ok_kinds IsOne _)))))))))))))
+
+  opened_kinds : (bytes : List ℕ) (cpu : ℕ) → FaultsAre IsOne (opened_of bytes cpu)
+  unfolding opened_of
+  opened_kinds bytes cpu =
+      bind_kinds IsOne (image_of bytes) _ (image_kinds bytes) (λ image.
+      bind_kinds IsOne (kind_of image (roles.Object cpu)) _ (role_kinds image cpu) (λ u.
+      bind_kinds IsOne (all_tried bytes [] image.sections) _ (sections_kinds bytes [] image.sections) (λ v.
+      bind_kinds IsOne (relocs_in bytes image) _ (relocs_kinds bytes image) (λ relocs. ok_kinds IsOne _))))
+
+  -- ---- its units
+
+  units_kinds : (sections : SectionBytes) → FaultsAre IsOne (units_of sections)
+  units_kinds sections f e =
+      let some : List Kind = kinds.Truncated ∷ kinds.LebTooWide ∷ kinds.UnknownForm ∷ kinds.FormOutsideProfile ∷ kinds.BadOffset ∷ kinds.BadAbbrev ∷ kinds.DuplicateCode ∷ kinds.LimitAttributes
+      ∷ kinds.UnsupportedVersion ∷ kinds.BadUnit ∷ kinds.SplitUnit ∷ kinds.UnknownCode ∷ kinds.UnclosedSiblings ∷ kinds.LimitDepth ∷ kinds.LimitEntries ∷ kinds.BadReference ∷ [] in
+      let others : List Kind = kinds.UnknownOp ∷ kinds.OpOutsideProfile ∷ kinds.BadOperandType ∷ kinds.BranchOverRewrite ∷ kinds.LongExpression
+      ∷ kinds.NotMachO ∷ kinds.WrongCpu ∷ kinds.BadCommand ∷ kinds.BadSymbols ∷ kinds.BadFileType ∷ kinds.CompressedSection ∷ kinds.BadSection
+      ∷ kinds.RelocKind ∷ kinds.RelocPlace ∷ kinds.RelocSymbol ∷ kinds.RelocOverlap
+      ∷ kinds.LineVersion ∷ kinds.BadLineHeader ∷ kinds.VliwLine ∷ kinds.BadLineOp ∷ kinds.LineBackwards ∷ kinds.BadList ∷ kinds.BadFrame ∷ [] in
+      Contains-append_left some others f.kind (laws.units sections f e)
+
+  -- ---- expressions, and attributes of `__debug_info`
+
+  expression_kinds : (s : Context) (bytes : List ℕ) (first : ℕ) → FaultsAre IsOne (expression_of s bytes first)
+  expression_kinds s bytes first f e =
+      let some : List Kind = kinds.Truncated ∷ kinds.LebTooWide ∷ kinds.UnknownOp ∷ kinds.OpOutsideProfile ∷ kinds.BadOperandType ∷ kinds.BranchOverRewrite ∷ [] in
+      All-contains IsOne some f.kind (All-from_recursion IsOne some (cut, (wide, ((16, omega arith, refl), ((17, omega arith, refl), ((18, omega arith, refl), ((19, omega arith, refl), tt))))))) (laws.expression s bytes first f e)
+
+  block_kinds : (s : Context) (b : Bool) (form : ℕ) (bytes : List ℕ) (first : ℕ) → FaultsAre IsOne (if b then (expression_of s bytes first >>= λ ops. Ok (values.Expr ops)) else Ok (values.Block form bytes))
+  block_kinds s b form bytes first = either_kinds IsOne b _ (Ok (values.Block form bytes)) (bind_kinds IsOne (expression_of s bytes first) _ (expression_kinds s bytes first) (λ ops. ok_kinds IsOne _)) (ok_kinds IsOne _)
+
+  value_kinds : (s : Context) (places : List ℕ) (a : Attr) (value : Value) → FaultsAre IsOne (value_meant s places a value)
+  value_kinds s places a (values.Address place) = ok_kinds IsOne _
+  value_kinds s places a (values.Ref place) =
+      bind_kinds IsOne (or_fault (number_at places place) (dangling a)) _ (found_kinds IsOne (number_at places place) (dangling a) (15, omega arith, refl)) (λ k. ok_kinds IsOne _)
+  value_kinds s places a (values.Block form bytes) = block_kinds s (form == DW_FORM_exprloc) form bytes (a.end - length bytes)
+  value_kinds s places a (values.Text text) = ok_kinds IsOne _
+  value_kinds s places a (values.Number form bits) = ok_kinds IsOne _
+  value_kinds s places a (values.Wide bytes) = ok_kinds IsOne _
+  value_kinds s places a (values.Expr ops) = ok_kinds IsOne _
+  value_kinds s places a (values.Ranges spans) = ok_kinds IsOne _
+  value_kinds s places a (values.Locations items) = ok_kinds IsOne _
+  value_kinds s places a values.Lines = ok_kinds IsOne _
+  value_kinds s places a (values.Offset n) = ok_kinds IsOne _
+
+  -- ---- line tables
+
+  lines_kinds : (o : Opened) (map : AddrMap) (unit : InUnit) (place : Option ℕ) → FaultsAre IsOne (unit_with_lines o map unit place)
+  lines_kinds o map unit None = ok_kinds IsOne _
+  lines_kinds o map unit (Some place) =
+      let some : List Kind = kinds.Truncated ∷ kinds.LebTooWide ∷ kinds.LineVersion ∷ kinds.BadLineHeader ∷ kinds.VliwLine ∷ kinds.BadLineOp ∷ kinds.LineBackwards ∷ [] in
+      bind_kinds IsOne (lines_of o.image o.relocs.line o.sections.line place) _
+      (λ f e. All-contains IsOne some f.kind (All-from_recursion IsOne some (cut, (wide, ((32, omega arith, refl), ((33, omega arith, refl), ((34, omega arith, refl), ((35, omega arith, refl), ((36, omega arith, refl), tt))))))))
+      (laws.lines o.image o.relocs.line o.sections.line place f e)) (λ lines. ok_kinds IsOne _)
+
+  units_meant_kinds : (o : Opened) (map : AddrMap) (entries : List Entry) (units : List InUnit) → FaultsAre IsOne (units_meant o map entries units)
+  units_meant_kinds o map entries units =
+      each_kinds (λ unit. unit_with_lines o map unit (option_and_then line_place (slice_get entries unit.first))) (λ unit. lines_kinds o map unit (option_and_then line_place (slice_get entries unit.first))) units
+
+  -- ---- lists
+
+  list_kinds : (k : Kind) → Contains (kinds.Truncated ∷ kinds.BadList ∷ []) k → IsOne k
+  list_kinds k h =
+      let some : List Kind = kinds.Truncated ∷ kinds.BadList ∷ [] in
+      All-contains IsOne some k (All-from_recursion IsOne some (cut, ((37, omega arith, refl), tt))) h
+
+  ranges_at_kinds : (o : Opened) (map : AddrMap) (base : Addr) (place : ℕ) → FaultsAre IsOne (ranges_at o map base place)
+  ranges_at_kinds o map base place =
+      bind_kinds IsOne (ranges_of o.sections o.relocs.ranges o.image place base) _ (λ f e. list_kinds f.kind (laws.ranges o.sections o.relocs.ranges o.image place base f e)) (λ spans. ok_kinds IsOne _)
+
+  ranges_role_kinds : (o : Opened) (map : AddrMap) (base : Addr) (role : Meaning) (place : ℕ) → FaultsAre IsOne (ranges_by_role o map base role place)
+  ranges_role_kinds o map base meanings.RangeList place = ranges_at_kinds o map base place
+  ranges_role_kinds o map base role place = ok_kinds IsOne _
+
+  ranges_kinds : (o : Opened) (map : AddrMap) (base : Addr) (a : Attr) (value : Value) → FaultsAre IsOne (ranges_meant o map base a value)
+  ranges_kinds o map base a (values.Offset place) = ranges_role_kinds o map base (table_of a.name) place
+  ranges_kinds o map base a value = ok_kinds IsOne _
+
+  item_kinds : (s : Context) (item : RawLocation) → FaultsAre IsOne (item_meant s item)
+  item_kinds s item =
+      bind_kinds IsOne (expression_of s item.bytes item.first) _ (expression_kinds s item.bytes item.first) (λ ops.
+      bind_kinds IsOne (refuse_if (not (nat_lt (ops_len ops) EXPRESSION_LIMIT)) (record { kind = kinds.LongExpression; section = parts.Loc; place = item.place })) _
+      (refuse_kinds IsOne (not (nat_lt (ops_len ops) EXPRESSION_LIMIT)) (record { kind = kinds.LongExpression; section = parts.Loc; place = item.place }) (20, omega arith, refl)) (λ u. ok_kinds IsOne _))
+
+  locations_at_kinds : (o : Opened) (s : Context) (base : Addr) (place : ℕ) → FaultsAre IsOne (locations_at o s base place)
+  locations_at_kinds o s base place =
+      bind_kinds IsOne (locations_of o.sections o.relocs.loc o.image place base) _ (λ f e. list_kinds f.kind (laws.locations o.sections o.relocs.loc o.image place base f e)) (λ items.
+      bind_kinds IsOne (each_of (item_meant s) items) _ (each_kinds (item_meant s) (item_kinds s) items) (λ meant. ok_kinds IsOne _))
+
+  locations_role_kinds : (o : Opened) (s : Context) (base : Addr) (role : Meaning) (place : ℕ) → FaultsAre IsOne (locations_by_role o s base role place)
+  locations_role_kinds o s base meanings.LocationList place = locations_at_kinds o s base place
+  locations_role_kinds o s base role place = ok_kinds IsOne _
+
+  locations_kinds : (o : Opened) (s : Context) (base : Addr) (a : Attr) (value : Value) → FaultsAre IsOne (locations_meant o s base a value)
+  locations_kinds o s base a (values.Offset place) = locations_role_kinds o s base (table_of a.name) place
+  locations_kinds o s base a value = ok_kinds IsOne _
+
+  -- ---- the analysis
+
+  frames_kinds : (o : Opened) → FaultsAre IsOne (frames_of o.image o.relocs.frame o.sections.frame)
+  frames_kinds o f e =
+      let some : List Kind = kinds.Truncated ∷ kinds.BadFrame ∷ [] in
+      All-contains IsOne some f.kind (All-from_recursion IsOne some (cut, ((38, omega arith, refl), tt))) (laws.frames o.image o.relocs.frame o.sections.frame f e)
+
+  analysed_kinds : (o : Opened) (map : AddrMap) (raw : RawUnits) → FaultsAre IsOne (units_analysed o map raw)
+  unfolding units_analysed
+  analysed_kinds o map raw =
+      bind_kinds IsOne (entries_meant o map raw.units raw.entries) _
+      (entries_kinds (λ unit a. value_meant (info_context o map raw.entries unit (unit_start raw.units raw.entries unit)) (places_of raw.entries) a a.value)
+      (λ unit a. value_kinds (info_context o map raw.entries unit (unit_start raw.units raw.entries unit)) (places_of raw.entries) a a.value) raw.entries) (λ meant.
+      bind_kinds IsOne (units_meant o map meant raw.units) _ (units_meant_kinds o map meant raw.units) (λ units.
+      bind_kinds IsOne (entries_by (λ unit a. ranges_meant o map (unit_base raw.units meant unit) a a.value) (all_marked meant)) _
+      (entries_kinds (λ unit a. ranges_meant o map (unit_base raw.units meant unit) a a.value) (λ unit a. ranges_kinds o map (unit_base raw.units meant unit) a a.value) (all_marked meant)) (λ ranged.
+      bind_kinds IsOne (entries_by (λ unit a. locations_meant o (loc_context o map meant unit (unit_start raw.units meant unit)) (unit_base raw.units meant unit) a a.value) ranged) _
+      (entries_kinds (λ unit a. locations_meant o (loc_context o map meant unit (unit_start raw.units meant unit)) (unit_base raw.units meant unit) a a.value)
+      (λ unit a. locations_kinds o (loc_context o map meant unit (unit_start raw.units meant unit)) (unit_base raw.units meant unit) a a.value) ranged) (λ entries.
+      bind_kinds IsOne (frames_of o.image o.relocs.frame o.sections.frame) _ (frames_kinds o) (λ frames. ok_kinds IsOne _)))))
+
+  pub analysis_kinds : (bytes : List ℕ) (object : MapObject) (cpu : ℕ) → FaultsAre IsOne (analysis_of bytes object cpu)
+  unfolding analysis_of
+  analysis_kinds bytes object cpu =
+      bind_kinds IsOne (opened_of bytes cpu) _ (opened_kinds bytes cpu) (λ o.
+      bind_kinds IsOne (units_of o.sections) _ (units_kinds o.sections) (λ raw. analysed_kinds o (map_of object o.image) raw))

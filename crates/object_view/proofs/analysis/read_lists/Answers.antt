@@ -1,0 +1,13 @@
+use Rattle.dwarf_types.specs.SectionBytes.{bytes_in}
+use Rattle.object_view.specs.Opened.{opened_seen}
+use Rattle.object_view.specs.Ready.{base_at}
+use Rattle.object_view.proofs.Fitting.{all_marked_listed, ranges_listed}
+use Rattle.object_view.proofs.analysis.read_lists.Goals as goal
+
+pub change_entries-requires-clause-fits : goal.change_entries-requires-clause-fits
+change_entries-requires-clause-fits c = rw c.mark_all.ensures (all_marked_listed (bytes_in c.args.object.now.sections) c.args.entries c.requires.fits)
+
+pub change_entries-requires-2-clause-fits : goal.change_entries-requires-2-clause-fits
+change_entries-requires-2-clause-fits c =
+    ranges_listed (bytes_in c.args.object.now.sections) (opened_seen c.args.object.now) c.args.map.now (base_at c.args.bases.now) c.mark_all.result c.in_ok-entries.entries c.in_ok-entries.ensures
+    (rw c.mark_all.ensures (all_marked_listed (bytes_in c.args.object.now.sections) c.args.entries c.requires.fits))
