@@ -1,42 +1,14 @@
 -- The entries of an object stand in preorder.
 use Rattle.std.proofs.Common.{◌≡◌, ◌+◌, ℕ, zero, suc, List, [], ◌∷◌, ◌++◌, length, slice_get, Option, Some, None, refl, sym, ap, subst, arith}
+use Rattle.std.specs.Prelude.{IfSome}
 use Rattle.std.specs.List.{All}
-use Rattle.std.proofs.lemmas.List.Elements.{All-nil, All-cons}
 use Rattle.dwarf_types.specs.declared.entry.Entry.{Entry}
 use Rattle.dwarf_types.specs.declared.entry.InUnit.{InUnit}
 use Rattle.dwarf_types.specs.Live.{Stands}
 use Rattle.linked_laws.specs.Given.{ArePreorder, IsUp}
-use Rattle.unit_tree.specs.Spelling.{Forest, UnitTree, entries_of, entry_of, in_unit, in_units, no_more, preorder, size, tree, unit_entries}
+use Rattle.unit_tree.specs.Spelling.{Forest, UnitTree, entries_of, entry_of, in_units, no_more, preorder, size, tree, unit_entries}
 use Rattle.unit_tree.proofs.TreeLaws.{length_preorder}
-
--- ---- items in a row
-
-get_left : {X : Type 0} (xs ys : List X) (i : ℕ) (x : X) → slice_get xs i ≡ Some x → slice_get (xs ++ ys) i ≡ Some x
-get_left [] ys i x e = absurd cc
-get_left (y ∷ xs) ys zero x e = e
-get_left (y ∷ xs) ys (suc i) x e = get_left xs ys i x e
-
-get_right : {X : Type 0} (xs ys : List X) (i : ℕ) (x : X) → slice_get ys i ≡ Some x → slice_get (xs ++ ys) (length xs + i) ≡ Some x
-get_right [] ys i x e = let same : i ≡ 0 + i = omega arith in subst (λ (n : ℕ). slice_get ys n ≡ Some x) same e
-get_right (y ∷ xs) ys i x e =
-    let same : suc (length xs + i) ≡ suc (length xs) + i = omega arith in
-    subst (λ (n : ℕ). slice_get (y ∷ (xs ++ ys)) n ≡ Some x) same (get_right xs ys i x e)
-
--- items stand in a list from a number on
-abbrev StandFrom : ℕ → List Entry → List Entry → Type 0
-StandFrom k xs all = (i : ℕ) (e : Entry) → slice_get xs i ≡ Some e → slice_get all (k + i) ≡ Some e
-
-first_stands : (k : ℕ) (e : Entry) (xs all : List Entry) → StandFrom k (e ∷ xs) all → Stands all k e
-first_stands k e xs all h = subst (λ (n : ℕ). slice_get all n ≡ Some e) (omega arith) (h 0 e refl)
-
-behind_stand : (k : ℕ) (e : Entry) (xs all : List Entry) → StandFrom k (e ∷ xs) all → StandFrom (k + 1) xs all
-behind_stand k e xs all h i x is = subst (λ (n : ℕ). slice_get all n ≡ Some x) (omega arith) (h (suc i) x is)
-
-left_stand : (k : ℕ) (xs ys all : List Entry) → StandFrom k (xs ++ ys) all → StandFrom k xs all
-left_stand k xs ys all h i x is = h i x (get_left xs ys i x is)
-
-right_stand : (k : ℕ) (xs ys all : List Entry) → StandFrom k (xs ++ ys) all → StandFrom (k + length xs) ys all
-right_stand k xs ys all h i x is = subst (λ (n : ℕ). slice_get all n ≡ Some x) (omega arith) (h (length xs + i) x (get_right xs ys i x is))
+use Rattle.object_view.proofs.Trees.{StandFrom, all_stand, behind_stand, first_stands, left_stand, right_stand, trees_rooted as rooted}
 
 module _ (all : List Entry) where
   -- entry p is entry k, or one above it
@@ -107,22 +79,8 @@ module _ (all : List Entry) where
 abbrev pub HasRoot : List Entry → InUnit → Type 0
 HasRoot all u = (e : Entry) → Stands all u.first e → e.parent ≡ None
 
-same_entry : (x y : Entry) (o : Option Entry) → o ≡ Some x → o ≡ Some y → x ≡ y
-same_entry x y o e f = cc
-
-units_rooted : (all : List Entry) (ts : List UnitTree) (unit number : ℕ) → StandFrom number (entries_of unit number ts) all → All (HasRoot all) (in_units number ts)
-units_rooted all [] unit number h = All-nil (HasRoot all)
-units_rooted all (t ∷ ts) unit number h =
-    let here = unit_entries unit number t in
-    let others = entries_of (suc unit) (number + 1 + size t.kids) ts in
-    let root = entry_of unit None t.root in
-    let long : length here ≡ 1 + size t.kids = let l = length_preorder unit (Some number) (number + 1) t.kids in omega (arith, l) in
-    let there = subst (λ (n : ℕ). StandFrom n others all) (omega (arith, long)) (right_stand number here others all h) in
-    let stands = first_stands number root (preorder unit (Some number) (number + 1) t.kids) all (left_stand number here others all h) in
-    All-cons (HasRoot all) (in_unit number t) (in_units (number + 1 + size t.kids) ts) (λ e is. ap (λ (x : Entry). x.parent) (same_entry e root (slice_get all number) is stands)) (units_rooted all ts (suc unit) (number + 1 + size t.kids) there)
-
 pub trees_rooted : (ts : List UnitTree) → All (HasRoot (entries_of 0 0 ts)) (in_units 0 ts)
-trees_rooted ts = units_rooted (entries_of 0 0 ts) ts 0 0 (λ i x is. subst (λ (n : ℕ). slice_get (entries_of 0 0 ts) n ≡ Some x) (omega arith) is)
+trees_rooted ts k d lt e stands = subst (λ (o : Option Entry). IfSome o (λ x. x.parent ≡ None)) stands (rooted ts k d lt)
 
 -- ---- all entries
 
@@ -134,5 +92,5 @@ fine_at all number (x ∷ xs) (suc i) e h is = let at : number + 1 + i ≡ numbe
 pub trees_preorder : (ts : List UnitTree) → ArePreorder (entries_of 0 0 ts)
 trees_preorder ts k p e stands parent =
     let all = entries_of 0 0 ts in
-    let fine = units_fine all ts 0 0 (λ i x is. subst (λ (n : ℕ). slice_get all n ≡ Some x) (omega arith) is) in
+    let fine = units_fine all ts 0 0 (all_stand all) in
     fine_at all 0 all (k + 1) e fine stands k p (omega arith) parent

@@ -13,7 +13,7 @@ use Rattle.ds_base.specs.declared.dwarf.TheConstants.{DW_AT_ranges, DW_AT_stmt_l
 use Rattle.ds_base.specs.declared.fault.Fault.{Fault}
 use Rattle.ds_base.specs.declared.fault.Kind.TheVariants as kinds
 use Rattle.ds_base.specs.declared.fault.Part.TheVariants as parts
-use Rattle.ds_base.specs.Reading.{◌>>=◌, refuse_if}
+use Rattle.ds_base.specs.Reading.{◌>>=◌, or_fault, refuse_if}
 use Rattle.ds_base.proofs.Passing.{bind_ok, ok_is, passed}
 use Rattle.dwarf_types.specs.declared.address.Addr.{Addr}
 use Rattle.dwarf_types.specs.declared.entry.Attr.{Attr}
@@ -36,7 +36,7 @@ use Rattle.unit_tree.specs.declared.meaning.Meaning.TheVariants as meanings
 use Rattle.unit_tree.specs.Meaning as meaning_of
 use Rattle.unit_tree.specs.Meaning.{table_of}
 use Rattle.linked_laws.specs.Given.{IsGivenLocation, IsGivenOp, IsGivenValue, is_lines}
-use Rattle.object_view.specs.Attributes.{each_of, field_address, item_meant, item_moved, lines_value, locations_by_role, locations_meant, ranges_by_role, ranges_meant, value_meant}
+use Rattle.object_view.specs.Attributes.{dangling, each_of, field_address, item_meant, item_moved, lines_value, locations_by_role, locations_meant, number_at, ranges_by_role, ranges_meant, value_meant}
 use Rattle.object_view.specs.Opened.{Opened}
 use Rattle.object_view.proofs.Names.{all_flat, each_all}
 use Rattle.object_laws.proofs.Expressions.{expressions_are_given, lengths_agree}
@@ -73,7 +73,9 @@ module _ (s : Context) (places : List ℕ) (sound : IsSoundMap s.map) where
 
   pub value_given : (a : Attr) (value now : Value) → IsStored value → value_meant s places a value ≡ Ok now → IsPlainly a.name now
   value_given a (values.Address place) now h e = subst (IsPlainly a.name) (ok_is _ now e) (place_is_given s.map (field_address s a.end place.at) sound, refl)
-  value_given a (values.Ref place) now h e = subst (IsPlainly a.name) (ok_is _ now e) (tt, refl)
+  value_given a (values.Ref place) now h e =
+      let k = bind_ok (or_fault (number_at places place) (dangling a)) (λ k. Ok (values.Ref k)) now e in
+      subst (IsPlainly a.name) (ok_is (values.Ref k.0) now k.2) (tt, refl)
   value_given a (values.Block form bytes) now h e = block_given (form == DW_FORM_exprloc) a.name form bytes (a.end - length bytes) now refl h.0 h.1 e
   value_given a (values.Text text) now h e = subst (IsPlainly a.name) (ok_is (values.Text text) now e) (h, refl)
   value_given a (values.Number form bits) now h e = subst (IsPlainly a.name) (ok_is (values.Number form bits) now e) (h, refl)
