@@ -24,15 +24,21 @@ target_below : (count : ℕ) (value : Value) (j : ℕ) → is_within count value
 target_below count (values.Ref k) j t e = subst (λ (n : ℕ). n < count) (let same : k ≡ j = cc in same) (ltb-true k count t)
 target_below count value j t e = absurd cc
 
--- none of some base types is there
+-- where base types are not named, none is among them
+first_none : (base : Option Base) (others : List (Option Base)) → is_none base ≡ true → filter_map base_in (base ∷ others) ≡ filter_map base_in others
+first_none None others t = refl
+first_none (Some base) others t = absurd (false≢true t)
+
 none_named : (inner : List PlainOp) → list_all (λ i. is_none i.base) inner ≡ true → filter_map base_in (map (λ i. i.base) inner) ≡ []
 none_named [] t = refl
-none_named (record { code = code; bytes = bytes; address = address; base = None } ∷ inner) t = none_named inner t
-none_named (record { code = code; bytes = bytes; address = address; base = Some base } ∷ inner) t = absurd (false≢true t)
+none_named (i ∷ inner) t =
+    let both = and_parts (is_none i.base) (list_all (λ (j : PlainOp). is_none j.base) inner) t in
+    first_none i.base (map (λ (j : PlainOp). j.base) inner) both.0 ∙ none_named inner both.1
 
 op_without : (base : Option Base) (inner : List PlainOp) → (is_none base && list_all (λ i. is_none i.base) inner) ≡ true → filter_map base_in (base ∷ map (λ i. i.base) inner) ≡ []
-op_without None inner t = none_named inner t
-op_without (Some base) inner t = absurd (false≢true t)
+op_without base inner t =
+    let both = and_parts (is_none base) (list_all (λ (j : PlainOp). is_none j.base) inner) t in
+    first_none base (map (λ (j : PlainOp). j.base) inner) both.0 ∙ none_named inner both.1
 
 ops_without : (ops : List Op) → list_all has_no_base ops ≡ true → flat_map op_bases ops ≡ []
 ops_without [] t = refl

@@ -1,0 +1,155 @@
+//! An object of an assembler, and its analysis or its first fault.
+
+use crate::parts::assert_refused;
+use ds_base::{Bytes, Kind, List, NoMemory, Part, ReadError};
+use dwarf_types::{Analysis, CodeRange, Span, Value};
+use object_view::analyse;
+use stab_map::{MapEntry, MapObject};
+use std::alloc::Global;
+use std::process::Abort;
+
+const CPU_TYPE_X86_64: u32 = 0x0100_0007;
+
+/// What llvm-mc 14 writes for x86_64-apple-macos10.12 of two units: the first has the language C99, a base type, and a
+/// function `_f` of 2 bytes with a variable in it, whose types are the base type by DW_FORM_ref4 and DW_FORM_ref_addr;
+/// the second has a flag as its language. `__debug_info` begins at 0x1fd, and the first relocation stands at 0x248.
+#[rattlefmt::skip]
+const OBJECT: &[u8; 648] = b"\
+    \xcf\xfa\xed\xfe\x07\0\0\x01\x03\0\0\0\x01\0\0\0\
+    \x04\0\0\0\xb0\x01\0\0\0\0\0\0\0\0\0\0\
+    \x19\0\0\0\x38\x01\0\0\0\0\0\0\0\0\0\0\
+    \0\0\0\0\0\0\0\0\0\0\0\0\0\0\0\0\
+    \x73\0\0\0\0\0\0\0\xd0\x01\0\0\0\0\0\0\
+    \x73\0\0\0\0\0\0\0\x07\0\0\0\x07\0\0\0\
+    \x03\0\0\0\0\0\0\0\x5f\x5f\x74\x65\x78\x74\0\0\
+    \0\0\0\0\0\0\0\0\x5f\x5f\x54\x45\x58\x54\0\0\
+    \0\0\0\0\0\0\0\0\0\0\0\0\0\0\0\0\
+    \x03\0\0\0\0\0\0\0\xd0\x01\0\0\0\0\0\0\
+    \0\0\0\0\0\0\0\0\0\0\0\x80\0\0\0\0\
+    \0\0\0\0\0\0\0\0\x5f\x5f\x64\x65\x62\x75\x67\x5f\
+    \x61\x62\x62\x72\x65\x76\0\0\x5f\x5f\x44\x57\x41\x52\x46\0\
+    \0\0\0\0\0\0\0\0\x03\0\0\0\0\0\0\0\
+    \x2a\0\0\0\0\0\0\0\xd3\x01\0\0\0\0\0\0\
+    \0\0\0\0\0\0\0\0\0\0\0\x02\0\0\0\0\
+    \0\0\0\0\0\0\0\0\x5f\x5f\x64\x65\x62\x75\x67\x5f\
+    \x69\x6e\x66\x6f\0\0\0\0\x5f\x5f\x44\x57\x41\x52\x46\0\
+    \0\0\0\0\0\0\0\0\x2d\0\0\0\0\0\0\0\
+    \x46\0\0\0\0\0\0\0\xfd\x01\0\0\0\0\0\0\
+    \x48\x02\0\0\x03\0\0\0\0\0\0\x02\0\0\0\0\
+    \0\0\0\0\0\0\0\0\x24\0\0\0\x10\0\0\0\
+    \0\x0c\x0a\0\0\0\0\0\x02\0\0\0\x18\0\0\0\
+    \x60\x02\0\0\x02\0\0\0\x80\x02\0\0\x08\0\0\0\
+    \x0b\0\0\0\x50\0\0\0\0\0\0\0\0\0\0\0\
+    \0\0\0\0\x02\0\0\0\x02\0\0\0\0\0\0\0\
+    \0\0\0\0\0\0\0\0\0\0\0\0\0\0\0\0\
+    \0\0\0\0\0\0\0\0\0\0\0\0\0\0\0\0\
+    \0\0\0\0\0\0\0\0\0\0\0\0\0\0\0\0\
+    \xc3\xc3\xc3\x01\x11\x01\x13\x05\x11\x01\0\0\x02\x24\0\0\
+    \0\x03\x2e\x01\x11\x01\x12\x06\x49\x13\0\0\x04\x34\0\x49\
+    \x10\x02\x18\0\0\x05\x11\0\x13\x0c\0\0\0\x35\0\0\
+    \0\x04\0\0\0\0\0\x08\x01\x0c\0\0\0\0\0\0\
+    \0\0\0\x02\x03\0\0\0\0\0\0\0\0\x02\0\0\
+    \0\x16\0\0\0\x04\x16\0\0\0\x09\x03\x02\0\0\0\
+    \0\0\0\0\0\0\x09\0\0\0\x04\0\0\0\0\0\
+    \x08\x05\x01\0\0\0\0\0\x2f\0\0\0\x01\0\0\x06\
+    \x18\0\0\0\x01\0\0\x06\x0e\0\0\0\x01\0\0\x06\
+    \x04\0\0\0\x0f\x01\0\0\0\0\0\0\0\0\0\0\
+    \x01\0\0\0\x0f\x01\0\0\x02\0\0\0\0\0\0\0\
+    \0\x5f\x67\0\x5f\x66\0\0";
+
+/// The debug map has `_f` at 0x100001000, with 2 bytes.
+fn map_object(alloc: Global) -> Result<MapObject, NoMemory> {
+    let mut entries = List::new(alloc);
+    entries.push(MapEntry {
+        name: Bytes::from_slice(alloc, b"_f")?,
+        linked: 0x1_0000_1000,
+        size: Some(2),
+    })?;
+    Ok(MapObject {
+        path: Bytes::new(alloc),
+        file: Bytes::new(alloc),
+        member: None,
+        entries,
+    })
+}
+
+/// The analysis of an object.
+fn analysed(rt: &impl Abort, alloc: Global, bytes: &[u8]) -> Result<Analysis, ReadError> {
+    assert!(rt; bytes.len() < 1000);
+    let object = map_object(alloc)?;
+    analyse(alloc, bytes, &object, CPU_TYPE_X86_64)
+}
+
+/// An attribute of an entry leads to another entry.
+fn assert_leads(rt: &impl Abort, analysis: &Analysis, entry: usize, attr: usize, want: u32) {
+    let Some(entry) = analysis.entries.get(entry) else {
+        panic!(rt; "no entry {entry}")
+    };
+    match entry.attrs.get(attr) {
+        Some(attr) => assert!(rt; matches!(&attr.value, Value::Ref(to) if *to == want)),
+        None => panic!(rt; "no attribute {attr}"),
+    }
+}
+
+#[test]
+#[rattlefmt::skip]
+fn an_object_has_the_entries_that_llvm_dwarfdump_prints(rt: HostRuntime) {
+    // Parent, unit, place and tag.
+    let want: [(Option<u32>, u32, u32, u16); 5] =
+        [(None, 0, 0x0b, 0x11), (Some(0), 0, 0x16, 0x24), (Some(0), 0, 0x17, 0x2e), (Some(2), 0, 0x28, 0x34), (None, 1, 0x44, 0x11)];
+    match analysed(&rt, rt.alloc(), OBJECT) {
+        Ok(analysis) => {
+            assert_eq!(rt; analysis.entries.len(), 5);
+            for (entry, want) in analysis.entries.as_slice().iter().zip(want.iter()) {
+                assert_eq!(rt; (entry.parent, entry.unit, entry.place, entry.tag), *want);
+            }
+            assert_leads(&rt, &analysis, 2, 2, 1);
+            assert_leads(&rt, &analysis, 3, 0, 1);
+            // First entry, count of entries, version, language. A flag is no language.
+            let units: [(u32, u32, u16, u16); 2] = [(0, 4, 4, 12), (4, 1, 4, 0)];
+            assert_eq!(rt; analysis.units.len(), 2);
+            for (unit, want) in analysis.units.as_slice().iter().zip(units.iter()) {
+                assert_eq!(rt; (unit.first, unit.count, unit.version, unit.language), *want);
+            }
+            assert_eq!(rt; analysis.code.as_slice(), [CodeRange { entry: 2, span: Span { low: 0x1_0000_1000, high: 0x1_0000_1002 } }].as_slice());
+        }
+        Err(error) => panic!(rt; "{error:?}"),
+    }
+}
+
+/// The object with another byte at a place is refused.
+fn refused(
+    rt: &impl Abort,
+    alloc: Global,
+    at: usize,
+    byte: u8,
+    kind: Kind,
+    section: Part,
+    place: u64,
+) {
+    let mut bytes = *OBJECT;
+    assert!(rt; at < 648);
+    bytes[at] = byte;
+    assert_refused(
+        rt,
+        "a byte",
+        analysed(rt, alloc, &bytes).err(),
+        section,
+        kind,
+        place,
+    );
+}
+
+#[test]
+#[rattlefmt::skip]
+fn the_first_part_that_is_wrong_is_told(rt: HostRuntime) {
+    let alloc = rt.alloc();
+    refused(&rt, alloc, 0, 0, Kind::NotMachO, Part::Header, 0);
+    refused(&rt, alloc, 4, 0x0c, Kind::WrongCpu, Part::Header, 4);
+    refused(&rt, alloc, 0x24f, 0x16, Kind::RelocKind, Part::Info, 0);
+    refused(&rt, alloc, 0x207, 4, Kind::BadUnit, Part::Info, 0);
+    // A type that leads into the function.
+    refused(&rt, alloc, 0x221, 0x18, Kind::BadReference, Part::Info, 0x24);
+    refused(&rt, alloc, 0x22b, 0x01, Kind::UnknownOp, Part::Info, 0x2e);
+    refused(&rt, alloc, 0x241, 9, Kind::UnknownCode, Part::Info, 0x44);
+}
