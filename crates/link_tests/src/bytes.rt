@@ -3,11 +3,8 @@
 use ds_base::{Bytes, NoMemory};
 use std::alloc::Global;
 
-/// The CPU type of arm64.
-const ARM64: &[u8] = b"\x0c\0\0\x01";
-
 /// Parts of a file, one after the other.
-fn joined(alloc: Global, parts: &[&[u8]]) -> Result<Bytes, NoMemory> {
+pub(crate) fn joined(alloc: Global, parts: &[&[u8]]) -> Result<Bytes, NoMemory> {
     let mut bytes = Bytes::new(alloc);
     for part in parts {
         bytes.extend(part)?;
@@ -15,113 +12,94 @@ fn joined(alloc: Global, parts: &[&[u8]]) -> Result<Bytes, NoMemory> {
     Ok(bytes)
 }
 
-/// A program of one object, `/tmp/m.o`. It has `_main` of 0x2a bytes at 0x1_0000_3f50 in its one section, `__text`.
+/// A program for arm64 of one object, `/tmp/m.o`. It has `_main` of 0x2a bytes at 0x1_0000_3f50 in its one section, `__text`.
 #[rattlefmt::skip]
-pub(crate) fn program(alloc: Global) -> Result<Bytes, NoMemory> {
-    joined(alloc, &[
-        // magic, cputype, cpusubtype, filetype, ncmds, sizeofcmds, flags, reserved
-        b"\xcf\xfa\xed\xfe", ARM64, b"\0\0\0\0", b"\x02\0\0\0", b"\x03\0\0\0", b"\xc8\0\0\0", b"\0\0\0\0", b"\0\0\0\0",
-        // cmd, cmdsize, segname
-        b"\x19\0\0\0", b"\x98\0\0\0", b"__TEXT\0\0\0\0\0\0\0\0\0\0",
-        // vmaddr, vmsize, fileoff, filesize
-        b"\0\0\0\0\x01\0\0\0", b"\0\x40\0\0\0\0\0\0", b"\0\0\0\0\0\0\0\0", b"\0\x40\0\0\0\0\0\0",
-        // maxprot, initprot, nsects, flags
-        b"\x05\0\0\0", b"\x05\0\0\0", b"\x01\0\0\0", b"\0\0\0\0",
-        // sectname, segname, addr, size, and offset, align, reloff, nreloc, flags, reserved1 to 3
-        b"__text\0\0\0\0\0\0\0\0\0\0", b"__TEXT\0\0\0\0\0\0\0\0\0\0", b"\x50\x3f\0\0\x01\0\0\0", b"\x2a\0\0\0\0\0\0\0",
-        b"\x50\x3f\0\0", b"\x04\0\0\0", b"\0\0\0\0", b"\0\0\0\0", b"\0\x04\0\x80", b"\0\0\0\0", b"\0\0\0\0", b"\0\0\0\0",
-        // cmd, cmdsize, uuid
-        b"\x1b\0\0\0", b"\x18\0\0\0", UUID,
-        // cmd, cmdsize, symoff, nsyms, stroff, strsize
-        b"\x02\0\0\0", b"\x18\0\0\0", b"\xe8\0\0\0", b"\x04\0\0\0", b"\x28\x01\0\0", b"\x10\0\0\0",
-        // the stab of the object, those of `_main`, and `_main`: n_strx, n_type, n_sect, n_desc, n_value
-        b"\x01\0\0\0", b"\x66", b"\0", b"\x01\0", b"\0\0\0\0\0\0\0\0",
-        b"\x0a\0\0\0", b"\x24", b"\x01", b"\0\0", b"\x50\x3f\0\0\x01\0\0\0",
-        b"\0\0\0\0", b"\x24", b"\0", b"\0\0", b"\x2a\0\0\0\0\0\0\0",
-        b"\x0a\0\0\0", MAIN,
-        // strings
-        b"\0/tmp/m.o\0_main\0",
-    ])
-}
-
-/// The UUID of the programs.
-const UUID: &[u8] = b"\0\x11\x22\x33\x44\x55\x66\x77\x88\x99\xaa\xbb\xcc\xdd\xee\xff";
-
-/// The symbol `_main` of 0x1_0000_3f50, behind its place among the strings.
-const MAIN: &[u8] = b"\x0f\x01\0\0\x50\x3f\0\0\x01\0\0\0";
+pub(crate) const PROGRAM: &[&[u8]] = &[
+    // magic, cputype, cpusubtype, filetype, ncmds, sizeofcmds, flags, reserved
+    b"\xcf\xfa\xed\xfe\x0c\0\0\x01\0\0\0\0\x02\0\0\0\x03\0\0\0\xc8\0\0\0\0\0\0\0\0\0\0\0",
+    // cmd, cmdsize, segname
+    b"\x19\0\0\0\x98\0\0\0__TEXT\0\0\0\0\0\0\0\0\0\0",
+    // vmaddr, vmsize, fileoff, filesize
+    b"\0\0\0\0\x01\0\0\0\0\x40\0\0\0\0\0\0\0\0\0\0\0\0\0\0\0\x40\0\0\0\0\0\0",
+    // maxprot, initprot, nsects, flags
+    b"\x05\0\0\0\x05\0\0\0\x01\0\0\0\0\0\0\0",
+    // sectname, segname, addr, size, and offset, align, reloff, nreloc, flags, reserved1 to 3
+    b"__text\0\0\0\0\0\0\0\0\0\0__TEXT\0\0\0\0\0\0\0\0\0\0\x50\x3f\0\0\x01\0\0\0\x2a\0\0\0\0\0\0\0\x50\x3f\0\0\x04\0\0\0\0\0\0\0\0\0\0\0\0\x04\0\x80\0\0\0\0\0\0\0\0\0\0\0\0",
+    // cmd, cmdsize, uuid
+    b"\x1b\0\0\0\x18\0\0\0\0\x11\x22\x33\x44\x55\x66\x77\x88\x99\xaa\xbb\xcc\xdd\xee\xff",
+    // cmd, cmdsize, symoff, nsyms, stroff, strsize
+    b"\x02\0\0\0\x18\0\0\0\xe8\0\0\0\x04\0\0\0\x28\x01\0\0\x10\0\0\0",
+    // the stab of the object, those of `_main`, and `_main`: n_strx, n_type, n_sect, n_desc, n_value
+    b"\x01\0\0\0\x66\0\x01\0\0\0\0\0\0\0\0\0\x0a\0\0\0\x24\x01\0\0\x50\x3f\0\0\x01\0\0\0\0\0\0\0\x24\0\0\0\x2a\0\0\0\0\0\0\0\x0a\0\0\0\x0f\x01\0\0\x50\x3f\0\0\x01\0\0\0",
+    // strings
+    b"\0/tmp/m.o\0_main\0",
+];
 
 /// An object with `main` of 0x2a bytes at 0, of 457 bytes.
 #[rattlefmt::skip]
-pub(crate) fn object(alloc: Global) -> Result<Bytes, NoMemory> {
-    joined(alloc, &[
-        // magic, cputype, cpusubtype, filetype, ncmds, sizeofcmds, flags, reserved
-        b"\xcf\xfa\xed\xfe", ARM64, b"\0\0\0\0", b"\x01\0\0\0", b"\x02\0\0\0", b"\x50\x01\0\0", b"\0\0\0\0", b"\0\0\0\0",
-        // cmd, cmdsize, segname
-        b"\x19\0\0\0", b"\x38\x01\0\0", b"\0\0\0\0\0\0\0\0\0\0\0\0\0\0\0\0",
-        // vmaddr, vmsize, fileoff, filesize
-        b"\0\0\0\0\0\0\0\0", b"\x64\0\0\0\0\0\0\0", b"\x70\x01\0\0\0\0\0\0", b"\x3a\0\0\0\0\0\0\0",
-        // maxprot, initprot, nsects, flags
-        b"\x07\0\0\0", b"\x07\0\0\0", b"\x03\0\0\0", b"\0\0\0\0",
-        // sectname, segname, addr, size, and offset, align, reloff, nreloc, flags, reserved1 to 3
-        b"__text\0\0\0\0\0\0\0\0\0\0", b"__TEXT\0\0\0\0\0\0\0\0\0\0", b"\0\0\0\0\0\0\0\0", b"\x2a\0\0\0\0\0\0\0",
-        b"\0\0\0\0", b"\x02\0\0\0", b"\0\0\0\0", b"\0\0\0\0", b"\0\x04\0\x80", b"\0\0\0\0", b"\0\0\0\0", b"\0\0\0\0",
-        b"__debug_abbrev\0\0", b"__DWARF\0\0\0\0\0\0\0\0\0", b"\x2a\0\0\0\0\0\0\0", b"\x15\0\0\0\0\0\0\0",
-        b"\x70\x01\0\0", b"\0\0\0\0", b"\0\0\0\0", b"\0\0\0\0", b"\0\0\0\x02", b"\0\0\0\0", b"\0\0\0\0", b"\0\0\0\0",
-        b"__debug_info\0\0\0\0", b"__DWARF\0\0\0\0\0\0\0\0\0", b"\x3f\0\0\0\0\0\0\0", b"\x25\0\0\0\0\0\0\0",
-        b"\x85\x01\0\0", b"\0\0\0\0", b"\xaa\x01\0\0", b"\x01\0\0\0", b"\0\0\0\x02", b"\0\0\0\0", b"\0\0\0\0", b"\0\0\0\0",
-        // cmd, cmdsize, symoff, nsyms, stroff, strsize
-        b"\x02\0\0\0", b"\x18\0\0\0", b"\xb2\x01\0\0", b"\x01\0\0\0", b"\xc2\x01\0\0", b"\x07\0\0\0",
-        // abbreviations: a unit with a name and a language; a function with low_pc, high_pc and a name
-        b"\x01\x11\x01\x03\x08\x13\x05\0\0",
-        b"\x02\x2e\0\x11\x01\x12\x06\x03\x08\0\0",
-        b"\0",
-        // unit_length, version, debug_abbrev_offset, address_size
-        b"\x21\0\0\0", b"\x04\0", b"\0\0\0\0", b"\x08",
-        // code, name, language
-        b"\x01", b"m.c\0", b"\x0c\0",
-        // code, low_pc, high_pc, name
-        b"\x02", b"\0\0\0\0\0\0\0\0", b"\x2a\0\0\0", b"main\0",
-        b"\0",
-        // r_address, r_symbolnum, and type 0, length 3
-        b"\x13\0\0\0", b"\x01\0\0", b"\x06",
-        // n_strx, n_type, n_sect, n_desc, n_value
-        b"\x01\0\0\0", b"\x0f", b"\x01", b"\0\0", b"\0\0\0\0\0\0\0\0",
-        // strings
-        b"\0_main\0",
-    ])
-}
+pub(crate) const OBJECT: &[&[u8]] = &[
+    // magic, cputype, cpusubtype, filetype, ncmds, sizeofcmds, flags, reserved
+    b"\xcf\xfa\xed\xfe\x0c\0\0\x01\0\0\0\0\x01\0\0\0\x02\0\0\0\x50\x01\0\0\0\0\0\0\0\0\0\0",
+    // cmd, cmdsize, segname
+    b"\x19\0\0\0\x38\x01\0\0\0\0\0\0\0\0\0\0\0\0\0\0\0\0\0\0",
+    // vmaddr, vmsize, fileoff, filesize
+    b"\0\0\0\0\0\0\0\0\x64\0\0\0\0\0\0\0\x70\x01\0\0\0\0\0\0\x3a\0\0\0\0\0\0\0",
+    // maxprot, initprot, nsects, flags
+    b"\x07\0\0\0\x07\0\0\0\x03\0\0\0\0\0\0\0",
+    // sectname, segname, addr, size, and offset, align, reloff, nreloc, flags, reserved1 to 3
+    b"__text\0\0\0\0\0\0\0\0\0\0__TEXT\0\0\0\0\0\0\0\0\0\0\0\0\0\0\0\0\0\0\x2a\0\0\0\0\0\0\0\0\0\0\0\x02\0\0\0\0\0\0\0\0\0\0\0\0\x04\0\x80\0\0\0\0\0\0\0\0\0\0\0\0__debug_abbrev\0\0__DWARF\0\0\0\0\0\0\0\0\0\x2a\0\0\0\0\0\0\0\x15\0\0\0\0\0\0\0\x70\x01\0\0\0\0\0\0\0\0\0\0\0\0\0\0\0\0\0\x02\0\0\0\0\0\0\0\0\0\0\0\0__debug_info\0\0\0\0__DWARF\0\0\0\0\0\0\0\0\0\x3f\0\0\0\0\0\0\0\x25\0\0\0\0\0\0\0\x85\x01\0\0\0\0\0\0\xaa\x01\0\0\x01\0\0\0\0\0\0\x02\0\0\0\0\0\0\0\0\0\0\0\0",
+    // cmd, cmdsize, symoff, nsyms, stroff, strsize
+    b"\x02\0\0\0\x18\0\0\0\xb2\x01\0\0\x01\0\0\0\xc2\x01\0\0\x07\0\0\0",
+    // abbreviations: a unit with a name and a language; a function with low_pc, high_pc and a name
+    b"\x01\x11\x01\x03\x08\x13\x05\0\0\x02\x2e\0\x11\x01\x12\x06\x03\x08\0\0\0",
+    // unit_length, version, debug_abbrev_offset, address_size
+    b"\x21\0\0\0\x04\0\0\0\0\0\x08",
+    // code, name, language
+    b"\x01m.c\0\x0c\0",
+    // code, low_pc, high_pc, name
+    b"\x02\0\0\0\0\0\0\0\0\x2a\0\0\0main\0\0",
+    // r_address, r_symbolnum, and type 0, length 3
+    b"\x13\0\0\0\x01\0\0\x06",
+    // n_strx, n_type, n_sect, n_desc, n_value
+    b"\x01\0\0\0\x0f\x01\0\0\0\0\0\0\0\0\0\0",
+    // strings
+    b"\0_main\0",
+];
 
-/// The first commands of the image: the UUID, the symbols, and the program's segment.
+/// The commands, symbols and strings of the image, of 727 bytes: the UUID, the symbols, and two segments.
 #[rattlefmt::skip]
-fn front(alloc: Global) -> Result<Bytes, NoMemory> {
-    joined(alloc, &[
-        // magic, cputype, cpusubtype, filetype, ncmds, sizeofcmds, flags, reserved
-        b"\xcf\xfa\xed\xfe", ARM64, b"\0\0\0\0", b"\x0a\0\0\0", b"\x04\0\0\0", b"\xa0\x02\0\0", b"\0\0\0\0", b"\0\0\0\0",
-        // cmd, cmdsize, uuid
-        b"\x1b\0\0\0", b"\x18\0\0\0", UUID,
-        // cmd, cmdsize, symoff, nsyms, stroff, strsize
-        b"\x02\0\0\0", b"\x18\0\0\0", b"\xc0\x02\0\0", b"\x01\0\0\0", b"\xd0\x02\0\0", b"\x07\0\0\0",
-        // cmd, cmdsize, segname
-        b"\x19\0\0\0", b"\x98\0\0\0", b"__TEXT\0\0\0\0\0\0\0\0\0\0",
-        // vmaddr, vmsize, fileoff, filesize
-        b"\0\0\0\0\x01\0\0\0", b"\0\x40\0\0\0\0\0\0", b"\0\0\0\0\0\0\0\0", b"\0\0\0\0\0\0\0\0",
-        // maxprot, initprot, nsects, flags
-        b"\x05\0\0\0", b"\x05\0\0\0", b"\x01\0\0\0", b"\0\0\0\0",
-        // sectname, segname, addr, size, and offset, align, reloff, nreloc, flags, reserved1 to 3
-        b"__text\0\0\0\0\0\0\0\0\0\0", b"__TEXT\0\0\0\0\0\0\0\0\0\0", b"\x50\x3f\0\0\x01\0\0\0", b"\x2a\0\0\0\0\0\0\0",
-        b"\0\0\0\0", b"\x04\0\0\0", b"\0\0\0\0", b"\0\0\0\0", b"\0\x04\0\x80", b"\0\0\0\0", b"\0\0\0\0", b"\0\0\0\0",
-    ])
-}
-
-/// The command of a section of `__DWARF`, at this page of file and memory.
-#[rattlefmt::skip]
-fn section(alloc: Global, name: &[u8], place: u8, size: u8) -> Result<Bytes, NoMemory> {
-    joined(alloc, &[
-        // sectname, segname, addr, size, and offset, align, reloff, nreloc, flags, reserved1 to 3
-        name, b"__DWARF\0\0\0\0\0\0\0\0\0", &[place, 0x40, 0, 0, 1, 0, 0, 0], &[size, 0, 0, 0, 0, 0, 0, 0],
-        &[place, 0x10, 0, 0], b"\0\0\0\0", b"\0\0\0\0", b"\0\0\0\0", b"\0\0\0\x02", b"\0\0\0\0", b"\0\0\0\0", b"\0\0\0\0",
-    ])
-}
+const FRONT: &[&[u8]] = &[
+    // magic, cputype, cpusubtype, filetype, ncmds, sizeofcmds, flags, reserved
+    b"\xcf\xfa\xed\xfe\x0c\0\0\x01\0\0\0\0\x0a\0\0\0\x04\0\0\0\xa0\x02\0\0\0\0\0\0\0\0\0\0",
+    // cmd, cmdsize, uuid
+    b"\x1b\0\0\0\x18\0\0\0\0\x11\x22\x33\x44\x55\x66\x77\x88\x99\xaa\xbb\xcc\xdd\xee\xff",
+    // cmd, cmdsize, symoff, nsyms, stroff, strsize
+    b"\x02\0\0\0\x18\0\0\0\xc0\x02\0\0\x01\0\0\0\xd0\x02\0\0\x07\0\0\0",
+    // cmd, cmdsize, segname
+    b"\x19\0\0\0\x98\0\0\0__TEXT\0\0\0\0\0\0\0\0\0\0",
+    // vmaddr, vmsize, fileoff, filesize
+    b"\0\0\0\0\x01\0\0\0\0\x40\0\0\0\0\0\0\0\0\0\0\0\0\0\0\0\0\0\0\0\0\0\0",
+    // maxprot, initprot, nsects, flags
+    b"\x05\0\0\0\x05\0\0\0\x01\0\0\0\0\0\0\0",
+    // sectname, segname, addr, size, and offset, align, reloff, nreloc, flags, reserved1 to 3
+    b"__text\0\0\0\0\0\0\0\0\0\0__TEXT\0\0\0\0\0\0\0\0\0\0\x50\x3f\0\0\x01\0\0\0\x2a\0\0\0\0\0\0\0\0\0\0\0\x04\0\0\0\0\0\0\0\0\0\0\0\0\x04\0\x80\0\0\0\0\0\0\0\0\0\0\0\0",
+    // cmd, cmdsize, segname
+    b"\x19\0\0\0\xd8\x01\0\0__DWARF\0\0\0\0\0\0\0\0\0",
+    // vmaddr, vmsize, fileoff, filesize
+    b"\0\x40\0\0\x01\0\0\0\0\x10\0\0\0\0\0\0\0\x10\0\0\0\0\0\0\xa2\0\0\0\0\0\0\0",
+    // maxprot, initprot, nsects, flags
+    b"\x07\0\0\0\x03\0\0\0\x05\0\0\0\0\0\0\0",
+    // sectname, segname, addr, size, and offset, align, reloff, nreloc, flags, reserved1 to 3
+    b"__debug_abbrev\0\0__DWARF\0\0\0\0\0\0\0\0\0\0\x40\0\0\x01\0\0\0\x19\0\0\0\0\0\0\0\0\x10\0\0\0\0\0\0\0\0\0\0\0\0\0\0\0\0\0\x02\0\0\0\0\0\0\0\0\0\0\0\0",
+    b"__debug_info\0\0\0\0__DWARF\0\0\0\0\0\0\0\0\0\x19\x40\0\0\x01\0\0\0\x30\0\0\0\0\0\0\0\x19\x10\0\0\0\0\0\0\0\0\0\0\0\0\0\0\0\0\0\x02\0\0\0\0\0\0\0\0\0\0\0\0",
+    b"__debug_str\0\0\0\0\0__DWARF\0\0\0\0\0\0\0\0\0\x49\x40\0\0\x01\0\0\0\x09\0\0\0\0\0\0\0\x49\x10\0\0\0\0\0\0\0\0\0\0\0\0\0\0\0\0\0\x02\0\0\0\0\0\0\0\0\0\0\0\0",
+    b"__debug_ranges\0\0__DWARF\0\0\0\0\0\0\0\0\0\x52\x40\0\0\x01\0\0\0\x20\0\0\0\0\0\0\0\x52\x10\0\0\0\0\0\0\0\0\0\0\0\0\0\0\0\0\0\x02\0\0\0\0\0\0\0\0\0\0\0\0",
+    b"__debug_aranges\0__DWARF\0\0\0\0\0\0\0\0\0\x72\x40\0\0\x01\0\0\0\x30\0\0\0\0\0\0\0\x72\x10\0\0\0\0\0\0\0\0\0\0\0\0\0\0\0\0\0\x02\0\0\0\0\0\0\0\0\0\0\0\0",
+    // n_strx, n_type, n_sect, n_desc, n_value
+    b"\x01\0\0\0\x0f\x01\0\0\x50\x3f\0\0\x01\0\0\0",
+    // strings
+    b"\0_main\0",
+];
 
 /// Five sections of 25, 48, 9, 32 and 48 bytes: a unit `m.c` with `main`.
 const SECTIONS: &[&[u8]] = &[
@@ -147,21 +125,9 @@ const SECTIONS: &[&[u8]] = &[
     b"\0\0\0\0\0\0\0\0\0\0\0\0\0\0\0\0",
 ];
 
-/// The image of the program of one object, of 4258 bytes.
-#[rattlefmt::skip]
+/// The image of the program, of 4258 bytes.
 pub(crate) fn image(alloc: Global) -> Result<Bytes, NoMemory> {
-    let mut image = front(alloc)?;
-    image.extend(b"\x19\0\0\0\xd8\x01\0\0__DWARF\0\0\0\0\0\0\0\0\0")?;
-    image.extend(b"\0\x40\0\0\x01\0\0\0\0\x10\0\0\0\0\0\0\0\x10\0\0\0\0\0\0\xa2\0\0\0\0\0\0\0")?;
-    image.extend(b"\x07\0\0\0\x03\0\0\0\x05\0\0\0\0\0\0\0")?;
-    image.extend(section(alloc, b"__debug_abbrev\0\0", 0, 0x19)?.as_slice())?;
-    image.extend(section(alloc, b"__debug_info\0\0\0\0", 0x19, 0x30)?.as_slice())?;
-    image.extend(section(alloc, b"__debug_str\0\0\0\0\0", 0x49, 0x09)?.as_slice())?;
-    image.extend(section(alloc, b"__debug_ranges\0\0", 0x52, 0x20)?.as_slice())?;
-    image.extend(section(alloc, b"__debug_aranges\0", 0x72, 0x30)?.as_slice())?;
-    image.extend(b"\x01\0\0\0")?;
-    image.extend(MAIN)?;
-    image.extend(b"\0_main\0")?;
+    let mut image = joined(alloc, FRONT)?;
     // from 727 on, up to 4096
     image.extend(&[0; 3369])?;
     for section in SECTIONS {
@@ -191,4 +157,3 @@ pub(crate) const PLIST_TEXT: &[u8] = b"<?xml version=\"1.0\" encoding=\"UTF-8\"?
     \t\t<string>1</string>\n\
     \t</dict>\n\
     </plist>\n";
-

@@ -6,4 +6,6 @@
 #[cfg(test)]
 mod bytes;
 #[cfg(test)]
+mod objects;
+#[cfg(test)]
 mod tests;

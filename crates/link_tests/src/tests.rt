@@ -1,4 +1,4 @@
-use crate::bytes::{PLIST_TEXT, image, object, program};
+use crate::bytes::{OBJECT, PLIST_TEXT, PROGRAM, image, joined};
 use ds_base::{Bytes, Fault, Kind, List, NoMemory, Part};
 use ds_files::{MemoryFiles, MemorySink, OpenGate};
 use link_core::{Status, link_main};
@@ -55,7 +55,11 @@ fn links(
     image: &[u8],
 ) {
     assert_eq!(rt; link(alloc, word, files), Ok(want));
-    assert_eq!(rt; files.file(PLIST), Some(plist), "the property list after {want:?}");
+    assert_eq!(rt;
+        files.file(PLIST),
+        Some(plist),
+        "the property list after {want:?}"
+    );
     assert_eq!(rt; files.file(IMAGE), Some(image), "the image after {want:?}");
 }
 
@@ -74,6 +78,14 @@ fn refuses(
     links(rt, alloc, "a.out", &mut files, want, EARLIER, EARLIER);
 }
 
+/// All bytes but the last.
+fn but_last(bytes: &[u8]) -> &[u8] {
+    match bytes.split_last() {
+        Some((_last, front)) => front,
+        None => bytes,
+    }
+}
+
 /// The status of a file with this first fault.
 fn faulty(file: u32, kind: Kind, section: Part, place: u64) -> Status {
     Status::Faulty {
@@ -88,34 +100,98 @@ fn faulty(file: u32, kind: Kind, section: Part, place: u64) -> Status {
 
 /// The calls read the program and the object, and write the property list and the image.
 #[test]
-fn a_program_is_linked_again_where_the_image_was_not_written(rt: HostRuntime) -> Result<(), NoMemory> {
+fn a_program_is_linked_again_where_the_image_was_not_written(
+    rt: HostRuntime,
+) -> Result<(), NoMemory> {
     let alloc = rt.alloc();
-    let program = program(alloc)?;
-    let object = object(alloc)?;
+    let program = joined(alloc, PROGRAM)?;
+    let object = joined(alloc, OBJECT)?;
     let image = image(alloc)?;
     assert_eq!(rt; image.len(), 4258);
     let mut files = files(alloc, program.as_slice(), object.as_slice(), 4)?;
     let unwritten = Status::WriteFault { file: 1 };
-    links(&rt, alloc, "a.out", &mut files, unwritten, PLIST_TEXT, EARLIER);
-    links(&rt, alloc, "a.out", &mut files, Status::Done, PLIST_TEXT, image.as_slice());
-    links(&rt, alloc, "-x", &mut files, Status::Usage, PLIST_TEXT, image.as_slice());
-    links(&rt, alloc, "dir/", &mut files, Status::Usage, PLIST_TEXT, image.as_slice());
-    links(&rt, alloc, "b.out", &mut files, Status::Missing { file: 0 }, PLIST_TEXT, image.as_slice());
+    links(
+        &rt, alloc, "a.out", &mut files, unwritten, PLIST_TEXT, EARLIER,
+    );
+    links(
+        &rt,
+        alloc,
+        "a.out",
+        &mut files,
+        Status::Done,
+        PLIST_TEXT,
+        image.as_slice(),
+    );
+    links(
+        &rt,
+        alloc,
+        "-x",
+        &mut files,
+        Status::Usage,
+        PLIST_TEXT,
+        image.as_slice(),
+    );
+    links(
+        &rt,
+        alloc,
+        "dir/",
+        &mut files,
+        Status::Usage,
+        PLIST_TEXT,
+        image.as_slice(),
+    );
+    links(
+        &rt,
+        alloc,
+        "b.out",
+        &mut files,
+        Status::Missing { file: 0 },
+        PLIST_TEXT,
+        image.as_slice(),
+    );
     Ok(())
 }
 
 #[test]
 fn a_link_that_is_refused_writes_nothing(rt: HostRuntime) -> Result<(), NoMemory> {
     let alloc = rt.alloc();
-    let program = program(alloc)?;
-    let object = object(alloc)?;
+    let program = joined(alloc, PROGRAM)?;
+    let object = joined(alloc, OBJECT)?;
     let (a, o) = (program.as_slice(), object.as_slice());
     refuses(&rt, alloc, a, o, 1, Status::ReadFault { file: 0 });
     refuses(&rt, alloc, a, o, 2, Status::ReadFault { file: 1 });
     refuses(&rt, alloc, a, o, 3, Status::WriteFault { file: 0 });
-    refuses(&rt, alloc, b"", o, 0, faulty(0, Kind::Truncated, Part::Header, 0));
-    refuses(&rt, alloc, &a[..a.len() - 1], o, 0, faulty(0, Kind::BadSymbols, Part::Symbols, 0));
-    refuses(&rt, alloc, a, a, 0, faulty(1, Kind::BadFileType, Part::Header, 12));
-    refuses(&rt, alloc, a, &o[..o.len() - 1], 0, faulty(1, Kind::BadSymbols, Part::Symbols, 0));
+    refuses(
+        &rt,
+        alloc,
+        b"",
+        o,
+        0,
+        faulty(0, Kind::Truncated, Part::Header, 0),
+    );
+    refuses(
+        &rt,
+        alloc,
+        but_last(a),
+        o,
+        0,
+        faulty(0, Kind::BadSymbols, Part::Symbols, 0),
+    );
+    refuses(
+        &rt,
+        alloc,
+        a,
+        a,
+        0,
+        faulty(1, Kind::BadFileType, Part::Header, 12),
+    );
+    refuses(
+        &rt,
+        alloc,
+        a,
+        but_last(o),
+        0,
+        faulty(1, Kind::BadSymbols, Part::Symbols, 0),
+    );
     Ok(())
 }

@@ -55,7 +55,7 @@ fn units_of(alloc: Global, seen: List<Analysis>, shape: &Shape) -> Result<List<O
     let mut units = List::with_capacity(alloc, shape.units.len())?;
     for u in 0..shape.units.len() {
         let Some(object) = object_of(shape, u as u32) else {
-            return Err(NoMemory);
+            unreachable!();
         };
         let_go(alloc, left.as_mut_slice(), gone, object as usize);
         gone = object as usize;
@@ -94,11 +94,12 @@ fn unit_of(
 ) -> Result<OutUnit, NoMemory>
     requires unit { unit < length shape.now.units }
     requires object { its_object shape.now unit ≡ Some object }
+    requires there { object < length left.now }
     requires sound { (it : Seen) → slice_get left.now object ≡ Some it → IsSound it }
     ensures { IfOk result (λ it. (all : Listed Seen) → IsShape all shape.now → AreLeft object all left.now → slice_get (linked (objects_in all shape.now)).units unit ≡ Some it) }
 {
     let Some(its) = left.get(object) else {
-        return Err(NoMemory);
+        unreachable!();
     };
     let unit = clone_unit_of(alloc, its, shape, unit)?;
     Ok(unit)

@@ -15,6 +15,3 @@ mod refusal;
 pub use bundle::{Counts, Linked, Options};
 pub use link::link_objects;
 pub use refusal::{LimitKind, Refusal};
-
-#[cfg(test)]
-mod tests;

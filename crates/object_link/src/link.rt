@@ -70,8 +70,8 @@ fn link_marked(
     ensures { Links program.now name.now seen marks.now result }
 {
     let objects = seen.len() as u64;
-    let entries = count_entries(seen.as_slice())?;
-    let live = count_live(seen.as_slice(), marks)?;
+    let entries = count_entries(seen.as_slice());
+    let live = count_live(seen.as_slice(), marks);
     let graph = graph_in(alloc, seen, marks)?;
     let image = image_of(alloc, program, &graph)?;
     let plist = plist_text(alloc, name)?;
@@ -81,7 +81,7 @@ fn link_marked(
         live,
         pooled: 0,
         names: 0,
-        nodes: count_nodes(graph.units.as_slice())?,
+        nodes: count_nodes(graph.units.as_slice()),
         bytes: image.len() as u64,
     };
     Ok(Linked {

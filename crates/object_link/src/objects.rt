@@ -1,6 +1,6 @@
 //! The analyses of a program's objects.
 
-ghost use Rattle.std.specs.Prelude.{◌≡◌, ◌<◌, ◌^◌, [], Result as Outcome, length, slice_index_or, IfOk, IfSome};
+ghost use Rattle.std.specs.Prelude.{◌≡◌, ◌<◌, ◌≤◌, ◌^◌, [], Result as Outcome, length, slice_index_or, IfOk, IfSome};
 ghost use Rattle.dwarf_types.specs.declared.analysis.Analysis.{Analysis as Seen};
 ghost use Rattle.ds_base.specs.declared.fault.Fault.{Fault as Wrong};
 ghost use Rattle.std.specs.List.{All};
@@ -34,6 +34,7 @@ pub(crate) fn analyses(
     requires few { length objects.now < 2 ^ 16 }
     requires each { length source.now ≡ length objects.now }
     requires held { All (λ k. IfSome k (λ n. n < length files.now)) source.now }
+    requires small { All (λ file. length file < 2 ^ 32) files.now }
     ensures exact { Analyses (analyses_from cpu 1 (sources_of objects.now files.now source.now)) result }
     ensures sound { IfOk result (All IsSound) }
     ensures given { IfOk result (All IsGiven) }
@@ -88,6 +89,7 @@ fn analysis(
 ) -> Result<Analysis, ReadError>
     requires held { IfSome source (λ n. n < length files.now) }
     requires archives { archives.now ≡ files.now }
+    requires small { All (λ file. length file < 2 ^ 32) files.now }
     ensures exact { Gives (λ it. it) result (analysis_from cpu object.now (option_map (λ k. slice_index_or files.now k []) source)) }
     ensures sound { IfOk result IsSound }
     ensures given { IfOk result IsGiven }
@@ -125,7 +127,8 @@ fn analysis_of_file(
     file: &[u8],
     members: &Members,
 ) -> Result<Analysis, ReadError>
-    requires { members.now ≡ file.now }
+    requires members { members.now ≡ file.now }
+    requires small { length file.now < 2 ^ 32 }
     ensures exact { Gives (λ it. it) result (analysis_in cpu object.now file.now) }
     ensures sound { IfOk result IsSound }
     ensures given { IfOk result IsGiven }
@@ -141,7 +144,8 @@ fn content_of<'a>(
     members: &Members<'a>,
 ) -> Result<&'a [u8], Fault>
     requires { members.now ≡ file.now }
-    ensures { Finds (λ bytes. bytes.now) result (bytes_of member.now file.now) }
+    ensures finds { Finds (λ bytes. bytes.now) result (bytes_of member.now file.now) }
+    ensures within { IfOk result (λ bytes. length bytes.now ≤ length file.now) }
 {
     match member {
         None => Ok(file),
@@ -156,13 +160,10 @@ fn analysis_of_bytes(
     object: &MapObject,
     bytes: &[u8],
 ) -> Result<Analysis, ReadError>
+    requires { length bytes.now < 2 ^ 32 }
     ensures exact { Gives (λ it. it) result (analysis_of bytes.now object.now cpu) }
     ensures sound { IfOk result IsSound }
     ensures given { IfOk result IsGiven }
 {
-    // No file has 2^32 bytes, and so no member of one has.
-    if bytes.len() > u32::MAX as usize {
-        return Err(ReadError::NoMemory);
-    }
     analyse(alloc, bytes, object, cpu)
 }

@@ -5,4 +5,4 @@ use Rattle.object_link.proofs.objects.analysis_of_bytes.Goals as goal
 
 pub returns-clause-given : goal.returns-clause-given
 returns-clause-given c =
-    given_from c.args.bytes.now c.args.object.now c.args.cpu c.analyse.result (omega (arith, c.if-bytes.false)) (AreBytes-from _ (λ i. let small = c.type_inv.bytes i in omega (arith, small))) c.analyse.ensures.exact
+    given_from c.args.bytes.now c.args.object.now c.args.cpu c.analyse.result c.requires (AreBytes-from _ (λ i. let small = c.type_inv.bytes i in omega (arith, small))) c.analyse.ensures.exact

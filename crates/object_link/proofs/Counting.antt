@@ -1,0 +1,119 @@
+-- What is counted of a link fits 64 bits: an object has few entries, and each node of the graph takes a byte.
+use Rattle.std.proofs.Common.{◌≡◌, ◌<◌, ◌≤◌, ◌+◌, ◌-◌, ◌*◌, ◌^◌, ℕ, zero, suc, Bool, true, false, List, [], ◌∷◌, length, length-take, map, take, get_or, Option, Some, None, is_some, Ok, refl, sym, ap, subst, ◌∙◌, arith, if◌then◌else◌}
+use Rattle.std.specs.Prelude.{nat_le, cond}
+use Rattle.std.specs.List.{All, enumerate_from, filter, find, sum_by, zip}
+use Rattle.std.specs.Option.{option_map}
+use Rattle.std.proofs.lemmas.Bool.{leb-false}
+use Rattle.std.proofs.lemmas.List.{length-map}
+use Rattle.std.proofs.lemmas.List.Elements.{All-cons, All-head, All-nil, All-tail}
+use Rattle.std.proofs.lemmas.List.Sums.{sum_by-cons, sum_by-le, sum_by_more_le}
+use Rattle.ds_base.specs.Leb.{uleb_len_of}
+use Rattle.ds_base.proofs.Finding.{none_of}
+use Rattle.ds_base.proofs.LebLengths.{some_digits}
+use Rattle.dwarf_types.specs.declared.analysis.Analysis.{Analysis}
+use Rattle.dwarf_types.specs.declared.graph.Graph.{Graph}
+use Rattle.dwarf_types.specs.declared.graph.Node.{Node}
+use Rattle.dwarf_types.specs.declared.graph.OutUnit.{OutUnit}
+use Rattle.dwarf_types.specs.Entries.{OutEntry, entries_of, entry_len, entry_of, unit_len}
+use Rattle.dwarf_types.specs.Layout.{numbered_units}
+use Rattle.dwarf_types.specs.LinkedShape.{AreMarked}
+use Rattle.dwarf_types.specs.Sound.{IsSound}
+use Rattle.macho_read.specs.declared.image.Image.{Image}
+use Rattle.layout.specs.Laid.{long_unit}
+use Rattle.object_link.specs.declared.refusal.Refusal.{Refusal}
+use Rattle.object_link.specs.Linked.{first_limit}
+
+-- ---- entries
+
+pub entries_few : (seen : List Analysis) → All IsSound seen → length seen < 2 ^ 16 → sum_by (λ object. length object.entries) seen < 2 ^ 40
+entries_few seen sound few =
+    let all = sum_by-le (λ (object : Analysis). length object.entries) (2 ^ 24) seen (λ k object lt. (sound k object lt).few) in
+    omega (arith, all, few)
+
+pub entries_so_far : (seen : List Analysis) (i : ℕ) (object : Analysis) → All IsSound seen → length seen < 2 ^ 16 → i < length seen → object ≡ get_or seen i object
+    → sum_by (λ a. length a.entries) (take i seen) + length object.entries < 2 ^ 40
+entries_so_far seen i object sound few lt is =
+    let f : Analysis → ℕ = λ a. length a.entries in
+    let more = sum_by_more_le f seen i object lt in
+    omega (arith, more, ap f is, entries_few seen sound few)
+
+filter_few : (row : List Bool) → length (filter (λ b. b) row) ≤ length row
+filter_few [] = omega arith
+filter_few (true ∷ row) = let rest = filter_few row in omega (arith, rest)
+filter_few (false ∷ row) = let rest = filter_few row in omega (arith, rest)
+
+live_few : (seen : List Analysis) (marks : List (List Bool)) → length marks ≡ length seen → All (λ object. length object.1 ≡ length object.0.entries) (zip seen marks)
+    → sum_by (λ row. length (filter (λ b. b) row)) marks ≤ sum_by (λ object. length object.entries) seen
+live_few [] [] each whole = omega arith
+live_few [] (row ∷ marks) each whole = absurd (omega (arith, each))
+live_few (a ∷ seen) [] each whole = absurd (omega (arith, each))
+live_few (a ∷ seen) (row ∷ marks) each whole =
+    let same : length row ≡ length a.entries = All-head (λ (o : Analysis × List Bool). length o.1 ≡ length o.0.entries) (a, row) (zip seen marks) whole in
+    let rest = live_few seen marks (omega (arith, each)) (All-tail (λ (o : Analysis × List Bool). length o.1 ≡ length o.0.entries) (a, row) (zip seen marks) whole) in
+    let front = sum_by-cons (λ (object : Analysis). length object.entries) a seen in
+    let front_marks = sum_by-cons (λ (r : List Bool). length (filter (λ b. b) r)) row marks in
+    omega (arith, same, rest, front, front_marks, filter_few row)
+
+pub live_so_far : (seen : List Analysis) (marks : List (List Bool)) (i : ℕ) (row : List Bool) → All IsSound seen → length seen < 2 ^ 16 → AreMarked seen marks → i < length marks → row ≡ get_or marks i row
+    → sum_by (λ r. length (filter (λ b. b) r)) (take i marks) + length (filter (λ b. b) row) < 2 ^ 40
+live_so_far seen marks i row sound few marked lt is =
+    let f : List Bool → ℕ = λ r. length (filter (λ b. b) r) in
+    let more = sum_by_more_le f marks i row lt in
+    omega (arith, more, ap f is, live_few seen marks marked.each marked.whole, entries_few seen sound few)
+
+pub marks_so_far : (row : List Bool) (k : ℕ) → length (filter (λ b. b) (take k row)) ≤ k
+marks_so_far row k = let few = filter_few (take k row) in omega (arith, few, length-take k row)
+
+-- ---- nodes
+
+sum_some : {A : Type 0} (f : A → ℕ) → ((x : A) → 1 ≤ f x) → (xs : List A) → length xs ≤ sum_by f xs
+sum_some f some [] = omega arith
+sum_some f some (x ∷ xs) = let rest = sum_some f some xs in omega (arith, rest, some x, sum_by-cons f x xs)
+
+enumerate_many : {A : Type 0} (k : ℕ) (xs : List A) → length (enumerate_from k xs) ≡ length xs
+enumerate_many k [] = refl
+enumerate_many k (x ∷ xs) = ap suc (enumerate_many (k + 1) xs)
+
+entry_some : (e : OutEntry) → 1 ≤ entry_len e
+entry_some e = let some = some_digits e.code in omega (arith, some)
+
+nodes_within : (u : ℕ) (unit : OutUnit) → length unit.nodes ≤ unit_len u unit
+nodes_within u unit =
+    let all = sum_some entry_len entry_some (entries_of u unit) in
+    let many = length-map (enumerate_from 0 unit.nodes) (λ (n : ℕ × Node). entry_of u unit.nodes n.0 n.1) in
+    omega (arith, all, many, enumerate_many 0 unit.nodes)
+
+abbrev IsShort : ℕ × OutUnit → Type 0
+IsShort n = nat_le (2 ^ 28) (unit_len n.0 n.1) ≡ false
+
+units_short : (k : ℕ) (units : List OutUnit) → All IsShort (enumerate_from k units) → All (λ unit. length unit.nodes ≤ 2 ^ 28) units
+units_short k [] short = All-nil (λ (unit : OutUnit). length unit.nodes ≤ 2 ^ 28)
+units_short k (unit ∷ units) short =
+    let here = leb-false (2 ^ 28) (unit_len k unit) (All-head IsShort (k, unit) (enumerate_from (k + 1) units) short) in
+    All-cons (λ (unit : OutUnit). length unit.nodes ≤ 2 ^ 28) unit units (omega (arith, here, nodes_within k unit))
+    (units_short (k + 1) units (All-tail IsShort (k, unit) (enumerate_from (k + 1) units) short))
+
+not_first : (b : Bool) (r : Refusal) (rest : Option Refusal) → (if b then Some r else rest) ≡ None → (b ≡ false) × (rest ≡ None)
+not_first true r rest e = absurd cc
+not_first false r rest e = (refl, e)
+
+unmapped : {A B : Type 0} (f : A → B) (o : Option A) → is_some (option_map f o) ≡ false → o ≡ None
+unmapped f None e = refl
+unmapped f (Some x) e = absurd cc
+
+pub nodes_few : (program : Image) (graph : Graph) → first_limit program graph ≡ None → length graph.units < 2 ^ 32 → sum_by (λ unit. length unit.nodes) graph.units < 2 ^ 64
+nodes_few program graph none few =
+    let behind = not_first _ _ _ none in
+    let short = not_first _ _ _ behind.1 in
+    let each = units_short 0 graph.units (none_of (λ (n : ℕ × OutUnit). nat_le (2 ^ 28) (unit_len n.0 n.1)) (numbered_units graph) (unmapped (λ (n : ℕ × OutUnit). n.0) _ short.0)) in
+    within graph.units each few
+  where
+    within : (units : List OutUnit) → All (λ unit. length unit.nodes ≤ 2 ^ 28) units → length units < 2 ^ 32 → sum_by (λ unit. length unit.nodes) units < 2 ^ 64
+    within units each few = let all = sum_by-le (λ (unit : OutUnit). length unit.nodes) (2 ^ 28) units each in omega (arith, all, few)
+
+pub nodes_so_far : (units : List OutUnit) (i : ℕ) (unit : OutUnit) → sum_by (λ u. length u.nodes) units < 2 ^ 64 → i < length units → unit ≡ get_or units i unit
+    → sum_by (λ u. length u.nodes) (take i units) + length unit.nodes < 2 ^ 64
+nodes_so_far units i unit few lt is =
+    let f : OutUnit → ℕ = λ u. length u.nodes in
+    let more = sum_by_more_le f units i unit lt in
+    omega (arith, more, ap f is, few)
