@@ -1,6 +1,6 @@
 //! Whether an analysis whose expressions name no base type is sound, as a test at run time.
 
-ghost use Rattle.std.specs.Prelude.{◌≡◌, ◌≤◌, ◌^◌, ℕ, [], nat_lt, length};
+ghost use Rattle.std.specs.Prelude.{◌≡◌, ◌≤◌, ◌^◌, ℕ, [], is_none, nat_lt, length};
 ghost use Rattle.std.specs.Bool.{OnTrue};
 ghost use Rattle.std.specs.List.{list_all};
 ghost use Rattle.dwarf_types.specs.declared.entry.Entry.{Entry as EntrySpec};
@@ -9,7 +9,7 @@ ghost use Rattle.dwarf_types.specs.Sound.{AreCodeRanges, AreUnits, IsIn, IsParen
 ghost use Rattle.graph_tests.specs.SoundTests.{has_no_base, is_within};
 
 use ds_base::dwarf::DW_TAG_subprogram;
-use dwarf_types::{Analysis, Attr, CodeRange, Entry, InUnit, Op, Value};
+use dwarf_types::{Analysis, Attr, CodeRange, Entry, InUnit, Location, Op, PlainOp, Value};
 
 /// The most entries that an analysis may have.
 const MOST_ENTRIES: usize = 1 << 24;
@@ -120,12 +120,22 @@ fn is_within(value: &Value, count: usize) -> bool
     match value {
         Value::Ref(target) => (*target as usize) < count,
         Value::Expr(ops) => have_no_base(ops.as_slice()),
-        Value::Locations(items) => items
-            .as_slice()
-            .iter()
-            .all(|item| have_no_base(item.ops.as_slice())),
+        Value::Locations(items) => list_has_no_base(items.as_slice()),
         _ => true,
     }
+}
+
+/// Whether no expression of a location list names a base type.
+fn list_has_no_base(items: &[Location]) -> bool
+    ensures { result ≡ list_all (λ item. list_all has_no_base item.ops) items.now }
+{
+    items.iter().all(location_has_no_base)
+}
+
+fn location_has_no_base(item: &Location) -> bool
+    ensures { result ≡ list_all has_no_base item.now.ops }
+{
+    have_no_base(item.ops.as_slice())
 }
 
 /// Whether no operation names a base type, nor one inside another.
@@ -139,5 +149,20 @@ fn have_no_base(ops: &[Op]) -> bool
 fn has_no_base(op: &Op) -> bool
     ensures { result ≡ has_no_base op.now }
 {
-    op.base.is_none() && op.inner.as_slice().iter().all(|inner| inner.base.is_none())
+    if op.base.is_some() {
+        return false;
+    }
+    are_bare(op.inner.as_slice())
+}
+
+fn are_bare(inner: &[PlainOp]) -> bool
+    ensures { result ≡ list_all (λ i. is_none i.base) inner.now }
+{
+    inner.iter().all(is_bare)
+}
+
+fn is_bare(inner: &PlainOp) -> bool
+    ensures { result ≡ is_none inner.now.base }
+{
+    inner.base.is_none()
 }
