@@ -1,13 +1,12 @@
 -- What is counted of a link fits 64 bits: an object has few entries, and each node of the graph takes a byte.
-use Rattle.std.proofs.Common.{◌≡◌, ◌<◌, ◌≤◌, ◌+◌, ◌-◌, ◌*◌, ◌^◌, ℕ, zero, suc, Bool, true, false, List, [], ◌∷◌, length, length-take, map, take, get_or, Option, Some, None, is_some, Ok, refl, sym, ap, subst, ◌∙◌, arith, if◌then◌else◌}
-use Rattle.std.specs.Prelude.{nat_le, cond}
-use Rattle.std.specs.List.{All, enumerate_from, filter, find, sum_by, zip}
+use Rattle.std.proofs.Common.{◌≡◌, ◌<◌, ◌≤◌, ◌+◌, ◌^◌, ℕ, suc, Bool, true, false, List, [], ◌∷◌, length, length-take, take, get_or, Option, Some, None, is_some, refl, ap, arith, if◌then◌else◌}
+use Rattle.std.specs.Prelude.{nat_le}
+use Rattle.std.specs.List.{All, enumerate_from, filter, sum_by, zip}
 use Rattle.std.specs.Option.{option_map}
 use Rattle.std.proofs.lemmas.Bool.{leb-false}
 use Rattle.std.proofs.lemmas.List.{length-map}
 use Rattle.std.proofs.lemmas.List.Elements.{All-cons, All-head, All-nil, All-tail}
 use Rattle.std.proofs.lemmas.List.Sums.{sum_by-cons, sum_by-le, sum_by_more_le}
-use Rattle.ds_base.specs.Leb.{uleb_len_of}
 use Rattle.ds_base.proofs.Finding.{none_of}
 use Rattle.ds_base.proofs.LebLengths.{some_digits}
 use Rattle.dwarf_types.specs.declared.analysis.Analysis.{Analysis}
@@ -19,7 +18,6 @@ use Rattle.dwarf_types.specs.Layout.{numbered_units}
 use Rattle.dwarf_types.specs.LinkedShape.{AreMarked}
 use Rattle.dwarf_types.specs.Sound.{IsSound}
 use Rattle.macho_read.specs.declared.image.Image.{Image}
-use Rattle.layout.specs.Laid.{long_unit}
 use Rattle.object_link.specs.declared.refusal.Refusal.{Refusal}
 use Rattle.object_link.specs.Linked.{first_limit}
 

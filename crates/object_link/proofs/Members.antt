@@ -1,17 +1,16 @@
 -- A member of an archive has no more bytes than the archive.
-use Rattle.std.proofs.Common.{◌≡◌, ◌≤◌, ◌-◌, ℕ, zero, suc, ◌==◌, not, Bool, true, false, List, length, take, drop, length-take, length-drop, Result, Ok, Err, Bor, nat_lt, nat_eq, min, refl, sym, ap, subst, ◌∙◌, arith, if◌then◌else◌}
+use Rattle.std.proofs.Common.{◌≡◌, ◌≤◌, ◌-◌, ℕ, zero, suc, ◌==◌, not, Bool, true, false, List, length, take, drop, length-take, length-drop, Result, Ok, Err, Bor, nat_lt, nat_eq, refl, ap, subst, arith, if◌then◌else◌}
 use Rattle.std.specs.Prelude.{IfOk}
 use Rattle.std.specs.List.{starts_with}
 use Rattle.std.specs.Str.{bytes_eq}
 use Rattle.ds_base.specs.declared.fault.Fault.{Fault}
 use Rattle.ds_base.specs.declared.fault.Kind.TheVariants as kinds
 use Rattle.ds_base.specs.declared.macho.TheConstants.{ARMAG, AR_HDR_SIZE, ARFMAG, AR_EFMT1}
-use Rattle.ds_base.specs.Reading.{◌>>=◌, Finds, or_fault, refuse_if}
+use Rattle.ds_base.specs.Reading.{Finds, or_fault}
 use Rattle.ds_base.proofs.Passing.{bind_ok, ok_is, passed}
 use Rattle.ar_read.specs.Archive.{find_in, member_of, member_size}
 use Rattle.ar_read.specs.Header.{Named, archive_fault, long_at, member_at, named_at}
 use Rattle.ar_read.specs.Number.{number_of}
-use Rattle.ar_read.specs.Padding.{unpadded}
 
 named_of : List ℕ → List ℕ → ℕ → Named
 named_of name content size = record { name = name; content = content; size = size }

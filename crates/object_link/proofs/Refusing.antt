@@ -1,5 +1,5 @@
 -- What is refused has its cause.
-use Rattle.std.proofs.Common.{◌≡◌, ℕ, List, Option, Some, None, Result, Ok, Err, is_some, sym, ap, subst, ◌∙◌, refl}
+use Rattle.std.proofs.Common.{◌≡◌, ℕ, List, Some, None, Result, Ok, Err, is_some, sym, ap, subst, ◌∙◌, refl}
 use Rattle.std.specs.Prelude.{is_ok}
 use Rattle.dwarf_types.specs.declared.analysis.Analysis.{Analysis}
 use Rattle.macho_read.specs.declared.image.Image.{Image}
