@@ -1,5 +1,5 @@
 -- A member of an archive has no more bytes than the archive.
-use Rattle.std.proofs.Common.{◌≡◌, ◌≤◌, ◌-◌, ℕ, zero, suc, ◌==◌, not, Bool, true, false, List, length, take, drop, length-take, length-drop, Result, Ok, Err, Bor, nat_lt, nat_eq, refl, ap, subst, arith, if◌then◌else◌}
+use Rattle.std.proofs.Common.{◌≡◌, ◌<◌, ◌≤◌, ◌+◌, ◌-◌, ◌∙◌, sym, inl, inr, ℕ, zero, suc, not, Bool, true, false, List, length, take, drop, length-take, length-drop, Result, Ok, Err, Bor, nat_lt, nat_eq, refl, ap, subst, arith, if◌then◌else◌}
 use Rattle.std.specs.Prelude.{IfOk}
 use Rattle.std.specs.List.{starts_with}
 use Rattle.std.specs.Str.{bytes_eq}
@@ -8,7 +8,9 @@ use Rattle.ds_base.specs.declared.fault.Kind.TheVariants as kinds
 use Rattle.ds_base.specs.declared.macho.TheConstants.{ARMAG, AR_HDR_SIZE, ARFMAG, AR_EFMT1}
 use Rattle.ds_base.specs.Reading.{Finds, or_fault}
 use Rattle.ds_base.proofs.Passing.{bind_ok, ok_is, passed}
-use Rattle.ar_read.specs.Archive.{find_in, member_of, member_size}
+use Rattle.ar_read.specs.Archive.{found_in, member_of, member_size}
+use Rattle.ar_read.proofs.Listing.{all_members, found_end, found_fault, found_step, from_place}
+use Rattle.std.proofs.lemmas.Bool.{cases_lt}
 use Rattle.ar_read.specs.Header.{Named, archive_fault, long_at, member_at, named_at}
 use Rattle.ar_read.specs.Number.{number_of}
 
@@ -41,29 +43,31 @@ member_within place bytes m e =
     let within = named_within place (take 16 bytes) (take size.0 (drop AR_HDR_SIZE bytes)) m third.1 in
     omega (arith, within, length-take size.0 (drop AR_HDR_SIZE bytes), length-drop AR_HDR_SIZE bytes)
 
-found_within : (count end : ℕ) (name rest content : List ℕ) → find_in count end name rest ≡ Ok content → length content ≤ length rest
-found_within zero end name rest content e = absurd cc
-found_within (suc count) end name rest content e = by (length rest == 0) refl e (λ next. found_within count end name next content)
-  where
-    by : (b : Bool) → (length rest == 0) ≡ b → find_in (suc count) end name rest ≡ Ok content → ((next : List ℕ) → find_in count end name next ≡ Ok content → length content ≤ length next)
-        → length content ≤ length rest
-    by true t e more = absurd (let clash = rw t at e in cc)
-    by false t e more =
-        let m = bind_ok (member_at (end - length rest) rest) (λ m. if bytes_eq m.name name then Ok m.content else find_in count end name (drop (member_size m.size) rest)) content (rw t at e) in
-        here m.0 m.1 (bytes_eq m.0.name name) refl m.2
-      where
-        here : (m : Named) → member_at (end - length rest) rest ≡ Ok m → (same : Bool) → bytes_eq m.name name ≡ same
-            → (if bytes_eq m.name name then Ok m.content else find_in count end name (drop (member_size m.size) rest)) ≡ Ok content → length content ≤ length rest
-        here m is true same e =
-            let it = ap (λ (bs : List ℕ). length bs) (ok_is m.content content (rw same at e)) in
-            omega (arith, it, member_within (end - length rest) rest m is)
-        here m is false same e = omega (arith, more (drop (member_size m.size) rest) (rw same at e), length-drop (member_size m.size) rest)
+module _ (bytes name content : List ℕ) (place : ℕ) (more : (next : ℕ) → place < next → found_in name (from_place bytes next) ≡ Ok content → length content ≤ length bytes) where
+  -- it is this member's, or that of one behind it
+  named_here : (m : Named) → member_at place (drop place bytes) ≡ Ok m → (same : Bool) → bytes_eq m.name name ≡ same
+      → (if bytes_eq m.name name then Ok m.content else found_in name (from_place bytes (place + member_size m.size))) ≡ Ok content → length content ≤ length bytes
+  named_here m is true same e =
+      let it = ap (λ (bs : List ℕ). length bs) (ok_is m.content content (rw same at e)) in
+      omega (arith, it, member_within place (drop place bytes) m is, length-drop place bytes)
+  named_here m is false same e = more (place + member_size m.size) (omega arith) (rw same at e)
+
+  found_here : (one : Result Named Fault) → member_at place (drop place bytes) ≡ one → place < length bytes → found_in name (from_place bytes place) ≡ Ok content → length content ≤ length bytes
+  found_here (Err f) is lt e = absurd (let clash = sym (found_fault bytes name place f lt is) ∙ e in cc)
+  found_here (Ok m) is lt e = named_here m is (bytes_eq m.name name) refl (sym (found_step bytes name place m lt is) ∙ e)
+
+found_within : (n : ℕ) (bytes name content : List ℕ) (place : ℕ) → length bytes - place < n → found_in name (from_place bytes place) ≡ Ok content → length content ≤ length bytes
+found_within zero bytes name content place few e = absurd (omega arith)
+found_within (suc n) bytes name content place few e = elim (cases_lt place (length bytes)) [
+  | inl lt ↦ found_here bytes name content place (λ next behind. found_within n bytes name content next (omega arith)) (member_at place (drop place bytes)) refl lt e
+  | inr end ↦ absurd (let clash = sym (found_end bytes name place end) ∙ e in cc)
+]
 
 member_few : (bytes name content : List ℕ) → member_of bytes name ≡ Ok content → length content ≤ length bytes
 unfolding member_of
 member_few bytes name content e =
     let found = passed (not (starts_with nat_eq bytes ARMAG)) (archive_fault kinds.NotArchive 0) _ content e in
-    omega (arith, found_within (length bytes) (length bytes) name (drop 8 bytes) content found.1, length-drop 8 bytes)
+    found_within (suc (length bytes)) bytes name content 8 (omega arith) (sym (ap (found_in name) (all_members bytes)) ∙ found.1)
 
 -- the member that is found
 pub content_within : (r : Result (Bor (List ℕ)) Fault) (file members name : List ℕ) → members ≡ file → Finds (λ bytes. bytes.now) r (member_of members name) → IfOk r (λ bytes. length bytes.now ≤ length file)
