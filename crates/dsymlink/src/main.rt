@@ -18,9 +18,6 @@ use std::process::ExitCode;
 use std::rt::{Env, Files};
 use std::{env, rt};
 
-#[cfg(test)]
-mod tests;
-
 fn main(rt: HostRuntime) -> ExitCode {
     exit_code(&rt, &rt)
 }

@@ -1,5 +1,5 @@
 use crate::bytes::{OBJECT, PLIST_TEXT, PROGRAM, image, joined};
-use ds_base::{Bytes, Fault, Kind, List, NoMemory, Part};
+use ds_base::{Fault, Kind, List, NoMemory, Part};
 use ds_files::{MemoryFiles, MemorySink, OpenGate};
 use link_core::{Status, link_main};
 use std::alloc::Global;
@@ -44,6 +44,14 @@ fn link(alloc: Global, word: &str, files: &mut MemoryFiles) -> Result<Status, No
     ))
 }
 
+/// Whether the named file is there and has these bytes.
+fn keeps(files: &MemoryFiles, name: &str, want: &[u8]) -> bool {
+    match files.file(name) {
+        Some(bytes) => bytes == want,
+        None => false,
+    }
+}
+
 /// A link by this word has this status, and the bundle then has these bytes.
 fn links(
     rt: &impl Abort,
@@ -54,13 +62,12 @@ fn links(
     plist: &[u8],
     image: &[u8],
 ) {
-    assert_eq!(rt; link(alloc, word, files), Ok(want));
-    assert_eq!(rt;
-        files.file(PLIST),
-        Some(plist),
-        "the property list after {want:?}"
-    );
-    assert_eq!(rt; files.file(IMAGE), Some(image), "the image after {want:?}");
+    match link(alloc, word, files) {
+        Ok(status) => assert!(rt; status == want),
+        Err(NoMemory) => panic!(rt; "no memory"),
+    }
+    assert!(rt; keeps(files, PLIST, plist));
+    assert!(rt; keeps(files, IMAGE, image));
 }
 
 /// A link of this program and object, of which the call of this number fails, is refused so, and writes nothing.
