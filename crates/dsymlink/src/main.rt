@@ -19,22 +19,22 @@ use std::rt::{Env, Files};
 use std::{env, rt};
 
 fn main(rt: HostRuntime) -> ExitCode {
-    exit_code(&rt, &rt)
+    exit_code(&rt)
 }
 
-/// Links the program that the words name, and gives the code of the status. The words are those of `env`.
-fn exit_code<E: Env, R: Files + Print + AllocGlobal>(env: &E, rt: &R) -> ExitCode
+/// Links the program that the words name, and gives the code of the status.
+fn exit_code<R: Env + Files + Print + AllocGlobal>(rt: &R) -> ExitCode
     ensures { Ends (exit_status result) }
 {
-    ExitCode::from(code(&run(env, rt)))
+    ExitCode::from(code(&run(rt)))
 }
 
 /// Links the program that the words name. Words that are not UTF-8 name none.
-fn run<E: Env, R: Files + Print + AllocGlobal>(env: &E, rt: &R) -> Status
+fn run<R: Env + Files + Print + AllocGlobal>(rt: &R) -> Status
     ensures { Runs result }
 {
     let alloc = rt.alloc();
-    let words = match env::args(&(env, alloc)) {
+    let words = match env::args(rt) {
         Ok(args) => words_of(alloc, args),
         Err(error) => return unread(error.kind()),
     };
