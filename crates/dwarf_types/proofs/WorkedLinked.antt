@@ -24,7 +24,7 @@ use Rattle.dwarf_types.specs.Operations.{has_no_operands, operands_of}
 use Rattle.dwarf_types.proofs.WorkedGraph.{code, function, graph, m_c, main, unit}
 
 attr : ℕ → Value → Attr
-attr name value = record { name = name; end = 0; value = value }
+attr name value = record { name = name; form = 0; value = value }
 
 -- an address of the object, and where it went as a start and as an end
 address : ℕ → Option ℕ → Option ℕ → Value

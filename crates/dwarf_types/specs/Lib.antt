@@ -1,5 +1,6 @@
 pub mod Abbreviations
 pub mod Aranges
+pub mod Built
 pub mod Encode
 pub mod Entries
 pub mod Expressions
@@ -18,7 +19,10 @@ pub mod Live
 pub mod Moves
 pub mod Operations
 pub mod Places
+pub mod Put
+pub mod Raw
 pub mod SectionBytes
+pub mod Seen
 pub mod Sound
 pub mod Spelled
 pub mod SpelledOperands

@@ -2,7 +2,7 @@
 use Rattle.std.specs.Prelude.{ℕ, ◌==◌, ◌&&◌, ◌||◌, not, Bool, List, [], ◌∷◌, Option, Some, None, is_none, is_some, if◌then◌else◌}
 use Rattle.std.specs.List.{filter_map, list_all}
 use Rattle.std.specs.Option.{option_map}
-use Rattle.ds_base.specs.declared.dwarf.TheConstants.{DW_AT_high_pc, DW_FORM_flag, DW_FORM_flag_present}
+use Rattle.ds_base.specs.declared.dwarf.TheConstants.{DW_AT_high_pc}
 use Rattle.dwarf_types.specs.declared.entry.Attr.{Attr}
 use Rattle.dwarf_types.specs.declared.entry.Entry.{Entry}
 use Rattle.dwarf_types.specs.declared.expr.Op.{Op}
@@ -14,6 +14,7 @@ use Rattle.dwarf_types.specs.declared.graph.Target.{Target}
 use Rattle.dwarf_types.specs.declared.lists.Location.{Location}
 use Rattle.dwarf_types.specs.declared.value.Value.{Value}
 use Rattle.dwarf_types.specs.declared.value.Value.TheVariants as values
+use Rattle.dwarf_types.specs.Forms.{is_flag}
 use Rattle.dwarf_types.specs.LinkedExpressions.{parts_of}
 use Rattle.dwarf_types.specs.Live.{low_pc_moves}
 use Rattle.dwarf_types.specs.Moves.{address_moved, op_fields}
@@ -28,9 +29,6 @@ all_move ops = list_all (λ op. list_all (λ place. is_some place.linked) (op_fi
 abbrev pub unless_empty : {A B : Type 0} → (List A → B) → List A → Option B
 unless_empty made [] = None
 unless_empty made (x ∷ xs) = Some (made (x ∷ xs))
-
-abbrev pub is_flag : ℕ → Bool
-is_flag form = form == DW_FORM_flag || form == DW_FORM_flag_present
 
 -- a high_pc of class constant is a length, and goes with its low_pc
 abbrev pub loses_low_pc : Entry → Attr → Bool

@@ -1,7 +1,8 @@
 //! What a link takes from an object.
 
 use crate::address::Span;
-use crate::entry::{Entry, InUnit};
+use crate::entries::Entries;
+use crate::entry::InUnit;
 use crate::frames::OutFrame;
 use ds_base::List;
 
@@ -18,7 +19,7 @@ pub struct CodeRange {
 pub struct Analysis {
     pub units: List<InUnit>,
     /// The entries of all units, in document order: an entry stands before those below it.
-    pub entries: List<Entry>,
+    pub entries: Entries,
     /// The pieces of each subprogram's code, in the order of the subprograms.
     pub code: List<CodeRange>,
     pub frames: List<OutFrame>,

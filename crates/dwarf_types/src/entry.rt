@@ -1,5 +1,6 @@
-//! Units and their entries.
+//! Units and their entries, as contracts see them.
 
+use crate::entries::RawEntries;
 use crate::lines::OutLines;
 use crate::value::Value;
 use ds_base::List;
@@ -9,8 +10,8 @@ use ds_base::List;
 pub struct Attr {
     /// The `DW_AT` number.
     pub name: u16,
-    /// Of the first byte behind its value in `__debug_info`.
-    pub end: u32,
+    /// The `DW_FORM` number in which the value was read.
+    pub form: u16,
     pub value: Value,
 }
 
@@ -26,6 +27,32 @@ pub struct Entry {
     /// The `DW_TAG` number.
     pub tag: u16,
     pub attrs: List<Attr>,
+}
+
+/// An attribute as it is read.
+#[derive(Drop)]
+pub struct RawAttr {
+    /// The `DW_AT` number.
+    pub name: u16,
+    /// The `DW_FORM` number in which the value was read.
+    pub form: u16,
+    /// Of the first byte behind its value in `__debug_info`.
+    pub end: u32,
+    pub value: Value,
+}
+
+/// An entry as it is read.
+#[derive(Drop)]
+pub struct RawEntry {
+    /// The number of its parent among the object's entries, counted from 0; none at the root of a unit.
+    pub parent: Option<u32>,
+    /// The number of its unit in the object, counted from 0.
+    pub unit: u32,
+    /// Of its first byte in `__debug_info`.
+    pub place: u32,
+    /// The `DW_TAG` number.
+    pub tag: u16,
+    pub attrs: List<RawAttr>,
 }
 
 /// A unit of an object (DWARF 4, section 7.5.1.1). Its entries follow one another.
@@ -47,5 +74,5 @@ pub struct InUnit {
 pub struct RawUnits {
     pub units: List<InUnit>,
     /// The entries of all units, in document order: an entry stands before those below it.
-    pub entries: List<Entry>,
+    pub entries: RawEntries,
 }

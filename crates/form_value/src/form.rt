@@ -1,7 +1,6 @@
 //! The forms of attribute values, as one table from their numbers (DWARF 5, section 7.5.6, table 7.6).
 
 ghost use Rattle.std.specs.Prelude.{◌≡◌};
-ghost use Rattle.form_value.specs.Forms;
 ghost use Rattle.form_value.specs.Forms.{form_row, since_4, since_5};
 
 use ds_base::dwarf::{
@@ -112,13 +111,6 @@ pub fn form_class(form: u16) -> Option<FormRow>
         DW_FORM_ref_sup4 | DW_FORM_strp_sup | DW_FORM_ref_sup8 => old(FormClass::Outside),
         _ => None,
     }
-}
-
-/// Whether a form is that of a flag, which is no constant (DWARF 4, section 7.5.4).
-pub fn is_flag(form: u16) -> bool
-    ensures { result ≡ Forms.is_flag form }
-{
-    form == DW_FORM_flag || form == DW_FORM_flag_present
 }
 
 /// The row of a form of DWARF 4.

@@ -11,6 +11,6 @@ mod form;
 mod laws;
 mod value;
 
-pub use form::{Coding, FormClass, FormRow, form_class, is_flag};
+pub use form::{Coding, FormClass, FormRow, form_class};
 pub use laws::{kinds_of_value_faults, values_are_read_as_spelled};
 pub use value::read_value;

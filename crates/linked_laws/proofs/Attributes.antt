@@ -23,7 +23,8 @@ use Rattle.dwarf_types.specs.declared.lists.Location.{Location}
 use Rattle.dwarf_types.specs.declared.value.Value.{Value}
 use Rattle.dwarf_types.specs.declared.value.Value.TheVariants as values
 use Rattle.dwarf_types.specs.LinkedExpressions.{parts_of}
-use Rattle.dwarf_types.specs.LinkedValues.{all_move, attr_written, attrs_written, is_flag, is_left_out, location_written, loses_low_pc, unless_empty, value_written}
+use Rattle.dwarf_types.specs.Forms.{is_flag}
+use Rattle.dwarf_types.specs.LinkedValues.{all_move, attr_written, attrs_written, is_left_out, location_written, loses_low_pc, unless_empty, value_written}
 use Rattle.dwarf_types.specs.Live.{base_in, op_bases, operations_of, target_in}
 use Rattle.dwarf_types.specs.Moves.{address_moved, place_in, tells_end}
 use Rattle.dwarf_types.specs.WellNodes.{IsAttribute, is_dropped}

@@ -14,7 +14,8 @@ use Rattle.dwarf_types.specs.declared.graph.Target.{Target}
 use Rattle.dwarf_types.specs.declared.value.Value.{Value}
 use Rattle.dwarf_types.specs.declared.value.Value.TheVariants as values
 use Rattle.dwarf_types.specs.LinkedExpressions.{parts_of}
-use Rattle.dwarf_types.specs.LinkedValues.{all_move, attr_written, attrs_written, is_flag, is_left_out, location_written, loses_low_pc, value_written}
+use Rattle.dwarf_types.specs.Forms.{is_flag}
+use Rattle.dwarf_types.specs.LinkedValues.{all_move, attr_written, attrs_written, is_left_out, location_written, loses_low_pc, value_written}
 use Rattle.dwarf_types.specs.Moves.{address_moved}
 use Rattle.dwarf_types.specs.WellNodes.{is_dropped, is_lines}
 use Rattle.dwarf_types.specs.WellRoots.{is_code_range, is_split, names_lines_first}

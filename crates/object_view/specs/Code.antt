@@ -11,7 +11,7 @@ use Rattle.dwarf_types.specs.declared.value.Value.TheVariants as values
 use Rattle.dwarf_types.specs.Moves.{place_in, spans_in, value_of}
 use Rattle.addr_map.specs.declared.map.AddrMap.{AddrMap}
 use Rattle.addr_map.specs.Moved.{pieces}
-use Rattle.form_value.specs.Forms.{is_flag}
+use Rattle.dwarf_types.specs.Forms.{is_flag}
 use Rattle.line_read.specs.Rising.{placed}
 
 -- an address of the object that a value is

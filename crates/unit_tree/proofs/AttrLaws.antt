@@ -10,8 +10,8 @@ use Rattle.ds_base.specs.declared.fault.Kind.TheVariants.{BadOffset}
 use Rattle.ds_base.specs.Spot.{Spot, rest, fault_at}
 use Rattle.ds_base.specs.Reading.{◌>>=◌}
 use Rattle.dwarf_types.specs.declared.abbrev.Field.{Field}
-use Rattle.dwarf_types.specs.declared.entry.Attr.{Attr}
-use Rattle.dwarf_types.specs.declared.entry.Entry.{Entry}
+use Rattle.dwarf_types.specs.declared.entry.RawAttr.{RawAttr}
+use Rattle.dwarf_types.specs.declared.entry.RawEntry.{RawEntry}
 use Rattle.dwarf_types.specs.SectionBytes.{SectionBytes}
 use Rattle.dwarf_types.specs.declared.value.Value.{Value}
 use Rattle.dwarf_types.specs.declared.value.Value.TheVariants as values
@@ -38,11 +38,11 @@ use Rattle.unit_tree.proofs.Placed.{Passed, passed_nothing, passed_then, passed_
 -- ---- references that lead to one of all entries, which begin below the last place of 32 bits
 
 -- all lead
-abbrev pub Lead : List Entry → List Reference → Type 0
+abbrev pub Lead : List RawEntry → List Reference → Type 0
 Lead all references = list_all (leads all) references ≡ true
 
 -- all begin below a place
-abbrev pub AreLow : List Entry → Type 0
+abbrev pub AreLow : List RawEntry → Type 0
 AreLow [] = Unit {0}
 AreLow (e ∷ es) = (e.place < 2 ^ 32 - 1) × AreLow es
 
@@ -50,31 +50,31 @@ pub both_true : (b c : Bool) → (b && c) ≡ true → (b ≡ true) × (c ≡ tr
 both_true true c e = (refl, e)
 both_true false c e = absurd cc
 
-pub lead_front : (all : List Entry) (xs ys : List Reference) → Lead all (xs ++ ys) → Lead all xs
+pub lead_front : (all : List RawEntry) (xs ys : List Reference) → Lead all (xs ++ ys) → Lead all xs
 lead_front all [] ys h = refl
 lead_front all (x ∷ xs) ys h =
     let b = both_true (leads all x) (list_all (leads all) (xs ++ ys)) h in
     rw (b.0, lead_front all xs ys b.1) refl
 
-pub lead_back : (all : List Entry) (xs ys : List Reference) → Lead all (xs ++ ys) → Lead all ys
+pub lead_back : (all : List RawEntry) (xs ys : List Reference) → Lead all (xs ++ ys) → Lead all ys
 lead_back all [] ys h = h
 lead_back all (x ∷ xs) ys h =
     let b = both_true (leads all x) (list_all (leads all) (xs ++ ys)) h in
     lead_back all xs ys b.1
 
-pub lead_both : (all : List Entry) (xs ys : List Reference) → Lead all xs → Lead all ys → Lead all (xs ++ ys)
+pub lead_both : (all : List RawEntry) (xs ys : List Reference) → Lead all xs → Lead all ys → Lead all (xs ++ ys)
 lead_both all [] ys h k = k
 lead_both all (x ∷ xs) ys h k =
     let b = both_true (leads all x) (list_all (leads all) xs) h in
     rw (b.0, lead_both all xs ys b.1 k) refl
 
-later_begins : (x : Entry) (xs : List Entry) (unit : Option ℕ) (place : ℕ) → (x.place ≡ place → ⊥) → begins_at (x ∷ xs) unit place ≡ true → begins_at xs unit place ≡ true
+later_begins : (x : RawEntry) (xs : List RawEntry) (unit : Option ℕ) (place : ℕ) → (x.place ≡ place → ⊥) → begins_at (x ∷ xs) unit place ≡ true → begins_at xs unit place ≡ true
 later_begins x xs unit place ne e =
     let step : begins_at (x ∷ xs) unit place ≡ begins_at xs unit place = rw (ne_eqb x.place place ne) refl in
     sym step ∙ e
 
 -- some entry begins at the place, so it is low
-begun_low : (entries : List Entry) (unit : Option ℕ) (place : ℕ) → AreLow entries → begins_at entries unit place ≡ true → place < 2 ^ 32 - 1
+begun_low : (entries : List RawEntry) (unit : Option ℕ) (place : ℕ) → AreLow entries → begins_at entries unit place ≡ true → place < 2 ^ 32 - 1
 begun_low [] unit place low e = absurd cc
 begun_low (x ∷ xs) unit place low e =
     elim (cases_eq x.place place) [
@@ -91,12 +91,12 @@ cut_not place lt = omega (arith, lt)
 
 -- ---- what a number means
 
-record MeantTaken (all : List Entry) (sections : SectionBytes) (home : Home) (lines : Bool) (meaning : Meaning) (n : ℕ) (y : Value × Option Reference) : Type 0 where
+record MeantTaken (all : List RawEntry) (sections : SectionBytes) (home : Home) (lines : Bool) (meaning : Meaning) (n : ℕ) (y : Value × Option Reference) : Type 0 where
   below : IsBelow sections lines meaning n
   is : y.0 ≡ meant home.place meaning n
   leads_on : ValueLeads all home.unit meaning y.0
 
-record MeantGoes (all : List Entry) (sections : SectionBytes) (home : Home) (lines : Bool) (meaning : Meaning) (n : ℕ) (s : Spot) : Type 0 where
+record MeantGoes (all : List RawEntry) (sections : SectionBytes) (home : Home) (lines : Bool) (meaning : Meaning) (n : ℕ) (s : Spot) : Type 0 where
   reference : Option Reference
   reads : meant_at sections home lines meaning n s ≡ Ok (meant home.place meaning n, reference)
   lead : Lead all (option_to_list reference)
@@ -121,17 +121,17 @@ lines_go true section n s below = offset_goes section n s (below refl)
 lines_go false section n s below = refl
 
 -- a reference that leads
-reference_taken : (all : List Entry) (place : ℕ) (unit : Option ℕ) (s : Spot) → AreLow all → Lead all (option_to_list (reference_to place unit s).1) → (led_to place ≡ place) × (begins_at all unit (led_to place) ≡ true)
+reference_taken : (all : List RawEntry) (place : ℕ) (unit : Option ℕ) (s : Spot) → AreLow all → Lead all (option_to_list (reference_to place unit s).1) → (led_to place ≡ place) × (begins_at all unit (led_to place) ≡ true)
 reference_taken all place unit s low h =
     let b = both_true (begins_at all unit (led_to place)) true h in
     (not_cut place (begun_low all unit (led_to place) low b.0), b.0)
 
-reference_goes : (all : List Entry) (place : ℕ) (unit : Option ℕ) (s : Spot) → AreLow all → begins_at all unit place ≡ true → (led_to place ≡ place) × Lead all (option_to_list (reference_to place unit s).1)
+reference_goes : (all : List RawEntry) (place : ℕ) (unit : Option ℕ) (s : Spot) → AreLow all → begins_at all unit place ≡ true → (led_to place ≡ place) × Lead all (option_to_list (reference_to place unit s).1)
 reference_goes all place unit s low h =
     let is = cut_not place (begun_low all unit place low h) in
     (is, rw (is, h) refl)
 
-meant_taken : (all : List Entry) → AreLow all → (sections : SectionBytes) (home : Home) (lines : Bool) (meaning : Meaning) (n : ℕ) (s : Spot) (y : Value × Option Reference) → meant_at sections home lines meaning n s ≡ Ok y → Lead all (option_to_list y.1)
+meant_taken : (all : List RawEntry) → AreLow all → (sections : SectionBytes) (home : Home) (lines : Bool) (meaning : Meaning) (n : ℕ) (s : Spot) (y : Value × Option Reference) → meant_at sections home lines meaning n s ≡ Ok y → Lead all (option_to_list y.1)
     → MeantTaken all sections home lines meaning n y
 unfolding meant_at
 meant_taken all low sections home lines InUnit n s y e h =
@@ -156,7 +156,7 @@ meant_taken all low sections home lines LocationList n s y e h =
 meant_taken all low sections home lines Other n s y e h =
     subst (λ (p : Value × Option Reference). MeantTaken all sections home lines Other n p) (ok_is (plain n) y e) (record { below = tt; is = refl; leads_on = tt })
 
-meant_goes : (all : List Entry) → AreLow all → (sections : SectionBytes) (home : Home) (lines : Bool) (meaning : Meaning) (n : ℕ) (s : Spot) → IsBelow sections lines meaning n → ValueLeads all home.unit meaning (meant home.place meaning n)
+meant_goes : (all : List RawEntry) → AreLow all → (sections : SectionBytes) (home : Home) (lines : Bool) (meaning : Meaning) (n : ℕ) (s : Spot) → IsBelow sections lines meaning n → ValueLeads all home.unit meaning (meant home.place meaning n)
     → MeantGoes all sections home lines meaning n s
 unfolding meant_at
 meant_goes all low sections home lines InUnit n s below h =
@@ -172,23 +172,23 @@ meant_goes all low sections home lines Other n s below h = record { reference = 
 
 -- ---- what a value means
 
-record ValueTaken (all : List Entry) (sections : SectionBytes) (home : Home) (lines : Bool) (field : Field) (value : Value) (y : Value × Option Reference) : Type 0 where
+record ValueTaken (all : List RawEntry) (sections : SectionBytes) (home : Home) (lines : Bool) (field : Field) (value : Value) (y : Value × Option Reference) : Type 0 where
   inside : IsInside sections lines field value
   is : y.0 ≡ attr_value home.place field value
   leads_on : ValueLeads all home.unit (meaning_of field.form field.name) y.0
 
-record ValueGoes (all : List Entry) (sections : SectionBytes) (home : Home) (root : Bool) (field : Field) (before : List Attr) (value : Value) (s : Spot) : Type 0 where
+record ValueGoes (all : List RawEntry) (sections : SectionBytes) (home : Home) (root : Bool) (field : Field) (before : List RawAttr) (value : Value) (s : Spot) : Type 0 where
   reference : Option Reference
   reads : value_meant_at sections home root field before value s ≡ Ok (attr_value home.place field value, reference)
   lead : Lead all (option_to_list reference)
 
 -- a value that is neither a reference nor an offset is no reference
-no_reference : (all : List Entry) (unit : ℕ) (meaning : Meaning) (value : Value) → ((place : ℕ) → value ≡ values.Ref place → ⊥) → ValueLeads all unit meaning value
+no_reference : (all : List RawEntry) (unit : ℕ) (meaning : Meaning) (value : Value) → ((place : ℕ) → value ≡ values.Ref place → ⊥) → ValueLeads all unit meaning value
 no_reference all unit InUnit (values.Ref place) ne = absurd (ne place refl)
 no_reference all unit InObject (values.Ref place) ne = absurd (ne place refl)
 no_reference all unit meaning value ne = tt
 
-value_taken : (all : List Entry) → AreLow all → (sections : SectionBytes) (home : Home) (root : Bool) (field : Field) (before : List Attr) (value : Value) (s : Spot) (y : Value × Option Reference) → ((place : ℕ) → value ≡ values.Ref place → ⊥)
+value_taken : (all : List RawEntry) → AreLow all → (sections : SectionBytes) (home : Home) (root : Bool) (field : Field) (before : List RawAttr) (value : Value) (s : Spot) (y : Value × Option Reference) → ((place : ℕ) → value ≡ values.Ref place → ⊥)
     → value_meant_at sections home root field before value s ≡ Ok y → Lead all (option_to_list y.1) → ValueTaken all sections home (names_lines root before) field value y
 unfolding value_meant_at
 value_taken all low sections home root field before (values.Offset n) s y stored e h =
@@ -199,7 +199,7 @@ value_taken all low sections home root field before value s y stored e h =
     subst (λ (p : Value × Option Reference). ValueTaken all sections home (names_lines root before) field value p) (ok_is (value, None) y e)
     (record { inside = tt; is = refl; leads_on = no_reference all home.unit (meaning_of field.form field.name) value stored })
 
-value_goes : (all : List Entry) → AreLow all → (sections : SectionBytes) (home : Home) (root : Bool) (field : Field) (before : List Attr) (value : Value) (s : Spot) → IsInside sections (names_lines root before) field value
+value_goes : (all : List RawEntry) → AreLow all → (sections : SectionBytes) (home : Home) (root : Bool) (field : Field) (before : List RawAttr) (value : Value) (s : Spot) → IsInside sections (names_lines root before) field value
     → ValueLeads all home.unit (meaning_of field.form field.name) (attr_value home.place field value) → ValueGoes all sections home root field before value s
 unfolding value_meant_at
 value_goes all low sections home root field before (values.Offset n) s inside h =
@@ -231,34 +231,34 @@ class_not_ref Outside field sections bytes value m = absurd m
 
 -- ---- one attribute
 
-pub record AttrTaken (all : List Entry) (sections : SectionBytes) (home : Home) (root : Bool) (field : Field) (before : List Attr) (s : Spot) (y : (Attr × Option Reference) × Spot) : Type 0 where
+pub record AttrTaken (all : List RawEntry) (sections : SectionBytes) (home : Home) (root : Bool) (field : Field) (before : List RawAttr) (s : Spot) (y : (RawAttr × Option Reference) × Spot) : Type 0 where
   pub bytes : List ℕ
   pub spells : SpellsAttr sections home.place (names_lines root before) field y.0.0 s.place bytes
   pub leads_on : ValueLeads all home.unit (meaning_of field.form field.name) y.0.0.value
   pub passed : Passed bytes s y.1
 
-attr_taken : (all : List Entry) → AreLow all → (sections : SectionBytes) (home : Home) (root : Bool) (field : Field) (before : List Attr) (s : Spot) (y : (Attr × Option Reference) × Spot) → Stands s
+attr_taken : (all : List RawEntry) → AreLow all → (sections : SectionBytes) (home : Home) (root : Bool) (field : Field) (before : List RawAttr) (s : Spot) (y : (RawAttr × Option Reference) × Spot) → Stands s
     → attr_at sections home root field before s ≡ Ok y → Lead all (option_to_list y.0.1) → AttrTaken all sections home root field before s y
 unfolding attr_at
 attr_taken all low sections home root field before s y stands e h =
-    let made : Value × Spot → Value × Option Reference → Result ((Attr × Option Reference) × Spot) Fault = λ read meant. Ok ((record { name = field.name; end = read.1.place; value = meant.0 }, meant.1), read.1) in
+    let made : Value × Spot → Value × Option Reference → Result ((RawAttr × Option Reference) × Spot) Fault = λ read meant. Ok ((record { name = field.name; form = field.form; end = read.1.place; value = meant.0 }, meant.1), read.1) in
     let b = bind_ok (value_at field DWARF_VERSION sections s) (λ read. value_meant_at sections home root field before read.0 s >>= made read) y e in
     let c = bind_ok (value_meant_at sections home root field before b.0.0 s) (made b.0) y b.2 in
     let place = stands.place in
     let v = value_spelled field DWARF_VERSION sections s b.0.0 b.0.1 stands b.1 in
     let w = v.spells in
     let go = passed_by v.bytes s b.0.1 stands (value_onward field DWARF_VERSION sections s b.0 b.1) v.parts in
-    subst (λ (p : (Attr × Option Reference) × Spot). Lead all (option_to_list p.0.1) → AttrTaken all sections home root field before s p) (ok_is _ y c.2)
+    subst (λ (p : (RawAttr × Option Reference) × Spot). Lead all (option_to_list p.0.1) → AttrTaken all sections home root field before s p) (ok_is _ y c.2)
     (λ k.
     let t = value_taken all low sections home root field before b.0.0 s c.0 (class_not_ref w.row.class field sections v.bytes b.0.0 w.spells) c.1 k in
     record {
       bytes = v.bytes;
-      spells = record { value = b.0.0; spells = w; inside = t.inside; is = ap₂ (λ (n : ℕ) (x : Value). record { name = field.name; end = n; value = x }) go.place t.is };
+      spells = record { value = b.0.0; spells = w; inside = t.inside; is = ap₂ (λ (n : ℕ) (x : Value). record { name = field.name; form = field.form; end = n; value = x }) go.place t.is };
       leads_on = t.leads_on;
       passed = go;
     }) h
 
-record AttrGoes (all : List Entry) (sections : SectionBytes) (home : Home) (root : Bool) (field : Field) (before : List Attr) (s : Spot) (bytes : List ℕ) (attr : Attr) (more : List ℕ) : Type 0 where
+record AttrGoes (all : List RawEntry) (sections : SectionBytes) (home : Home) (root : Bool) (field : Field) (before : List RawAttr) (s : Spot) (bytes : List ℕ) (attr : RawAttr) (more : List ℕ) : Type 0 where
   reference : Option Reference
   next : Spot
   reads : attr_at sections home root field before s ≡ Ok ((attr, reference), next)
@@ -266,20 +266,20 @@ record AttrGoes (all : List Entry) (sections : SectionBytes) (home : Home) (root
   passed : Passed bytes s next
   left : rest next ≡ more
 
-attr_goes : (all : List Entry) → AreLow all → (sections : SectionBytes) (home : Home) (root : Bool) (field : Field) (before : List Attr) (s : Spot) (bytes : List ℕ) (attr : Attr) (more : List ℕ) → Stands s
+attr_goes : (all : List RawEntry) → AreLow all → (sections : SectionBytes) (home : Home) (root : Bool) (field : Field) (before : List RawAttr) (s : Spot) (bytes : List ℕ) (attr : RawAttr) (more : List ℕ) → Stands s
     → SpellsAttr sections home.place (names_lines root before) field attr s.place bytes → ValueLeads all home.unit (meaning_of field.form field.name) attr.value → rest s ≡ bytes ++ more
     → AttrGoes all sections home root field before s bytes attr more
 unfolding attr_at
 attr_goes all low sections home root field before s bytes attr more stands w leads_on parts =
     let r = value_read field DWARF_VERSION sections s bytes w.value more stands w.spells parts in
-    let value_is : attr.value ≡ attr_value home.place field w.value = ap (λ (a : Attr). a.value) w.is in
+    let value_is : attr.value ≡ attr_value home.place field w.value = ap (λ (a : RawAttr). a.value) w.is in
     let g = value_goes all low sections home root field before w.value s w.inside (subst (ValueLeads all home.unit (meaning_of field.form field.name)) value_is leads_on) in
     let go = passed_by bytes s r.next stands (value_onward field DWARF_VERSION sections s (w.value, r.next) r.reads) (parts ∙ ap (λ (xs : List ℕ). bytes ++ xs) (sym r.left)) in
-    let ended : ℕ → Attr = λ n. record { name = field.name; end = n; value = attr_value home.place field w.value } in
+    let ended : ℕ → RawAttr = λ n. record { name = field.name; form = field.form; end = n; value = attr_value home.place field w.value } in
     record {
       reference = g.reference;
       next = r.next;
-      reads = rw (r.reads, g.reads) (ap (λ (a : Attr). Ok ((a, g.reference), r.next)) (ap ended go.place ∙ sym w.is));
+      reads = rw (r.reads, g.reads) (ap (λ (a : RawAttr). Ok ((a, g.reference), r.next)) (ap ended go.place ∙ sym w.is));
       lead = g.lead;
       passed = go;
       left = r.left;
@@ -287,8 +287,8 @@ attr_goes all low sections home root field before s bytes attr more stands w lea
 
 -- ---- the attributes of an entry
 
-pub record AttrsTaken (all : List Entry) (sections : SectionBytes) (home : Home) (root : Bool) (fields : List Field) (before : Described) (s : Spot) (y : Described × Spot) : Type 0 where
-  pub own : List Attr
+pub record AttrsTaken (all : List RawEntry) (sections : SectionBytes) (home : Home) (root : Bool) (fields : List Field) (before : Described) (s : Spot) (y : Described × Spot) : Type 0 where
+  pub own : List RawAttr
   pub is : y.0.0 ≡ before.0 ++ own
   pub references : List Reference
   pub grown : y.0.1 ≡ before.1 ++ references
@@ -297,14 +297,14 @@ pub record AttrsTaken (all : List Entry) (sections : SectionBytes) (home : Home)
   pub leads_on : AttrsLead all home.unit fields own
   pub passed : Passed bytes s y.1
 
-pub attrs_taken : (all : List Entry) → AreLow all → (sections : SectionBytes) (home : Home) (root : Bool) (fields : List Field) (before : Described) (s : Spot) (y : Described × Spot) → Stands s
+pub attrs_taken : (all : List RawEntry) → AreLow all → (sections : SectionBytes) (home : Home) (root : Bool) (fields : List Field) (before : Described) (s : Spot) (y : Described × Spot) → Stands s
     → attrs_at sections home root fields before s ≡ Ok y → Lead all y.0.1 → AttrsTaken all sections home root fields before s y
 unfolding attrs_at
 attrs_taken all low sections home root [] before s y stands e h =
     subst (λ (p : Described × Spot). AttrsTaken all sections home root [] before s p) (ok_is (before, s) y e)
     (record { own = []; is = sym (append-nil before.0); references = []; grown = sym (append-nil before.1); bytes = []; spells = refl; leads_on = tt; passed = passed_nothing s stands })
 attrs_taken all low sections home root (field ∷ fields) before s y stands e h =
-    let with_attr : (Attr × Option Reference) × Spot → Described = λ attr. (before.0 ++ attr.0.0 ∷ [], before.1 ++ option_to_list attr.0.1) in
+    let with_attr : (RawAttr × Option Reference) × Spot → Described = λ attr. (before.0 ++ attr.0.0 ∷ [], before.1 ++ option_to_list attr.0.1) in
     let b = bind_ok (attr_at sections home root field before.0 s) (λ attr. attrs_at sections home root fields (with_attr attr) attr.1) y e in
     let o = attr_onward sections home root field before.0 s b.0 b.1 in
     let t = attrs_taken all low sections home root fields (with_attr b.0) b.0.1 y (stands_on s b.0.1 stands o) b.2 h in
@@ -322,7 +322,7 @@ attrs_taken all low sections home root (field ∷ fields) before s y stands e h 
       passed = passed_then a.bytes t.bytes s b.0.1 y.1 a.passed t.passed;
     }
 
-pub record AttrsGo (all : List Entry) (sections : SectionBytes) (home : Home) (root : Bool) (fields : List Field) (before : Described) (s : Spot) (bytes : List ℕ) (own : List Attr) (more : List ℕ) : Type 0 where
+pub record AttrsGo (all : List RawEntry) (sections : SectionBytes) (home : Home) (root : Bool) (fields : List Field) (before : Described) (s : Spot) (bytes : List ℕ) (own : List RawAttr) (more : List ℕ) : Type 0 where
   pub references : List Reference
   pub next : Spot
   pub reads : attrs_at sections home root fields before s ≡ Ok ((before.0 ++ own, references), next)
@@ -330,14 +330,14 @@ pub record AttrsGo (all : List Entry) (sections : SectionBytes) (home : Home) (r
   pub passed : Passed bytes s next
   pub left : rest next ≡ more
 
-pub attrs_go : (all : List Entry) → AreLow all → (sections : SectionBytes) (home : Home) (root : Bool) (fields : List Field) (own : List Attr) (before : Described) (s : Spot) (bytes more : List ℕ) → Stands s
+pub attrs_go : (all : List RawEntry) → AreLow all → (sections : SectionBytes) (home : Home) (root : Bool) (fields : List Field) (own : List RawAttr) (before : Described) (s : Spot) (bytes more : List ℕ) → Stands s
     → SpellsAttrs sections home.place root fields before.0 own s.place bytes → AttrsLead all home.unit fields own → Lead all before.1 → rest s ≡ bytes ++ more → AttrsGo all sections home root fields before s bytes own more
 unfolding attrs_at
 attrs_go all low sections home root [] [] before s bytes more stands w leads_on lead parts =
     record {
       references = before.1;
       next = s;
-      reads = ap (λ (xs : List Attr). Ok ((xs, before.1), s)) (sym (append-nil before.0));
+      reads = ap (λ (xs : List RawAttr). Ok ((xs, before.1), s)) (sym (append-nil before.0));
       lead = lead;
       passed = subst (λ (b : List ℕ). Passed b s s) (sym w) (passed_nothing s stands);
       left = parts ∙ ap (λ (b : List ℕ). b ++ more) w;
@@ -354,7 +354,7 @@ attrs_go all low sections home root (field ∷ fields) (attr ∷ own) before s b
     record {
       references = t.references;
       next = t.next;
-      reads = rw a.reads t.reads ∙ ap (λ (xs : List Attr). Ok ((xs, t.references), t.next)) (append_assoc before.0 (attr ∷ []) own);
+      reads = rw a.reads t.reads ∙ ap (λ (xs : List RawAttr). Ok ((xs, t.references), t.next)) (append_assoc before.0 (attr ∷ []) own);
       lead = t.lead;
       passed = subst (λ (b : List ℕ). Passed b s t.next) (sym w.is) (passed_then w.front w.back s a.next t.next p t.passed);
       left = t.left;

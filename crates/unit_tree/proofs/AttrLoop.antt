@@ -8,7 +8,7 @@ use Rattle.ds_base.specs.declared.fault.ReadError.TheVariants as errors
 use Rattle.ds_base.specs.Spot.{Spot}
 use Rattle.ds_base.specs.Reading.{◌>>=◌, ReadsUnlessFull}
 use Rattle.dwarf_types.specs.declared.abbrev.Field.{Field}
-use Rattle.dwarf_types.specs.declared.entry.Attr.{Attr}
+use Rattle.dwarf_types.specs.declared.entry.RawAttr.{RawAttr}
 use Rattle.dwarf_types.specs.SectionBytes.{SectionBytes}
 use Rattle.unit_tree.specs.declared.attribute.Home.{Home}
 use Rattle.unit_tree.specs.declared.reference.Reference.{Reference}
@@ -30,12 +30,12 @@ attr_fails : (sections : SectionBytes) (home : Home) (root : Bool) (fields : Lis
 attr_fails sections home root fields i d before s f total lt read so_far = next_field sections home root fields i d before s total lt so_far ∙ rw read refl
 
 pub attr_refused : (sections : SectionBytes) (home : Home) (root : Bool) (fields : List Field) (i : ℕ) (d : Field) (before : Described) (s t : Spot) (e : ReadError) (total : Result (Described × Spot) Fault) → i < length fields
-    → ReadsUnlessFull (λ (attr : Attr × Option Reference). attr) (Err e) t (attr_at sections home root (get_or fields i d) before.0 s) → attrs_at sections home root (drop i fields) before s ≡ total
+    → ReadsUnlessFull (λ (attr : RawAttr × Option Reference). attr) (Err e) t (attr_at sections home root (get_or fields i d) before.0 s) → attrs_at sections home root (drop i fields) before s ≡ total
     → Refused e total
 attr_refused sections home root fields i d before s t (errors.Faulty f) total lt read so_far = attr_fails sections home root fields i d before s f total lt read so_far
 attr_refused sections home root fields i d before s t errors.NoMemory total lt read so_far = tt
 
-pub attr_more : (sections : SectionBytes) (home : Home) (root : Bool) (fields : List Field) (i : ℕ) (d : Field) (before : Described) (s t : Spot) (attr : Attr) (reference : Option Reference) (total : Result (Described × Spot) Fault) → i < length fields
+pub attr_more : (sections : SectionBytes) (home : Home) (root : Bool) (fields : List Field) (i : ℕ) (d : Field) (before : Described) (s t : Spot) (attr : RawAttr) (reference : Option Reference) (total : Result (Described × Spot) Fault) → i < length fields
     → attr_at sections home root (get_or fields i d) before.0 s ≡ Ok ((attr, reference), t) → attrs_at sections home root (drop i fields) before s ≡ total
     → attrs_at sections home root (drop (i + 1) fields) (before.0 ++ attr ∷ [], before.1 ++ option_to_list reference) t ≡ total
 attr_more sections home root fields i d before s t attr reference total lt read so_far = sym (next_field sections home root fields i d before s total lt so_far ∙ rw read refl)

@@ -9,8 +9,8 @@ use Rattle.std.proofs.lemmas.List.Elements.{All-nil, All-cons, All-append}
 use Rattle.ds_base.specs.declared.dwarf.TheConstants.{DW_AT_stmt_list, DW_FORM_addr, DW_FORM_addrx, DW_FORM_addrx1, DW_FORM_addrx2, DW_FORM_addrx3, DW_FORM_addrx4, DW_FORM_block, DW_FORM_block1, DW_FORM_block2, DW_FORM_block4, DW_FORM_data1, DW_FORM_data2, DW_FORM_data4, DW_FORM_data8, DW_FORM_data16, DW_FORM_exprloc, DW_FORM_flag, DW_FORM_flag_present, DW_FORM_implicit_const, DW_FORM_indirect, DW_FORM_line_strp, DW_FORM_loclistx, DW_FORM_ref_addr, DW_FORM_ref_sig8, DW_FORM_ref_sup4, DW_FORM_ref_sup8, DW_FORM_ref_udata, DW_FORM_ref1, DW_FORM_ref2, DW_FORM_ref4, DW_FORM_ref8, DW_FORM_rnglistx, DW_FORM_sdata, DW_FORM_sec_offset, DW_FORM_string, DW_FORM_strp, DW_FORM_strp_sup, DW_FORM_strx, DW_FORM_strx1, DW_FORM_strx2, DW_FORM_strx3, DW_FORM_strx4, DW_FORM_udata}
 use Rattle.dwarf_types.specs.declared.abbrev.Abbrev.{Abbrev}
 use Rattle.dwarf_types.specs.declared.abbrev.Field.{Field}
-use Rattle.dwarf_types.specs.declared.entry.Attr.{Attr}
-use Rattle.dwarf_types.specs.declared.entry.Entry.{Entry}
+use Rattle.dwarf_types.specs.declared.entry.RawAttr.{RawAttr}
+use Rattle.dwarf_types.specs.declared.entry.RawEntry.{RawEntry}
 use Rattle.dwarf_types.specs.declared.entry.InUnit.{InUnit as AUnit}
 use Rattle.dwarf_types.specs.declared.entry.RawUnits.{RawUnits}
 use Rattle.dwarf_types.specs.declared.value.Value.{Value}
@@ -144,7 +144,7 @@ or_first : (b c : Bool) → b ≡ true → (b || c) ≡ true
 or_first true c e = refl
 or_first false c e = absurd cc
 
-begins_any : (entries : List Entry) (unit : Option ℕ) (place : ℕ) → begins_at entries unit place ≡ true → begins_at entries None place ≡ true
+begins_any : (entries : List RawEntry) (unit : Option ℕ) (place : ℕ) → begins_at entries unit place ≡ true → begins_at entries None place ≡ true
 begins_any [] unit place e = absurd cc
 begins_any (x ∷ xs) unit place e = elim (either (x.place == place && _) (begins_at xs unit place) e) [
   | inl here ↦ or_first (x.place == place && true) (begins_at xs None place) (rw ((both_true (x.place == place) _ here).0) refl)
@@ -155,8 +155,8 @@ stmt_table : table_of DW_AT_stmt_list ≡ LineTable
 unfolding table_of
 stmt_table = refl
 
-module _ (sections : SectionBytes) (all : List Entry) (unit at : ℕ) (lines : Bool) where
-  meant_inside : (a : Attr) (meaning : Meaning) (n : ℕ) → IsBelow sections lines meaning n → ValueLeads all unit meaning (meant at meaning n)
+module _ (sections : SectionBytes) (all : List RawEntry) (unit at : ℕ) (lines : Bool) where
+  meant_inside : (a : RawAttr) (meaning : Meaning) (n : ℕ) → IsBelow sections lines meaning n → ValueLeads all unit meaning (meant at meaning n)
       → (meaning ≡ InUnit) ⊎ ((meaning ≡ InObject) ⊎ (meaning ≡ table_of a.name)) → IsValueInside sections all a (meant at meaning n)
   meant_inside a InUnit n below leads told = begins_any all (Some unit) (at + n) leads
   meant_inside a InObject n below leads told = leads
@@ -203,15 +203,15 @@ module _ (sections : SectionBytes) (all : List Entry) (unit at : ℕ) (lines : B
   ]
 
   -- the value of an attribute, as it is stored and as it is meant
-  record Fits (field : Field) (a : Attr) (value : Value) : Type 0 where
+  record Fits (field : Field) (a : RawAttr) (value : Value) : Type 0 where
     inside : IsInside sections lines field value → ValueLeads all unit (meaning_of field.form field.name) (attr_value at field value) → IsValueInside sections all a (attr_value at field value)
     names : IsInside sections lines field value → lines ≡ true → field.name ≡ DW_AT_stmt_list → (n : ℕ) → attr_value at field value ≡ values.Offset n → n < length sections.line
 
   -- its stored value is another
-  fits_as : (field : Field) (a : Attr) (value was : Value) → value ≡ was → Fits field a was → Fits field a value
+  fits_as : (field : Field) (a : RawAttr) (value was : Value) → value ≡ was → Fits field a was → Fits field a value
   fits_as field a value was is fits = subst (Fits field a) (sym is) fits
 
-  stored_fits : (class : FormClass) (field : Field) (a : Attr) (bytes : List ℕ) (value : Value) → a.name ≡ field.name → length bytes ≤ a.end → SpellsClass class field sections bytes value → Tells field.form class → Fits field a value
+  stored_fits : (class : FormClass) (field : Field) (a : RawAttr) (bytes : List ℕ) (value : Value) → a.name ≡ field.name → length bytes ≤ a.end → SpellsClass class field sections bytes value → Tells field.form class → Fits field a value
   stored_fits classes.Address field a bytes value name le h told =
       fits_as field a value (fixed_address h.of) h.is (record { inside = λ i l. omega (arith, le, length_number 8 h.of bytes h.spells); names = λ i t s n e. absurd cc })
   stored_fits classes.Text field a bytes value name le h told = fits_as field a value (values.Text h.of) h.is (record { inside = λ i l. tt; names = λ i t s n e. absurd cc })
@@ -239,46 +239,46 @@ module _ (sections : SectionBytes) (all : List Entry) (unit at : ℕ) (lines : B
       })
   stored_fits classes.Outside field a bytes value name le h told = absurd h
 
-  attr_fits : (field : Field) (attr : Attr) (place : ℕ) (bytes : List ℕ) (h : SpellsAttr sections at lines field attr place bytes) → Fits field (record { name = field.name; end = place + length bytes; value = attr_value at field h.value }) h.value
+  attr_fits : (field : Field) (attr : RawAttr) (place : ℕ) (bytes : List ℕ) (h : SpellsAttr sections at lines field attr place bytes) → Fits field (record { name = field.name; form = field.form; end = place + length bytes; value = attr_value at field h.value }) h.value
   attr_fits field attr place bytes h = stored_fits h.spells.row.class field _ bytes h.value refl (omega arith) h.spells.spells (told_by field.form h.spells.row h.spells.known h.spells.old)
 
-  attr_inside : (field : Field) (attr : Attr) (place : ℕ) (bytes : List ℕ) → SpellsAttr sections at lines field attr place bytes → ValueLeads all unit (meaning_of field.form field.name) attr.value → IsValueInside sections all attr attr.value
+  attr_inside : (field : Field) (attr : RawAttr) (place : ℕ) (bytes : List ℕ) → SpellsAttr sections at lines field attr place bytes → ValueLeads all unit (meaning_of field.form field.name) attr.value → IsValueInside sections all attr attr.value
   attr_inside field attr place bytes h =
-      subst (λ (x : Attr). ValueLeads all unit (meaning_of field.form field.name) x.value → IsValueInside sections all x x.value) (sym h.is) (Fits.inside (attr_fits field attr place bytes h) h.inside)
+      subst (λ (x : RawAttr). ValueLeads all unit (meaning_of field.form field.name) x.value → IsValueInside sections all x x.value) (sym h.is) (Fits.inside (attr_fits field attr place bytes h) h.inside)
 
-  attr_lines : (field : Field) (attr : Attr) (place : ℕ) (bytes : List ℕ) → SpellsAttr sections at lines field attr place bytes → lines ≡ true → attr.name ≡ DW_AT_stmt_list → (n : ℕ) → attr.value ≡ values.Offset n → n < length sections.line
+  attr_lines : (field : Field) (attr : RawAttr) (place : ℕ) (bytes : List ℕ) → SpellsAttr sections at lines field attr place bytes → lines ≡ true → attr.name ≡ DW_AT_stmt_list → (n : ℕ) → attr.value ≡ values.Offset n → n < length sections.line
   attr_lines field attr place bytes h named =
-      subst (λ (x : Attr). x.name ≡ DW_AT_stmt_list → (n : ℕ) → x.value ≡ values.Offset n → n < length sections.line) (sym h.is) (Fits.names (attr_fits field attr place bytes h) h.inside named)
+      subst (λ (x : RawAttr). x.name ≡ DW_AT_stmt_list → (n : ℕ) → x.value ≡ values.Offset n → n < length sections.line) (sym h.is) (Fits.names (attr_fits field attr place bytes h) h.inside named)
 
 -- ---- attributes of an entry
 
-attrs_inside : (sections : SectionBytes) (all : List Entry) (unit at : ℕ) (root : Bool) (fields : List Field) (before attrs : List Attr) (place : ℕ) (bytes : List ℕ) → SpellsAttrs sections at root fields before attrs place bytes → AttrsLead all unit fields attrs
-    → All (λ (a : Attr). IsValueInside sections all a a.value) attrs
+attrs_inside : (sections : SectionBytes) (all : List RawEntry) (unit at : ℕ) (root : Bool) (fields : List Field) (before attrs : List RawAttr) (place : ℕ) (bytes : List ℕ) → SpellsAttrs sections at root fields before attrs place bytes → AttrsLead all unit fields attrs
+    → All (λ (a : RawAttr). IsValueInside sections all a a.value) attrs
 attrs_inside sections all unit at root [] before [] place bytes h leads = All-nil _
 attrs_inside sections all unit at root [] before (attr ∷ attrs) place bytes h leads = absurd h
 attrs_inside sections all unit at root (field ∷ fields) before [] place bytes h leads = absurd h
 attrs_inside sections all unit at root (field ∷ fields) before (attr ∷ attrs) place bytes h leads =
-    All-cons (λ (a : Attr). IsValueInside sections all a a.value) attr attrs (attr_inside sections all unit at (names_lines root before) field attr place h.front h.first leads.0)
+    All-cons (λ (a : RawAttr). IsValueInside sections all a a.value) attr attrs (attr_inside sections all unit at (names_lines root before) field attr place h.front h.first leads.0)
     (attrs_inside sections all unit at root fields (before ++ attr ∷ []) attrs (place + length h.front) h.back h.second leads.1)
 
 -- ---- the line table of a root
 
-abbrev first_lines : List Attr → Option Value
+abbrev first_lines : List RawAttr → Option Value
 first_lines attrs = option_map (λ a. a.value) (find (λ a. a.name == DW_AT_stmt_list) attrs)
 
-none_before : (before : List Attr) (x : Attr) → has_attr DW_AT_stmt_list before ≡ false → (x.name == DW_AT_stmt_list) ≡ false → has_attr DW_AT_stmt_list (before ++ x ∷ []) ≡ false
+none_before : (before : List RawAttr) (x : RawAttr) → has_attr DW_AT_stmt_list before ≡ false → (x.name == DW_AT_stmt_list) ≡ false → has_attr DW_AT_stmt_list (before ++ x ∷ []) ≡ false
 none_before [] x none e = rw e refl
 none_before (y ∷ before) x none e =
     let p = both_false (y.name == DW_AT_stmt_list) (has_attr DW_AT_stmt_list before) none in
     rw (p.0, none_before before x p.1 e) refl
 
 module _ (sections : SectionBytes) (at : ℕ) where
-  lines_first : (attr : Attr) (attrs : List Attr) (n : ℕ) (b : Bool) → (attr.name == DW_AT_stmt_list) ≡ b → (b ≡ true → attr.value ≡ values.Offset n → n < length sections.line)
-      → (b ≡ false → first_lines attrs ≡ Some (values.Offset n) → n < length sections.line) → option_map (λ (a : Attr). a.value) (cond b (Some attr) (find (λ (a : Attr). a.name == DW_AT_stmt_list) attrs)) ≡ Some (values.Offset n) → n < length sections.line
+  lines_first : (attr : RawAttr) (attrs : List RawAttr) (n : ℕ) (b : Bool) → (attr.name == DW_AT_stmt_list) ≡ b → (b ≡ true → attr.value ≡ values.Offset n → n < length sections.line)
+      → (b ≡ false → first_lines attrs ≡ Some (values.Offset n) → n < length sections.line) → option_map (λ (a : RawAttr). a.value) (cond b (Some attr) (find (λ (a : RawAttr). a.name == DW_AT_stmt_list) attrs)) ≡ Some (values.Offset n) → n < length sections.line
   lines_first attr attrs n true is here behind e = here refl cc
   lines_first attr attrs n false is here behind e = behind refl e
 
-  root_lines : (fields : List Field) (before attrs : List Attr) (place : ℕ) (bytes : List ℕ) → SpellsAttrs sections at true fields before attrs place bytes → has_attr DW_AT_stmt_list before ≡ false
+  root_lines : (fields : List Field) (before attrs : List RawAttr) (place : ℕ) (bytes : List ℕ) → SpellsAttrs sections at true fields before attrs place bytes → has_attr DW_AT_stmt_list before ≡ false
       → (n : ℕ) → first_lines attrs ≡ Some (values.Offset n) → n < length sections.line
   root_lines [] before [] place bytes h none n e = absurd cc
   root_lines [] before (attr ∷ attrs) place bytes h none n e = absurd h
@@ -290,10 +290,10 @@ module _ (sections : SectionBytes) (at : ℕ) where
 
 -- ---- trees
 
-abbrev IsFine : SectionBytes → List Entry → Entry → Type 0
+abbrev IsFine : SectionBytes → List RawEntry → RawEntry → Type 0
 IsFine sections all e = IsEntryInside sections all e × IsRootInside sections e
 
-module _ (sections : SectionBytes) (all : List Entry) where
+module _ (sections : SectionBytes) (all : List RawEntry) where
   node_fine : (at : ℕ) (table : List Abbrev) (node : Node) (place : ℕ) (bytes : List ℕ) → SpellsNode sections at table false node place bytes → (unit parent : ℕ) → NodeLeads all unit node → IsFine sections all (entry_of unit (Some parent) node)
   node_fine at table node place bytes h unit parent leads =
       (attrs_inside sections all unit at false node.declared.fields [] node.attrs (place + length h.spells.front) h.spells.back h.spells.second leads, λ n root e. absurd cc)
@@ -304,7 +304,7 @@ module _ (sections : SectionBytes) (all : List Entry) where
     λ n root e. root_lines sections at node.declared.fields [] node.attrs (place + length h.spells.front) h.spells.back h.spells.second refl n e,
   )
 
-  below_fine : (children : Bool) (Kids : ℕ → List ℕ → Type 0) (kids : Forest) (place : ℕ) (bytes : List ℕ) → SpellsBelow children Kids kids place bytes → (entries : List Entry) → (kids ≡ no_more → entries ≡ [])
+  below_fine : (children : Bool) (Kids : ℕ → List ℕ → Type 0) (kids : Forest) (place : ℕ) (bytes : List ℕ) → SpellsBelow children Kids kids place bytes → (entries : List RawEntry) → (kids ≡ no_more → entries ≡ [])
       → ((p : ℕ) (b : List ℕ) → Kids p b → All (IsFine sections all) entries) → All (IsFine sections all) entries
   below_fine true Kids kids place bytes h entries none fine = fine place bytes h
   below_fine false Kids no_more place bytes h entries none fine = subst (All (IsFine sections all)) (sym (none refl)) (All-nil (IsFine sections all))

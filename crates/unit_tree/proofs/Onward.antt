@@ -9,7 +9,7 @@ use Rattle.ds_base.specs.Reading.{◌>>=◌, refuse_if, or_fault, bytes_at, numb
 use Rattle.ds_base.proofs.Passing.{bind_ok, passed, ok_is}
 use Rattle.ds_base.proofs.Onward.{Onward, stays, onward_then, small_kept, number_onward, bytes_onward, text_onward, uleb_onward, sleb_onward}
 use Rattle.dwarf_types.specs.declared.abbrev.Field.{Field}
-use Rattle.dwarf_types.specs.declared.entry.Attr.{Attr}
+use Rattle.dwarf_types.specs.declared.entry.RawAttr.{RawAttr}
 use Rattle.dwarf_types.specs.SectionBytes.{SectionBytes}
 use Rattle.dwarf_types.specs.declared.value.Value.{Value}
 use Rattle.dwarf_types.specs.declared.value.Value.TheVariants as values
@@ -77,12 +77,12 @@ value_onward field version sections s y e =
 
 -- ---- attributes
 
-pub attr_onward : (sections : SectionBytes) (home : Home) (root : Bool) (field : Field) (before : List Attr) (s : Spot) (y : (Attr × Option Reference) × Spot) → attr_at sections home root field before s ≡ Ok y → Onward s y.1
+pub attr_onward : (sections : SectionBytes) (home : Home) (root : Bool) (field : Field) (before : List RawAttr) (s : Spot) (y : (RawAttr × Option Reference) × Spot) → attr_at sections home root field before s ≡ Ok y → Onward s y.1
 unfolding attr_at
 attr_onward sections home root field before s y e =
-    let b = bind_ok (value_at field DWARF_VERSION sections s) (λ read. value_meant_at sections home root field before read.0 s >>= λ meant. Ok ((record { name = field.name; end = read.1.place; value = meant.0 }, meant.1), read.1)) y e in
-    let c = bind_ok (value_meant_at sections home root field before b.0.0 s) (λ meant. Ok ((record { name = field.name; end = b.0.1.place; value = meant.0 }, meant.1), b.0.1)) y b.2 in
-    subst (λ (p : (Attr × Option Reference) × Spot). Onward s p.1) (ok_is _ y c.2) (value_onward field DWARF_VERSION sections s b.0 b.1)
+    let b = bind_ok (value_at field DWARF_VERSION sections s) (λ read. value_meant_at sections home root field before read.0 s >>= λ meant. Ok ((record { name = field.name; form = field.form; end = read.1.place; value = meant.0 }, meant.1), read.1)) y e in
+    let c = bind_ok (value_meant_at sections home root field before b.0.0 s) (λ meant. Ok ((record { name = field.name; form = field.form; end = b.0.1.place; value = meant.0 }, meant.1), b.0.1)) y b.2 in
+    subst (λ (p : (RawAttr × Option Reference) × Spot). Onward s p.1) (ok_is _ y c.2) (value_onward field DWARF_VERSION sections s b.0 b.1)
 
 pub attrs_onward : (sections : SectionBytes) (home : Home) (root : Bool) (fields : List Field) (before : Described) (s : Spot) (y : Described × Spot) → attrs_at sections home root fields before s ≡ Ok y → Onward s y.1
 unfolding attrs_at

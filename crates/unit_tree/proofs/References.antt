@@ -8,7 +8,7 @@ use Rattle.std.proofs.lemmas.List.{drop_all}
 use Rattle.std.proofs.lemmas.List.Sorted.{IsNonDecreasingBy-from_default}
 use Rattle.std.proofs.lemmas.Bool.{cases_lt, eq-eqb, ne_eqb}
 use Rattle.std.proofs.lemmas.Bool.Decides.{nat_tests}
-use Rattle.dwarf_types.specs.declared.entry.Entry.{Entry}
+use Rattle.dwarf_types.specs.declared.entry.RawEntry.{RawEntry}
 use Rattle.unit_tree.specs.declared.reference.Reference.{Reference}
 use Rattle.unit_tree.specs.Reference.{reaches, leads_to, leads, IsRising}
 
@@ -27,21 +27,21 @@ any_one p [] i d lt fails = absurd (omega arith)
 any_one p (x ∷ xs) zero d lt fails = rw (any_none p xs d (λ j below. fails (suc j) (omega arith) (λ e. omega (arith, e)))) (or_false (p x))
 any_one p (x ∷ xs) (suc i) d lt fails = rw (fails 0 (omega arith) (λ e. omega (arith, e))) (any_one p xs i d (omega arith) (λ j below ne. fails (suc j) (omega arith) (λ e. ne (omega (arith, e)))))
 
-abbrev none : Entry
+abbrev none : RawEntry
 none = record { parent = None; unit = 0; place = 0; tag = 0; attrs = [] }
 
 -- the comparisons of the places with one rise
-comparisons_rise : (entries : List Entry) (place : ℕ) → IsRising entries → IsNonDecreasingBy (λ (e : Entry). ordering_index (nat_cmp e.place place)) entries
-comparisons_rise entries place rising = IsNonDecreasingBy-from_default (λ (e : Entry). ordering_index (nat_cmp e.place place)) entries none (λ i j le within.
+comparisons_rise : (entries : List RawEntry) (place : ℕ) → IsRising entries → IsNonDecreasingBy (λ (e : RawEntry). ordering_index (nat_cmp e.place place)) entries
+comparisons_rise entries place rising = IsNonDecreasingBy-from_default (λ (e : RawEntry). ordering_index (nat_cmp e.place place)) entries none (λ i j le within.
     let below : i < j → (get_or entries i none).place < (get_or entries j none).place = λ lt. rising i j none lt within in
     let up : (get_or entries i none).place ≤ (get_or entries j none).place = grind (arith, below, λ (same : i ≡ j). ap (λ (k : ℕ). (get_or entries k none).place) same) in
     grind (arith, nat_tests))
 
 -- an entry that begins elsewhere is none to which a reference leads
-elsewhere : (r : Reference) (e : Entry) → (e.place ≡ r.target → ⊥) → leads_to r e ≡ false
+elsewhere : (r : Reference) (e : RawEntry) → (e.place ≡ r.target → ⊥) → leads_to r e ≡ false
 elsewhere r e ne = rw (ne_eqb e.place r.target ne) refl
 
-pub leads_there : (entries : List Entry) (r : Reference) (i : ℕ) (d : Entry) → IsRising entries → IsSearchInRange (Ok i) (length entries) → IsBinarySearchResult (λ (e : Entry). nat_cmp e.place r.target) entries (Ok i)
+pub leads_there : (entries : List RawEntry) (r : Reference) (i : ℕ) (d : RawEntry) → IsRising entries → IsSearchInRange (Ok i) (length entries) → IsBinarySearchResult (λ (e : RawEntry). nat_cmp e.place r.target) entries (Ok i)
     → leads entries r ≡ reaches r.unit (get_or entries i d).unit
 leads_there entries r i d rising within equal =
     let here : (get_or entries i d).place ≡ r.target = ranked _ r.target _ (sym (equal d)) in
@@ -52,7 +52,7 @@ leads_there entries r i d rising within equal =
     ]) in
     any_one (leads_to r) entries i d within others ∙ rw (eq-eqb _ _ here) refl
 
-pub leads_nowhere : (entries : List Entry) (r : Reference) (i : ℕ) → IsRising entries → IsBinarySearchResult (λ (e : Entry). nat_cmp e.place r.target) entries (Err i) → leads entries r ≡ false
+pub leads_nowhere : (entries : List RawEntry) (r : Reference) (i : ℕ) → IsRising entries → IsBinarySearchResult (λ (e : RawEntry). nat_cmp e.place r.target) entries (Err i) → leads entries r ≡ false
 leads_nowhere entries r i rising parted =
     let parts = parted (comparisons_rise entries r.target rising) in
     any_none (leads_to r) entries none (λ j lt. elsewhere r (get_or entries j none) (λ e.
@@ -62,22 +62,22 @@ leads_nowhere entries r i rising parted =
     ]))
 
 -- the references from one on are still to be tried
-abbrev pub dangling : List Entry → List Reference → Option Reference
+abbrev pub dangling : List RawEntry → List Reference → Option Reference
 dangling entries references = find (λ r. not (leads entries r)) references
 
-next_reference : (entries : List Entry) (references : List Reference) (i : ℕ) (d : Reference) → i < length references
+next_reference : (entries : List RawEntry) (references : List Reference) (i : ℕ) (d : Reference) → i < length references
     → dangling entries (drop i references) ≡ cond (not (leads entries (get_or references i d))) (Some (get_or references i d)) (dangling entries (drop (i + 1) references))
 next_reference entries references i d lt =
     let next : suc i ≡ i + 1 = omega arith in
     ap (dangling entries) (drop-cons references i d lt ∙ ap (λ (n : ℕ). get_or references i d ∷ drop n references) next)
 
-pub reference_dangles : (entries : List Entry) (references : List Reference) (i : ℕ) (d : Reference) → i < length references → leads entries (get_or references i d) ≡ false
+pub reference_dangles : (entries : List RawEntry) (references : List Reference) (i : ℕ) (d : Reference) → i < length references → leads entries (get_or references i d) ≡ false
     → dangling entries (drop i references) ≡ dangling entries references → dangling entries references ≡ Some (get_or references i d)
 reference_dangles entries references i d lt nowhere so_far = sym so_far ∙ next_reference entries references i d lt ∙ rw nowhere refl
 
-pub reference_leads : (entries : List Entry) (references : List Reference) (i : ℕ) (d : Reference) → i < length references → leads entries (get_or references i d) ≡ true
+pub reference_leads : (entries : List RawEntry) (references : List Reference) (i : ℕ) (d : Reference) → i < length references → leads entries (get_or references i d) ≡ true
     → dangling entries (drop i references) ≡ dangling entries references → dangling entries (drop (i + 1) references) ≡ dangling entries references
 reference_leads entries references i d lt there so_far = sym (next_reference entries references i d lt ∙ rw there refl) ∙ so_far
 
-pub all_lead : (entries : List Entry) (references : List Reference) (i : ℕ) → length references ≤ i → dangling entries (drop i references) ≡ dangling entries references → dangling entries references ≡ None
+pub all_lead : (entries : List RawEntry) (references : List Reference) (i : ℕ) → length references ≤ i → dangling entries (drop i references) ≡ dangling entries references → dangling entries references ≡ None
 all_lead entries references i le so_far = sym so_far ∙ ap (dangling entries) (drop_all i references le)

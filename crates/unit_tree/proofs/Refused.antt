@@ -14,8 +14,8 @@ use Rattle.ds_base.specs.Spot.{Spot, fault_at}
 use Rattle.ds_base.specs.Reading.{◌>>=◌, or_fault, bytes_at, number_at, uleb_at, refuse_if}
 use Rattle.dwarf_types.specs.declared.abbrev.Abbrev.{Abbrev}
 use Rattle.dwarf_types.specs.declared.abbrev.Field.{Field}
-use Rattle.dwarf_types.specs.declared.entry.Attr.{Attr}
-use Rattle.dwarf_types.specs.declared.entry.Entry.{Entry}
+use Rattle.dwarf_types.specs.declared.entry.RawAttr.{RawAttr}
+use Rattle.dwarf_types.specs.declared.entry.RawEntry.{RawEntry}
 use Rattle.dwarf_types.specs.declared.entry.InUnit.{InUnit as AUnit}
 use Rattle.dwarf_types.specs.declared.value.Value.{Value}
 use Rattle.dwarf_types.specs.SectionBytes.{SectionBytes}
@@ -110,13 +110,13 @@ meant_kinds sections home lines RangeList n s = offset_kinds sections.ranges n s
 meant_kinds sections home lines LocationList n s = offset_kinds sections.loc n s
 meant_kinds sections home lines Other n s = ok_kinds IsOne _
 
-value_meant_kinds : (sections : SectionBytes) (home : Home) (root : Bool) (field : Field) (before : List Attr) (value : Value) (s : Spot) → FaultsAre IsOne (value_meant_at sections home root field before value s)
+value_meant_kinds : (sections : SectionBytes) (home : Home) (root : Bool) (field : Field) (before : List RawAttr) (value : Value) (s : Spot) → FaultsAre IsOne (value_meant_at sections home root field before value s)
 unfolding value_meant_at
 value_meant_kinds sections home root field before value s =
     option_kinds (λ n. meant_at sections home (names_lines root before) (meaning_of field.form field.name) n s) (number_in value) (Ok (value, None))
     (λ n. meant_kinds sections home (names_lines root before) (meaning_of field.form field.name) n s) (ok_kinds IsOne _)
 
-attr_kinds : (sections : SectionBytes) (home : Home) (root : Bool) (field : Field) (before : List Attr) (s : Spot) → FaultsAre IsOne (attr_at sections home root field before s)
+attr_kinds : (sections : SectionBytes) (home : Home) (root : Bool) (field : Field) (before : List RawAttr) (s : Spot) → FaultsAre IsOne (attr_at sections home root field before s)
 unfolding attr_at
 attr_kinds sections home root field before s =
     bind_kinds IsOne (value_at field DWARF_VERSION sections s) _ (λ f e. of_value f.kind (value_faults field DWARF_VERSION sections s f e)) (λ read.
@@ -217,7 +217,7 @@ units_read_kinds sections (suc left) units before place =
     either_kinds IsOne (place == length sections.info) (Ok (units, before)) _ (ok_kinds IsOne _)
     (bind_kinds IsOne (unit_at sections (length units) before place) _ (unit_read_kinds sections (length units) before place) (λ read. units_read_kinds sections left (units ++ read.0.0 ∷ []) read.0.1 read.1))
 
-resolved_kinds : (entries : List Entry) (references : List Reference) → FaultsAre IsOne (resolved entries references)
+resolved_kinds : (entries : List RawEntry) (references : List Reference) → FaultsAre IsOne (resolved entries references)
 unfolding resolved
 resolved_kinds entries references =
     option_kinds (λ r. Err (record { kind = kinds.BadReference; section = parts.Info; place = r.place })) (find (λ r. not (leads entries r)) references) (Ok entries) (λ r. err_kinds IsOne (record { kind = kinds.BadReference; section = parts.Info; place = r.place }) dangling) (ok_kinds IsOne _)

@@ -6,7 +6,7 @@ use Rattle.std.proofs.lemmas.List.{length-append, get_or_append_left, get_or-app
 use Rattle.std.proofs.lemmas.List.Quantifiers.{all_pairs_push}
 use Rattle.ds_base.specs.Spot.{Spot}
 use Rattle.dwarf_types.specs.declared.abbrev.Abbrev.{Abbrev}
-use Rattle.dwarf_types.specs.declared.entry.Entry.{Entry}
+use Rattle.dwarf_types.specs.declared.entry.RawEntry.{RawEntry}
 use Rattle.dwarf_types.specs.declared.entry.InUnit.{InUnit}
 use Rattle.dwarf_types.specs.SectionBytes.{SectionBytes}
 use Rattle.unit_tree.specs.declared.attribute.Home.{Home}
@@ -22,15 +22,15 @@ use Rattle.unit_tree.proofs.Onward.{attrs_onward}
 use Rattle.unit_tree.proofs.Steps.{entry_steps, root_steps, listed_steps, child_steps, children_end, children_steps, tree_steps, header_steps, unit_steps, units_end, units_steps}
 
 -- entries in order, all of which begin below a place
-pub record RisesBelow (entries : List Entry) (place : ℕ) : Type 0 where
+pub record RisesBelow (entries : List RawEntry) (place : ℕ) : Type 0 where
   pub rising : IsRising entries
-  pub below : (i : ℕ) (d : Entry) → i < length entries → (get_or entries i d).place < place
+  pub below : (i : ℕ) (d : RawEntry) → i < length entries → (get_or entries i d).place < place
 
-higher : (entries : List Entry) (p q : ℕ) → p ≤ q → RisesBelow entries p → RisesBelow entries q
+higher : (entries : List RawEntry) (p q : ℕ) → p ≤ q → RisesBelow entries p → RisesBelow entries q
 higher entries p q le h = record { rising = h.rising; below = λ i d lt. omega (arith, h.below i d lt) }
 
-pushed_below : (entries : List Entry) (e : Entry) (place : ℕ) → ((i : ℕ) (d : Entry) → i < length entries → (get_or entries i d).place < place) → e.place < place
-    → (i : ℕ) (d : Entry) → i < length (entries ++ e ∷ []) → (get_or (entries ++ e ∷ []) i d).place < place
+pushed_below : (entries : List RawEntry) (e : RawEntry) (place : ℕ) → ((i : ℕ) (d : RawEntry) → i < length entries → (get_or entries i d).place < place) → e.place < place
+    → (i : ℕ) (d : RawEntry) → i < length (entries ++ e ∷ []) → (get_or (entries ++ e ∷ []) i d).place < place
 pushed_below entries e place below lt i d within =
     elim (cases_lt i (length entries)) [
       | inl before ↦ rw (get_or_append_left entries (e ∷ []) d i before) (below i d before)
@@ -39,10 +39,10 @@ pushed_below entries e place below lt i d within =
           rw (get_or-append_right entries (e ∷ []) (length entries) i d refl le, last) lt
     ]
 
-pushed : (entries : List Entry) (e : Entry) (p q : ℕ) → RisesBelow entries p → p ≤ e.place → e.place < q → RisesBelow (entries ++ e ∷ []) q
+pushed : (entries : List RawEntry) (e : RawEntry) (p q : ℕ) → RisesBelow entries p → p ≤ e.place → e.place < q → RisesBelow (entries ++ e ∷ []) q
 pushed entries e p q h le lt =
     record {
-      rising = all_pairs_push (λ (a b : Entry). a.place < b.place) entries e h.rising (λ k d within. omega (arith, h.below k d within, le));
+      rising = all_pairs_push (λ (a b : RawEntry). a.place < b.place) entries e h.rising (λ k d within. omega (arith, h.below k d within, le));
       below = pushed_below entries e q (λ i d within. omega (arith, h.below i d within, le, lt)) lt;
     }
 
@@ -61,7 +61,7 @@ entry_rises sections home parent place declared before s y e h lt =
     subst (λ (p : Parsed × Spot). RisesBelow p.0.entries p.1.place) w.is (pushed before.entries _ place w.read.1.place h (omega arith) (omega (arith, place_rises s w.read.1 o)))
 
 -- onward from a spot, and the entries so far begin below the next one
-pub record Reaches (s : Spot) (entries : List Entry) (t : Spot) : Type 0 where
+pub record Reaches (s : Spot) (entries : List RawEntry) (t : Spot) : Type 0 where
   pub further : Further s t
   pub rises : RisesBelow entries t.place
 
@@ -97,7 +97,7 @@ child_rises sections home table walk s y e h =
     ]
 
 -- onward, or no further
-record Stretches (s : Spot) (entries : List Entry) (t : Spot) : Type 0 where
+record Stretches (s : Spot) (entries : List RawEntry) (t : Spot) : Type 0 where
   onward : Onward s t
   rises : RisesBelow entries t.place
 

@@ -5,7 +5,7 @@ use Rattle.std.proofs.lemmas.List.{length-append}
 use Rattle.std.proofs.lemmas.Option.{slice_get-get_or, slice_get_within}
 use Rattle.ds_base.specs.Spot.{Spot}
 use Rattle.dwarf_types.specs.declared.abbrev.Abbrev.{Abbrev}
-use Rattle.dwarf_types.specs.declared.entry.Entry.{Entry}
+use Rattle.dwarf_types.specs.declared.entry.RawEntry.{RawEntry}
 use Rattle.dwarf_types.specs.declared.entry.InUnit.{InUnit}
 use Rattle.dwarf_types.specs.SectionBytes.{SectionBytes}
 use Rattle.dwarf_types.specs.Sound.{AreUnits, IsParent}
@@ -55,22 +55,22 @@ ParentFrom first k None = k ≡ first
 ParentFrom first k (Some p) = (first ≤ p) × (p < k)
 
 -- entry k is one of the unit of a number whose first entry is told
-record IsOwn (number first k : ℕ) (e : Entry) : Type 0 where
+record IsOwn (number first k : ℕ) (e : RawEntry) : Type 0 where
   unit : e.unit ≡ number
   from_first : first ≤ k
   parent : ParentFrom first k e.parent
 
 -- entries of the units before, and of the one that is read
-record Grows (units : List InUnit) (first : ℕ) (entries : List Entry) : Type 0 where
+record Grows (units : List InUnit) (first : ℕ) (entries : List RawEntry) : Type 0 where
   few : length entries ≤ MOST_ENTRIES
   behind : first ≤ length entries
-  each : (k : ℕ) (e : Entry) → slice_get entries k ≡ Some e → LiesInUnit units k e ⊎ IsOwn (length units) first k e
+  each : (k : ℕ) (e : RawEntry) → slice_get entries k ≡ Some e → LiesInUnit units k e ⊎ IsOwn (length units) first k e
 
 -- the entries of the open lists are of the unit
 abbrev AreOpen : ℕ → ℕ → List ℕ → Type 0
 AreOpen first count lists = (i p : ℕ) → slice_get lists i ≡ Some p → (first ≤ p) × (p < count)
 
-pushed_grows : (units : List InUnit) (first : ℕ) (entries : List Entry) (e : Entry) → Grows units first entries → length entries < MOST_ENTRIES → e.unit ≡ length units → ParentFrom first (length entries) e.parent → Grows units first (entries ++ e ∷ [])
+pushed_grows : (units : List InUnit) (first : ℕ) (entries : List RawEntry) (e : RawEntry) → Grows units first entries → length entries < MOST_ENTRIES → e.unit ≡ length units → ParentFrom first (length entries) e.parent → Grows units first (entries ++ e ∷ [])
 pushed_grows units first entries e h room unit parent =
     let behind = h.behind in
     record {
@@ -158,13 +158,13 @@ units_pushed : (at : ℕ) (units : List InUnit) (u : InUnit) (end : ℕ) → Are
 units_pushed at [] u end h some last = (sym h, some, ap (λ (n : ℕ). n + u.count) h ∙ last)
 units_pushed at (x ∷ units) u end h some last = (h.0, h.1, units_pushed (at + x.count) units u end h.2 some last)
 
-record Reads (units : List InUnit) (entries : List Entry) : Type 0 where
+record Reads (units : List InUnit) (entries : List RawEntry) : Type 0 where
   few : length entries ≤ MOST_ENTRIES
   follow : AreUnits 0 units (length entries)
-  each : (k : ℕ) (e : Entry) → slice_get entries k ≡ Some e → LiesInUnit units k e
+  each : (k : ℕ) (e : RawEntry) → slice_get entries k ≡ Some e → LiesInUnit units k e
 
 -- what was a unit's own lies in it, once it is there
-own_lies : (units : List InUnit) (first count k : ℕ) (e : Entry) (u : InUnit) → u.first ≡ first → u.first + u.count ≡ count → k < count → IsOwn (length units) first k e → LiesInUnit (units ++ u ∷ []) k e
+own_lies : (units : List InUnit) (first count k : ℕ) (e : RawEntry) (u : InUnit) → u.first ≡ first → u.first + u.count ≡ count → k < count → IsOwn (length units) first k e → LiesInUnit (units ++ u ∷ []) k e
 own_lies units first count k e u begins ends lt own =
     let le = own.from_first in
     record {
@@ -178,7 +178,7 @@ own_lies units first count k e u begins ends lt own =
     parent_of None is = is ∙ sym begins
     parent_of (Some p) within = let b = within.0 in (omega (arith, begins, b), within.1)
 
-still_lies : (units : List InUnit) (k : ℕ) (e : Entry) (u : InUnit) → LiesInUnit units k e → LiesInUnit (units ++ u ∷ []) k e
+still_lies : (units : List InUnit) (k : ℕ) (e : RawEntry) (u : InUnit) → LiesInUnit units k e → LiesInUnit (units ++ u ∷ []) k e
 still_lies units k e u h = record { unit = h.unit; its_unit = kept_at units (u ∷ []) e.unit h.unit h.its_unit; lies = h.lies; parent = h.parent }
 
 tree_grows : (start : Spot) (sections : SectionBytes) (home : Home) (table : List Abbrev) (before : Parsed) (s : Spot) (y : Parsed × Spot) (units : List InUnit) → tree_at start sections home table before s ≡ Ok y → home.unit ≡ length units

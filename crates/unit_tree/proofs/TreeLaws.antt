@@ -8,8 +8,8 @@ use Rattle.ds_base.specs.Spot.{Spot, rest}
 use Rattle.ds_base.specs.Reading.{uleb_at}
 use Rattle.dwarf_types.specs.Spelled.{IsUleb}
 use Rattle.dwarf_types.specs.declared.abbrev.Abbrev.{Abbrev}
-use Rattle.dwarf_types.specs.declared.entry.Attr.{Attr}
-use Rattle.dwarf_types.specs.declared.entry.Entry.{Entry}
+use Rattle.dwarf_types.specs.declared.entry.RawAttr.{RawAttr}
+use Rattle.dwarf_types.specs.declared.entry.RawEntry.{RawEntry}
 use Rattle.dwarf_types.specs.SectionBytes.{SectionBytes}
 use Rattle.dwarf_types.proofs.Readers.{Stands, length_rest}
 use Rattle.unit_tree.specs.declared.attribute.Home.{Home}
@@ -34,11 +34,11 @@ room_for before lt = rw (lt-ltb (length before.entries) MOST_ENTRIES lt) refl
 
 -- ---- an entry
 
-abbrev pub node_of : Abbrev → ℕ → List Attr → Node
+abbrev pub node_of : Abbrev → ℕ → List RawAttr → Node
 node_of declared place attrs = record { declared = declared; place = place; attrs = attrs }
 
-pub record NodeTaken (all : List Entry) (sections : SectionBytes) (home : Home) (table : List Abbrev) (parent : Option ℕ) (declared : Abbrev) (before : Parsed) (s : Spot) (y : Parsed × Spot) : Type 0 where
-  pub attrs : List Attr
+pub record NodeTaken (all : List RawEntry) (sections : SectionBytes) (home : Home) (table : List Abbrev) (parent : Option ℕ) (declared : Abbrev) (before : Parsed) (s : Spot) (y : Parsed × Spot) : Type 0 where
+  pub attrs : List RawAttr
   pub bytes : List ℕ
   pub spells : SpellsNode sections home.place table (is_none parent) (node_of declared s.place attrs) s.place bytes
   pub leads_on : AttrsLead all home.unit declared.fields attrs
@@ -51,7 +51,7 @@ code_some : (code : ℕ) → (code == 0) ≡ false → 0 < code
 code_some zero e = absurd cc
 code_some (suc code) e = omega arith
 
-pub node_taken : (all : List Entry) → AreLow all → (sections : SectionBytes) (home : Home) (table : List Abbrev) (parent : Option ℕ) (declared : Abbrev) (before : Parsed) (s : Spot) (code : ℕ × Spot) (y : Parsed × Spot) → Stands s
+pub node_taken : (all : List RawEntry) → AreLow all → (sections : SectionBytes) (home : Home) (table : List Abbrev) (parent : Option ℕ) (declared : Abbrev) (before : Parsed) (s : Spot) (code : ℕ × Spot) (y : Parsed × Spot) → Stands s
     → uleb_at s ≡ Ok code → (code.0 == 0) ≡ false → declared_as code.0 table ≡ Some declared → entry_at sections home parent s.place declared before code.1 ≡ Ok y → Lead all y.0.references
     → NodeTaken all sections home table parent declared before s y
 node_taken all low sections home table parent declared before s code y stands coded some found e h =
@@ -66,13 +66,13 @@ node_taken all low sections home table parent declared before s code y stands co
       bytes = c.bytes ++ a.bytes;
       spells = record { there = refl; spells = record { front = c.bytes; back = a.bytes; is = refl; first = record { code = code.0; some = code_some code.0 some; spells = c.spells; found = found }; second = subst (λ (n : ℕ). SpellsAttrs sections home.place (is_none parent) declared.fields [] a.own n a.bytes) p.place a.spells } };
       leads_on = a.leads_on;
-      entries = ap (λ (attrs : List Attr). before.entries ++ entry_of home.unit parent (node_of declared s.place attrs) ∷ []) a.is;
+      entries = ap (λ (attrs : List RawAttr). before.entries ++ entry_of home.unit parent (node_of declared s.place attrs) ∷ []) a.is;
       references = a.references;
       grown = a.grown;
       passed = passed_then c.bytes a.bytes s code.1 w.read.1 p a.passed;
     }) h
 
-pub record NodeGoes (all : List Entry) (sections : SectionBytes) (home : Home) (table : List Abbrev) (parent : Option ℕ) (node : Node) (before : Parsed) (s : Spot) (bytes more : List ℕ) : Type 0 where
+pub record NodeGoes (all : List RawEntry) (sections : SectionBytes) (home : Home) (table : List Abbrev) (parent : Option ℕ) (node : Node) (before : Parsed) (s : Spot) (bytes more : List ℕ) : Type 0 where
   pub code : ℕ × Spot
   pub coded : uleb_at s ≡ Ok code
   pub some : (code.0 == 0) ≡ false
@@ -84,7 +84,7 @@ pub record NodeGoes (all : List Entry) (sections : SectionBytes) (home : Home) (
   pub passed : Passed bytes s next
   pub left : rest next ≡ more
 
-pub node_goes : (all : List Entry) → AreLow all → (sections : SectionBytes) (home : Home) (table : List Abbrev) (parent : Option ℕ) (node : Node) (before : Parsed) (s : Spot) (bytes more : List ℕ) → Stands s
+pub node_goes : (all : List RawEntry) → AreLow all → (sections : SectionBytes) (home : Home) (table : List Abbrev) (parent : Option ℕ) (node : Node) (before : Parsed) (s : Spot) (bytes more : List ℕ) → Stands s
     → SpellsNode sections home.place table (is_none parent) node s.place bytes → NodeLeads all home.unit node → Lead all before.references → rest s ≡ bytes ++ more
     → NodeGoes all sections home table parent node before s bytes more
 unfolding entry_at
@@ -140,30 +140,30 @@ some_open stack p = ne_eqb (length (back stack ++ p ∷ [])) 0 (λ z. absurd (om
 
 -- ---- trees, where so many lists are open
 
-pub record TreesThere (all : List Entry) (sections : SectionBytes) (home : Home) (table : List Abbrev) (lists : ℕ) (trees : Forest) (place : ℕ) (bytes : List ℕ) : Type 0 where
+pub record TreesThere (all : List RawEntry) (sections : SectionBytes) (home : Home) (table : List Abbrev) (lists : ℕ) (trees : Forest) (place : ℕ) (bytes : List ℕ) : Type 0 where
   pub spells : SpellsTrees sections home.place table trees place bytes
   pub shallow : IsShallow lists trees
   pub leads_on : TreesLead all home.unit trees
 
 -- what is below an entry
-pub record KidsThere (all : List Entry) (sections : SectionBytes) (home : Home) (table : List Abbrev) (lists : ℕ) (children : Bool) (kids : Forest) (place : ℕ) (bytes : List ℕ) : Type 0 where
+pub record KidsThere (all : List RawEntry) (sections : SectionBytes) (home : Home) (table : List Abbrev) (lists : ℕ) (children : Bool) (kids : Forest) (place : ℕ) (bytes : List ℕ) : Type 0 where
   pub spells : SpellsBelow children (λ p b. SpellsTrees sections home.place table kids p b) kids place bytes
   pub shallow : IsShallow lists kids
   pub leads_on : TreesLead all home.unit kids
 
 -- the rest of each open list, the innermost first
-abbrev pub OpenThere : List Entry → SectionBytes → Home → List Abbrev → List ℕ → List Forest → ℕ → List ℕ → Type 0
+abbrev pub OpenThere : List RawEntry → SectionBytes → Home → List Abbrev → List ℕ → List Forest → ℕ → List ℕ → Type 0
 OpenThere all sections home table [] [] place bytes = bytes ≡ []
 OpenThere all sections home table [] (trees ∷ forests) place bytes = ⊥
 OpenThere all sections home table (p ∷ stack) [] place bytes = ⊥
 OpenThere all sections home table (p ∷ stack) (trees ∷ forests) place bytes = InTurnFrom (TreesThere all sections home table (suc (length stack)) trees) (λ q b. OpenThere all sections home table stack forests q b) place bytes
 
-abbrev pub open_entries : ℕ → ℕ → List ℕ → List Forest → List Entry
+abbrev pub open_entries : ℕ → ℕ → List ℕ → List Forest → List RawEntry
 open_entries unit number [] forests = []
 open_entries unit number (p ∷ stack) [] = []
 open_entries unit number (p ∷ stack) (trees ∷ forests) = preorder unit (Some p) number trees ++ open_entries unit (number + size trees) stack forests
 
-pub record ChildrenTaken (all : List Entry) (sections : SectionBytes) (home : Home) (table : List Abbrev) (stack : List ℕ) (before : Parsed) (s : Spot) (y : Parsed × Spot) : Type 0 where
+pub record ChildrenTaken (all : List RawEntry) (sections : SectionBytes) (home : Home) (table : List Abbrev) (stack : List ℕ) (before : Parsed) (s : Spot) (y : Parsed × Spot) : Type 0 where
   pub forests : List Forest
   pub bytes : List ℕ
   pub there : OpenThere all sections home table stack forests s.place bytes
@@ -174,7 +174,7 @@ pub record ChildrenTaken (all : List Entry) (sections : SectionBytes) (home : Ho
   pub few : length before.entries ≤ MOST_ENTRIES → length y.0.entries ≤ MOST_ENTRIES
 
 -- no list is open
-none_taken : (all : List Entry) (sections : SectionBytes) (home : Home) (table : List Abbrev) (stack : List ℕ) (before : Parsed) (s : Spot) (y : Parsed × Spot) → Stands s → (length (back stack) == 0) ≡ true → (before, s) ≡ y
+none_taken : (all : List RawEntry) (sections : SectionBytes) (home : Home) (table : List Abbrev) (stack : List ℕ) (before : Parsed) (s : Spot) (y : Parsed × Spot) → Stands s → (length (back stack) == 0) ≡ true → (before, s) ≡ y
     → ChildrenTaken all sections home table stack before s y
 none_taken all sections home table [] before s y stands none is =
     subst (λ (z : Parsed × Spot). ChildrenTaken all sections home table [] before s z) is
@@ -182,7 +182,7 @@ none_taken all sections home table [] before s y stands none is =
 none_taken all sections home table (p ∷ stack) before s y stands none is = absurd (omega (arith, eqb-true _ _ none, length-append (back stack) (p ∷ [])))
 
 -- the innermost list is closed
-closing_taken : (all : List Entry) (sections : SectionBytes) (home : Home) (table : List Abbrev) (p : ℕ) (stack : List ℕ) (before : Parsed) (s : Spot) (code : ℕ × Spot) (y : Parsed × Spot) → Stands s → uleb_at s ≡ Ok code → code.0 ≡ 0
+closing_taken : (all : List RawEntry) (sections : SectionBytes) (home : Home) (table : List Abbrev) (p : ℕ) (stack : List ℕ) (before : Parsed) (s : Spot) (code : ℕ × Spot) (y : Parsed × Spot) → Stands s → uleb_at s ≡ Ok code → code.0 ≡ 0
     → (Stands code.1 → ChildrenTaken all sections home table stack before code.1 y) → ChildrenTaken all sections home table (p ∷ stack) before s y
 closing_taken all sections home table p stack before s code y stands coded zero_is others =
     let c = uleb_taken s code stands coded in
@@ -207,7 +207,7 @@ closing_taken all sections home table p stack before s code y stands coded zero_
     }
 
 -- an entry with what is below it and behind it
-with_node : (all : List Entry) (sections : SectionBytes) (home : Home) (table : List Abbrev) (lists : ℕ) (node : Node) (kids others : Forest) (place : ℕ) (a b c : List ℕ) → (node.declared.children ≡ true → lists < MOST_OPEN)
+with_node : (all : List RawEntry) (sections : SectionBytes) (home : Home) (table : List Abbrev) (lists : ℕ) (node : Node) (kids others : Forest) (place : ℕ) (a b c : List ℕ) → (node.declared.children ≡ true → lists < MOST_OPEN)
     → SpellsNode sections home.place table false node place a → NodeLeads all home.unit node → KidsThere all sections home table (suc lists) node.declared.children kids (place + length a) b
     → TreesThere all sections home table lists others (place + length a + length b) c → TreesThere all sections home table lists (tree node kids others) place ((a ++ b) ++ c)
 with_node all sections home table lists node kids others place a b c depth spells leads_on k o =
@@ -219,13 +219,13 @@ with_node all sections home table lists node kids others place a b c depth spell
     }
 
 -- what is open with a node in front of it
-record OpenWith (all : List Entry) (sections : SectionBytes) (home : Home) (table : List Abbrev) (p : ℕ) (stack : List ℕ) (place : ℕ) (bytes : List ℕ) (number : ℕ) (entries : List Entry) : Type 0 where
+record OpenWith (all : List RawEntry) (sections : SectionBytes) (home : Home) (table : List Abbrev) (p : ℕ) (stack : List ℕ) (place : ℕ) (bytes : List ℕ) (number : ℕ) (entries : List RawEntry) : Type 0 where
   forests : List Forest
   there : OpenThere all sections home table (p ∷ stack) forests place bytes
   entries_are : entries ≡ open_entries home.unit number (p ∷ stack) forests
 
 -- the node has a list, which is open too
-with_list : (all : List Entry) (sections : SectionBytes) (home : Home) (table : List Abbrev) (p : ℕ) (stack : List ℕ) (place : ℕ) (node : Node) (a r : List ℕ) (number : ℕ) → node.declared.children ≡ true → suc (length stack) < MOST_OPEN
+with_list : (all : List RawEntry) (sections : SectionBytes) (home : Home) (table : List Abbrev) (p : ℕ) (stack : List ℕ) (place : ℕ) (node : Node) (a r : List ℕ) (number : ℕ) → node.declared.children ≡ true → suc (length stack) < MOST_OPEN
     → SpellsNode sections home.place table false node place a → NodeLeads all home.unit node → (forests : List Forest) → OpenThere all sections home table (number ∷ p ∷ stack) forests (place + length a) r
     → OpenWith all sections home table p stack place (a ++ r) number (entry_of home.unit (Some p) node ∷ open_entries home.unit (number + 1) (number ∷ p ∷ stack) forests)
 with_list all sections home table p stack place node a r number has depth spells leads_on [] there = absurd there
@@ -245,7 +245,7 @@ with_list all sections home table p stack place node a r number has depth spells
         first = with_node all sections home table (suc (length stack)) node kids others place a there.front o.front (λ e. depth) spells leads_on (record { spells = below; shallow = k.shallow; leads_on = k.leads_on }) o.first;
         second = subst (λ (n : ℕ). OpenThere all sections home table stack forests n o.back) len o.second;
       };
-      entries_are = ap (λ (es : List Entry). entry_of home.unit (Some p) node ∷ es) (
+      entries_are = ap (λ (es : List RawEntry). entry_of home.unit (Some p) node ∷ es) (
           sym (append_assoc (preorder home.unit (Some number) (number + 1) kids) (preorder home.unit (Some p) (number + 1 + size kids) others) (open_entries home.unit (number + 1 + size kids + size others) stack forests))
           ∙ ap (λ (n : ℕ). (preorder home.unit (Some number) (number + 1) kids ++ preorder home.unit (Some p) (number + 1 + size kids) others) ++ open_entries home.unit n stack forests) number_is);
     }
@@ -257,7 +257,7 @@ differs : {b : Bool} → b ≡ true → b ≡ false → ⊥
 differs e f = cc
 
 -- the node has none
-with_none : (all : List Entry) (sections : SectionBytes) (home : Home) (table : List Abbrev) (p : ℕ) (stack : List ℕ) (place : ℕ) (node : Node) (a r : List ℕ) (number : ℕ) → node.declared.children ≡ false
+with_none : (all : List RawEntry) (sections : SectionBytes) (home : Home) (table : List Abbrev) (p : ℕ) (stack : List ℕ) (place : ℕ) (node : Node) (a r : List ℕ) (number : ℕ) → node.declared.children ≡ false
     → SpellsNode sections home.place table false node place a → NodeLeads all home.unit node → (forests : List Forest) → OpenThere all sections home table (p ∷ stack) forests (place + length a) r
     → OpenWith all sections home table p stack place (a ++ r) number (entry_of home.unit (Some p) node ∷ open_entries home.unit (number + 1) (p ∷ stack) forests)
 with_none all sections home table p stack place node a r number has spells leads_on [] there = absurd there
@@ -278,7 +278,7 @@ with_none all sections home table p stack place node a r number has spells leads
         first = with_node all sections home table (suc (length stack)) node no_more others place a [] there.front (λ e. absurd (differs e has)) spells leads_on (record { spells = below; shallow = tt; leads_on = tt }) next;
         second = subst (λ (n : ℕ). OpenThere all sections home table stack forests n there.back) len there.second;
       };
-      entries_are = ap (λ (es : List Entry). entry_of home.unit (Some p) node ∷ es) (
+      entries_are = ap (λ (es : List RawEntry). entry_of home.unit (Some p) node ∷ es) (
           ap (λ (n : ℕ). preorder home.unit (Some p) n others ++ open_entries home.unit (number + 1 + size others) stack forests) first_is
           ∙ ap (λ (n : ℕ). preorder home.unit (Some p) (number + 1 + size no_more) others ++ open_entries home.unit n stack forests) number_is);
     }
@@ -288,7 +288,7 @@ depth_below n true has e = ltb-true n MOST_OPEN (not-false (nat_lt n MOST_OPEN) 
 depth_below n false has e = absurd cc
 
 -- an entry of the innermost list
-opening_taken : (all : List Entry) → AreLow all → (sections : SectionBytes) (home : Home) (table : List Abbrev) (left p : ℕ) (stack : List ℕ) (before : Parsed) (s : Spot) (code : ℕ × Spot) (declared : Abbrev) (read y : Parsed × Spot) → Stands s
+opening_taken : (all : List RawEntry) → AreLow all → (sections : SectionBytes) (home : Home) (table : List Abbrev) (left p : ℕ) (stack : List ℕ) (before : Parsed) (s : Spot) (code : ℕ × Spot) (declared : Abbrev) (read y : Parsed × Spot) → Stands s
     → uleb_at s ≡ Ok code → (code.0 == 0) ≡ false → declared_as code.0 table ≡ Some declared → entry_at sections home (innermost (back (p ∷ stack))) s.place declared before code.1 ≡ Ok read
     → (declared.children && not (nat_lt (length (back (p ∷ stack))) MOST_OPEN)) ≡ false → is_full before ≡ false
     → children_at sections home table left (read.0, opened declared.children (length before.entries) (back (p ∷ stack))) read.1 ≡ Ok y → Lead all y.0.references
@@ -312,7 +312,7 @@ opening_taken all low sections home table left p stack before s code declared re
     joined more r with_it =
         let nd = node_taken all low sections home table (Some p) declared before s code read stands coded some found entry (lead_front all read.0.references r.references (subst (Lead all) r.grown h)) in
         let q = nd.passed in
-        let first : Entry = entry_of home.unit (Some p) (node_of declared s.place nd.attrs) in
+        let first : RawEntry = entry_of home.unit (Some p) (node_of declared s.place nd.attrs) in
         let len : length read.0.entries ≡ number + 1 = ap length nd.entries ∙ omega (arith, length-append before.entries (first ∷ [])) in
         let w = with_it nd (subst (λ (n : ℕ). OpenThere all sections home table more r.forests n r.bytes) q.place r.there) in
         record {
@@ -321,9 +321,9 @@ opening_taken all low sections home table left p stack before s code declared re
           there = w.there;
           entries = r.entries
               ∙ ap (λ (n : ℕ). read.0.entries ++ open_entries home.unit n more r.forests) len
-              ∙ ap (λ (es : List Entry). es ++ open_entries home.unit (number + 1) more r.forests) nd.entries
+              ∙ ap (λ (es : List RawEntry). es ++ open_entries home.unit (number + 1) more r.forests) nd.entries
               ∙ append_assoc before.entries (first ∷ []) (open_entries home.unit (number + 1) more r.forests)
-              ∙ ap (λ (es : List Entry). before.entries ++ es) w.entries_are;
+              ∙ ap (λ (es : List RawEntry). before.entries ++ es) w.entries_are;
           references = nd.references ++ r.references;
           grown = r.grown ∙ ap (λ (rs : List Reference). rs ++ r.references) nd.grown ∙ append_assoc before.references nd.references r.references;
           passed = passed_then nd.bytes r.bytes s read.1 y.1 q r.passed;
@@ -345,7 +345,7 @@ opening_taken all low sections home table left p stack before s code declared re
         joined (p ∷ stack) r (λ nd there. with_none all sections home table p stack s.place (node_of declared s.place nd.attrs) nd.bytes r.bytes number has nd.spells nd.leads_on r.forests there)
 
 -- an entry of the innermost list, or its end
-step_taken : (all : List Entry) → AreLow all → (sections : SectionBytes) (home : Home) (table : List Abbrev) (left : ℕ) (stack : List ℕ) (before : Parsed) (s : Spot) (y : Parsed × Spot) → Stands s → Lead all y.0.references
+step_taken : (all : List RawEntry) → AreLow all → (sections : SectionBytes) (home : Home) (table : List Abbrev) (left : ℕ) (stack : List ℕ) (before : Parsed) (s : Spot) (y : Parsed × Spot) → Stands s → Lead all y.0.references
     → ChildrenSteps sections home table left (before, back stack) s y
     → ((more : List ℕ) (now : Parsed) (t : Spot) → Stands t → children_at sections home table left (now, back more) t ≡ Ok y → ChildrenTaken all sections home table more now t y)
     → ChildrenTaken all sections home table stack before s y
@@ -363,7 +363,7 @@ step_taken all low sections home table left (p ∷ stack) before s y stands h w 
           opening_taken all low sections home table left p stack before s c.code c.declared l.read y stands c.coded c.some c.found l.entry l.depth l.room e h known
     ]
 
-pub children_taken : (all : List Entry) → AreLow all → (sections : SectionBytes) (home : Home) (table : List Abbrev) (left : ℕ) (stack : List ℕ) (before : Parsed) (s : Spot) (y : Parsed × Spot) → Stands s
+pub children_taken : (all : List RawEntry) → AreLow all → (sections : SectionBytes) (home : Home) (table : List Abbrev) (left : ℕ) (stack : List ℕ) (before : Parsed) (s : Spot) (y : Parsed × Spot) → Stands s
     → children_at sections home table left (before, back stack) s ≡ Ok y → Lead all y.0.references → ChildrenTaken all sections home table stack before s y
 children_taken all low sections home table zero stack before s y stands e h =
     let w = children_end sections home table (before, back stack) s y e in
@@ -398,7 +398,7 @@ one_turn : (sections : SectionBytes) (home : Home) (table : List Abbrev) (n : �
 unfolding children_at
 one_turn sections home table n walk s read unclosed some child = rw (unclosed, some, child) refl
 
-pub record TreesGo (all : List Entry) (sections : SectionBytes) (home : Home) (table : List Abbrev) (p : ℕ) (stack : List ℕ) (trees : Forest) (before : Parsed) (s : Spot) (bytes more : List ℕ) : Type 0 where
+pub record TreesGo (all : List RawEntry) (sections : SectionBytes) (home : Home) (table : List Abbrev) (p : ℕ) (stack : List ℕ) (trees : Forest) (before : Parsed) (s : Spot) (bytes more : List ℕ) : Type 0 where
   pub references : List Reference
   pub next : Spot
   pub reads : (n : ℕ) → children_at sections home table (turns trees + n) (before, back (p ∷ stack)) s
@@ -408,14 +408,14 @@ pub record TreesGo (all : List Entry) (sections : SectionBytes) (home : Home) (t
   pub left : rest next ≡ more
 
 -- the end of a list
-end_goes : (all : List Entry) (sections : SectionBytes) (home : Home) (table : List Abbrev) (p : ℕ) (stack : List ℕ) (before : Parsed) (s : Spot) (bytes more : List ℕ) → Stands s → IsUleb bytes 0 → Lead all before.references → rest s ≡ bytes ++ more
+end_goes : (all : List RawEntry) (sections : SectionBytes) (home : Home) (table : List Abbrev) (p : ℕ) (stack : List ℕ) (before : Parsed) (s : Spot) (bytes more : List ℕ) → Stands s → IsUleb bytes 0 → Lead all before.references → rest s ≡ bytes ++ more
     → TreesGo all sections home table p stack no_more before s bytes more
 unfolding child_at
 end_goes all sections home table p stack before s bytes more stands spells lead parts =
     let c = uleb_goes s bytes 0 more stands spells parts in
     let child : child_at sections home table (before, back (p ∷ stack)) s ≡ Ok ((before, closed (back (p ∷ stack))), c.next) = rw c.reads refl in
     let some = bytes_left s bytes more stands parts (leb_some bytes spells.spelled) in
-    let same : before ≡ record { entries = before.entries ++ []; references = before.references } = ap (λ (es : List Entry). record { entries = es; references = before.references }) (sym (append-nil before.entries)) in
+    let same : before ≡ record { entries = before.entries ++ []; references = before.references } = ap (λ (es : List RawEntry). record { entries = es; references = before.references }) (sym (append-nil before.entries)) in
     record {
       references = before.references;
       next = c.next;
@@ -444,7 +444,7 @@ entry_child sections home table p stack declared before s code read coded some f
     rw (coded, some, found, depth, room, innermost_back stack p, entry) refl
 
 -- trees that are spelled are read
-abbrev pub TreesAreRead : List Entry → SectionBytes → Home → List Abbrev → Forest → Type 0
+abbrev pub TreesAreRead : List RawEntry → SectionBytes → Home → List Abbrev → Forest → Type 0
 TreesAreRead all sections home table trees =
     (p : ℕ) (stack : List ℕ) (before : Parsed) (s : Spot) (bytes more : List ℕ) → Stands s → TreesThere all sections home table (suc (length stack)) trees s.place bytes → Lead all before.references → length before.entries + size trees ≤ MOST_ENTRIES
     → rest s ≡ bytes ++ more → TreesGo all sections home table p stack trees before s bytes more
@@ -458,10 +458,10 @@ below_none true Kids kids place bytes has w = absurd (differs refl has)
 below_none false Kids no_more place bytes has w = (refl, w)
 below_none false Kids (tree node more others) place bytes has w = absurd w
 
-abbrev pub parsed : List Entry → List Reference → Parsed
+abbrev pub parsed : List RawEntry → List Reference → Parsed
 parsed entries references = record { entries = entries; references = references }
 
-tree_goes : (all : List Entry) → AreLow all → (sections : SectionBytes) (home : Home) (table : List Abbrev) (node : Node) (kids others : Forest) (p : ℕ) (stack : List ℕ) (before : Parsed) (s : Spot) (bytes more : List ℕ) → Stands s
+tree_goes : (all : List RawEntry) → AreLow all → (sections : SectionBytes) (home : Home) (table : List Abbrev) (node : Node) (kids others : Forest) (p : ℕ) (stack : List ℕ) (before : Parsed) (s : Spot) (bytes more : List ℕ) → Stands s
     → TreesThere all sections home table (suc (length stack)) (tree node kids others) s.place bytes → Lead all before.references → length before.entries + size (tree node kids others) ≤ MOST_ENTRIES → rest s ≡ bytes ++ more
     → TreesAreRead all sections home table kids → TreesAreRead all sections home table others → TreesGo all sections home table p stack (tree node kids others) before s bytes more
 tree_goes all low sections home table node kids others p stack before s bytes more stands there lead room parts read_kids read_others = go node.declared.children refl
@@ -469,7 +469,7 @@ tree_goes all low sections home table node kids others p stack before s bytes mo
     number : ℕ
     number = length before.entries
 
-    first : Entry
+    first : RawEntry
     first = entry_of home.unit (Some p) node
 
     spells : SpellsTrees sections home.place table (tree node kids others) s.place bytes
@@ -539,7 +539,7 @@ tree_goes all low sections home table node kids others p stack before s bytes mo
               turn true has n (turns kids + (turns others + n)) (omega (arith, t))
               ∙ gk.reads (turns others + n)
               ∙ go_on.reads n
-              ∙ ap (λ (es : List Entry). children_at sections home table n (parsed es go_on.references, back stack) go_on.next) made;
+              ∙ ap (λ (es : List RawEntry). children_at sections home table n (parsed es go_on.references, back stack) go_on.next) made;
           lead = go_on.lead;
           passed = subst (λ (b : List ℕ). Passed b s go_on.next) (sym parts_of) (passed_then (a ++ k) c s gk.next go_on.next (passed_then a k s g.next gk.next q r) go_on.passed);
           left = go_on.left;
@@ -563,13 +563,13 @@ tree_goes all low sections home table node kids others p stack before s bytes mo
           reads = λ n.
               turn false has n (turns others + n) (omega (arith, t))
               ∙ go_on.reads n
-              ∙ ap (λ (es : List Entry). children_at sections home table n (parsed es go_on.references, back stack) go_on.next) made;
+              ∙ ap (λ (es : List RawEntry). children_at sections home table n (parsed es go_on.references, back stack) go_on.next) made;
           lead = go_on.lead;
           passed = subst (λ (b : List ℕ). Passed b s go_on.next) (sym (parts_of ∙ ap (λ (b : List ℕ). (a ++ b) ++ c) none.1 ∙ ap (λ (b : List ℕ). b ++ c) (append-nil a))) (passed_then a c s g.next go_on.next q go_on.passed);
           left = go_on.left;
         }
 
-pub trees_go : (all : List Entry) → AreLow all → (sections : SectionBytes) (home : Home) (table : List Abbrev) (trees : Forest) → TreesAreRead all sections home table trees
+pub trees_go : (all : List RawEntry) → AreLow all → (sections : SectionBytes) (home : Home) (table : List Abbrev) (trees : Forest) → TreesAreRead all sections home table trees
 trees_go all low sections home table no_more p stack before s bytes more stands there lead room parts = end_goes all sections home table p stack before s bytes more stands there.spells lead parts
 trees_go all low sections home table (tree node kids others) p stack before s bytes more stands there lead room parts =
     tree_goes all low sections home table node kids others p stack before s bytes more stands there lead room parts (trees_go all low sections home table kids) (trees_go all low sections home table others)

@@ -14,7 +14,7 @@ use Rattle.ds_base.specs.Spot.{Spot, rest, after, fault_at}
 use Rattle.ds_base.specs.Reading.{◌>>=◌, bytes_at}
 use Rattle.dwarf_types.specs.Spelled.{AreBytes, IsNumber}
 use Rattle.dwarf_types.specs.declared.abbrev.Abbrev.{Abbrev}
-use Rattle.dwarf_types.specs.declared.entry.Entry.{Entry}
+use Rattle.dwarf_types.specs.declared.entry.RawEntry.{RawEntry}
 use Rattle.dwarf_types.specs.declared.entry.InUnit.{InUnit}
 use Rattle.dwarf_types.specs.declared.entry.RawUnits.{RawUnits}
 use Rattle.dwarf_types.specs.SectionBytes.{SectionBytes}
@@ -43,7 +43,7 @@ use Rattle.unit_tree.proofs.TreeLaws.{node_of, node_taken, OpenThere, open_entri
 
 -- ---- the tree of a unit
 
-record TreeTaken (all : List Entry) (sections : SectionBytes) (home : Home) (table : List Abbrev) (before : Parsed) (s : Spot) (y : Parsed × Spot) : Type 0 where
+record TreeTaken (all : List RawEntry) (sections : SectionBytes) (home : Home) (table : List Abbrev) (before : Parsed) (s : Spot) (y : Parsed × Spot) : Type 0 where
   root : Node
   kids : Forest
   bytes : List ℕ
@@ -60,14 +60,14 @@ record TreeTaken (all : List Entry) (sections : SectionBytes) (home : Home) (tab
   few : length y.0.entries ≤ MOST_ENTRIES
 
 -- what is below a root
-record BelowRoot (all : List Entry) (sections : SectionBytes) (home : Home) (table : List Abbrev) (children : Bool) (number place : ℕ) (bytes : List ℕ) (entries : List Entry) : Type 0 where
+record BelowRoot (all : List RawEntry) (sections : SectionBytes) (home : Home) (table : List Abbrev) (children : Bool) (number place : ℕ) (bytes : List ℕ) (entries : List RawEntry) : Type 0 where
   kids : Forest
   spells : SpellsBelow children (λ p b. SpellsTrees sections home.place table kids p b) kids place bytes
   shallow : IsShallow 1 kids
   leads_on : TreesLead all home.unit kids
   entries_are : entries ≡ preorder home.unit (Some number) (number + 1) kids
 
-one_list : (all : List Entry) (sections : SectionBytes) (home : Home) (table : List Abbrev) (number place : ℕ) (bytes : List ℕ) (forests : List Forest) → OpenThere all sections home table (number ∷ []) forests place bytes
+one_list : (all : List RawEntry) (sections : SectionBytes) (home : Home) (table : List Abbrev) (number place : ℕ) (bytes : List ℕ) (forests : List Forest) → OpenThere all sections home table (number ∷ []) forests place bytes
     → BelowRoot all sections home table true number place bytes (open_entries home.unit (number + 1) (number ∷ []) forests)
 one_list all sections home table number place bytes [] there = absurd there
 one_list all sections home table number place bytes (kids ∷ []) there =
@@ -76,12 +76,12 @@ one_list all sections home table number place bytes (kids ∷ []) there =
     record { kids = kids; spells = subst (SpellsTrees sections home.place table kids place) is k.spells; shallow = k.shallow; leads_on = k.leads_on; entries_are = append-nil (preorder home.unit (Some number) (number + 1) kids) }
 one_list all sections home table number place bytes (kids ∷ others ∷ forests) there = absurd there.second
 
-no_list : (all : List Entry) (sections : SectionBytes) (home : Home) (table : List Abbrev) (number place : ℕ) (bytes : List ℕ) (forests : List Forest) → OpenThere all sections home table [] forests place bytes
+no_list : (all : List RawEntry) (sections : SectionBytes) (home : Home) (table : List Abbrev) (number place : ℕ) (bytes : List ℕ) (forests : List Forest) → OpenThere all sections home table [] forests place bytes
     → BelowRoot all sections home table false number place bytes []
 no_list all sections home table number place bytes [] there = record { kids = no_more; spells = there; shallow = tt; leads_on = tt; entries_are = refl }
 no_list all sections home table number place bytes (trees ∷ forests) there = absurd there
 
-root_taken : (all : List Entry) → AreLow all → (start : Spot) (sections : SectionBytes) (home : Home) (table : List Abbrev) (before : Parsed) (s : Spot) (z : (Bool × Parsed) × Spot) (y : Parsed × Spot) → Stands s
+root_taken : (all : List RawEntry) → AreLow all → (start : Spot) (sections : SectionBytes) (home : Home) (table : List Abbrev) (before : Parsed) (s : Spot) (z : (Bool × Parsed) × Spot) (y : Parsed × Spot) → Stands s
     → RootSteps start sections home table before s z → children_at sections home table (z.1.end - z.1.place) (z.0.1, opened z.0.0 (length before.entries) []) z.1 ≡ Ok y → Lead all y.0.references
     → TreeTaken all sections home table before s y
 root_taken all low start sections home table before s z y stands root others h = go root.declared.children refl
@@ -107,7 +107,7 @@ root_taken all low start sections home table before s z y stands root others h =
     joined stack r below =
         let nd = node_taken all low sections home table None declared before s root.code read stands root.coded root.some root.found root.entry (lead_front all read.0.references r.references (subst (Lead all) r.grown h)) in
         let q = nd.passed in
-        let first : Entry = entry_of home.unit None (node_of declared s.place nd.attrs) in
+        let first : RawEntry = entry_of home.unit None (node_of declared s.place nd.attrs) in
         let len : length read.0.entries ≡ number + 1 = ap length nd.entries ∙ omega (arith, length-append before.entries (first ∷ [])) in
         let b = below (s.place + length nd.bytes) (subst (λ (n : ℕ). OpenThere all sections home table stack r.forests n r.bytes) q.place r.there) in
         record {
@@ -122,9 +122,9 @@ root_taken all low start sections home table before s z y stands root others h =
           whole = root.whole;
           entries = r.entries
               ∙ ap (λ (n : ℕ). read.0.entries ++ open_entries home.unit n stack r.forests) len
-              ∙ ap (λ (es : List Entry). es ++ open_entries home.unit (number + 1) stack r.forests) nd.entries
+              ∙ ap (λ (es : List RawEntry). es ++ open_entries home.unit (number + 1) stack r.forests) nd.entries
               ∙ append_assoc before.entries (first ∷ []) (open_entries home.unit (number + 1) stack r.forests)
-              ∙ ap (λ (es : List Entry). before.entries ++ first ∷ es) b.entries_are;
+              ∙ ap (λ (es : List RawEntry). before.entries ++ first ∷ es) b.entries_are;
           references = nd.references ++ r.references;
           grown = r.grown ∙ ap (λ (rs : List Reference). rs ++ r.references) nd.grown ∙ append_assoc before.references nd.references r.references;
           passed = passed_then nd.bytes r.bytes s read.1 y.1 q r.passed;
@@ -142,7 +142,7 @@ root_taken all low start sections home table before s z y stands root others h =
         let r = children_taken all low sections home table (read.1.end - read.1.place) [] read.0 read.1 y stands_next (still false has) h in
         joined [] r (λ place there. subst (λ (c : Bool). BelowRoot all sections home table c number place r.bytes (open_entries home.unit (number + 1) [] r.forests)) (sym has) (no_list all sections home table number place r.bytes r.forests there))
 
-tree_taken : (all : List Entry) → AreLow all → (start : Spot) (sections : SectionBytes) (home : Home) (table : List Abbrev) (before : Parsed) (s : Spot) (y : Parsed × Spot) → Stands s → tree_at start sections home table before s ≡ Ok y → Lead all y.0.references
+tree_taken : (all : List RawEntry) → AreLow all → (start : Spot) (sections : SectionBytes) (home : Home) (table : List Abbrev) (before : Parsed) (s : Spot) (y : Parsed × Spot) → Stands s → tree_at start sections home table before s ≡ Ok y → Lead all y.0.references
     → TreeTaken all sections home table before s y
 tree_taken all low start sections home table before s y stands e h =
     let w = tree_steps start sections home table before s y e in
@@ -254,15 +254,15 @@ got_there [] x ys = refl
 got_there (z ∷ xs) x ys = got_there xs x ys
 
 -- the unit of a root and what is below it
-pub unit_is : (number : ℕ) (before entries : List Entry) (t : UnitTree) → entries ≡ before ++ unit_entries number (length before) t → unit_from (length before) entries ≡ in_unit (length before) t
+pub unit_is : (number : ℕ) (before entries : List RawEntry) (t : UnitTree) → entries ≡ before ++ unit_entries number (length before) t → unit_from (length before) entries ≡ in_unit (length before) t
 unit_is number before entries t is =
     let below = preorder number (Some (length before)) (length before + 1) t.kids in
-    let first : Entry = entry_of number None t.root in
+    let first : RawEntry = entry_of number None t.root in
     let count : length entries - length before ≡ 1 + size t.kids = omega (arith, ap length is, length-append before (first ∷ below), length_preorder number (Some (length before)) (length before + 1) t.kids) in
-    let root : slice_get entries (length before) ≡ Some first = ap (λ (es : List Entry). slice_get es (length before)) is ∙ got_there before first below in
+    let root : slice_get entries (length before) ≡ Some first = ap (λ (es : List RawEntry). slice_get es (length before)) is ∙ got_there before first below in
     rw (count, root) refl
 
-record UnitTaken (all : List Entry) (sections : SectionBytes) (number : ℕ) (before : Parsed) (place : ℕ) (y : (InUnit × Parsed) × ℕ) : Type 0 where
+record UnitTaken (all : List RawEntry) (sections : SectionBytes) (number : ℕ) (before : Parsed) (place : ℕ) (y : (InUnit × Parsed) × ℕ) : Type 0 where
   t : UnitTree
   bytes : List ℕ
   spells : SpellsUnit sections t place bytes
@@ -289,7 +289,7 @@ body_spells sections unit t place v o w tree_bytes zeros version offset width sp
       second = record { front = o; back = w ++ (tree_bytes ++ zeros); is = refl; first = offset; second = record { front = w; back = tree_bytes ++ zeros; is = refl; first = width; second = record { front = tree_bytes; back = zeros; is = refl; first = subst (λ (n : ℕ). SpellsTree sections unit t n tree_bytes) at spells; second = empty } } };
     }
 
-unit_taken : (all : List Entry) → AreLow all → (sections : SectionBytes) (number : ℕ) (before : Parsed) (place : ℕ) (y : (InUnit × Parsed) × ℕ) → AreBytes sections.info → AreBytes sections.abbrev_ → place ≤ length sections.info
+unit_taken : (all : List RawEntry) → AreLow all → (sections : SectionBytes) (number : ℕ) (before : Parsed) (place : ℕ) (y : (InUnit × Parsed) × ℕ) → AreBytes sections.info → AreBytes sections.abbrev_ → place ≤ length sections.info
     → unit_at sections number before place ≡ Ok y → Lead all y.0.1.references → UnitTaken all sections number before place y
 unit_taken all low sections number before place y info abbrev_bytes le e h =
     let w = unit_steps sections number before place y e in
@@ -339,7 +339,7 @@ unit_taken all low sections number before place y info abbrev_bytes le e h =
 
 -- ---- all units
 
-record UnitsTaken (all : List Entry) (sections : SectionBytes) (units : List InUnit) (before : Parsed) (place : ℕ) (y : List InUnit × Parsed) : Type 0 where
+record UnitsTaken (all : List RawEntry) (sections : SectionBytes) (units : List InUnit) (before : Parsed) (place : ℕ) (y : List InUnit × Parsed) : Type 0 where
   trees : List UnitTree
   spells : SpellsUnits sections trees place (drop place sections.info)
   units_are : y.0 ≡ units ++ in_units (length before.entries) trees
@@ -349,12 +349,12 @@ record UnitsTaken (all : List Entry) (sections : SectionBytes) (units : List InU
   grown : y.1.references ≡ before.references ++ references
   few : length before.entries ≤ MOST_ENTRIES → length y.1.entries ≤ MOST_ENTRIES
 
-section_taken : (all : List Entry) (sections : SectionBytes) (units : List InUnit) (before : Parsed) (place : ℕ) (y : List InUnit × Parsed) → length sections.info ≤ place → (units, before) ≡ y → UnitsTaken all sections units before place y
+section_taken : (all : List RawEntry) (sections : SectionBytes) (units : List InUnit) (before : Parsed) (place : ℕ) (y : List InUnit × Parsed) → length sections.info ≤ place → (units, before) ≡ y → UnitsTaken all sections units before place y
 section_taken all sections units before place y le is =
     subst (UnitsTaken all sections units before place) is
     (record { trees = []; spells = drop_all place sections.info le; units_are = sym (append-nil units); entries = sym (append-nil before.entries); sound = tt; references = []; grown = sym (append-nil before.references); few = λ h. h })
 
-more_taken : (all : List Entry) → AreLow all → (sections : SectionBytes) (left : ℕ) (units : List InUnit) (before : Parsed) (place : ℕ) (y : List InUnit × Parsed) → AreBytes sections.info → AreBytes sections.abbrev_ → place ≤ length sections.info
+more_taken : (all : List RawEntry) → AreLow all → (sections : SectionBytes) (left : ℕ) (units : List InUnit) (before : Parsed) (place : ℕ) (y : List InUnit × Parsed) → AreBytes sections.info → AreBytes sections.abbrev_ → place ≤ length sections.info
     → UnitsSteps sections left units before place y → Lead all y.1.references → ((unit : InUnit) (now : Parsed) (next : ℕ) → place < next → next ≤ length sections.info → units_at sections left (units ++ unit ∷ []) now next ≡ Ok y → UnitsTaken all sections (units ++ unit ∷ []) now next y)
     → UnitsTaken all sections units before place y
 more_taken all low sections left units before place y info abbrev_bytes le w h known =
@@ -375,7 +375,7 @@ more_taken all low sections left units before place y info abbrev_bytes le w h k
       entries = r.entries
           ∙ ap (λ (n : ℕ). w.read.0.1.entries ++ entries_of n (length w.read.0.1.entries) r.trees) count
           ∙ ap (λ (n : ℕ). w.read.0.1.entries ++ entries_of (suc (length units)) n r.trees) next
-          ∙ ap (λ (es : List Entry). es ++ entries_of (suc (length units)) (number + 1 + size t.t.kids) r.trees) t.entries
+          ∙ ap (λ (es : List RawEntry). es ++ entries_of (suc (length units)) (number + 1 + size t.t.kids) r.trees) t.entries
           ∙ append_assoc before.entries own (entries_of (suc (length units)) (number + 1 + size t.t.kids) r.trees);
       sound = (t.sound, subst (λ (n : ℕ). AreSoundUnits all n r.trees) count r.sound);
       references = t.references ++ r.references;
@@ -383,7 +383,7 @@ more_taken all low sections left units before place y info abbrev_bytes le w h k
       few = λ few. r.few t.few;
     }
 
-units_taken : (all : List Entry) → AreLow all → (sections : SectionBytes) (left : ℕ) (units : List InUnit) (before : Parsed) (place : ℕ) (y : List InUnit × Parsed) → AreBytes sections.info → AreBytes sections.abbrev_ → place ≤ length sections.info
+units_taken : (all : List RawEntry) → AreLow all → (sections : SectionBytes) (left : ℕ) (units : List InUnit) (before : Parsed) (place : ℕ) (y : List InUnit × Parsed) → AreBytes sections.info → AreBytes sections.abbrev_ → place ≤ length sections.info
     → length sections.info ≤ left + place → units_at sections left units before place ≡ Ok y → Lead all y.1.references → UnitsTaken all sections units before place y
 units_taken all low sections zero units before place y info abbrev_bytes le all_turns e h = section_taken all sections units before place y (omega (arith, all_turns)) (units_end sections units before place y e)
 units_taken all low sections (suc left) units before place y info abbrev_bytes le all_turns e h =
@@ -395,47 +395,47 @@ units_taken all low sections (suc left) units before place y info abbrev_bytes l
 -- ---- an object
 
 -- where all references lead
-record Resolved (entries : List Entry) (references : List Reference) (found : List Entry) : Type 0 where
+record Resolved (entries : List RawEntry) (references : List Reference) (found : List RawEntry) : Type 0 where
   same : entries ≡ found
   lead : Lead entries references
 
 abbrev dangles : Reference → Fault
 dangles r = record { kind = kinds.BadReference; section = Info; place = r.place }
 
-abbrev raw : List InUnit → List Entry → RawUnits
+abbrev raw : List InUnit → List RawEntry → RawUnits
 raw units entries = record { units = units; entries = entries }
 
-raw_is : (units : List InUnit) (entries : List Entry) (trees : List UnitTree) → units ≡ in_units 0 trees → entries ≡ entries_of 0 0 trees → raw units entries ≡ raw_units trees
+raw_is : (units : List InUnit) (entries : List RawEntry) (trees : List UnitTree) → units ≡ in_units 0 trees → entries ≡ entries_of 0 0 trees → raw units entries ≡ raw_units trees
 raw_is units entries trees a b = ap₂ raw a b
 
 none_here : (b : Bool) (r : Reference) (o : Option Reference) → cond (not b) (Some r) o ≡ None → (b ≡ true) × (o ≡ None)
 none_here true r o e = (refl, e)
 none_here false r o e = absurd cc
 
-none_dangles : (o : Option Reference) (entries found : List Entry) → option_map_or (λ (r : Reference). Err (dangles r)) o (Ok entries) ≡ Ok found → (o ≡ None) × (entries ≡ found)
+none_dangles : (o : Option Reference) (entries found : List RawEntry) → option_map_or (λ (r : Reference). Err (dangles r)) o (Ok entries) ≡ Ok found → (o ≡ None) × (entries ≡ found)
 none_dangles None entries found e = (refl, ok_is entries found e)
 none_dangles (Some r) entries found e = absurd cc
 
-all_pass : (entries : List Entry) (references : List Reference) → find (λ r. not (leads entries r)) references ≡ None → Lead entries references
+all_pass : (entries : List RawEntry) (references : List Reference) → find (λ r. not (leads entries r)) references ≡ None → Lead entries references
 all_pass entries [] e = refl
 all_pass entries (r ∷ references) e =
     let p = none_here (leads entries r) r (find (λ x. not (leads entries x)) references) e in
     rw p.0 (all_pass entries references p.1)
 
-resolved_ok : (entries : List Entry) (references : List Reference) (found : List Entry) → resolved entries references ≡ Ok found → Resolved entries references found
+resolved_ok : (entries : List RawEntry) (references : List Reference) (found : List RawEntry) → resolved entries references ≡ Ok found → Resolved entries references found
 unfolding resolved
 resolved_ok entries references found e =
     let w = none_dangles (find (λ r. not (leads entries r)) references) entries found e in
     record { same = w.1; lead = all_pass entries references w.0 }
 
-low_below : (entries : List Entry) (limit : ℕ) → limit < 2 ^ 32 → ((i : ℕ) (d : Entry) → i < length entries → (get_or entries i d).place < limit) → AreLow entries
+low_below : (entries : List RawEntry) (limit : ℕ) → limit < 2 ^ 32 → ((i : ℕ) (d : RawEntry) → i < length entries → (get_or entries i d).place < limit) → AreLow entries
 low_below [] limit lt below = tt
 low_below (x ∷ xs) limit lt below = (omega (arith, below 0 x (omega arith), lt), low_below xs limit lt (λ i d within. below (suc i) d (omega arith)))
 
 pub units_spelled : (sections : SectionBytes) (units : RawUnits) → length sections.info < 2 ^ 32 → AreBytes sections.info → AreBytes sections.abbrev_ → units_of sections ≡ Ok units → IsSpelled sections units
 unfolding units_of
 units_spelled sections units small info abbrev_bytes e =
-    let made : List InUnit × Parsed → List Entry → Result RawUnits Fault = λ read entries. Ok (raw read.0 entries) in
+    let made : List InUnit × Parsed → List RawEntry → Result RawUnits Fault = λ read entries. Ok (raw read.0 entries) in
     let a = bind_ok (units_at sections (length sections.info) [] nothing 0) (λ read. resolved read.1.entries read.1.references >>= made read) units e in
     let b = bind_ok (resolved a.0.1.entries a.0.1.references) (made a.0) units a.2 in
     let r = resolved_ok a.0.1.entries a.0.1.references b.0 b.1 in
@@ -448,8 +448,8 @@ units_spelled sections units small info abbrev_bytes e =
       trees = t.trees;
       spells = record {
         spells = t.spells;
-        few = subst (λ (es : List Entry). length es ≤ MOST_ENTRIES) entries_are (t.few (omega arith));
-        sound = subst (λ (es : List Entry). AreSoundUnits es 0 t.trees) entries_are t.sound;
+        few = subst (λ (es : List RawEntry). length es ≤ MOST_ENTRIES) entries_are (t.few (omega arith));
+        sound = subst (λ (es : List RawEntry). AreSoundUnits es 0 t.trees) entries_are t.sound;
       };
       is = sym (ok_is _ units b.2) ∙ is;
     }

@@ -9,7 +9,7 @@ use Rattle.ds_base.specs.Spot.{Spot, rest}
 use Rattle.ds_base.specs.Reading.{bytes_at, number_at, uleb_at}
 use Rattle.dwarf_types.specs.Spelled.{AreBytes, IsNumber}
 use Rattle.dwarf_types.specs.declared.abbrev.Abbrev.{Abbrev}
-use Rattle.dwarf_types.specs.declared.entry.Entry.{Entry}
+use Rattle.dwarf_types.specs.declared.entry.RawEntry.{RawEntry}
 use Rattle.dwarf_types.specs.declared.entry.InUnit.{InUnit}
 use Rattle.dwarf_types.specs.SectionBytes.{SectionBytes}
 use Rattle.dwarf_types.proofs.Readers.{Stands, length_rest}
@@ -37,7 +37,7 @@ use Rattle.unit_tree.proofs.UnitLaws.{info_left, info_stands, body_left, body_st
 
 -- ---- entries begin inside of the section
 
-low_both : (xs ys : List Entry) → AreLow xs → AreLow ys → AreLow (xs ++ ys)
+low_both : (xs ys : List RawEntry) → AreLow xs → AreLow ys → AreLow (xs ++ ys)
 low_both [] ys h k = k
 low_both (x ∷ xs) ys h k = (h.0, low_both xs ys h.1 k)
 
@@ -105,7 +105,7 @@ turns_fit sections place table (tree node kids others) at bytes w =
 
 -- ---- the tree of a unit
 
-record TreeGoes (all : List Entry) (start : Spot) (sections : SectionBytes) (home : Home) (t : UnitTree) (before : Parsed) (s : Spot) (bytes more : List ℕ) : Type 0 where
+record TreeGoes (all : List RawEntry) (start : Spot) (sections : SectionBytes) (home : Home) (t : UnitTree) (before : Parsed) (s : Spot) (bytes more : List ℕ) : Type 0 where
   references : List Reference
   next : Spot
   reads : tree_at start sections home t.table before s ≡ Ok (parsed (before.entries ++ unit_entries home.unit (length before.entries) t) references, next)
@@ -125,14 +125,14 @@ tree_reads : (start : Spot) (sections : SectionBytes) (home : Home) (table : Lis
 unfolding tree_at
 tree_reads start sections home table before s root first = rw first refl
 
-unit_tree_goes : (all : List Entry) → AreLow all → (start : Spot) (sections : SectionBytes) (home : Home) (t : UnitTree) (before : Parsed) (s : Spot) (bytes more : List ℕ) → Stands s → SpellsTree sections home.place t s.place bytes → IsSoundUnit all home.unit t
+unit_tree_goes : (all : List RawEntry) → AreLow all → (start : Spot) (sections : SectionBytes) (home : Home) (t : UnitTree) (before : Parsed) (s : Spot) (bytes more : List ℕ) → Stands s → SpellsTree sections home.place t s.place bytes → IsSoundUnit all home.unit t
     → t.root.declared.tag ≡ DW_TAG_compile_unit → is_split t.root.declared ≡ false → Lead all before.references → length before.entries + 1 + size t.kids ≤ MOST_ENTRIES → rest s ≡ bytes ++ more → TreeGoes all start sections home t before s bytes more
 unit_tree_goes all low start sections home t before s bytes more stands spells sound unit whole lead room parts = go t.root.declared.children refl
   where
     number : ℕ
     number = length before.entries
 
-    first : Entry
+    first : RawEntry
     first = entry_of home.unit None t.root
 
     a : List ℕ
@@ -181,7 +181,7 @@ unit_tree_goes all low start sections home t before s bytes more stands spells s
               ∙ ap (λ (n : ℕ). children_at sections home t.table n (one, back (number ∷ [])) g.next) count
               ∙ gk.reads (fuel - turns t.kids)
               ∙ ends sections home t.table (fuel - turns t.kids) (two, []) gk.next refl
-              ∙ ap (λ (es : List Entry). Ok (parsed es gk.references, gk.next)) (ap (λ (n : ℕ). one.entries ++ preorder home.unit (Some number) n t.kids) len_one ∙ append_assoc before.entries (first ∷ []) (preorder home.unit (Some number) (number + 1) t.kids));
+              ∙ ap (λ (es : List RawEntry). Ok (parsed es gk.references, gk.next)) (ap (λ (n : ℕ). one.entries ++ preorder home.unit (Some number) n t.kids) len_one ∙ append_assoc before.entries (first ∷ []) (preorder home.unit (Some number) (number + 1) t.kids));
           lead = gk.lead;
           passed = subst (λ (b : List ℕ). Passed b s gk.next) (sym spells.is) (passed_then a k s g.next gk.next q gk.passed);
           left = gk.left;
@@ -248,7 +248,7 @@ zeros_read start s zeros stands left empty =
     let all : take n (rest s) ≡ zeros = take_all n (rest s) (omega (arith, length_rest s stands)) ∙ left in
     rw (le-ltb n n (omega arith), all, empty) refl
 
-record UnitGoes (all : List Entry) (sections : SectionBytes) (number : ℕ) (t : UnitTree) (before : Parsed) (place : ℕ) (bytes : List ℕ) : Type 0 where
+record UnitGoes (all : List RawEntry) (sections : SectionBytes) (number : ℕ) (t : UnitTree) (before : Parsed) (place : ℕ) (bytes : List ℕ) : Type 0 where
   references : List Reference
   reads : unit_at sections number before place ≡ Ok ((in_unit (length before.entries) t, parsed (before.entries ++ unit_entries number (length before.entries) t) references), place + length bytes)
   lead : Lead all references
@@ -259,7 +259,7 @@ unit_reads : (sections : SectionBytes) (number : ℕ) (before : Parsed) (place :
 unfolding unit_at
 unit_reads sections number before place header table read a b c d = rw (a, b, c, d) refl
 
-unit_goes : (all : List Entry) → AreLow all → (sections : SectionBytes) (number : ℕ) (t : UnitTree) (before : Parsed) (place : ℕ) (bytes more : List ℕ) → AreBytes sections.info → AreBytes sections.abbrev_ → place ≤ length sections.info → SpellsUnit sections t place bytes
+unit_goes : (all : List RawEntry) → AreLow all → (sections : SectionBytes) (number : ℕ) (t : UnitTree) (before : Parsed) (place : ℕ) (bytes more : List ℕ) → AreBytes sections.info → AreBytes sections.abbrev_ → place ≤ length sections.info → SpellsUnit sections t place bytes
     → drop place sections.info ≡ bytes ++ more → IsSoundUnit all number t → Lead all before.references → length before.entries + 1 + size t.kids ≤ MOST_ENTRIES → UnitGoes all sections number t before place bytes
 unit_goes all low sections number t before place bytes more info abbrev_bytes le w parts sound lead room =
     let v = w.spells in
@@ -276,7 +276,7 @@ unit_goes all low sections number t before place bytes more info abbrev_bytes le
     let home : Home = record { unit = number; place = place } in
     let tg = unit_tree_goes all low (info_at sections place) sections home t before hd.next b.front b.back hd.stands (subst (λ (n : ℕ). SpellsTree sections place t n b.front) at b.first) sound w.is_unit w.whole lead room hd.left in
     let tp = tg.passed in
-    let entries : List Entry = before.entries ++ unit_entries number (length before.entries) t in
+    let entries : List RawEntry = before.entries ++ unit_entries number (length before.entries) t in
     let table = table_read sections.abbrev_ t.offset t.table w.inside abbrev_bytes w.table in
     let four = length_number 4 (length w.body) w.count w.counts in
     let end : place + 4 + length w.body ≡ place + length bytes = omega (arith, ap length w.is, length-append w.count w.body, four) in
@@ -289,7 +289,7 @@ unit_goes all low sections number t before place bytes more info abbrev_bytes le
 
 -- ---- all units
 
-record UnitsGo (all : List Entry) (sections : SectionBytes) (trees : List UnitTree) (left : ℕ) (units : List InUnit) (before : Parsed) (place : ℕ) : Type 0 where
+record UnitsGo (all : List RawEntry) (sections : SectionBytes) (trees : List UnitTree) (left : ℕ) (units : List InUnit) (before : Parsed) (place : ℕ) : Type 0 where
   references : List Reference
   reads : units_at sections left units before place ≡ Ok (units ++ in_units (length before.entries) trees, parsed (before.entries ++ entries_of (length units) (length before.entries) trees) references)
   lead : Lead all references
@@ -304,14 +304,14 @@ one_more : (sections : SectionBytes) (left : ℕ) (units : List InUnit) (before 
 unfolding units_at
 one_more sections left units before place read more unit = rw (ne_eqb place (length sections.info) more, unit) refl
 
-units_go : (all : List Entry) → AreLow all → (sections : SectionBytes) (trees : List UnitTree) (left : ℕ) (units : List InUnit) (before : Parsed) (place : ℕ) → AreBytes sections.info → AreBytes sections.abbrev_ → place ≤ length sections.info
+units_go : (all : List RawEntry) → AreLow all → (sections : SectionBytes) (trees : List UnitTree) (left : ℕ) (units : List InUnit) (before : Parsed) (place : ℕ) → AreBytes sections.info → AreBytes sections.abbrev_ → place ≤ length sections.info
     → length sections.info ≤ left + place → SpellsUnits sections trees place (drop place sections.info) → AreSoundUnits all (length units) trees → Lead all before.references
     → length before.entries + length (entries_of (length units) (length before.entries) trees) ≤ MOST_ENTRIES → UnitsGo all sections trees left units before place
 units_go all low sections [] left units before place info abbrev_bytes le all_turns w sound lead room =
     let last : place ≡ length sections.info = omega (arith, le, ap length w, length-drop place sections.info) in
     record {
       references = before.references;
-      reads = section_ends sections left units before place last ∙ ap₂ (λ (us : List InUnit) (es : List Entry). Ok (us, parsed es before.references)) (sym (append-nil units)) (sym (append-nil before.entries));
+      reads = section_ends sections left units before place last ∙ ap₂ (λ (us : List InUnit) (es : List RawEntry). Ok (us, parsed es before.references)) (sym (append-nil units)) (sym (append-nil before.entries));
       lead = lead;
     }
 units_go all low sections (t ∷ ts) zero units before place info abbrev_bytes le all_turns w sound lead room =
@@ -320,7 +320,7 @@ units_go all low sections (t ∷ ts) zero units before place info abbrev_bytes l
 units_go all low sections (t ∷ ts) (suc left) units before place info abbrev_bytes le all_turns w sound lead room =
     let first = w.first in
     let number : ℕ = length before.entries in
-    let own : List Entry = unit_entries (length units) number t in
+    let own : List RawEntry = unit_entries (length units) number t in
     let own_len : length own ≡ 1 + size t.kids = omega (arith, length_preorder (length units) (Some number) (number + 1) t.kids) in
     let some : 4 ≤ length w.front = omega (arith, ap length first.is, length-append first.count first.body, length_number 4 (length first.body) first.count first.counts) in
     let len : length sections.info ≡ place + length w.front + length w.back = omega (arith, le, ap length w.is, length-append w.front w.back, length-drop place sections.info) in
@@ -341,7 +341,7 @@ units_go all low sections (t ∷ ts) (suc left) units before place info abbrev_b
       references = r.references;
       reads = one_more sections left units before place ((unit, now), next) (λ e. absurd (omega (arith, e, len, some))) u.reads
           ∙ r.reads
-          ∙ ap₂ (λ (us : List InUnit) (es : List Entry). Ok (us, parsed es r.references))
+          ∙ ap₂ (λ (us : List InUnit) (es : List RawEntry). Ok (us, parsed es r.references))
           (append_assoc units (unit ∷ []) (in_units (length now.entries) ts) ∙ ap (λ (n : ℕ). units ++ unit ∷ in_units n ts) now_len)
           (ap (λ (n : ℕ). now.entries ++ entries_of n (length now.entries) ts) count ∙ ap (λ (n : ℕ). now.entries ++ entries_of (suc (length units)) n ts) now_len
           ∙ append_assoc before.entries own (entries_of (suc (length units)) (number + 1 + size t.kids) ts));
@@ -350,24 +350,24 @@ units_go all low sections (t ∷ ts) (suc left) units before place info abbrev_b
 
 -- ---- an object
 
-none_found : (entries : List Entry) (references : List Reference) → Lead entries references → find (λ r. not (leads entries r)) references ≡ None
+none_found : (entries : List RawEntry) (references : List Reference) → Lead entries references → find (λ r. not (leads entries r)) references ≡ None
 none_found entries [] lead = refl
 none_found entries (r ∷ references) lead =
     let b = both_true (leads entries r) (list_all (leads entries) references) lead in
     rw b.0 (none_found entries references b.1)
 
-all_resolved : (entries : List Entry) (references : List Reference) → Lead entries references → resolved entries references ≡ Ok entries
+all_resolved : (entries : List RawEntry) (references : List Reference) → Lead entries references → resolved entries references ≡ Ok entries
 unfolding resolved
 all_resolved entries references lead = rw (none_found entries references lead) refl
 
-object_reads : (sections : SectionBytes) (units : List InUnit) (entries : List Entry) (references : List Reference) → units_at sections (length sections.info) [] nothing 0 ≡ Ok (units, parsed entries references) → resolved entries references ≡ Ok entries
+object_reads : (sections : SectionBytes) (units : List InUnit) (entries : List RawEntry) (references : List Reference) → units_at sections (length sections.info) [] nothing 0 ≡ Ok (units, parsed entries references) → resolved entries references ≡ Ok entries
     → units_of sections ≡ Ok (record { units = units; entries = entries })
 unfolding units_of
 object_reads sections units entries references a b = rw (a, b) refl
 
 pub units_read : (sections : SectionBytes) (trees : List UnitTree) → length sections.info < 2 ^ 32 → AreBytes sections.info → AreBytes sections.abbrev_ → SpellsObject sections trees → units_of sections ≡ Ok (raw_units trees)
 units_read sections trees small info abbrev_bytes w =
-    let all : List Entry = entries_of 0 0 trees in
+    let all : List RawEntry = entries_of 0 0 trees in
     let low = units_low sections 0 0 trees 0 sections.info w.spells (omega (arith, small)) in
     let u = units_go all low sections trees (length sections.info) [] nothing 0 info abbrev_bytes (omega arith) (omega arith) w.spells w.sound refl (omega (arith, w.few)) in
     object_reads sections (in_units 0 trees) all u.references u.reads (all_resolved all u.references u.lead)

@@ -8,7 +8,7 @@ use Rattle.ds_base.specs.declared.fault.Kind.TheVariants.{BadOffset}
 use Rattle.ds_base.specs.Spot.{Spot, fault_at}
 use Rattle.ds_base.specs.Reading.{◌>>=◌, refuse_if}
 use Rattle.dwarf_types.specs.declared.abbrev.Field.{Field}
-use Rattle.dwarf_types.specs.declared.entry.Attr.{Attr}
+use Rattle.dwarf_types.specs.declared.entry.RawAttr.{RawAttr}
 use Rattle.dwarf_types.specs.SectionBytes.{SectionBytes}
 use Rattle.dwarf_types.specs.declared.value.Value.{Value}
 use Rattle.dwarf_types.specs.declared.value.Value.TheVariants as values
@@ -29,11 +29,11 @@ number_in _ = None
 abbrev pub led_to : ℕ → ℕ
 led_to place = min place (2 ^ 32 - 1)
 
-abbrev pub has_attr : ℕ → List Attr → Bool
+abbrev pub has_attr : ℕ → List RawAttr → Bool
 has_attr name attrs = list_any (λ a. a.name == name) attrs
 
 -- the unit's line table is named by the first such attribute of its root
-abbrev pub names_lines : Bool → List Attr → Bool
+abbrev pub names_lines : Bool → List RawAttr → Bool
 names_lines root before = root && not (has_attr DW_AT_stmt_list before)
 
 -- an offset to a table or list of a section
@@ -54,20 +54,20 @@ meant_at sections home lines LocationList n s = offset_in sections.loc n s
 meant_at sections home lines Other n s = Ok (values.Offset n, None)
 
 -- what a value means, which stands here as an attribute behind others of a root or another entry
-unfoldable pub value_meant_at : SectionBytes → Home → Bool → Field → List Attr → Value → Spot → Result (Value × Option Reference) Fault
+unfoldable pub value_meant_at : SectionBytes → Home → Bool → Field → List RawAttr → Value → Spot → Result (Value × Option Reference) Fault
 value_meant_at sections home root field before value s =
     option_map_or (λ n. meant_at sections home (names_lines root before) (meaning_of field.form field.name) n s) (number_in value) (Ok (value, None))
 
 -- the next attribute, behind others, and the reference that it is
-unfoldable pub attr_at : SectionBytes → Home → Bool → Field → List Attr → Spot → Result ((Attr × Option Reference) × Spot) Fault
+unfoldable pub attr_at : SectionBytes → Home → Bool → Field → List RawAttr → Spot → Result ((RawAttr × Option Reference) × Spot) Fault
 attr_at sections home root field before s = do
   read ← value_at field DWARF_VERSION sections s
   meant ← value_meant_at sections home root field before read.0 s
-  Ok ((record { name = field.name; end = read.1.place; value = meant.0 }, meant.1), read.1)
+  Ok ((record { name = field.name; form = field.form; end = read.1.place; value = meant.0 }, meant.1), read.1)
 
 -- attributes and references that were read
 abbrev pub Described : Type 0
-Described = List Attr × List Reference
+Described = List RawAttr × List Reference
 
 -- the attributes of some fields, behind those before
 unfoldable pub attrs_at : SectionBytes → Home → Bool → List Field → Described → Spot → Result (Described × Spot) Fault

@@ -5,8 +5,8 @@ use Rattle.std.specs.List.{list_all, list_any}
 use Rattle.ds_base.specs.declared.dwarf.TheConstants.{DW_TAG_compile_unit}
 use Rattle.dwarf_types.specs.declared.abbrev.Abbrev.{Abbrev}
 use Rattle.dwarf_types.specs.declared.abbrev.Field.{Field}
-use Rattle.dwarf_types.specs.declared.entry.Attr.{Attr}
-use Rattle.dwarf_types.specs.declared.entry.Entry.{Entry}
+use Rattle.dwarf_types.specs.declared.entry.RawAttr.{RawAttr}
+use Rattle.dwarf_types.specs.declared.entry.RawEntry.{RawEntry}
 use Rattle.dwarf_types.specs.declared.entry.InUnit.{InUnit}
 use Rattle.dwarf_types.specs.declared.entry.RawUnits.{RawUnits}
 use Rattle.dwarf_types.specs.SectionBytes.{SectionBytes}
@@ -33,7 +33,7 @@ use Rattle.unit_tree.specs.Unit.{language_of, is_zero}
 pub record Node : Type 0 where
   pub declared : Abbrev
   pub place : ℕ
-  pub attrs : List Attr
+  pub attrs : List RawAttr
 
 -- trees one after the other: the first one's entry, the trees below it, and those behind it
 pub data Forest : Type 0 where
@@ -54,20 +54,20 @@ pub record UnitTree : Type 0 where
 
 -- ---- what trees are as entries
 
-abbrev pub entry_of : ℕ → Option ℕ → Node → Entry
+abbrev pub entry_of : ℕ → Option ℕ → Node → RawEntry
 entry_of unit parent node = record { parent = parent; unit = unit; place = node.place; tag = node.declared.tag; attrs = node.attrs }
 
 -- the entries of trees of a unit, each before those below it, the first of which has a number
-abbrev pub preorder : ℕ → Option ℕ → ℕ → Forest → List Entry
+abbrev pub preorder : ℕ → Option ℕ → ℕ → Forest → List RawEntry
 preorder unit parent number no_more = []
 preorder unit parent number (tree node kids others) =
     entry_of unit parent node ∷ (preorder unit (Some number) (number + 1) kids ++ preorder unit parent (number + 1 + size kids) others)
 
-abbrev pub unit_entries : ℕ → ℕ → UnitTree → List Entry
+abbrev pub unit_entries : ℕ → ℕ → UnitTree → List RawEntry
 unit_entries unit number t = entry_of unit None t.root ∷ preorder unit (Some number) (number + 1) t.kids
 
 -- the entries of units from a number on, the first of which has a number too
-abbrev pub entries_of : ℕ → ℕ → List UnitTree → List Entry
+abbrev pub entries_of : ℕ → ℕ → List UnitTree → List RawEntry
 entries_of unit number [] = []
 entries_of unit number (t ∷ ts) = unit_entries unit number t ++ entries_of (suc unit) (number + 1 + size t.kids) ts
 
@@ -119,14 +119,14 @@ IsInside sections lines field (values.Offset n) = IsBelow sections lines (meanin
 IsInside sections lines field _ = Unit {0}
 
 -- bytes from a place spell the attribute of a field, of a unit that begins at another
-pub record SpellsAttr (sections : SectionBytes) (unit : ℕ) (lines : Bool) (field : Field) (attr : Attr) (place : ℕ) (bytes : List ℕ) : Type 0 where
+pub record SpellsAttr (sections : SectionBytes) (unit : ℕ) (lines : Bool) (field : Field) (attr : RawAttr) (place : ℕ) (bytes : List ℕ) : Type 0 where
   pub value : Value
   pub spells : SpellsValue field DWARF_VERSION sections bytes value
   pub inside : IsInside sections lines field value
-  pub is : attr ≡ record { name = field.name; end = place + length bytes; value = attr_value unit field value }
+  pub is : attr ≡ record { name = field.name; form = field.form; end = place + length bytes; value = attr_value unit field value }
 
 -- the attributes of fields, behind others of a root or another entry
-abbrev pub SpellsAttrs : SectionBytes → ℕ → Bool → List Field → List Attr → List Attr → ℕ → List ℕ → Type 0
+abbrev pub SpellsAttrs : SectionBytes → ℕ → Bool → List Field → List RawAttr → List RawAttr → ℕ → List ℕ → Type 0
 SpellsAttrs sections unit root [] before [] place bytes = bytes ≡ []
 SpellsAttrs sections unit root [] before (attr ∷ attrs) place bytes = ⊥
 SpellsAttrs sections unit root (field ∷ fields) before [] place bytes = ⊥
@@ -198,34 +198,34 @@ IsShallow lists no_more = Unit {0}
 IsShallow lists (tree node kids others) = ((node.declared.children ≡ true → lists < MOST_OPEN) × IsShallow (suc lists) kids) × IsShallow lists others
 
 -- one of the entries begins at a place, and is of a unit where that is said
-abbrev pub begins_at : List Entry → Option ℕ → ℕ → Bool
+abbrev pub begins_at : List RawEntry → Option ℕ → ℕ → Bool
 begins_at entries unit place = list_any (λ e. e.place == place && reaches unit e.unit) entries
 
 -- a reference of a unit leads to one of the entries
-abbrev pub ValueLeads : List Entry → ℕ → Meaning → Value → Type 0
+abbrev pub ValueLeads : List RawEntry → ℕ → Meaning → Value → Type 0
 ValueLeads entries unit InTheUnit (values.Ref place) = begins_at entries (Some unit) place ≡ true
 ValueLeads entries unit InObject (values.Ref place) = begins_at entries None place ≡ true
 ValueLeads entries unit _ _ = Unit {0}
 
-abbrev pub AttrsLead : List Entry → ℕ → List Field → List Attr → Type 0
+abbrev pub AttrsLead : List RawEntry → ℕ → List Field → List RawAttr → Type 0
 AttrsLead entries unit [] attrs = Unit {0}
 AttrsLead entries unit (field ∷ fields) [] = Unit {0}
 AttrsLead entries unit (field ∷ fields) (attr ∷ attrs) = ValueLeads entries unit (meaning_of field.form field.name) attr.value × AttrsLead entries unit fields attrs
 
-abbrev pub NodeLeads : List Entry → ℕ → Node → Type 0
+abbrev pub NodeLeads : List RawEntry → ℕ → Node → Type 0
 NodeLeads entries unit node = AttrsLead entries unit node.declared.fields node.attrs
 
-abbrev pub TreesLead : List Entry → ℕ → Forest → Type 0
+abbrev pub TreesLead : List RawEntry → ℕ → Forest → Type 0
 TreesLead entries unit no_more = Unit {0}
 TreesLead entries unit (tree node kids others) = (NodeLeads entries unit node × TreesLead entries unit kids) × TreesLead entries unit others
 
 -- what holds of a unit of a number besides its spelling
-pub record IsSoundUnit (entries : List Entry) (unit : ℕ) (t : UnitTree) : Type 0 where
+pub record IsSoundUnit (entries : List RawEntry) (unit : ℕ) (t : UnitTree) : Type 0 where
   pub shallow : IsShallow 1 t.kids
   pub root_leads : NodeLeads entries unit t.root
   pub kids_lead : TreesLead entries unit t.kids
 
-abbrev pub AreSoundUnits : List Entry → ℕ → List UnitTree → Type 0
+abbrev pub AreSoundUnits : List RawEntry → ℕ → List UnitTree → Type 0
 AreSoundUnits entries unit [] = Unit {0}
 AreSoundUnits entries unit (t ∷ ts) = IsSoundUnit entries unit t × AreSoundUnits entries (suc unit) ts
 

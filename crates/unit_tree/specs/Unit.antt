@@ -7,15 +7,15 @@ use Rattle.ds_base.specs.declared.fault.Fault.{Fault}
 use Rattle.ds_base.specs.declared.fault.Kind.TheVariants as kinds
 use Rattle.ds_base.specs.Spot.{Spot, fault_at}
 use Rattle.ds_base.specs.Reading.{◌>>=◌, refuse_if, bytes_at}
-use Rattle.dwarf_types.specs.declared.entry.Attr.{Attr}
-use Rattle.dwarf_types.specs.declared.entry.Entry.{Entry}
+use Rattle.dwarf_types.specs.declared.entry.RawAttr.{RawAttr}
+use Rattle.dwarf_types.specs.declared.entry.RawEntry.{RawEntry}
 use Rattle.dwarf_types.specs.declared.entry.InUnit.{InUnit}
 use Rattle.dwarf_types.specs.declared.entry.RawUnits.{RawUnits}
 use Rattle.dwarf_types.specs.SectionBytes.{SectionBytes}
 use Rattle.dwarf_types.specs.declared.value.Value.{Value}
 use Rattle.dwarf_types.specs.declared.value.Value.TheVariants as values
 use Rattle.abbrev_read.specs.Reading.{table_at}
-use Rattle.form_value.specs.Forms.{is_flag}
+use Rattle.dwarf_types.specs.Forms.{is_flag}
 use Rattle.unit_tree.specs.declared.entry.Parsed.{Parsed}
 use Rattle.unit_tree.specs.declared.header.TheConstants.{DWARF_VERSION}
 use Rattle.unit_tree.specs.Header.{info_at, header_at}
@@ -28,11 +28,11 @@ short_in (values.Number form bits) = if is_flag form then 0 else if nat_lt bits 
 short_in _ = 0
 
 -- the language of a unit whose root has the attributes
-abbrev pub language_of : List Attr → ℕ
+abbrev pub language_of : List RawAttr → ℕ
 language_of attrs = option_map_or (λ a. short_in a.value) (find (λ a. a.name == DW_AT_language) attrs) 0
 
 -- the unit whose entries are those from a number on
-abbrev pub unit_from : ℕ → List Entry → InUnit
+abbrev pub unit_from : ℕ → List RawEntry → InUnit
 unit_from first entries =
     record { first = first; count = length entries - first; version = DWARF_VERSION; language = option_map_or (λ e. language_of e.attrs) (slice_get entries first) 0; lines = None }
 
