@@ -68,6 +68,7 @@ impl Builder {
         end: u32,
         value: RawValue<'_>,
     ) -> Result<(), NoMemory>
+        requires form { form < 256 }
         ensures ok { OnOk result (self.new ≡ record self.old { attrs = self.old.attrs ++ record { name = name; form = form; end = end; value = value_read form value.entry } ∷ [] }) }
         ensures unchanged { OnErr result (self.new ≡ self.old) }
     {
@@ -82,7 +83,7 @@ impl Builder {
         place: u32,
         tag: u16,
     ) -> Result<(), NoMemory>
-        requires { IfSome parent (λ p. p < 2 ^ 32 - 1) }
+        requires parent { IfSome parent (λ p. p < 2 ^ 32 - 1) }
         ensures ok { OnOk result (self.new ≡ record { entries = self.old.entries ++ record { parent = parent; unit = unit; place = place; tag = tag; attrs = self.old.attrs } ∷ []; attrs = [] }) }
         ensures unchanged { OnErr result (self.new ≡ self.old) }
     {
