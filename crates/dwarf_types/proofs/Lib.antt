@@ -1,6 +1,12 @@
 pub mod Ancestors
+pub mod Building
+pub mod Growing
+pub mod Heads
+pub mod Kept
+pub mod Plain
 pub mod Lengths
 pub mod Readers
+pub mod Setting
 pub mod WorkedGraph
 pub mod WorkedLinked
 pub mod WorkedParts

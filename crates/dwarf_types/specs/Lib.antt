@@ -1,6 +1,8 @@
 pub mod Abbreviations
 pub mod Aranges
 pub mod Built
+pub mod Cells
+pub mod Columns
 pub mod Encode
 pub mod Entries
 pub mod Expressions

@@ -2,21 +2,26 @@
 
 ghost use Rattle.std.specs.Prelude.{◌≡◌, ◌<◌, ◌-◌, ◌^◌, [], ◌∷◌, ◌++◌, ◌==◌, length, slice_get, IfOk, OnOk, OnErr, IfSome};
 ghost use Rattle.std.specs.List.{list_any};
+ghost use Rattle.dwarf_types.specs.Columns.{parent_of};
 ghost use Rattle.dwarf_types.specs.Put.{value_read};
 
+use crate::columns::{Cell, Head, NO_PARENT, RawCell, cells_from, cells_in, has_name};
 use crate::entries::RawEntries;
-use crate::entry::{RawAttr, RawEntry};
 use crate::entry_ref::RawEntryRef;
 use crate::put::RawValue;
-use ds_base::{List, NoMemory};
+use crate::sides::Sides;
+use ds_base::NoMemory;
 use std::alloc::Global;
 use std::marker::Model;
 
 /// Entries, and the attributes of the next one.
 #[derive(Drop)]
 pub struct Builder {
-    entries: List<RawEntry>,
-    attrs: List<RawAttr>,
+    heads: Vec<Head>,
+    cells: Vec<RawCell>,
+    sides: Sides,
+    /// The place of the first cell that is no entry's yet.
+    open_from: usize,
 }
 
 impl Model for Builder {
@@ -24,7 +29,11 @@ impl Model for Builder {
 
     ghost Value = { Built };
 
-    ghost view = { λ b. record { entries = b.entries; attrs = b.attrs } };
+    ghost use Rattle.dwarf_types.specs.Columns.{IsFlat, RawWithin, built_of};
+
+    ghost view = { λ b. built_of b.sides b.heads.items b.cells.items b.open_from };
+
+    ghost invariant = { λ b. IsFlat (RawWithin b.sides) b.heads.items b.cells.items b.open_from };
 }
 
 impl Builder {
@@ -32,31 +41,38 @@ impl Builder {
     pub fn new(alloc: Global, strings: &[u8]) -> Result<Builder, NoMemory>
         ensures { IfOk result (λ built. built ≡ record { entries = []; attrs = [] }) }
     {
-        Err(NoMemory)
+        Ok(Builder {
+            heads: Vec::new(alloc),
+            cells: Vec::new(alloc),
+            sides: Sides::new(alloc, strings)?,
+            open_from: 0,
+        })
     }
 
     /// How many entries there are.
     pub fn len(&self) -> usize
         ensures { result ≡ length self.now.entries }
     {
-        self.entries.len()
+        self.heads.len()
     }
 
     /// The entry of a number, or `None` behind the last.
     pub fn get(&self, i: usize) -> Option<RawEntryRef<'_>>
         ensures { result ≡ slice_get self.now.entries i }
     {
-        if i >= self.entries.len() {
+        if i >= self.heads.len() {
             return None;
         }
-        Some(RawEntryRef::new(&self.entries.as_slice()[i]))
+        let head = self.heads[i];
+        let cells = cells_in(&self.cells, &head);
+        Some(RawEntryRef::new(&self.sides, cells, head))
     }
 
     /// Whether an attribute of the next entry has the name.
     pub fn has(&self, name: u16) -> bool
         ensures { result ≡ list_any (λ a. a.name == name) self.now.attrs }
     {
-        self.attrs.as_slice().iter().any(|attr| attr.name == name)
+        has_name(cells_from(&self.cells, self.open_from), name)
     }
 
     /// Puts an attribute of the next entry behind the others: its `DW_AT` and `DW_FORM` numbers, the place behind its
@@ -72,7 +88,15 @@ impl Builder {
         ensures ok { OnOk result (self.new ≡ record self.old { attrs = self.old.attrs ++ record { name = name; form = form; end = end; value = value_read form value.entry } ∷ [] }) }
         ensures unchanged { OnErr result (self.new ≡ self.old) }
     {
-        Err(NoMemory)
+        let held = self.sides.store_read(form, value)?;
+        let cell = Cell {
+            name,
+            form: form as u8,
+            kind: held.kind,
+            payload: held.payload,
+        };
+        self.cells.push(RawCell { cell, end })?;
+        Ok(())
     }
 
     /// Makes an entry of the attributes that were put.
@@ -87,14 +111,47 @@ impl Builder {
         ensures ok { OnOk result (self.new ≡ record { entries = self.old.entries ++ record { parent = parent; unit = unit; place = place; tag = tag; attrs = self.old.attrs } ∷ []; attrs = [] }) }
         ensures unchanged { OnErr result (self.new ≡ self.old) }
     {
-        Err(NoMemory)
+        let head = Head {
+            parent: stored_parent(parent),
+            unit,
+            place,
+            first: stored_place(self.open_from)?,
+            count: stored_place(self.cells.len() - self.open_from)?,
+            tag,
+        };
+        self.heads.push(head)?;
+        self.open_from = self.cells.len();
+        Ok(())
     }
 
     /// The entries.
     pub fn finish(self) -> RawEntries
         ensures { result ≡ self.entries }
     {
-        let Builder { entries, .. } = self;
-        RawEntries::from_list(entries)
+        let Builder {
+            heads,
+            cells,
+            sides,
+            ..
+        } = self;
+        RawEntries::from_columns(heads, cells, sides)
     }
+}
+
+/// A parent as a head has it.
+fn stored_parent(parent: Option<u32>) -> u32
+    requires { IfSome parent (λ p. p < 2 ^ 32 - 1) }
+    ensures { parent_of result ≡ parent }
+{
+    match parent {
+        None => NO_PARENT,
+        Some(number) => number,
+    }
+}
+
+/// A place or a count as a head has it: 32 bits hold it where memory holds the cells.
+fn stored_place(place: usize) -> Result<u32, NoMemory>
+    ensures { IfOk result (λ n. n ≡ place) }
+{
+    u32::try_from(place).map_err(|_| NoMemory)
 }

@@ -5,19 +5,24 @@ ghost use Rattle.dwarf_types.specs.declared.entry.Attr.{Attr as AnAttr};
 ghost use Rattle.dwarf_types.specs.declared.entry.Entry.{Entry as AnEntry};
 ghost use Rattle.dwarf_types.specs.declared.entry.RawAttr.{RawAttr as ARawAttr};
 ghost use Rattle.dwarf_types.specs.declared.entry.RawEntry.{RawEntry as ARawEntry};
+ghost use Rattle.dwarf_types.specs.Columns.{CellWithin, IsFlat, RawWithin, raw_entries_of};
 ghost use Rattle.dwarf_types.specs.Put.{value_put};
 ghost use Rattle.dwarf_types.specs.Raw.{attr_of, entry_of};
 
-use crate::entry::{Entry, RawEntry};
+use crate::columns::{Cell, Head, RawCell, cells_in};
 use crate::entry_ref::{EntryRef, RawEntryRef};
 use crate::put::NewValue;
-use ds_base::{List, NoMemory};
+use crate::sides::{Held, Sides, copied};
+use ds_base::NoMemory;
+use std::alloc::Global;
 use std::marker::Model;
 
 /// The entries of an object, which contracts see as the list of them.
 #[derive(Drop)]
 pub struct Entries {
-    items: List<Entry>,
+    heads: Vec<Head>,
+    cells: Vec<Cell>,
+    sides: Sides,
 }
 
 impl Model for Entries {
@@ -30,13 +35,20 @@ impl Model for Entries {
 
     ghost coded = { coded_list the_row.coded };
 
-    ghost view = { λ e. e.items };
+    ghost use Rattle.std.specs.Prelude.{length};
+    ghost use Rattle.dwarf_types.specs.Columns.{CellWithin, IsFlat, entries_of};
+
+    ghost view = { λ e. entries_of e.sides e.heads.items e.cells.items };
+
+    ghost invariant = { λ e. IsFlat (CellWithin e.sides) e.heads.items e.cells.items (length e.cells.items) };
 }
 
 /// The entries of an object as they are read, which contracts see as the list of them.
 #[derive(Drop)]
 pub struct RawEntries {
-    items: List<RawEntry>,
+    heads: Vec<Head>,
+    cells: Vec<RawCell>,
+    sides: Sides,
 }
 
 impl Model for RawEntries {
@@ -49,7 +61,12 @@ impl Model for RawEntries {
 
     ghost coded = { coded_list the_row.coded };
 
-    ghost view = { λ e. e.items };
+    ghost use Rattle.std.specs.Prelude.{length};
+    ghost use Rattle.dwarf_types.specs.Columns.{IsFlat, RawWithin, raw_entries_of};
+
+    ghost view = { λ e. raw_entries_of e.sides e.heads.items e.cells.items };
+
+    ghost invariant = { λ e. IsFlat (RawWithin e.sides) e.heads.items e.cells.items (length e.cells.items) };
 }
 
 impl Entries {
@@ -57,14 +74,14 @@ impl Entries {
     pub fn len(&self) -> usize
         ensures { result ≡ length self.now }
     {
-        self.items.len()
+        self.heads.len()
     }
 
     /// The entry of a number, or `None` behind the last.
     pub fn get(&self, i: usize) -> Option<EntryRef<'_>>
         ensures { result ≡ slice_get self.now i }
     {
-        if i >= self.items.len() {
+        if i >= self.heads.len() {
             return None;
         }
         Some(self.entry(i))
@@ -76,7 +93,8 @@ impl Entries {
         ensures stands { slice_get self.now i ≡ Some result }
         ensures item { result ≡ slice_index_or self.now i result }
     {
-        EntryRef::new(&self.items.as_slice()[i])
+        let head = self.heads[i];
+        EntryRef::new(&self.sides, cells_in(&self.cells, &head), head)
     }
 
     /// Another value for the attribute at place `j` of entry `i`.
@@ -86,29 +104,50 @@ impl Entries {
             → OnOk result (self.new ≡ slice_set self.old i (record e { attrs = slice_set e.attrs j (record a { value = value_put value.entry }) })) }
         ensures unchanged { OnErr result (self.new ≡ self.old) }
     {
-        Err(NoMemory)
+        let k = self.heads[i].first as usize + j;
+        let held = self.sides.store_new(value)?;
+        let cell = self.cells[k];
+        self.cells[k] = with_value(cell, held);
+        Ok(())
+    }
+
+    /// A copy.
+    pub fn copy(&self, alloc: Global) -> Result<Entries, NoMemory>
+        ensures { IfOk result (λ made. made ≡ self.now) }
+    {
+        Ok(Entries {
+            heads: copied(alloc, &self.heads)?,
+            cells: copied(alloc, &self.cells)?,
+            sides: self.sides.copy(alloc)?,
+        })
     }
 }
 
 impl RawEntries {
-    pub(crate) fn from_list(items: List<RawEntry>) -> RawEntries
-        ensures { result ≡ items }
+    /// The entries of columns.
+    pub(crate) fn from_columns(heads: Vec<Head>, cells: Vec<RawCell>, sides: Sides) -> RawEntries
+        requires { IsFlat (RawWithin sides) heads.items cells.items (length cells.items) }
+        ensures { result ≡ raw_entries_of sides heads.items cells.items }
     {
-        RawEntries { items }
+        RawEntries {
+            heads,
+            cells,
+            sides,
+        }
     }
 
     /// How many entries there are.
     pub fn len(&self) -> usize
         ensures { result ≡ length self.now }
     {
-        self.items.len()
+        self.heads.len()
     }
 
     /// The entry of a number, or `None` behind the last.
     pub fn get(&self, i: usize) -> Option<RawEntryRef<'_>>
         ensures { result ≡ slice_get self.now i }
     {
-        if i >= self.items.len() {
+        if i >= self.heads.len() {
             return None;
         }
         Some(self.entry(i))
@@ -120,7 +159,8 @@ impl RawEntries {
         ensures stands { slice_get self.now i ≡ Some result }
         ensures item { result ≡ slice_index_or self.now i result }
     {
-        RawEntryRef::new(&self.items.as_slice()[i])
+        let head = self.heads[i];
+        RawEntryRef::new(&self.sides, cells_in(&self.cells, &head), head)
     }
 
     /// Another value for the attribute at place `j` of entry `i`.
@@ -130,13 +170,52 @@ impl RawEntries {
             → OnOk result (self.new ≡ slice_set self.old i (record e { attrs = slice_set e.attrs j (record a { value = value_put value.entry }) })) }
         ensures unchanged { OnErr result (self.new ≡ self.old) }
     {
-        Err(NoMemory)
+        let k = self.heads[i].first as usize + j;
+        let held = self.sides.store_new(value)?;
+        let raw = self.cells[k];
+        self.cells[k] = RawCell {
+            cell: with_value(raw.cell, held),
+            end: raw.end,
+        };
+        Ok(())
     }
 
     /// The entries, without the places of their values.
-    pub fn into_entries(self) -> Result<Entries, NoMemory>
+    pub fn into_entries(self, alloc: Global) -> Result<Entries, NoMemory>
         ensures { IfOk result (λ entries. entries ≡ map entry_of self) }
     {
-        Err(NoMemory)
+        let RawEntries {
+            heads,
+            cells,
+            sides,
+        } = self;
+        Ok(Entries {
+            heads,
+            cells: cells_without_places(alloc, &cells)?,
+            sides,
+        })
     }
+}
+
+/// Another value in a cell.
+fn with_value(cell: Cell, held: Held) -> Cell
+    ensures { result ≡ record cell { kind = held.kind; payload = held.payload } }
+{
+    Cell {
+        name: cell.name,
+        form: cell.form,
+        kind: held.kind,
+        payload: held.payload,
+    }
+}
+
+/// The cells, without the places behind their values.
+fn cells_without_places(alloc: Global, raws: &[RawCell]) -> Result<Vec<Cell>, NoMemory>
+    ensures { IfOk result (λ cells. cells.items ≡ map (λ raw. raw.cell) raws.now) }
+{
+    let mut cells = Vec::with_capacity(alloc, raws.len())?;
+    for raw in raws {
+        cells.push(raw.cell)?;
+    }
+    Ok(cells)
 }

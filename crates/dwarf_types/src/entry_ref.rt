@@ -1,21 +1,27 @@
 //! An entry where it stands.
 
-ghost use Rattle.std.specs.Prelude.{◌≡◌, ◌<◌, ◌==◌, length, slice_get, slice_index_or, Some};
-ghost use Rattle.std.specs.Option.{option_copied, option_map};
+ghost use Rattle.std.specs.Prelude.{◌≡◌, ◌<◌, ◌==◌, All, length, map, slice_get, slice_index_or, Some};
+ghost use Rattle.std.specs.Option.{option_map};
 ghost use Rattle.std.specs.List.{find};
-ghost use Rattle.dwarf_types.specs.Seen.{attr_seen, raw_attr_seen, value_seen};
+ghost use Rattle.dwarf_types.specs.Columns.{CellWithin, RawWithin, attr_of, entry_with, raw_attr_of, raw_entry_with};
+ghost use Rattle.dwarf_types.specs.Seen.{attr_seen, raw_attr_seen};
 
-use crate::entry::{Attr, Entry, RawAttr, RawEntry};
-use crate::seen::{AttrRef, RawAttrRef, ValueRef, value_of};
+use crate::columns::{Cell, Head, RawCell, first_named, first_raw_named};
+use crate::seen::{AttrRef, RawAttrRef, attr_in};
+use crate::sides::Sides;
 use std::marker::Model;
 
 /// An entry where it stands, which contracts see as the entry.
 #[derive(Drop)]
 pub struct EntryRef<'a> {
-    entry: &'a Entry,
+    sides: &'a Sides,
+    /// Its own.
+    cells: &'a [Cell],
+    head: Head,
 }
 
 impl<'a> Model for EntryRef<'a> {
+    ghost use Rattle.std.specs.Prelude.{All, map};
     ghost use Rattle.dwarf_types.specs.declared.entry.Entry.{Entry as AnEntry};
     ghost use Rattle.dwarf_types.specs.contracts.entry.Entry.{the_row};
 
@@ -23,49 +29,54 @@ impl<'a> Model for EntryRef<'a> {
 
     ghost coded = { the_row.coded };
 
-    ghost view = { λ e. e.entry.now };
+    ghost use Rattle.dwarf_types.specs.Columns.{CellWithin, attr_of, entry_with};
+
+    ghost view = { λ e. entry_with e.head (map (attr_of e.sides.now) e.cells.now) };
+
+    ghost invariant = { λ e. All (CellWithin e.sides.now) e.cells.now };
 }
 
 impl<'a> EntryRef<'a> {
-    pub(crate) fn new(entry: &'a Entry) -> EntryRef<'a>
-        ensures { result ≡ entry.now }
+    pub(crate) fn new(sides: &'a Sides, cells: &'a [Cell], head: Head) -> EntryRef<'a>
+        requires { All (CellWithin sides.now) cells.now }
+        ensures { result ≡ entry_with head (map (attr_of sides.now) cells.now) }
     {
-        EntryRef { entry }
+        EntryRef { sides, cells, head }
     }
 
     /// The `DW_TAG` number.
     pub fn tag(&self) -> u16
         ensures { result ≡ self.now.tag }
     {
-        self.entry.tag
+        self.head.tag
     }
 
     /// The number of its unit in the object, counted from 0.
     pub fn unit(&self) -> u32
         ensures { result ≡ self.now.unit }
     {
-        self.entry.unit
+        self.head.unit
     }
 
     /// The place of its first byte in `__debug_info`.
     pub fn place(&self) -> u32
         ensures { result ≡ self.now.place }
     {
-        self.entry.place
+        self.head.place
     }
 
     /// The number of its parent among the object's entries, counted from 0; none at the root of a unit.
     pub fn parent(&self) -> Option<u32>
         ensures { result ≡ self.now.parent }
     {
-        self.entry.parent
+        self.head.parent()
     }
 
     /// How many attributes it has.
     pub fn len(&self) -> usize
         ensures { result ≡ length self.now.attrs }
     {
-        self.entry.attrs.len()
+        self.cells.len()
     }
 
     /// Its attribute at a place, counted from 0.
@@ -74,46 +85,31 @@ impl<'a> EntryRef<'a> {
         ensures stands { slice_get self.now.attrs j ≡ Some (attr_seen result) }
         ensures item { attr_seen result ≡ slice_index_or self.now.attrs j (attr_seen result) }
     {
-        let entry = self.entry;
-        attr_of(&entry.attrs.as_slice()[j])
+        attr_in(self.sides, self.cells[j])
     }
 
     /// Its first attribute of a name.
     pub fn find(&self, name: u16) -> Option<AttrRef<'a>>
         ensures { option_map attr_seen result ≡ find (λ a. a.name == name) self.now.attrs }
     {
-        let entry = self.entry;
-        match first_named(entry.attrs.as_slice(), name) {
-            Some(attr) => Some(attr_of(attr)),
+        match first_named(self.cells, name) {
+            Some(cell) => Some(attr_in(self.sides, *cell)),
             None => None,
         }
-    }
-}
-
-/// The first attribute of a name.
-fn first_named(attrs: &[Attr], name: u16) -> Option<&Attr>
-    ensures { option_copied result ≡ find (λ a. a.name == name) attrs.now }
-{
-    attrs.iter().find(|attr| attr.name == name)
-}
-
-fn attr_of<'a>(attr: &'a Attr) -> AttrRef<'a>
-    ensures { attr_seen result ≡ attr.now }
-{
-    AttrRef {
-        name: attr.name,
-        form: attr.form,
-        value: value_of(&attr.value),
     }
 }
 
 /// An entry as it is read, where it stands, which contracts see as the entry.
 #[derive(Drop)]
 pub struct RawEntryRef<'a> {
-    entry: &'a RawEntry,
+    sides: &'a Sides,
+    /// Its own.
+    cells: &'a [RawCell],
+    head: Head,
 }
 
 impl<'a> Model for RawEntryRef<'a> {
+    ghost use Rattle.std.specs.Prelude.{All, map};
     ghost use Rattle.dwarf_types.specs.declared.entry.RawEntry.{RawEntry as ARawEntry};
     ghost use Rattle.dwarf_types.specs.contracts.entry.RawEntry.{the_row};
 
@@ -121,49 +117,54 @@ impl<'a> Model for RawEntryRef<'a> {
 
     ghost coded = { the_row.coded };
 
-    ghost view = { λ e. e.entry.now };
+    ghost use Rattle.dwarf_types.specs.Columns.{RawWithin, raw_attr_of, raw_entry_with};
+
+    ghost view = { λ e. raw_entry_with e.head (map (raw_attr_of e.sides.now) e.cells.now) };
+
+    ghost invariant = { λ e. All (RawWithin e.sides.now) e.cells.now };
 }
 
 impl<'a> RawEntryRef<'a> {
-    pub(crate) fn new(entry: &'a RawEntry) -> RawEntryRef<'a>
-        ensures { result ≡ entry.now }
+    pub(crate) fn new(sides: &'a Sides, cells: &'a [RawCell], head: Head) -> RawEntryRef<'a>
+        requires { All (RawWithin sides.now) cells.now }
+        ensures { result ≡ raw_entry_with head (map (raw_attr_of sides.now) cells.now) }
     {
-        RawEntryRef { entry }
+        RawEntryRef { sides, cells, head }
     }
 
     /// The `DW_TAG` number.
     pub fn tag(&self) -> u16
         ensures { result ≡ self.now.tag }
     {
-        self.entry.tag
+        self.head.tag
     }
 
     /// The number of its unit in the object, counted from 0.
     pub fn unit(&self) -> u32
         ensures { result ≡ self.now.unit }
     {
-        self.entry.unit
+        self.head.unit
     }
 
     /// The place of its first byte in `__debug_info`.
     pub fn place(&self) -> u32
         ensures { result ≡ self.now.place }
     {
-        self.entry.place
+        self.head.place
     }
 
     /// The number of its parent among the object's entries, counted from 0; none at the root of a unit.
     pub fn parent(&self) -> Option<u32>
         ensures { result ≡ self.now.parent }
     {
-        self.entry.parent
+        self.head.parent()
     }
 
     /// How many attributes it has.
     pub fn len(&self) -> usize
         ensures { result ≡ length self.now.attrs }
     {
-        self.entry.attrs.len()
+        self.cells.len()
     }
 
     /// Its attribute at a place, counted from 0.
@@ -172,36 +173,30 @@ impl<'a> RawEntryRef<'a> {
         ensures stands { slice_get self.now.attrs j ≡ Some (raw_attr_seen result) }
         ensures item { raw_attr_seen result ≡ slice_index_or self.now.attrs j (raw_attr_seen result) }
     {
-        let entry = self.entry;
-        raw_attr_of(&entry.attrs.as_slice()[j])
+        raw_attr_in(self.sides, self.cells[j])
     }
 
     /// Its first attribute of a name.
     pub fn find(&self, name: u16) -> Option<RawAttrRef<'a>>
         ensures { option_map raw_attr_seen result ≡ find (λ a. a.name == name) self.now.attrs }
     {
-        let entry = self.entry;
-        match first_raw_named(entry.attrs.as_slice(), name) {
-            Some(attr) => Some(raw_attr_of(attr)),
+        match first_raw_named(self.cells, name) {
+            Some(raw) => Some(raw_attr_in(self.sides, *raw)),
             None => None,
         }
     }
 }
 
-/// The first attribute of a name.
-fn first_raw_named(attrs: &[RawAttr], name: u16) -> Option<&RawAttr>
-    ensures { option_copied result ≡ find (λ a. a.name == name) attrs.now }
+/// The attribute of a cell as it is read.
+fn raw_attr_in<'a>(sides: &'a Sides, raw: RawCell) -> RawAttrRef<'a>
+    requires { RawWithin sides.now raw }
+    ensures { raw_attr_seen result ≡ raw_attr_of sides.now raw }
 {
-    attrs.iter().find(|attr| attr.name == name)
-}
-
-fn raw_attr_of<'a>(attr: &'a RawAttr) -> RawAttrRef<'a>
-    ensures { raw_attr_seen result ≡ attr.now }
-{
+    let attr = attr_in(sides, raw.cell);
     RawAttrRef {
         name: attr.name,
         form: attr.form,
-        end: attr.end,
-        value: value_of(&attr.value),
+        end: raw.end,
+        value: attr.value,
     }
 }

@@ -13,6 +13,7 @@ mod address;
 mod analysis;
 mod boxed;
 mod builder;
+mod columns;
 mod entries;
 mod entry;
 mod entry_ref;
@@ -28,6 +29,7 @@ mod put;
 mod sections;
 mod seen;
 mod shape;
+mod sides;
 mod value;
 
 pub use abbrev::{Abbrev, Declaration, Field};

@@ -1,12 +1,17 @@
 //! Values where they stand: an attribute, its value, and the parts of that, which borrow what is long.
 
-ghost use Rattle.std.specs.Prelude.{◌≡◌, ◌<◌, length, slice_index_or};
-ghost use Rattle.dwarf_types.specs.Seen.{inner_seen, location_seen, op_seen, value_seen};
+ghost use Rattle.std.specs.Prelude.{◌≡◌, ◌<◌, [], All, IsSome, length, map, slice_index_or};
+ghost use Rattle.std.specs.Option.{unwrap_or};
+ghost use Rattle.dwarf_types.specs.Cells.{InColumn, InnerWithin, IsAddress, IsStretch, IsWithin, ItemWithin, OpWithin, address_at, held_value, inner_of, item_of, op_of, stretch_at, stretch_of, text_from};
+ghost use Rattle.dwarf_types.specs.Columns.{CellWithin, attr_of};
+ghost use Rattle.dwarf_types.specs.Put.{number_form};
+ghost use Rattle.dwarf_types.specs.Seen.{attr_seen, inner_seen, location_seen, op_seen, value_seen};
 
-use crate::address::{Place, Span};
-use crate::expr::{Base, Op, PlainOp};
-use crate::lists::Location;
-use crate::value::Value;
+use crate::address::{Addr, Place, Span};
+use crate::columns::Cell;
+use crate::expr::Base;
+use crate::sides::{InnerRow, ItemRow, Kind, OpRow, Sides, Stretch, text_at};
+use ds_base::dwarf::{DW_FORM_implicit_const, DW_FORM_sdata};
 use std::marker::Model;
 
 /// The value of an attribute where it stands, by the class of its form.
@@ -61,11 +66,12 @@ pub struct RawAttrRef<'a> {
 /// The operations of an expression where they stand, which contracts see as the list of them.
 #[derive(Drop)]
 pub struct OpsRef<'a> {
-    ops: &'a [Op],
+    sides: &'a Sides,
+    rows: &'a [OpRow],
 }
 
 impl<'a> Model for OpsRef<'a> {
-    ghost use Rattle.std.specs.Prelude.{List};
+    ghost use Rattle.std.specs.Prelude.{All, List, map};
     ghost use Rattle.std.specs.Coded.{coded_list};
     ghost use Rattle.dwarf_types.specs.declared.expr.Op.{Op as AnOp};
     ghost use Rattle.dwarf_types.specs.contracts.expr.Op.{the_row};
@@ -74,7 +80,11 @@ impl<'a> Model for OpsRef<'a> {
 
     ghost coded = { coded_list the_row.coded };
 
-    ghost view = { λ o. o.ops.now };
+    ghost use Rattle.dwarf_types.specs.Cells.{OpWithin, op_of};
+
+    ghost view = { λ o. map (op_of o.sides.now) o.rows.now };
+
+    ghost invariant = { λ o. All (OpWithin o.sides.now) o.rows.now };
 }
 
 /// An operation where it stands.
@@ -93,17 +103,18 @@ pub struct OpRef<'a> {
 }
 
 impl<'a> OpsRef<'a> {
-    pub(crate) fn new(ops: &'a [Op]) -> OpsRef<'a>
-        ensures { result ≡ ops.now }
+    pub(crate) fn new(sides: &'a Sides, rows: &'a [OpRow]) -> OpsRef<'a>
+        requires { All (OpWithin sides.now) rows.now }
+        ensures { result ≡ map (op_of sides.now) rows.now }
     {
-        OpsRef { ops }
+        OpsRef { sides, rows }
     }
 
     /// How many operations there are.
     pub fn len(&self) -> usize
         ensures { result ≡ length self.now }
     {
-        self.ops.len()
+        self.rows.len()
     }
 
     /// The operation at a place, counted from 0.
@@ -111,32 +122,52 @@ impl<'a> OpsRef<'a> {
         requires { k < length self.now }
         ensures { op_seen result ≡ slice_index_or self.now k (op_seen result) }
     {
-        let ops = self.ops;
-        op_of(&ops[k])
+        op_in(self.sides, self.rows[k])
     }
 }
 
-/// An operation, seen.
-fn op_of<'a>(op: &'a Op) -> OpRef<'a>
-    ensures { op_seen result ≡ op.now }
+/// The operation of a row.
+fn op_in<'a>(sides: &'a Sides, row: OpRow) -> OpRef<'a>
+    requires { OpWithin sides.now row }
+    ensures { op_seen result ≡ op_of sides.now row }
 {
     OpRef {
-        code: op.code,
-        bytes: op.bytes.as_slice(),
-        address: op.address,
-        base: op.base,
-        inner: InnerOpsRef::new(op.inner.as_slice()),
+        code: row.code,
+        bytes: part_of(&sides.bytes, row.bytes),
+        address: address_in(sides, row.address),
+        base: row.base,
+        inner: InnerOpsRef::new(sides, part_of(&sides.inner, row.inner)),
+    }
+}
+
+/// The items of a stretch of a column.
+fn part_of<'a, T>(column: &'a [T], stretch: Stretch) -> &'a [T]
+    requires { InColumn column.now stretch }
+    ensures { result.now ≡ stretch_of column.now stretch }
+{
+    &column[stretch.from as usize..stretch.to as usize]
+}
+
+/// The address at a place of the column.
+fn address_in(sides: &Sides, at: Option<u32>) -> Option<Place>
+    requires { IsAddress sides.now at }
+    ensures { result ≡ address_at sides.now at }
+{
+    match at {
+        Some(i) => Some(sides.places[i as usize]),
+        None => None,
     }
 }
 
 /// The operations inside an operation where they stand, which contracts see as the list of them.
 #[derive(Drop)]
 pub struct InnerOpsRef<'a> {
-    ops: &'a [PlainOp],
+    sides: &'a Sides,
+    rows: &'a [InnerRow],
 }
 
 impl<'a> Model for InnerOpsRef<'a> {
-    ghost use Rattle.std.specs.Prelude.{List};
+    ghost use Rattle.std.specs.Prelude.{All, List, map};
     ghost use Rattle.std.specs.Coded.{coded_list};
     ghost use Rattle.dwarf_types.specs.declared.expr.PlainOp.{PlainOp as AnOp};
     ghost use Rattle.dwarf_types.specs.contracts.expr.PlainOp.{the_row};
@@ -145,7 +176,11 @@ impl<'a> Model for InnerOpsRef<'a> {
 
     ghost coded = { coded_list the_row.coded };
 
-    ghost view = { λ o. o.ops.now };
+    ghost use Rattle.dwarf_types.specs.Cells.{InnerWithin, inner_of};
+
+    ghost view = { λ o. map (inner_of o.sides.now) o.rows.now };
+
+    ghost invariant = { λ o. All (InnerWithin o.sides.now) o.rows.now };
 }
 
 /// An operation inside another, where it stands.
@@ -162,17 +197,18 @@ pub struct InnerOpRef<'a> {
 }
 
 impl<'a> InnerOpsRef<'a> {
-    pub(crate) fn new(ops: &'a [PlainOp]) -> InnerOpsRef<'a>
-        ensures { result ≡ ops.now }
+    pub(crate) fn new(sides: &'a Sides, rows: &'a [InnerRow]) -> InnerOpsRef<'a>
+        requires { All (InnerWithin sides.now) rows.now }
+        ensures { result ≡ map (inner_of sides.now) rows.now }
     {
-        InnerOpsRef { ops }
+        InnerOpsRef { sides, rows }
     }
 
     /// How many operations there are.
     pub fn len(&self) -> usize
         ensures { result ≡ length self.now }
     {
-        self.ops.len()
+        self.rows.len()
     }
 
     /// The operation at a place, counted from 0.
@@ -180,31 +216,32 @@ impl<'a> InnerOpsRef<'a> {
         requires { k < length self.now }
         ensures { inner_seen result ≡ slice_index_or self.now k (inner_seen result) }
     {
-        let ops = self.ops;
-        inner_of(&ops[k])
+        inner_in(self.sides, self.rows[k])
     }
 }
 
-/// An operation inside another, seen.
-fn inner_of<'a>(op: &'a PlainOp) -> InnerOpRef<'a>
-    ensures { inner_seen result ≡ op.now }
+/// The operation of a row.
+fn inner_in<'a>(sides: &'a Sides, row: InnerRow) -> InnerOpRef<'a>
+    requires { InnerWithin sides.now row }
+    ensures { inner_seen result ≡ inner_of sides.now row }
 {
     InnerOpRef {
-        code: op.code,
-        bytes: op.bytes.as_slice(),
-        address: op.address,
-        base: op.base,
+        code: row.code,
+        bytes: part_of(&sides.bytes, row.bytes),
+        address: address_in(sides, row.address),
+        base: row.base,
     }
 }
 
 /// A location list where it stands, which contracts see as the list of its items.
 #[derive(Drop)]
 pub struct LocationsRef<'a> {
-    items: &'a [Location],
+    sides: &'a Sides,
+    rows: &'a [ItemRow],
 }
 
 impl<'a> Model for LocationsRef<'a> {
-    ghost use Rattle.std.specs.Prelude.{List};
+    ghost use Rattle.std.specs.Prelude.{All, List, map};
     ghost use Rattle.std.specs.Coded.{coded_list};
     ghost use Rattle.dwarf_types.specs.declared.lists.Location.{Location as ALocation};
     ghost use Rattle.dwarf_types.specs.contracts.lists.Location.{the_row};
@@ -213,7 +250,11 @@ impl<'a> Model for LocationsRef<'a> {
 
     ghost coded = { coded_list the_row.coded };
 
-    ghost view = { λ l. l.items.now };
+    ghost use Rattle.dwarf_types.specs.Cells.{ItemWithin, item_of};
+
+    ghost view = { λ l. map (item_of l.sides.now) l.rows.now };
+
+    ghost invariant = { λ l. All (ItemWithin l.sides.now) l.rows.now };
 }
 
 /// An item of a location list where it stands.
@@ -224,17 +265,18 @@ pub struct LocationRef<'a> {
 }
 
 impl<'a> LocationsRef<'a> {
-    pub(crate) fn new(items: &'a [Location]) -> LocationsRef<'a>
-        ensures { result ≡ items.now }
+    pub(crate) fn new(sides: &'a Sides, rows: &'a [ItemRow]) -> LocationsRef<'a>
+        requires { All (ItemWithin sides.now) rows.now }
+        ensures { result ≡ map (item_of sides.now) rows.now }
     {
-        LocationsRef { items }
+        LocationsRef { sides, rows }
     }
 
     /// How many items there are.
     pub fn len(&self) -> usize
         ensures { result ≡ length self.now }
     {
-        self.items.len()
+        self.rows.len()
     }
 
     /// The item at a place, counted from 0.
@@ -242,42 +284,103 @@ impl<'a> LocationsRef<'a> {
         requires { k < length self.now }
         ensures { location_seen result ≡ slice_index_or self.now k (location_seen result) }
     {
-        let items = self.items;
-        location_of(&items[k])
+        item_in(self.sides, self.rows[k])
     }
 }
 
-/// An item, seen.
-fn location_of<'a>(item: &'a Location) -> LocationRef<'a>
-    ensures { location_seen result ≡ item.now }
+/// The item of a row.
+fn item_in<'a>(sides: &'a Sides, row: ItemRow) -> LocationRef<'a>
+    requires { ItemWithin sides.now row }
+    ensures { location_seen result ≡ item_of sides.now row }
 {
     LocationRef {
-        span: item.span,
-        ops: OpsRef::new(item.ops.as_slice()),
+        span: row.span,
+        ops: OpsRef::new(sides, part_of(&sides.ops, row.ops)),
     }
 }
 
-/// A value, seen.
-pub(crate) fn value_of<'a>(value: &'a Value) -> ValueRef<'a>
-    ensures { value_seen result ≡ value.now }
+/// The attribute of a cell.
+pub(crate) fn attr_in<'a>(sides: &'a Sides, cell: Cell) -> AttrRef<'a>
+    requires { CellWithin sides.now cell }
+    ensures { attr_seen result ≡ attr_of sides.now cell }
 {
-    match value {
-        Value::Address(place) => ValueRef::Address(*place.get()),
-        Value::Text(text) => ValueRef::Text(text.as_slice()),
-        Value::Number { form, bits } => ValueRef::Number {
-            form: *form,
-            bits: *bits,
-        },
-        Value::Wide(bytes) => ValueRef::Wide(bytes.as_slice()),
-        Value::Block { form, bytes } => ValueRef::Block {
-            form: *form,
-            bytes: bytes.as_slice(),
-        },
-        Value::Expr(ops) => ValueRef::Expr(OpsRef::new(ops.as_slice())),
-        Value::Ref(number) => ValueRef::Ref(*number),
-        Value::Ranges(spans) => ValueRef::Ranges(spans.as_slice()),
-        Value::Locations(items) => ValueRef::Locations(LocationsRef::new(items.as_slice())),
-        Value::Lines => ValueRef::Lines,
-        Value::Offset(n) => ValueRef::Offset(*n),
+    AttrRef {
+        name: cell.name,
+        form: u16::from(cell.form),
+        value: value_in(sides, cell),
     }
+}
+
+/// The value of a cell.
+pub(crate) fn value_in<'a>(sides: &'a Sides, cell: Cell) -> ValueRef<'a>
+    requires { CellWithin sides.now cell }
+    ensures { value_seen result ≡ held_value sides.now cell.kind cell.form cell.payload }
+{
+    let at = cell.payload as usize;
+    match cell.kind {
+        Kind::Small => ValueRef::Number {
+            form: number_form(u16::from(cell.form)),
+            bits: u64::from(cell.payload),
+        },
+        Kind::Large => ValueRef::Number {
+            form: number_form(u16::from(cell.form)),
+            bits: sides.large[at],
+        },
+        Kind::Text => ValueRef::Text(text_in(&sides.bytes, cell.payload)),
+        Kind::OwnText => ValueRef::Text(bytes_in(sides, at)),
+        Kind::Wide => ValueRef::Wide(bytes_in(sides, at)),
+        Kind::Block => ValueRef::Block {
+            form: u16::from(cell.form),
+            bytes: bytes_in(sides, at),
+        },
+        Kind::Stored => ValueRef::Address(Place {
+            at: Addr::Fixed(u64::from(cell.payload)),
+            linked: None,
+            linked_end: None,
+        }),
+        Kind::Address => ValueRef::Address(sides.places[at]),
+        Kind::Ref => ValueRef::Ref(cell.payload),
+        Kind::Expr => {
+            let rows = part_of(&sides.ops, sides.stretches[at]);
+            ValueRef::Expr(OpsRef::new(sides, rows))
+        }
+        Kind::Ranges => ValueRef::Ranges(part_of(&sides.spans, sides.stretches[at])),
+        Kind::Locations => {
+            let rows = part_of(&sides.items, sides.stretches[at]);
+            ValueRef::Locations(LocationsRef::new(sides, rows))
+        }
+        Kind::Lines => ValueRef::Lines,
+        Kind::Offset => ValueRef::Offset(u64::from(cell.payload)),
+        Kind::LargeOffset => ValueRef::Offset(sides.large[at]),
+    }
+}
+
+/// The form of a number that was read in a form: a constant of the abbreviation table is one with a sign.
+fn number_form(form: u16) -> u16
+    ensures { result ≡ number_form form }
+{
+    if form == DW_FORM_implicit_const {
+        DW_FORM_sdata
+    } else {
+        form
+    }
+}
+
+/// The text that stands at a place.
+fn text_in(bytes: &[u8], place: u32) -> &[u8]
+    requires { IsSome (text_from bytes.now place) }
+    ensures { result.now ≡ unwrap_or (text_from bytes.now place) [] }
+{
+    match text_at(bytes, place) {
+        Some(text) => text,
+        None => unreachable!(),
+    }
+}
+
+/// The bytes of the stretch at a place.
+fn bytes_in<'a>(sides: &'a Sides, at: usize) -> &'a [u8]
+    requires { IsStretch sides.now sides.now.bytes.items at }
+    ensures { result.now ≡ stretch_of sides.now.bytes.items (stretch_at sides.now at) }
+{
+    part_of(&sides.bytes, sides.stretches[at])
 }

@@ -1,0 +1,215 @@
+-- Columns that grow keep what their cells stand for.
+use Rattle.std.proofs.Common.{inl, inr, ◌≡◌, ℕ, ◌+◌, ◌-◌, ◌<◌, ◌≤◌, ◌==◌, List, [], ◌∷◌, ◌++◌, map, length, drop, take, get_or, All, refl, ap, ap₂, subst, sym, arith, slice_range, ◌∙◌, Option, Some, None, Bool, true, false}
+use Rattle.std.specs.Prelude.{IsSome}
+use Rattle.std.specs.List.{position, position_or_len}
+use Rattle.std.specs.Option.{option_map, unwrap_or}
+use Rattle.std.proofs.lemmas.Bool.{cases_lt, lt-ltb}
+use Rattle.std.proofs.lemmas.List.{drop-append-le, drop_at, take-append-le, take_all, drop_all, length-drop, length-append, length_push, get_or_append_left, get_or_push}
+use Rattle.std.proofs.lemmas.List.Elements.{All-head, All-tail, All-weaker}
+use Rattle.std.proofs.lemmas.List.Quantifiers.{position-Some}
+use Rattle.std.proofs.lemmas.List.Sums.{position_or_len_is}
+use Rattle.dwarf_types.specs.declared.address.Place.{Place}
+use Rattle.dwarf_types.specs.declared.expr.Op.{Op}
+use Rattle.dwarf_types.specs.declared.expr.PlainOp.{PlainOp}
+use Rattle.dwarf_types.specs.declared.lists.Location.{Location}
+use Rattle.dwarf_types.specs.declared.sides.InnerRow.{InnerRow}
+use Rattle.dwarf_types.specs.declared.sides.ItemRow.{ItemRow}
+use Rattle.dwarf_types.specs.declared.sides.Kind.{Kind}
+use Rattle.dwarf_types.specs.declared.sides.Kind.TheVariants as kinds
+use Rattle.dwarf_types.specs.declared.sides.OpRow.{OpRow}
+use Rattle.dwarf_types.specs.declared.sides.Sides.{Sides}
+use Rattle.dwarf_types.specs.declared.sides.Stretch.{Stretch}
+use Rattle.dwarf_types.specs.declared.value.Value.TheVariants as values
+use Rattle.dwarf_types.specs.Cells.{Begins, Grows, InColumn, InnerWithin, IsAddress, IsStretch, IsWithin, ItemWithin, OpWithin, address_at, first_text, held_value, inner_of, item_of, no_place, no_stretch, op_of, stretch_at, stretch_of, text_from}
+use Rattle.dwarf_types.specs.Put.{number_form}
+
+pub range_begins : {A : Type 0} (old new : List A) (from to : ℕ) → Begins old new → from ≤ to → to ≤ length old → slice_range new from to ≡ slice_range old from to
+range_begins old new from to b up within =
+    rw (b.1, drop-append-le from old b.0 (omega arith)) (take-append-le _ _ b.0 (omega (arith, length-drop from old)))
+
+pub get_begins : {A : Type 0} (old new : List A) (i : ℕ) (d : A) → Begins old new → i < length old → get_or new i d ≡ get_or old i d
+get_begins old new i d b lt = rw b.1 (get_or_append_left old b.0 d i lt)
+
+pub longer : {A : Type 0} (old new : List A) → Begins old new → length old ≤ length new
+longer old new b = rw b.1 (omega (arith, length-append old b.0))
+
+part_kept : {A : Type 0} (c d : List A) (s : Stretch) → Begins c d → InColumn c s → stretch_of d s ≡ stretch_of c s
+part_kept c d s b w = range_begins c d s.from s.to b w.0 w.1
+
+part_within : {A : Type 0} (c d : List A) (s : Stretch) → Begins c d → InColumn c s → InColumn d s
+part_within c d s b w =
+    let m = longer c d b in
+    let up : s.from ≤ s.to = w.0 in
+    let inside : s.to ≤ length c = w.1 in
+    (up, omega arith)
+
+stretch_kept : {A : Type 0} (old new : Sides) (c d : List A) (i : ℕ) → Grows old new → Begins c d → IsStretch old c i → stretch_of d (stretch_at new i) ≡ stretch_of c (stretch_at old i)
+stretch_kept old new c d i g b w =
+    rw (get_begins _ _ i no_stretch g.stretches w.0) (range_begins c d _ _ b w.1.0 w.1.1)
+
+stretch_within : {A : Type 0} (old new : Sides) (c d : List A) (i : ℕ) → Grows old new → Begins c d → IsStretch old c i → IsStretch new d i
+stretch_within old new c d i g b w =
+    let l = longer _ _ g.stretches in
+    let lt : i < length old.stretches.items = w.0 in
+    let P : Stretch → Type 0 = InColumn d in
+    let e = get_begins _ _ i no_stretch g.stretches lt in
+    (omega arith, subst P (sym e) (part_within c d (stretch_at old i) b w.1))
+
+-- ---- texts
+
+abbrev is_zero : ℕ → Bool
+is_zero b = b == 0
+
+position_kept : (xs ys : List ℕ) (n : ℕ) → position is_zero xs ≡ Some n → position is_zero (xs ++ ys) ≡ Some n
+position_kept xs ys n e =
+    let found = position-Some is_zero xs n 0 e in
+    let lt : n < length xs = found.0 in
+    let more : n < length (xs ++ ys) = omega (arith, length-append xs ys) in
+    let before : (k : ℕ) → k < n → is_zero (get_or (xs ++ ys) k 0) ≡ false = λ k below. rw (get_or_append_left xs ys 0 k (omega arith)) (found.2 k below) in
+    let here : n < length (xs ++ ys) → is_zero (get_or (xs ++ ys) n 0) ≡ true = λ inside. rw (get_or_append_left xs ys 0 n lt) found.1 in
+    let is : position_or_len is_zero (xs ++ ys) ≡ n = position_or_len_is is_zero (xs ++ ys) n 0 (omega arith) before here in
+    rw (is, lt-ltb n (length (xs ++ ys)) more) refl
+
+text_found : (xs ys : List ℕ) (o : Option ℕ) → position is_zero xs ≡ o → IsSome (option_map (λ n. take n xs) o) → first_text (xs ++ ys) ≡ first_text xs
+text_found xs ys None e w = absurd (let no : ⊥ = cc in no)
+text_found xs ys (Some n) e w =
+    let found = position-Some is_zero xs n 0 e in
+    let lt : n < length xs = found.0 in
+    rw (position_kept xs ys n e, e) (ap Some (take-append-le n xs ys (omega arith)))
+
+text_kept : (old new : List ℕ) (place : ℕ) → Begins old new → IsSome (text_from old place) → text_from new place ≡ text_from old place
+text_kept old new place b w =
+    elim (cases_lt (length old) place) [
+      | inl lt ↦
+          let none : IsSome (first_text []) = subst (λ (bytes : List ℕ). IsSome (first_text bytes)) (drop_all place old (omega arith)) w in
+          absurd (let no : ⊥ = cc in no)
+      | inr le ↦ rw (b.1, drop-append-le place old b.0 le) (text_found (drop place old) b.0 (position is_zero (drop place old)) refl w)
+    ]
+
+-- ---- operations
+
+address_kept : (old new : Sides) → Grows old new → (at : Option ℕ) → IsAddress old at → address_at new at ≡ address_at old at
+address_kept old new g None w = refl
+address_kept old new g (Some i) w = ap Some (get_begins _ _ i no_place g.places w)
+
+address_within : (old new : Sides) → Grows old new → (at : Option ℕ) → IsAddress old at → IsAddress new at
+address_within old new g None w = tt
+address_within old new g (Some i) w = let l = longer _ _ g.places in omega arith
+
+inner_kept : (old new : Sides) → Grows old new → (r : InnerRow) → InnerWithin old r → inner_of new r ≡ inner_of old r
+inner_kept old new g r w =
+    let with_parts : List ℕ → Option Place → PlainOp = λ bytes address. record { code = r.code; bytes = bytes; address = address; base = r.base } in
+    ap₂ with_parts (part_kept _ _ r.bytes g.bytes w.0) (address_kept old new g r.address w.1)
+
+inner_within : (old new : Sides) → Grows old new → (r : InnerRow) → InnerWithin old r → InnerWithin new r
+inner_within old new g r w = (part_within _ _ r.bytes g.bytes w.0, address_within old new g r.address w.1)
+
+-- rows that stand for the same, each by what it keeps to
+rows_same : {R A : Type 0} (Within : R → Type 0) (f g : R → A) → ((r : R) → Within r → g r ≡ f r) → (rows : List R) → All Within rows → map g rows ≡ map f rows
+rows_same Within f g same [] all = refl
+rows_same Within f g same (r ∷ rows) all = ap₂ ◌∷◌ (same r (All-head Within r rows all)) (rows_same Within f g same rows (All-tail Within r rows all))
+
+pub inners_kept : (old new : Sides) → Grows old new → (rows : List InnerRow) → All (InnerWithin old) rows → map (inner_of new) rows ≡ map (inner_of old) rows
+inners_kept old new g = rows_same (InnerWithin old) (inner_of old) (inner_of new) (inner_kept old new g)
+
+pub inners_within : (old new : Sides) → Grows old new → (rows : List InnerRow) → All (InnerWithin old) rows → All (InnerWithin new) rows
+inners_within old new g = All-weaker (InnerWithin old) (InnerWithin new) (inner_within old new g)
+
+pub op_kept : (old new : Sides) → Grows old new → (r : OpRow) → OpWithin old r → op_of new r ≡ op_of old r
+op_kept old new g r w =
+    let with_inner : List PlainOp → Op = λ inner. record { code = r.code; bytes = stretch_of new.bytes.items r.bytes; address = address_at new r.address; base = r.base; inner = inner } in
+    let with_parts : List ℕ → Option Place → Op = λ bytes address. record { code = r.code; bytes = bytes; address = address; base = r.base; inner = map (inner_of old) (stretch_of old.inner.items r.inner) } in
+    let rows = part_kept _ _ r.inner g.inner w.1.0 in
+    ap with_inner (ap (map (inner_of new)) rows ∙ inners_kept old new g _ w.1.1) ∙ ap₂ with_parts (part_kept _ _ r.bytes g.bytes w.0.0) (address_kept old new g r.address w.0.1)
+
+pub op_within : (old new : Sides) → Grows old new → (r : OpRow) → OpWithin old r → OpWithin new r
+op_within old new g r w =
+    let rows = part_kept _ _ r.inner g.inner w.1.0 in
+    ((part_within _ _ r.bytes g.bytes w.0.0, address_within old new g r.address w.0.1), (part_within _ _ r.inner g.inner w.1.0, rw rows (inners_within old new g _ w.1.1)))
+
+pub ops_kept : (old new : Sides) → Grows old new → (rows : List OpRow) → All (OpWithin old) rows → map (op_of new) rows ≡ map (op_of old) rows
+ops_kept old new g = rows_same (OpWithin old) (op_of old) (op_of new) (op_kept old new g)
+
+pub ops_within : (old new : Sides) → Grows old new → (rows : List OpRow) → All (OpWithin old) rows → All (OpWithin new) rows
+ops_within old new g = All-weaker (OpWithin old) (OpWithin new) (op_within old new g)
+
+-- ---- items of location lists
+
+item_kept : (old new : Sides) → Grows old new → (r : ItemRow) → ItemWithin old r → item_of new r ≡ item_of old r
+item_kept old new g r w =
+    let with_ops : List Op → Location = λ ops. record { span = r.span; ops = ops } in
+    let rows = part_kept _ _ r.ops g.ops w.0 in
+    ap with_ops (ap (map (op_of new)) rows ∙ ops_kept old new g _ w.1)
+
+item_within : (old new : Sides) → Grows old new → (r : ItemRow) → ItemWithin old r → ItemWithin new r
+item_within old new g r w =
+    let rows = part_kept _ _ r.ops g.ops w.0 in
+    (part_within _ _ r.ops g.ops w.0, rw rows (ops_within old new g _ w.1))
+
+pub items_kept : (old new : Sides) → Grows old new → (rows : List ItemRow) → All (ItemWithin old) rows → map (item_of new) rows ≡ map (item_of old) rows
+items_kept old new g = rows_same (ItemWithin old) (item_of old) (item_of new) (item_kept old new g)
+
+pub items_within : (old new : Sides) → Grows old new → (rows : List ItemRow) → All (ItemWithin old) rows → All (ItemWithin new) rows
+items_within old new g = All-weaker (ItemWithin old) (ItemWithin new) (item_within old new g)
+
+-- ---- values
+
+pub held_kept : (old new : Sides) → Grows old new → (kind : Kind) (form n : ℕ) → IsWithin old kind n → held_value new kind form n ≡ held_value old kind form n
+held_kept old new g kinds.Small form n w = refl
+held_kept old new g kinds.Large form n w = ap (values.Number (number_form form)) (get_begins _ _ n 0 g.large w)
+held_kept old new g kinds.Text form n w = ap values.Text (ap (λ (text : Option (List ℕ)). unwrap_or text []) (text_kept _ _ n g.bytes w))
+held_kept old new g kinds.OwnText form n w = ap values.Text (stretch_kept old new _ _ n g g.bytes w)
+held_kept old new g kinds.Wide form n w = ap values.Wide (stretch_kept old new _ _ n g g.bytes w)
+held_kept old new g kinds.Block form n w = ap (values.Block form) (stretch_kept old new _ _ n g g.bytes w)
+held_kept old new g kinds.Stored form n w = refl
+held_kept old new g kinds.Address form n w = ap values.Address (get_begins _ _ n no_place g.places w)
+held_kept old new g kinds.Ref form n w = refl
+held_kept old new g kinds.Expr form n w =
+    let rows = stretch_kept old new _ _ n g g.ops w.0 in
+    ap values.Expr (ap (map (op_of new)) rows ∙ ops_kept old new g _ w.1)
+held_kept old new g kinds.Ranges form n w = ap values.Ranges (stretch_kept old new _ _ n g g.spans w)
+held_kept old new g kinds.Locations form n w =
+    let rows = stretch_kept old new _ _ n g g.items w.0 in
+    ap values.Locations (ap (map (item_of new)) rows ∙ items_kept old new g _ w.1)
+held_kept old new g kinds.Lines form n w = refl
+held_kept old new g kinds.Offset form n w = refl
+held_kept old new g kinds.LargeOffset form n w = ap values.Offset (get_begins _ _ n 0 g.large w)
+
+pub within_kept : (old new : Sides) → Grows old new → (kind : Kind) (n : ℕ) → IsWithin old kind n → IsWithin new kind n
+within_kept old new g kinds.Small n w = tt
+within_kept old new g kinds.Large n w = let l = longer _ _ g.large in omega arith
+within_kept old new g kinds.Text n w = rw (text_kept _ _ n g.bytes w) w
+within_kept old new g kinds.OwnText n w = stretch_within old new _ _ n g g.bytes w
+within_kept old new g kinds.Wide n w = stretch_within old new _ _ n g g.bytes w
+within_kept old new g kinds.Block n w = stretch_within old new _ _ n g g.bytes w
+within_kept old new g kinds.Stored n w = tt
+within_kept old new g kinds.Address n w = let l = longer _ _ g.places in omega arith
+within_kept old new g kinds.Ref n w = tt
+within_kept old new g kinds.Expr n w =
+    let rows = stretch_kept old new _ _ n g g.ops w.0 in
+    (stretch_within old new _ _ n g g.ops w.0, rw rows (ops_within old new g _ w.1))
+within_kept old new g kinds.Ranges n w = stretch_within old new _ _ n g g.spans w
+within_kept old new g kinds.Locations n w =
+    let rows = stretch_kept old new _ _ n g g.items w.0 in
+    (stretch_within old new _ _ n g g.items w.0, rw rows (items_within old new g _ w.1))
+within_kept old new g kinds.Lines n w = tt
+within_kept old new g kinds.Offset n w = tt
+within_kept old new g kinds.LargeOffset n w = let l = longer _ _ g.large in omega arith
+
+-- ---- parts that are put
+
+-- items behind others, and the stretch of them
+pub appended : {A : Type 0} (xs ys zs : List A) (s : Stretch) → zs ≡ xs ++ ys → s.from ≡ length xs → s.to ≡ length xs + length ys → (stretch_of zs s ≡ ys) × InColumn zs s
+appended xs ys zs s is from to =
+    let tail : drop s.from zs ≡ ys = rw (is, from) (drop_at xs ys (length xs) refl) in
+    let all : length zs ≡ length xs + length ys = ap length is ∙ length-append xs ys in
+    (ap (take (s.to - s.from)) tail ∙ take_all (s.to - s.from) ys (omega arith), (omega arith, omega arith))
+
+-- bytes and an address stay, as columns grow
+pub parts_kept : (s t : Sides) (bytes : Stretch) (at : Option ℕ) → Grows s t → InColumn s.bytes.items bytes → IsAddress s at → ((stretch_of t.bytes.items bytes ≡ stretch_of s.bytes.items bytes) × (address_at t at ≡ address_at s at)) × (InColumn t.bytes.items bytes × IsAddress t at)
+parts_kept s t bytes at g w a = ((part_kept _ _ bytes g.bytes w, address_kept s t g at a), (part_within _ _ bytes g.bytes w, address_within s t g at a))
+
+-- the stretch that was put last
+pub last_stretch : (xs ys : List Stretch) (at : ℕ) (s : Stretch) → ys ≡ xs ++ s ∷ [] → at ≡ length xs → (at < length ys) × (get_or ys at no_stretch ≡ s)
+last_stretch xs ys at s is there =
+    (rw (is, there) (omega (arith, length_push xs s)), rw (is, there) (get_or_push xs s no_stretch (length xs) refl))

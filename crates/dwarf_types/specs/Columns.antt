@@ -1,0 +1,69 @@
+-- What heads and cells stand for.
+use Rattle.std.specs.Prelude.{ℕ, ◌+◌, ◌≤◌, ◌==◌, List, [], ◌∷◌, All, length, map, drop, slice_range, Option, None, Some, if◌then◌else◌}
+use Rattle.dwarf_types.specs.declared.columns.Cell.{Cell}
+use Rattle.dwarf_types.specs.declared.columns.Head.{Head}
+use Rattle.dwarf_types.specs.declared.columns.RawCell.{RawCell}
+use Rattle.dwarf_types.specs.declared.columns.TheConstants.{NO_PARENT}
+use Rattle.dwarf_types.specs.declared.entry.Attr.{Attr}
+use Rattle.dwarf_types.specs.declared.entry.Entry.{Entry}
+use Rattle.dwarf_types.specs.declared.entry.RawAttr.{RawAttr}
+use Rattle.dwarf_types.specs.declared.entry.RawEntry.{RawEntry}
+use Rattle.dwarf_types.specs.declared.sides.Sides.{Sides}
+use Rattle.dwarf_types.specs.Built.{Built}
+use Rattle.dwarf_types.specs.Cells.{IsWithin, held_value}
+
+-- ---- attributes
+
+abbrev pub attr_of : Sides → Cell → Attr
+attr_of s c = record { name = c.name; form = c.form; value = held_value s c.kind c.form c.payload }
+
+abbrev pub raw_attr_of : Sides → RawCell → RawAttr
+raw_attr_of s c = record { name = c.cell.name; form = c.cell.form; end = c.end; value = held_value s c.cell.kind c.cell.form c.cell.payload }
+
+-- a cell's payload lies in its column
+abbrev pub CellWithin : Sides → Cell → Type 0
+CellWithin s c = IsWithin s c.kind c.payload
+
+abbrev pub RawWithin : Sides → RawCell → Type 0
+RawWithin s c = CellWithin s c.cell
+
+-- ---- entries
+
+abbrev pub parent_of : ℕ → Option ℕ
+parent_of n = if n == NO_PARENT then None else Some n
+
+abbrev pub cells_of : {X : Type 0} → List X → Head → List X
+cells_of cells h = slice_range cells h.first (h.first + h.count)
+
+abbrev pub entry_with : Head → List Attr → Entry
+entry_with h attrs = record { parent = parent_of h.parent; unit = h.unit; place = h.place; tag = h.tag; attrs = attrs }
+
+abbrev pub raw_entry_with : Head → List RawAttr → RawEntry
+raw_entry_with h attrs = record { parent = parent_of h.parent; unit = h.unit; place = h.place; tag = h.tag; attrs = attrs }
+
+-- the entry of a head: what its cells stand for
+abbrev pub row : {X A E : Type 0} → (X → A) → (Head → List A → E) → List X → Head → E
+row f with_attrs cells h = with_attrs h (map f (cells_of cells h))
+
+abbrev pub entries_of : Sides → List Head → List Cell → List Entry
+entries_of s heads cells = map (row (attr_of s) entry_with cells) heads
+
+abbrev pub raw_entries_of : Sides → List Head → List RawCell → List RawEntry
+raw_entries_of s heads cells = map (row (raw_attr_of s) raw_entry_with cells) heads
+
+-- the entries of the heads, and the attributes of the cells from a place on
+abbrev pub built_of : Sides → List Head → List RawCell → ℕ → Built
+built_of s heads cells open_from = record { entries = raw_entries_of s heads cells; attrs = map (raw_attr_of s) (drop open_from cells) }
+
+-- ---- heads and their cells
+
+-- the cells of the heads follow one another, from one place up to another
+abbrev pub Follow : ℕ → List Head → ℕ → Type 0
+Follow at [] end = at ≤ end
+Follow at (h ∷ heads) end = (at ≤ h.first) × Follow (h.first + h.count) heads end
+
+-- the heads have the cells before a place, and each cell lies in its column
+pub record IsFlat {X : Type 0} (Within : X → Type 0) (heads : List Head) (cells : List X) (open_from : ℕ) : Type 0 where
+  pub follow : Follow 0 heads open_from
+  pub few : open_from ≤ length cells
+  pub within : All Within cells

@@ -1,0 +1,89 @@
+//! Heads and cells: an entry but for its attributes, and an attribute.
+
+ghost use Rattle.std.specs.Prelude.{◌≡◌, ◌==◌, ◌≤◌, ◌+◌, length, drop};
+ghost use Rattle.std.specs.List.{find, list_any};
+ghost use Rattle.std.specs.Option.{option_copied};
+ghost use Rattle.dwarf_types.specs.Columns.{cells_of, parent_of};
+
+use crate::sides::Kind;
+
+/// The parent of an entry that has none.
+pub(crate) const NO_PARENT: u32 = 0xffff_ffff;
+
+/// An entry but for its attributes, and where its cells stand among all.
+#[derive(Clone, Copy, Debug, PartialEq, Eq)]
+pub(crate) struct Head {
+    pub(crate) parent: u32,
+    pub(crate) unit: u32,
+    pub(crate) place: u32,
+    pub(crate) first: u32,
+    pub(crate) count: u32,
+    pub(crate) tag: u16,
+}
+
+/// An attribute.
+#[derive(Clone, Copy, Debug, PartialEq, Eq)]
+pub(crate) struct Cell {
+    pub(crate) name: u16,
+    pub(crate) form: u8,
+    pub(crate) kind: Kind,
+    pub(crate) payload: u32,
+}
+
+/// An attribute as it is read: `end` is the place behind its value.
+#[derive(Clone, Copy, Debug, PartialEq, Eq)]
+pub(crate) struct RawCell {
+    pub(crate) cell: Cell,
+    pub(crate) end: u32,
+}
+
+impl Head {
+    /// The number of the parent, if there is one.
+    pub(crate) fn parent(&self) -> Option<u32>
+        ensures { result ≡ parent_of self.now.parent }
+    {
+        if self.parent == NO_PARENT {
+            None
+        } else {
+            Some(self.parent)
+        }
+    }
+}
+
+/// The cells of a head.
+pub(crate) fn cells_in<'a, C>(cells: &'a [C], head: &Head) -> &'a [C]
+    requires { head.now.first + head.now.count ≤ length cells.now }
+    ensures { result.now ≡ cells_of cells.now head.now }
+{
+    let first = head.first as usize;
+    &cells[first..first + head.count as usize]
+}
+
+/// The cells from a place on.
+pub(crate) fn cells_from<C>(cells: &[C], from: usize) -> &[C]
+    requires { from ≤ length cells.now }
+    ensures { result.now ≡ drop from cells.now }
+{
+    &cells[from..]
+}
+
+/// The first cell of a name.
+pub(crate) fn first_named(cells: &[Cell], name: u16) -> Option<&Cell>
+    ensures { option_copied result ≡ find (λ c. c.name == name) cells.now }
+{
+    cells.iter().find(|cell| cell.name == name)
+}
+
+/// The same of cells as they are read.
+pub(crate) fn first_raw_named(cells: &[RawCell], name: u16) -> Option<&RawCell>
+    ensures { option_copied result ≡ find (λ c. c.cell.name == name) cells.now }
+{
+    cells.iter().find(|raw| raw.cell.name == name)
+}
+
+/// Whether a cell has the name.
+pub(crate) fn has_name(cells: &[RawCell], name: u16) -> bool
+    ensures { result ≡ list_any (λ c. c.cell.name == name) cells.now }
+{
+    cells.iter().any(|raw| raw.cell.name == name)
+}

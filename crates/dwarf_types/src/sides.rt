@@ -1,0 +1,526 @@
+//! What a cell holds, and the columns beside the cells.
+
+ghost use Rattle.std.specs.Prelude.{◌≡◌, ◌==◌, ◌+◌, ◌++◌, ◌<◌, ℕ, [], ◌∷◌, All, length, map, Some, IfOk, IfSome, OnOk, OnErr, true};
+ghost use Rattle.std.specs.List.{position};
+ghost use Rattle.std.specs.Option.{option_copied};
+ghost use Rattle.dwarf_types.specs.declared.sides.InnerRow.{InnerRow as AnInner};
+ghost use Rattle.dwarf_types.specs.declared.sides.ItemRow.{ItemRow as AnItem};
+ghost use Rattle.dwarf_types.specs.declared.sides.OpRow.{OpRow as ARow};
+ghost use Rattle.dwarf_types.specs.Cells.{Grows, InColumn, InnerWithin, IsWithin, ItemWithin, OpWithin, held_value, address_at, first_text, inner_of, item_of, op_of, stored_place, stretch_of, text_from};
+ghost use Rattle.dwarf_types.specs.Put.{number_form, value_put, value_read};
+ghost use Rattle.dwarf_types.specs.declared.value.Value.TheVariants as values;
+
+use crate::address::{Addr, Place, Span};
+use crate::expr::{Base, Op, PlainOp};
+use crate::lists::Location;
+use crate::put::{NewValue, RawValue};
+use ds_base::NoMemory;
+use std::alloc::Global;
+
+/// What the payload of a cell is.
+#[derive(Clone, Copy, Debug, PartialEq, Eq)]
+pub(crate) enum Kind {
+    /// A constant or flag below 2^32.
+    Small,
+    /// The place of a constant in its column.
+    Large,
+    /// The place of the first byte of a text, which ends before the next zero byte.
+    Text,
+    /// The place of the stretch of a text.
+    OwnText,
+    /// The place of the stretch of a constant of 16 bytes.
+    Wide,
+    /// The place of the stretch of a block.
+    Block,
+    /// A stored address below 2^32, which has gone nowhere.
+    Stored,
+    /// The place of an address in its column.
+    Address,
+    /// The place, or the number, of an entry.
+    Ref,
+    /// The place of the stretch of the operations.
+    Expr,
+    /// The place of the stretch of the spans.
+    Ranges,
+    /// The place of the stretch of the items.
+    Locations,
+    /// Nothing.
+    Lines,
+    /// An offset below 2^32.
+    Offset,
+    /// The place of an offset in the column of numbers.
+    LargeOffset,
+}
+
+/// From one place of a column up to another.
+#[derive(Clone, Copy, Debug, PartialEq, Eq)]
+pub(crate) struct Stretch {
+    pub(crate) from: u32,
+    pub(crate) to: u32,
+}
+
+/// An operation inside another, in its column.
+#[derive(Clone, Copy, Debug, PartialEq, Eq)]
+pub(crate) struct InnerRow {
+    pub(crate) code: u8,
+    pub(crate) bytes: Stretch,
+    /// The place of its address in the column of addresses.
+    pub(crate) address: Option<u32>,
+    pub(crate) base: Option<Base>,
+}
+
+/// An operation in its column.
+#[derive(Clone, Copy, Debug, PartialEq, Eq)]
+pub(crate) struct OpRow {
+    pub(crate) code: u8,
+    pub(crate) bytes: Stretch,
+    /// The place of its address in the column of addresses.
+    pub(crate) address: Option<u32>,
+    pub(crate) base: Option<Base>,
+    /// The operations inside.
+    pub(crate) inner: Stretch,
+}
+
+/// An item of a location list in its column.
+#[derive(Clone, Copy, Debug, PartialEq, Eq)]
+pub(crate) struct ItemRow {
+    pub(crate) span: Span,
+    pub(crate) ops: Stretch,
+}
+
+/// A value, as it stands in a cell.
+#[derive(Clone, Copy, Debug, PartialEq, Eq)]
+pub(crate) struct Held {
+    pub(crate) kind: Kind,
+    pub(crate) payload: u32,
+}
+
+/// The columns beside the cells. What stood in one stays there.
+#[derive(Drop)]
+pub(crate) struct Sides {
+    /// Numbers that 32 bits do not hold.
+    pub(crate) large: Vec<u64>,
+    /// The section of texts, and behind it all other bytes.
+    pub(crate) bytes: Vec<u8>,
+    pub(crate) stretches: Vec<Stretch>,
+    pub(crate) places: Vec<Place>,
+    pub(crate) spans: Vec<Span>,
+    pub(crate) ops: Vec<OpRow>,
+    pub(crate) inner: Vec<InnerRow>,
+    pub(crate) items: Vec<ItemRow>,
+}
+
+impl Sides {
+    /// Columns that are empty but for the section of texts.
+    pub(crate) fn new(alloc: Global, strings: &[u8]) -> Result<Sides, NoMemory> {
+        Ok(Sides {
+            large: Vec::new(alloc),
+            bytes: Vec::from_slice(alloc, strings)?,
+            stretches: Vec::new(alloc),
+            places: Vec::new(alloc),
+            spans: Vec::new(alloc),
+            ops: Vec::new(alloc),
+            inner: Vec::new(alloc),
+            items: Vec::new(alloc),
+        })
+    }
+
+    /// Columns with the same items.
+    pub(crate) fn copy(&self, alloc: Global) -> Result<Sides, NoMemory>
+        ensures { IfOk result (λ made. Grows self.now made) }
+    {
+        Ok(Sides {
+            large: copied(alloc, &self.large)?,
+            bytes: copied(alloc, &self.bytes)?,
+            stretches: copied(alloc, &self.stretches)?,
+            places: copied(alloc, &self.places)?,
+            spans: copied(alloc, &self.spans)?,
+            ops: copied(alloc, &self.ops)?,
+            inner: copied(alloc, &self.inner)?,
+            items: copied(alloc, &self.items)?,
+        })
+    }
+
+    /// Puts what a cell cannot hold of a value behind the columns. The value was read in a form.
+    pub(crate) fn store_read(&mut self, form: u16, value: RawValue<'_>) -> Result<Held, NoMemory>
+        ensures value { IfOk result (λ h. held_value self.new h.kind form h.payload ≡ value_read form value.entry) }
+        ensures within { IfOk result (λ h. IsWithin self.new h.kind h.payload) }
+        ensures grows { Grows self.old self.new }
+    {
+        match value {
+            RawValue::Address(number) => self.store_address(number),
+            RawValue::Text { bytes, place } => self.store_text(bytes, place),
+            RawValue::Number(bits) => self.store_number(bits),
+            RawValue::Wide(bytes) => self.store_wide(bytes),
+            RawValue::Block(bytes) => self.store_block(bytes),
+            RawValue::Ref(place) => Ok(Held {
+                kind: Kind::Ref,
+                payload: place,
+            }),
+            RawValue::Offset(n) => self.store_offset(n),
+        }
+    }
+
+    /// Puts what a cell cannot hold of an understood value behind the columns.
+    pub(crate) fn store_new(&mut self, value: NewValue<'_>) -> Result<Held, NoMemory>
+        ensures value { IfOk result (λ h. (form : ℕ) → held_value self.new h.kind form h.payload ≡ value_put value.entry) }
+        ensures within { IfOk result (λ h. IsWithin self.new h.kind h.payload) }
+        ensures grows { Grows self.old self.new }
+    {
+        match value {
+            NewValue::Address(place) => {
+                let payload = push_at(&mut self.places, place)?;
+                Ok(Held {
+                    kind: Kind::Address,
+                    payload,
+                })
+            }
+            NewValue::Expr(ops) => self.store_expr(ops),
+            NewValue::Ref(number) => Ok(Held {
+                kind: Kind::Ref,
+                payload: number,
+            }),
+            NewValue::Ranges(spans) => {
+                let stretch = append(&mut self.spans, spans)?;
+                let payload = push_at(&mut self.stretches, stretch)?;
+                Ok(Held {
+                    kind: Kind::Ranges,
+                    payload,
+                })
+            }
+            NewValue::Locations(items) => self.store_locations(items),
+            NewValue::Lines => Ok(Held {
+                kind: Kind::Lines,
+                payload: 0,
+            }),
+        }
+    }
+
+    /// A stored address.
+    fn store_address(&mut self, number: u64) -> Result<Held, NoMemory>
+        ensures value { IfOk result (λ h. (form : ℕ) → held_value self.new h.kind form h.payload ≡ values.Address (stored_place number)) }
+        ensures within { IfOk result (λ h. IsWithin self.new h.kind h.payload) }
+        ensures grows { Grows self.old self.new }
+    {
+        if number < 1 << 32 {
+            return Ok(Held {
+                kind: Kind::Stored,
+                payload: number as u32,
+            });
+        }
+        let place = Place {
+            at: Addr::Fixed(number),
+            linked: None,
+            linked_end: None,
+        };
+        let payload = push_at(&mut self.places, place)?;
+        Ok(Held {
+            kind: Kind::Address,
+            payload,
+        })
+    }
+
+    /// A text: where it stands in the section of texts, else as bytes of its own.
+    fn store_text(&mut self, text: &[u8], place: Option<u32>) -> Result<Held, NoMemory>
+        ensures value { IfOk result (λ h. (form : ℕ) → held_value self.new h.kind form h.payload ≡ values.Text text.now) }
+        ensures within { IfOk result (λ h. IsWithin self.new h.kind h.payload) }
+        ensures grows { Grows self.old self.new }
+    {
+        if let Some(place) = place {
+            if stands_at(&self.bytes, place, text) {
+                return Ok(Held {
+                    kind: Kind::Text,
+                    payload: place,
+                });
+            }
+        }
+        self.store_own_text(text)
+    }
+
+    /// A text as bytes of its own.
+    fn store_own_text(&mut self, text: &[u8]) -> Result<Held, NoMemory>
+        ensures value { IfOk result (λ h. (form : ℕ) → held_value self.new h.kind form h.payload ≡ values.Text text.now) }
+        ensures within { IfOk result (λ h. IsWithin self.new h.kind h.payload) }
+        ensures grows { Grows self.old self.new }
+    {
+        let stretch = append(&mut self.bytes, text)?;
+        let payload = push_at(&mut self.stretches, stretch)?;
+        Ok(Held {
+            kind: Kind::OwnText,
+            payload,
+        })
+    }
+
+    /// A constant of 16 bytes.
+    fn store_wide(&mut self, bytes: &[u8]) -> Result<Held, NoMemory>
+        ensures value { IfOk result (λ h. (form : ℕ) → held_value self.new h.kind form h.payload ≡ values.Wide bytes.now) }
+        ensures within { IfOk result (λ h. IsWithin self.new h.kind h.payload) }
+        ensures grows { Grows self.old self.new }
+    {
+        let stretch = append(&mut self.bytes, bytes)?;
+        let payload = push_at(&mut self.stretches, stretch)?;
+        Ok(Held {
+            kind: Kind::Wide,
+            payload,
+        })
+    }
+
+    /// A block.
+    fn store_block(&mut self, bytes: &[u8]) -> Result<Held, NoMemory>
+        ensures value { IfOk result (λ h. (form : ℕ) → held_value self.new h.kind form h.payload ≡ values.Block form bytes.now) }
+        ensures within { IfOk result (λ h. IsWithin self.new h.kind h.payload) }
+        ensures grows { Grows self.old self.new }
+    {
+        let stretch = append(&mut self.bytes, bytes)?;
+        let payload = push_at(&mut self.stretches, stretch)?;
+        Ok(Held {
+            kind: Kind::Block,
+            payload,
+        })
+    }
+
+    /// A constant or flag.
+    fn store_number(&mut self, bits: u64) -> Result<Held, NoMemory>
+        ensures value { IfOk result (λ h. (form : ℕ) → held_value self.new h.kind form h.payload ≡ values.Number (number_form form) bits) }
+        ensures within { IfOk result (λ h. IsWithin self.new h.kind h.payload) }
+        ensures grows { Grows self.old self.new }
+    {
+        if bits < 1 << 32 {
+            return Ok(Held {
+                kind: Kind::Small,
+                payload: bits as u32,
+            });
+        }
+        let payload = push_at(&mut self.large, bits)?;
+        Ok(Held {
+            kind: Kind::Large,
+            payload,
+        })
+    }
+
+    /// An offset.
+    fn store_offset(&mut self, n: u64) -> Result<Held, NoMemory>
+        ensures value { IfOk result (λ h. (form : ℕ) → held_value self.new h.kind form h.payload ≡ values.Offset n) }
+        ensures within { IfOk result (λ h. IsWithin self.new h.kind h.payload) }
+        ensures grows { Grows self.old self.new }
+    {
+        if n < 1 << 32 {
+            return Ok(Held {
+                kind: Kind::Offset,
+                payload: n as u32,
+            });
+        }
+        let payload = push_at(&mut self.large, n)?;
+        Ok(Held {
+            kind: Kind::LargeOffset,
+            payload,
+        })
+    }
+
+    /// An expression.
+    fn store_expr(&mut self, ops: &[Op]) -> Result<Held, NoMemory>
+        ensures value { IfOk result (λ h. (form : ℕ) → held_value self.new h.kind form h.payload ≡ values.Expr ops.now) }
+        ensures within { IfOk result (λ h. IsWithin self.new h.kind h.payload) }
+        ensures grows { Grows self.old self.new }
+    {
+        let stretch = self.store_ops(ops)?;
+        let payload = push_at(&mut self.stretches, stretch)?;
+        Ok(Held {
+            kind: Kind::Expr,
+            payload,
+        })
+    }
+
+    /// A location list.
+    fn store_locations(&mut self, items: &[Location]) -> Result<Held, NoMemory>
+        ensures value { IfOk result (λ h. (form : ℕ) → held_value self.new h.kind form h.payload ≡ values.Locations items.now) }
+        ensures within { IfOk result (λ h. IsWithin self.new h.kind h.payload) }
+        ensures grows { Grows self.old self.new }
+    {
+        let stretch = self.store_items(items)?;
+        let payload = push_at(&mut self.stretches, stretch)?;
+        Ok(Held {
+            kind: Kind::Locations,
+            payload,
+        })
+    }
+
+    /// Operations, each in a row.
+    fn store_ops(&mut self, ops: &[Op]) -> Result<Stretch, NoMemory>
+        ensures rows { IfOk result (λ at. InColumn self.new.ops.items at × (map (op_of self.new) (stretch_of self.new.ops.items at) ≡ ops.now) × All (OpWithin self.new) (stretch_of self.new.ops.items at)) }
+        ensures grows { Grows self.old self.new }
+        ensures others { self.new.items.items ≡ self.old.items.items }
+    {
+        let from = column_place(self.ops.len())?;
+        for op in ops {
+            self.store_op(op)?;
+        }
+        let to = column_place(self.ops.len())?;
+        Ok(Stretch { from, to })
+    }
+
+    /// The row of an operation, behind the others.
+    fn store_op(&mut self, op: &Op) -> Result<(), NoMemory>
+        ensures row { OnOk result ((r : ARow) × (self.new.ops.items ≡ self.old.ops.items ++ r ∷ []) × (op_of self.new r ≡ op.now) × OpWithin self.new r) }
+        ensures grows { Grows self.old self.new }
+        ensures others { self.new.items.items ≡ self.old.items.items }
+    {
+        let bytes = append(&mut self.bytes, op.bytes.as_slice())?;
+        let address = self.store_field(op.address)?;
+        let inner = self.store_inner_ops(op.inner.as_slice())?;
+        self.ops.push(OpRow {
+            code: op.code,
+            bytes,
+            address,
+            base: op.base,
+            inner,
+        })?;
+        Ok(())
+    }
+
+    /// An address of an operation, if it has one.
+    fn store_field(&mut self, address: Option<Place>) -> Result<Option<u32>, NoMemory>
+        ensures value { IfOk result (λ at. address_at self.new at ≡ address) }
+        ensures within { IfOk result (λ at. IfSome at (λ i. i < length self.new.places.items)) }
+        ensures grows { Grows self.old self.new }
+        ensures others { (self.new.bytes.items ≡ self.old.bytes.items) × (self.new.ops.items ≡ self.old.ops.items) × (self.new.inner.items ≡ self.old.inner.items) × (self.new.items.items ≡ self.old.items.items) }
+    {
+        match address {
+            Some(place) => Ok(Some(push_at(&mut self.places, place)?)),
+            None => Ok(None),
+        }
+    }
+
+    /// Operations inside an operation, each in a row.
+    fn store_inner_ops(&mut self, ops: &[PlainOp]) -> Result<Stretch, NoMemory>
+        ensures rows { IfOk result (λ at. InColumn self.new.inner.items at × (map (inner_of self.new) (stretch_of self.new.inner.items at) ≡ ops.now) × All (InnerWithin self.new) (stretch_of self.new.inner.items at)) }
+        ensures grows { Grows self.old self.new }
+        ensures others { (self.new.ops.items ≡ self.old.ops.items) × (self.new.items.items ≡ self.old.items.items) }
+    {
+        let from = column_place(self.inner.len())?;
+        for op in ops {
+            self.store_inner(op)?;
+        }
+        let to = column_place(self.inner.len())?;
+        Ok(Stretch { from, to })
+    }
+
+    /// The row of an operation inside another, behind the others.
+    fn store_inner(&mut self, op: &PlainOp) -> Result<(), NoMemory>
+        ensures row { OnOk result ((r : AnInner) × (self.new.inner.items ≡ self.old.inner.items ++ r ∷ []) × (inner_of self.new r ≡ op.now) × InnerWithin self.new r) }
+        ensures grows { Grows self.old self.new }
+        ensures others { (self.new.ops.items ≡ self.old.ops.items) × (self.new.items.items ≡ self.old.items.items) }
+    {
+        let bytes = append(&mut self.bytes, op.bytes.as_slice())?;
+        let address = self.store_field(op.address)?;
+        self.inner.push(InnerRow {
+            code: op.code,
+            bytes,
+            address,
+            base: op.base,
+        })?;
+        Ok(())
+    }
+
+    /// Items of a location list, each in a row.
+    fn store_items(&mut self, items: &[Location]) -> Result<Stretch, NoMemory>
+        ensures rows { IfOk result (λ at. InColumn self.new.items.items at × (map (item_of self.new) (stretch_of self.new.items.items at) ≡ items.now) × All (ItemWithin self.new) (stretch_of self.new.items.items at)) }
+        ensures grows { Grows self.old self.new }
+    {
+        let from = column_place(self.items.len())?;
+        for item in items {
+            self.store_item(item)?;
+        }
+        let to = column_place(self.items.len())?;
+        Ok(Stretch { from, to })
+    }
+
+    /// The row of an item of a location list, behind the others.
+    fn store_item(&mut self, item: &Location) -> Result<(), NoMemory>
+        ensures row { OnOk result ((r : AnItem) × (self.new.items.items ≡ self.old.items.items ++ r ∷ []) × (item_of self.new r ≡ item.now) × ItemWithin self.new r) }
+        ensures grows { Grows self.old self.new }
+    {
+        let ops = self.store_ops(item.ops.as_slice())?;
+        self.items.push(ItemRow {
+            span: item.span,
+            ops,
+        })?;
+        Ok(())
+    }
+}
+
+/// Whether a text stands at a place, and ends there before a zero byte.
+fn stands_at(bytes: &[u8], place: u32, text: &[u8]) -> bool
+    ensures { result ≡ true → text_from bytes.now place ≡ Some text.now }
+{
+    match text_at(bytes, place) {
+        Some(found) => found == text,
+        None => false,
+    }
+}
+
+/// The bytes from a place up to the next zero byte, if there is one.
+pub(crate) fn text_at(bytes: &[u8], place: u32) -> Option<&[u8]>
+    ensures { option_copied result ≡ text_from bytes.now place }
+{
+    let place = place as usize;
+    if place > bytes.len() {
+        return None;
+    }
+    first_text(&bytes[place..])
+}
+
+/// The bytes up to the first zero byte, if there is one.
+fn first_text(bytes: &[u8]) -> Option<&[u8]>
+    ensures { option_copied result ≡ first_text bytes.now }
+{
+    match first_zero(bytes) {
+        Some(len) => Some(&bytes[..len]),
+        None => None,
+    }
+}
+
+/// The place of the first zero byte, if there is one.
+fn first_zero(bytes: &[u8]) -> Option<usize>
+    ensures is { result ≡ position (λ b. b == 0) bytes.now }
+    ensures within { IfSome result (λ n. n < length bytes.now) }
+{
+    bytes.iter().position(|b| *b == 0)
+}
+
+/// Puts an item last, and answers its place.
+fn push_at<T: Copy + Drop>(column: &mut Vec<T>, item: T) -> Result<u32, NoMemory>
+    ensures ok { IfOk result (λ at. (at ≡ length column.old.items) × (column.new.items ≡ column.old.items ++ item ∷ [])) }
+    ensures unchanged { OnErr result (column.new.items ≡ column.old.items) }
+{
+    let at = u32::try_from(column.len()).map_err(|_| NoMemory)?;
+    column.push(item)?;
+    Ok(at)
+}
+
+/// Puts items last, and answers where they lie.
+fn append<T: Copy>(column: &mut Vec<T>, items: &[T]) -> Result<Stretch, NoMemory>
+    ensures ok { OnOk result (column.new.items ≡ column.old.items ++ items.now) }
+    ensures at { IfOk result (λ at. (at.from ≡ length column.old.items) × (at.to ≡ length column.old.items + length items.now)) }
+    ensures unchanged { OnErr result (column.new.items ≡ column.old.items) }
+{
+    let from = u32::try_from(column.len()).map_err(|_| NoMemory)?;
+    let len = u32::try_from(items.len()).map_err(|_| NoMemory)?;
+    let to = from.checked_add(len).ok_or(NoMemory)?;
+    column.extend_from_slice(items)?;
+    Ok(Stretch { from, to })
+}
+
+/// A place of a column.
+fn column_place(place: usize) -> Result<u32, NoMemory>
+    ensures { IfOk result (λ n. n ≡ place) }
+{
+    u32::try_from(place).map_err(|_| NoMemory)
+}
+
+/// A copy of a column.
+pub(crate) fn copied<T: Copy>(alloc: Global, column: &Vec<T>) -> Result<Vec<T>, NoMemory>
+    ensures { IfOk result (λ made. made.items ≡ column.now.items) }
+{
+    Ok(Vec::from_slice(alloc, column.as_slice())?)
+}
