@@ -1,5 +1,5 @@
 -- Of which kinds the faults of an attribute value are.
-use Rattle.std.proofs.Common.{ℕ, List, Result, refl, arith, Bool, Option, Some, None, Ok, Err, [], ◌∷◌}
+use Rattle.std.proofs.Common.{ℕ, List, Result, refl, arith, Bool, [], ◌∷◌}
 use Rattle.std.specs.Prelude.{nat_lt}
 use Rattle.std.specs.List.{Contains}
 use Rattle.ds_base.specs.declared.fault.Fault.{Fault}
@@ -11,7 +11,7 @@ use Rattle.dwarf_types.specs.declared.abbrev.Field.{Field}
 use Rattle.dwarf_types.specs.SectionBytes.{SectionBytes}
 use Rattle.dwarf_types.specs.declared.value.Value.{Value}
 use Rattle.dwarf_types.specs.declared.value.Value.TheVariants as values
-use Rattle.ds_base.proofs.FaultKinds.{FaultsAre, ok_kinds, err_kinds, bind_kinds, refuse_kinds, either_kinds, found_kinds, bytes_kinds, number_kinds, text_kinds, uleb_kinds, sleb_kinds}
+use Rattle.ds_base.proofs.FaultKinds.{FaultsAre, ok_kinds, err_kinds, bind_kinds, refuse_kinds, found_kinds, bytes_kinds, number_kinds, text_kinds, uleb_kinds, sleb_kinds}
 use Rattle.form_value.specs.declared.form.Coding.{Coding}
 use Rattle.form_value.specs.declared.form.Coding.TheVariants.{One, Two, Three, Four, Eight, Leb}
 use Rattle.form_value.specs.declared.form.FormClass.{FormClass}
