@@ -3,16 +3,13 @@ use Rattle.std.proofs.Common.{◌≡◌, ℕ, suc, ◌+◌, ◌<◌, ◌≤◌, 
 use Rattle.std.specs.Option.{option_to_list}
 use Rattle.std.proofs.lemmas.List.{drop_all}
 use Rattle.ds_base.specs.declared.fault.Fault.{Fault}
-use Rattle.ds_base.specs.declared.fault.ReadError.{ReadError}
-use Rattle.ds_base.specs.declared.fault.ReadError.TheVariants as errors
 use Rattle.ds_base.specs.Spot.{Spot}
-use Rattle.ds_base.specs.Reading.{◌>>=◌, ReadsUnlessFull}
+use Rattle.ds_base.specs.Reading.{◌>>=◌}
 use Rattle.dwarf_types.specs.declared.abbrev.Field.{Field}
 use Rattle.dwarf_types.specs.declared.entry.RawAttr.{RawAttr}
 use Rattle.dwarf_types.specs.SectionBytes.{SectionBytes}
 use Rattle.unit_tree.specs.declared.attribute.Home.{Home}
 use Rattle.unit_tree.specs.declared.reference.Reference.{Reference}
-use Rattle.ds_base.proofs.Refusals.{Refused}
 use Rattle.unit_tree.specs.Attribute.{Described, attr_at, attrs_at}
 
 -- the next field is read
@@ -25,15 +22,9 @@ next_field sections home root fields i d before s total lt so_far =
     let parts : drop i fields ≡ get_or fields i d ∷ drop (i + 1) fields = drop-cons fields i d lt ∙ ap (λ (n : ℕ). get_or fields i d ∷ drop n fields) next in
     sym so_far ∙ ap (λ (fs : List Field). attrs_at sections home root fs before s) parts
 
-attr_fails : (sections : SectionBytes) (home : Home) (root : Bool) (fields : List Field) (i : ℕ) (d : Field) (before : Described) (s : Spot) (f : Fault) (total : Result (Described × Spot) Fault) → i < length fields
+pub attr_fails : (sections : SectionBytes) (home : Home) (root : Bool) (fields : List Field) (i : ℕ) (d : Field) (before : Described) (s : Spot) (f : Fault) (total : Result (Described × Spot) Fault) → i < length fields
     → attr_at sections home root (get_or fields i d) before.0 s ≡ Err f → attrs_at sections home root (drop i fields) before s ≡ total → total ≡ Err f
 attr_fails sections home root fields i d before s f total lt read so_far = next_field sections home root fields i d before s total lt so_far ∙ rw read refl
-
-pub attr_refused : (sections : SectionBytes) (home : Home) (root : Bool) (fields : List Field) (i : ℕ) (d : Field) (before : Described) (s t : Spot) (e : ReadError) (total : Result (Described × Spot) Fault) → i < length fields
-    → ReadsUnlessFull (λ (attr : RawAttr × Option Reference). attr) (Err e) t (attr_at sections home root (get_or fields i d) before.0 s) → attrs_at sections home root (drop i fields) before s ≡ total
-    → Refused e total
-attr_refused sections home root fields i d before s t (errors.Faulty f) total lt read so_far = attr_fails sections home root fields i d before s f total lt read so_far
-attr_refused sections home root fields i d before s t errors.NoMemory total lt read so_far = tt
 
 pub attr_more : (sections : SectionBytes) (home : Home) (root : Bool) (fields : List Field) (i : ℕ) (d : Field) (before : Described) (s t : Spot) (attr : RawAttr) (reference : Option Reference) (total : Result (Described × Spot) Fault) → i < length fields
     → attr_at sections home root (get_or fields i d) before.0 s ≡ Ok ((attr, reference), t) → attrs_at sections home root (drop i fields) before s ≡ total

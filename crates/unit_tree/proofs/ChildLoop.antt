@@ -9,8 +9,7 @@ use Rattle.ds_base.specs.Reading.{◌>>=◌}
 use Rattle.dwarf_types.specs.declared.abbrev.Abbrev.{Abbrev}
 use Rattle.dwarf_types.specs.SectionBytes.{SectionBytes}
 use Rattle.unit_tree.specs.declared.attribute.Home.{Home}
-use Rattle.unit_tree.specs.declared.entry.Parsed.{Parsed}
-use Rattle.unit_tree.specs.Entry.{Walk, child_at, children_at}
+use Rattle.unit_tree.specs.Entry.{Parsed, Walk, child_at, children_at}
 use Rattle.ds_base.proofs.Refusals.{Refused}
 
 -- no list is open

@@ -23,7 +23,7 @@ use Rattle.form_value.specs.declared.form.FormRow.{FormRow}
 use Rattle.form_value.specs.Forms.{form_row}
 use Rattle.form_value.specs.Reading.{fixed_address, in_64_bits}
 use Rattle.form_value.specs.Spelling.{SpellsClass}
-use Rattle.unit_tree.specs.declared.entry.Parsed.{Parsed}
+use Rattle.unit_tree.specs.Entry.{Parsed}
 use Rattle.unit_tree.specs.declared.meaning.Meaning.{Meaning}
 use Rattle.unit_tree.specs.declared.meaning.Meaning.TheVariants.{InUnit, InObject, LineTable, RangeList, LocationList, Other}
 use Rattle.unit_tree.specs.Attribute.{has_attr, names_lines}

@@ -1,13 +1,11 @@
 -- Where a reference leads among entries in rising order, and the loop that tries references.
-use Rattle.std.proofs.Common.{◌≡◌, ℕ, zero, suc, ◌+◌, ◌<◌, ◌≤◌, ◌||◌, Bool, true, false, not, cond, List, [], ◌∷◌, length, get_or, drop, Option, Some, None, Ok, Err, refl, sym, ap, ◌∙◌, drop-cons, inl, inr, arith}
+use Rattle.std.proofs.Common.{◌≡◌, ℕ, zero, suc, ◌+◌, ◌<◌, ◌≤◌, ◌||◌, Bool, true, false, not, cond, List, [], ◌∷◌, length, map, get_or, drop, Option, Some, None, Ok, Err, refl, sym, ap, ◌∙◌, drop-cons, inl, inr, arith}
 use Rattle.std.specs.List.{find, list_any}
-use Rattle.std.specs.List.Sorted.{IsSearchInRange, IsBinarySearchResult, IsNonDecreasingBy}
-use Rattle.std.specs.Ordering.{nat_cmp, ordering_index}
-use Rattle.std.proofs.lemmas.Cmp.{ranked}
-use Rattle.std.proofs.lemmas.List.{drop_all}
-use Rattle.std.proofs.lemmas.List.Sorted.{IsNonDecreasingBy-from_default}
+use Rattle.std.specs.List.Sorted.{IsBinarySearchResult}
+use Rattle.std.specs.Ordering.{nat_cmp}
+use Rattle.std.proofs.lemmas.List.{drop_all, get_or-map, length-map}
+use Rattle.std.proofs.lemmas.List.Sorted.{searched}
 use Rattle.std.proofs.lemmas.Bool.{cases_lt, eq-eqb, ne_eqb}
-use Rattle.std.proofs.lemmas.Bool.Decides.{nat_tests}
 use Rattle.dwarf_types.specs.declared.entry.RawEntry.{RawEntry}
 use Rattle.unit_tree.specs.declared.reference.Reference.{Reference}
 use Rattle.unit_tree.specs.Reference.{reaches, leads_to, leads, IsRising}
@@ -30,21 +28,32 @@ any_one p (x ∷ xs) (suc i) d lt fails = rw (fails 0 (omega arith) (λ e. omega
 abbrev none : RawEntry
 none = record { parent = None; unit = 0; place = 0; tag = 0; attrs = [] }
 
--- the comparisons of the places with one rise
-comparisons_rise : (entries : List RawEntry) (place : ℕ) → IsRising entries → IsNonDecreasingBy (λ (e : RawEntry). ordering_index (nat_cmp e.place place)) entries
-comparisons_rise entries place rising = IsNonDecreasingBy-from_default (λ (e : RawEntry). ordering_index (nat_cmp e.place place)) entries none (λ i j le within.
-    let below : i < j → (get_or entries i none).place < (get_or entries j none).place = λ lt. rising i j none lt within in
-    let up : (get_or entries i none).place ≤ (get_or entries j none).place = grind (arith, below, λ (same : i ≡ j). ap (λ (k : ℕ). (get_or entries k none).place) same) in
-    grind (arith, nat_tests))
+abbrev pub places_in : List RawEntry → List ℕ
+places_in entries = map (λ (e : RawEntry). e.place) entries
+
+place_at : (entries : List RawEntry) (i : ℕ) (d : RawEntry) → i < length entries → get_or (places_in entries) i 0 ≡ (get_or entries i d).place
+place_at entries i d lt = get_or-map (λ (e : RawEntry). e.place) entries i d 0 lt
+
+places_rise : (entries : List RawEntry) → IsRising entries → (i j : ℕ) → i ≤ j → j < length (places_in entries) → get_or (places_in entries) i 0 ≤ get_or (places_in entries) j 0
+places_rise entries rising i j le within =
+    let len : length (places_in entries) ≡ length entries = length-map entries (λ (e : RawEntry). e.place) in
+    let here = place_at entries i none (omega (arith, le, within, len)) in
+    let there = place_at entries j none (omega (arith, within, len)) in
+    elim (cases_lt i j) [
+      | inl before ↦ omega (arith, here, there, rising i j none before (omega (arith, within, len)))
+      | inr same ↦ let is : i ≡ j = omega (arith, le, same) in omega (arith, ap (λ (k : ℕ). get_or (places_in entries) k 0) is)
+    ]
 
 -- an entry that begins elsewhere is none to which a reference leads
 elsewhere : (r : Reference) (e : RawEntry) → (e.place ≡ r.target → ⊥) → leads_to r e ≡ false
 elsewhere r e ne = rw (ne_eqb e.place r.target ne) refl
 
-pub leads_there : (entries : List RawEntry) (r : Reference) (i : ℕ) (d : RawEntry) → IsRising entries → IsSearchInRange (Ok i) (length entries) → IsBinarySearchResult (λ (e : RawEntry). nat_cmp e.place r.target) entries (Ok i)
+pub leads_there : (entries : List RawEntry) (r : Reference) (i : ℕ) (d : RawEntry) → IsRising entries → IsBinarySearchResult (λ (p : ℕ). nat_cmp p r.target) (places_in entries) (Ok i)
     → leads entries r ≡ reaches r.unit (get_or entries i d).unit
-leads_there entries r i d rising within equal =
-    let here : (get_or entries i d).place ≡ r.target = ranked _ r.target _ (sym (equal d)) in
+leads_there entries r i d rising found =
+    let at = searched (places_in entries) r.target (Ok i) found (places_rise entries rising) in
+    let within : i < length entries = omega (arith, at.0, length-map entries (λ (e : RawEntry). e.place)) in
+    let here : (get_or entries i d).place ≡ r.target = sym (place_at entries i d within) ∙ at.1 in
     let others : (j : ℕ) → j < length entries → (j ≡ i → ⊥) → leads_to r (get_or entries j d) ≡ false = λ j lt ne. elsewhere r (get_or entries j d) (λ e.
     elim (cases_lt j i) [
       | inl before ↦ omega (arith, rising j i d before within, e, here)
@@ -52,13 +61,14 @@ leads_there entries r i d rising within equal =
     ]) in
     any_one (leads_to r) entries i d within others ∙ rw (eq-eqb _ _ here) refl
 
-pub leads_nowhere : (entries : List RawEntry) (r : Reference) (i : ℕ) → IsRising entries → IsBinarySearchResult (λ (e : RawEntry). nat_cmp e.place r.target) entries (Err i) → leads entries r ≡ false
+pub leads_nowhere : (entries : List RawEntry) (r : Reference) (i : ℕ) → IsRising entries → IsBinarySearchResult (λ (p : ℕ). nat_cmp p r.target) (places_in entries) (Err i) → leads entries r ≡ false
 leads_nowhere entries r i rising parted =
-    let parts = parted (comparisons_rise entries r.target rising) in
+    let parts = searched (places_in entries) r.target (Err i) parted (places_rise entries rising) in
     any_none (leads_to r) entries none (λ j lt. elsewhere r (get_or entries j none) (λ e.
+    let at = place_at entries j none lt in
     elim (cases_lt j i) [
-      | inl before ↦ omega (arith, ranked _ r.target _ (sym (parts.0 j none (omega arith) before)), e)
-      | inr le ↦ omega (arith, ranked _ r.target _ (sym (parts.1 j none le lt)), e)
+      | inl before ↦ omega (arith, parts.1 j before, at, e)
+      | inr le ↦ omega (arith, parts.2 j le (omega (arith, lt, length-map entries (λ (x : RawEntry). x.place))), at, e)
     ]))
 
 -- the references from one on are still to be tried

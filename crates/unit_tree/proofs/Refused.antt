@@ -25,14 +25,13 @@ use Rattle.abbrev_read.proofs.Refused.{IsOne as IsTableKind, table_faults_kinds 
 use Rattle.form_value.specs.Reading.{value_at}
 use Rattle.form_value.proofs.Refused.{IsOne as IsValueKind, value_faults}
 use Rattle.unit_tree.specs.declared.attribute.Home.{Home}
-use Rattle.unit_tree.specs.declared.entry.Parsed.{Parsed}
 use Rattle.unit_tree.specs.declared.entry.TheConstants.{MOST_OPEN}
 use Rattle.unit_tree.specs.declared.header.TheConstants.{DWARF_VERSION, ADDRESS_SIZE}
 use Rattle.unit_tree.specs.declared.meaning.Meaning.{Meaning}
 use Rattle.unit_tree.specs.declared.meaning.Meaning.TheVariants.{InUnit, InObject, LineTable, RangeList, LocationList, Other}
 use Rattle.unit_tree.specs.declared.reference.Reference.{Reference}
 use Rattle.unit_tree.specs.Attribute.{Described, attr_at, attrs_at, meant_at, names_lines, number_in, offset_in, value_meant_at}
-use Rattle.unit_tree.specs.Entry.{Walk, child_at, children_at, closed, declared_as, entry_at, innermost, is_full, is_split, listed_at, opened, root_at, tree_at}
+use Rattle.unit_tree.specs.Entry.{Parsed, Walk, child_at, children_at, closed, declared_as, entry_at, innermost, is_full, is_split, listed_at, opened, root_at, tree_at}
 use Rattle.unit_tree.specs.Header.{behind_length, fields_at, header_at, info_at, is_bad_length}
 use Rattle.unit_tree.specs.Meaning.{meaning_of}
 use Rattle.unit_tree.specs.Reference.{leads, resolved}

@@ -10,9 +10,8 @@ use Rattle.dwarf_types.specs.declared.entry.RawEntry.{RawEntry}
 use Rattle.dwarf_types.specs.declared.entry.InUnit.{InUnit}
 use Rattle.dwarf_types.specs.SectionBytes.{SectionBytes}
 use Rattle.unit_tree.specs.declared.attribute.Home.{Home}
-use Rattle.unit_tree.specs.declared.entry.Parsed.{Parsed}
 use Rattle.unit_tree.specs.declared.header.Header.{Header}
-use Rattle.unit_tree.specs.Entry.{entry_at, root_at, Walk, child_at, children_at, tree_at}
+use Rattle.unit_tree.specs.Entry.{Parsed, entry_at, root_at, Walk, child_at, children_at, tree_at}
 use Rattle.unit_tree.specs.Header.{info_at, behind_length, header_at}
 use Rattle.ds_base.specs.declared.dwarf.TheConstants.{LENGTH_RESERVED}
 use Rattle.unit_tree.specs.Reference.{IsRising}

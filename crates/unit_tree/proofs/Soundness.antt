@@ -10,9 +10,8 @@ use Rattle.dwarf_types.specs.declared.entry.InUnit.{InUnit}
 use Rattle.dwarf_types.specs.SectionBytes.{SectionBytes}
 use Rattle.dwarf_types.specs.Sound.{AreUnits, IsParent}
 use Rattle.unit_tree.specs.declared.attribute.Home.{Home}
-use Rattle.unit_tree.specs.declared.entry.Parsed.{Parsed}
 use Rattle.unit_tree.specs.declared.entry.TheConstants.{MOST_ENTRIES}
-use Rattle.unit_tree.specs.Entry.{entry_at, innermost, opened, Walk, child_at, children_at, tree_at}
+use Rattle.unit_tree.specs.Entry.{Parsed, entry_at, innermost, opened, Walk, child_at, children_at, tree_at}
 use Rattle.unit_tree.specs.Sound.{LiesInUnit, AreSound}
 use Rattle.unit_tree.specs.Unit.{unit_from, nothing, unit_at, units_at}
 use Rattle.unit_tree.proofs.Rising.{units_rise}

@@ -14,12 +14,11 @@ use Rattle.dwarf_types.specs.SectionBytes.{SectionBytes}
 use Rattle.ds_base.proofs.Passing.{bind_ok, passed, ok_is, found_ok}
 use Rattle.abbrev_read.specs.Reading.{table_at}
 use Rattle.unit_tree.specs.declared.attribute.Home.{Home}
-use Rattle.unit_tree.specs.declared.entry.Parsed.{Parsed}
 use Rattle.unit_tree.specs.declared.entry.TheConstants.{MOST_OPEN}
 use Rattle.unit_tree.specs.declared.header.Header.{Header}
 use Rattle.unit_tree.specs.declared.header.TheConstants.{DWARF_VERSION, ADDRESS_SIZE}
 use Rattle.unit_tree.specs.Attribute.{Described, attrs_at}
-use Rattle.unit_tree.specs.Entry.{with_entry, entry_at, is_full, is_split, root_at, innermost, closed, opened, Walk, listed_at, child_at, children_at, tree_at}
+use Rattle.unit_tree.specs.Entry.{Parsed, with_entry, entry_at, is_full, is_split, root_at, innermost, closed, opened, Walk, listed_at, child_at, children_at, tree_at}
 use Rattle.unit_tree.specs.Header.{info_at, behind_length, is_bad_length, fields_at, header_at}
 use Rattle.unit_tree.specs.Entry.{declared_as}
 use Rattle.unit_tree.specs.Unit.{is_zero, zeros_at, unit_from, unit_at, units_at}

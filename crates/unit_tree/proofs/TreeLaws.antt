@@ -13,10 +13,9 @@ use Rattle.dwarf_types.specs.declared.entry.RawEntry.{RawEntry}
 use Rattle.dwarf_types.specs.SectionBytes.{SectionBytes}
 use Rattle.dwarf_types.proofs.Readers.{Stands, length_rest}
 use Rattle.unit_tree.specs.declared.attribute.Home.{Home}
-use Rattle.unit_tree.specs.declared.entry.Parsed.{Parsed}
 use Rattle.unit_tree.specs.declared.entry.TheConstants.{MOST_ENTRIES, MOST_OPEN}
 use Rattle.unit_tree.specs.declared.reference.Reference.{Reference}
-use Rattle.unit_tree.specs.Entry.{is_full, entry_at, innermost, closed, opened, Walk, listed_at, child_at, children_at}
+use Rattle.unit_tree.specs.Entry.{Parsed, is_full, entry_at, innermost, closed, opened, Walk, listed_at, child_at, children_at}
 use Rattle.unit_tree.specs.Entry.{declared_as}
 use Rattle.unit_tree.specs.Spelling.{Node, Forest, size, entry_of, preorder, InTurnFrom, SpellsAttrs, SpellsNode, SpellsBelow, SpellsTrees, IsShallow, AttrsLead, NodeLeads, TreesLead}
 use Rattle.unit_tree.specs.Spelling.Forest.{no_more, tree}

@@ -22,13 +22,12 @@ use Rattle.ds_base.proofs.Passing.{bind_ok, guard_ok, ok_is}
 use Rattle.dwarf_types.proofs.Readers.{IsBytes, IsBytes-drop, IsBytes-take, IsBytes-from, Stands}
 use Rattle.abbrev_read.proofs.TableLaws.{table_spelled}
 use Rattle.unit_tree.specs.declared.attribute.Home.{Home}
-use Rattle.unit_tree.specs.declared.entry.Parsed.{Parsed}
 use Rattle.unit_tree.specs.declared.entry.TheConstants.{MOST_ENTRIES}
 use Rattle.unit_tree.specs.declared.header.Header.{Header}
 use Rattle.ds_base.specs.declared.dwarf.TheConstants.{LENGTH_RESERVED}
 use Rattle.unit_tree.specs.declared.header.TheConstants.{DWARF_VERSION, ADDRESS_SIZE}
 use Rattle.unit_tree.specs.declared.reference.Reference.{Reference}
-use Rattle.unit_tree.specs.Entry.{is_split, opened, tree_at, children_at}
+use Rattle.unit_tree.specs.Entry.{Parsed, is_split, opened, tree_at, children_at}
 use Rattle.unit_tree.specs.Header.{info_at, behind_length}
 use Rattle.unit_tree.specs.Reference.{leads, resolved}
 use Rattle.unit_tree.specs.Spelling.{Node, Forest, size, entry_of, preorder, UnitTree, unit_entries, entries_of, in_unit, in_units, raw_units, InTurnFrom, SpellsNode, SpellsBelow, SpellsTrees, IsShallow, NodeLeads, TreesLead, SpellsTree, AreZeros, SpellsBody, SpellsUnit, SpellsUnits, IsSoundUnit, AreSoundUnits, IsSpelled}

@@ -6,7 +6,7 @@ use Rattle.ds_base.specs.declared.fault.ReadError.TheVariants as errors
 use Rattle.ds_base.specs.Reading.{◌>>=◌}
 use Rattle.dwarf_types.specs.declared.entry.InUnit.{InUnit}
 use Rattle.dwarf_types.specs.SectionBytes.{SectionBytes}
-use Rattle.unit_tree.specs.declared.entry.Parsed.{Parsed}
+use Rattle.unit_tree.specs.Entry.{Parsed}
 use Rattle.unit_tree.specs.Unit.{unit_at, units_at}
 use Rattle.ds_base.proofs.Refusals.{Refused}
 

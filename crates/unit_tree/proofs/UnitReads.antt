@@ -16,13 +16,12 @@ use Rattle.dwarf_types.proofs.Readers.{Stands, length_rest}
 use Rattle.abbrev_read.specs.Reading.{table_at}
 use Rattle.abbrev_read.proofs.TableLaws.{table_read}
 use Rattle.unit_tree.specs.declared.attribute.Home.{Home}
-use Rattle.unit_tree.specs.declared.entry.Parsed.{Parsed}
 use Rattle.unit_tree.specs.declared.entry.TheConstants.{MOST_ENTRIES}
 use Rattle.unit_tree.specs.declared.header.Header.{Header}
 use Rattle.ds_base.specs.declared.dwarf.TheConstants.{LENGTH_RESERVED}
 use Rattle.unit_tree.specs.declared.header.TheConstants.{DWARF_VERSION, ADDRESS_SIZE}
 use Rattle.unit_tree.specs.declared.reference.Reference.{Reference}
-use Rattle.unit_tree.specs.Entry.{is_split, is_full, entry_at, root_at, tree_at, children_at, opened}
+use Rattle.unit_tree.specs.Entry.{Parsed, is_split, is_full, entry_at, root_at, tree_at, children_at, opened}
 use Rattle.unit_tree.specs.Entry.{declared_as}
 use Rattle.unit_tree.specs.Header.{info_at, behind_length, is_bad_length, fields_at, header_at}
 use Rattle.unit_tree.specs.Reference.{leads, resolved}

@@ -1,15 +1,24 @@
--- Bounds that the code keeps, so that numbers fit 32 bits. No meaning is said here.
-use Rattle.std.specs.Prelude.{◌≡◌, ◌<◌, ◌≤◌, ℕ, true, length, Result, Ok, Err}
+-- What the code keeps while it reads, so that numbers fit 32 bits. No meaning is said here.
+use Rattle.std.specs.Prelude.{◌≡◌, ◌<◌, ◌≤◌, ℕ, true, List, [], length, Result, Ok, Err}
+use Rattle.std.specs.List.{All}
 use Rattle.ds_base.specs.declared.fault.Fault.{Fault}
 use Rattle.ds_base.specs.declared.fault.Kind.TheVariants.{LimitEntries}
 use Rattle.ds_base.specs.Spot.{Spot, fault_at}
-use Rattle.unit_tree.specs.declared.entry.Parsed.{Parsed}
+use Rattle.unit_tree.specs.declared.entry.Parsed.{Parsed as Kept}
 use Rattle.unit_tree.specs.declared.entry.TheConstants.{MOST_ENTRIES}
-use Rattle.unit_tree.specs.Entry.{is_full}
+use Rattle.unit_tree.specs.Entry.{Parsed, is_full}
 
--- no more entries than an object may have
-abbrev pub IsFew : Parsed → Type 0
-IsFew parsed = length parsed.entries ≤ MOST_ENTRIES
+-- what is kept, as what was read
+abbrev pub parsed_seen : Kept → Parsed
+parsed_seen kept = record { entries = kept.built.entries; references = kept.references }
+
+-- no attribute waits for its entry, and there are no more entries than an object may have
+abbrev pub IsReady : Kept → Type 0
+IsReady kept = (kept.built.attrs ≡ []) × (length kept.built.entries ≤ MOST_ENTRIES)
+
+-- the entries whose lists are open have numbers that an object may have
+abbrev pub AreNumbers : List ℕ → Type 0
+AreNumbers lists = All (λ number. number < MOST_ENTRIES) lists
 
 -- the number of the next entry, which begins at first, or that no more may follow
 abbrev pub NumbersNext : Result ℕ Fault → Parsed → Spot → Type 0

@@ -8,11 +8,17 @@ use Rattle.ds_base.specs.Spot.{Spot, fault_at}
 use Rattle.ds_base.specs.Reading.{◌>>=◌, refuse_if, or_fault, uleb_at}
 use Rattle.dwarf_types.specs.declared.abbrev.Abbrev.{Abbrev}
 use Rattle.dwarf_types.specs.declared.abbrev.Field.{Field}
+use Rattle.dwarf_types.specs.declared.entry.RawEntry.{RawEntry}
 use Rattle.dwarf_types.specs.SectionBytes.{SectionBytes}
 use Rattle.unit_tree.specs.declared.attribute.Home.{Home}
-use Rattle.unit_tree.specs.declared.entry.Parsed.{Parsed}
+use Rattle.unit_tree.specs.declared.reference.Reference.{Reference}
 use Rattle.unit_tree.specs.declared.entry.TheConstants.{MOST_ENTRIES, MOST_OPEN}
 use Rattle.unit_tree.specs.Attribute.{Described, attrs_at}
+
+-- what was read of an object: its entries, and the references of their values
+pub record Parsed : Type 0 where
+  pub entries : List RawEntry
+  pub references : List Reference
 
 -- the declaration that has a code
 abbrev pub declared_as : ℕ → List Abbrev → Option Abbrev

@@ -16,10 +16,9 @@ use Rattle.dwarf_types.specs.declared.value.Value.{Value}
 use Rattle.dwarf_types.specs.declared.value.Value.TheVariants as values
 use Rattle.abbrev_read.specs.Reading.{table_at}
 use Rattle.dwarf_types.specs.Forms.{is_flag}
-use Rattle.unit_tree.specs.declared.entry.Parsed.{Parsed}
 use Rattle.unit_tree.specs.declared.header.TheConstants.{DWARF_VERSION}
 use Rattle.unit_tree.specs.Header.{info_at, header_at}
-use Rattle.unit_tree.specs.Entry.{tree_at}
+use Rattle.unit_tree.specs.Entry.{Parsed, tree_at}
 use Rattle.unit_tree.specs.Reference.{resolved}
 
 -- a constant of 16 bits, or 0; a flag is no constant

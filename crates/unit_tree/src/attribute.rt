@@ -1,20 +1,23 @@
 //! The attributes of an entry.
 
-ghost use Rattle.std.specs.Prelude.{◌≡◌, ◌++◌, [], OnOk};
+ghost use Rattle.std.specs.Prelude.{◌≡◌, ◌<◌, ◌++◌, not, length, Some, IfOk, OnOk, nat_lt};
 ghost use Rattle.std.specs.Option.{option_to_list};
-ghost use Rattle.ds_base.specs.Reading.{Finds, ReadsUnlessFull};
-ghost use Rattle.ds_base.specs.Spot.{IsSmall};
+ghost use Rattle.ds_base.specs.declared.fault.Kind.TheVariants.{BadOffset};
+ghost use Rattle.ds_base.specs.Reading.{Finds, Reads, ReadsUnlessFull, refuse_if};
+ghost use Rattle.ds_base.specs.Spot.{IsSmall, fault_at};
+ghost use Rattle.dwarf_types.specs.Put.{value_read};
 ghost use Rattle.dwarf_types.specs.SectionBytes.{bytes_in};
-ghost use Rattle.unit_tree.specs.Attribute.{number_in, has_attr, names_lines, offset_in, reference_to, meant_at, value_meant_at, attr_at, attrs_at};
+ghost use Rattle.dwarf_types.specs.declared.value.Value.TheVariants.{Ref};
+ghost use Rattle.unit_tree.specs.Meaning.{meaning_of};
+ghost use Rattle.unit_tree.specs.Attribute.{number_in, names_lines, reference_to, meant_at, value_meant_at, attr_at, attrs_at};
 
 use crate::header::DWARF_VERSION;
 use crate::meaning::{Meaning, meaning_of_value};
 use crate::reference::Reference;
 use ds_base::dwarf::DW_AT_stmt_list;
 use ds_base::{Cursor, Fault, Kind, List, NoMemory, ReadError};
-use dwarf_types::{Attr, Field, Sections, Value};
+use dwarf_types::{Builder, Field, RawValue, Sections};
 use form_value::read_value;
-use std::alloc::Global;
 
 /// The unit whose entries are read.
 #[derive(Clone, Copy, Debug, PartialEq, Eq)]
@@ -25,35 +28,27 @@ pub(crate) struct Home {
     pub(crate) place: u32,
 }
 
-/// The attributes of the fields of a declaration, in their order. The references among them are put
-/// behind those before.
-pub(crate) fn read_attrs(
-    alloc: Global,
-    cursor: &mut Cursor,
-    sections: &Sections,
+/// Reads the attributes of the fields of a declaration, in their order, and puts them behind those before.
+/// The references among them are put behind the other references.
+pub(crate) fn read_attrs<'a>(
+    cursor: &mut Cursor<'a>,
+    sections: &Sections<'a>,
     home: Home,
     root: bool,
     fields: &[Field],
+    built: &mut Builder,
     references: &mut List<Reference>,
-) -> Result<List<Attr>, ReadError>
+) -> Result<(), ReadError>
     requires { IsSmall cursor.old }
-    ensures { ReadsUnlessFull (λ attrs. (attrs, references.new)) result cursor.new (attrs_at (bytes_in sections.now) home root fields.now ([], references.old) cursor.old) }
+    ensures read { ReadsUnlessFull (λ _. (built.new.attrs, references.new)) result cursor.new (attrs_at (bytes_in sections.now) home root fields.now (built.old.attrs, references.old) cursor.old) }
+    ensures entries { built.new.entries ≡ built.old.entries }
 {
-    let mut attrs = Vec::with_capacity(alloc, fields.len())?;
     for field in fields {
-        let (attr, reference) = read_attr(
-            alloc,
-            cursor,
-            sections,
-            home,
-            root,
-            field,
-            attrs.as_slice(),
-        )?;
-        attrs.push(attr)?;
+        let (end, value, reference) = read_attr(cursor, sections, home, root, field, built)?;
+        built.push(field.name, field.form, end, value)?;
         keep(references, reference)?;
     }
-    Ok(List::from_vec(attrs))
+    Ok(())
 }
 
 /// Puts a reference to the others, if there is one.
@@ -66,122 +61,121 @@ fn keep(references: &mut List<Reference>, reference: Option<Reference>) -> Resul
     Ok(())
 }
 
-/// The next attribute, behind those before, and the reference that it is.
+/// The next attribute, behind those before: the place behind its value, that value, and the reference that
+/// it is.
 #[tactic(auto, unfolding(crate::specs::Attribute::attr_at))]
-fn read_attr(
-    alloc: Global,
-    cursor: &mut Cursor,
-    sections: &Sections,
+fn read_attr<'a>(
+    cursor: &mut Cursor<'a>,
+    sections: &Sections<'a>,
     home: Home,
     root: bool,
     field: &Field,
-    before: &[Attr],
-) -> Result<(Attr, Option<Reference>), ReadError>
+    before: &Builder,
+) -> Result<(u32, RawValue<'a>, Option<Reference>), Fault>
     requires { IsSmall cursor.old }
-    ensures { ReadsUnlessFull (λ attr. attr) result cursor.new (attr_at (bytes_in sections.now) home root field.now before.now cursor.old) }
+    ensures read { Reads (λ read. (record { name = field.now.name; form = field.now.form; end = read.0; value = value_read field.now.form read.1 }, read.2)) result cursor.new (attr_at (bytes_in sections.now) home root field.now before.now.attrs cursor.old) }
+    ensures known { IfOk result (λ _. field.now.form < 256) }
 {
     let first = cursor.fork();
-    let value = read_value(alloc, cursor, field, DWARF_VERSION, sections)?;
+    let value = read_value(cursor, field, DWARF_VERSION, sections)?;
     let (value, reference) = understand(&first, sections, home, root, field, before, value)?;
     let end = cursor.place() as u32;
-    let name = field.name;
-    Ok((Attr { name, end, value }, reference))
+    Ok((end, value, reference))
 }
 
 /// The value of an attribute that stands at the cursor, as what it means, and the reference that it is.
 #[tactic(auto, unfolding(crate::specs::Attribute::value_meant_at))]
-fn understand(
+fn understand<'a>(
     first: &Cursor,
     sections: &Sections,
     home: Home,
     root: bool,
     field: &Field,
-    before: &[Attr],
-    value: Value,
-) -> Result<(Value, Option<Reference>), Fault>
+    before: &Builder,
+    value: RawValue<'a>,
+) -> Result<(RawValue<'a>, Option<Reference>), Fault>
     requires { IsSmall first.now }
-    ensures { Finds (λ meant. meant) result (value_meant_at (bytes_in sections.now) home root field.now before.now value first.now) }
+    ensures { Finds (λ meant. (value_read field.now.form meant.0, meant.1)) result (value_meant_at (bytes_in sections.now) home root field.now before.now.attrs (value_read field.now.form value.entry) first.now) }
 {
-    match number_of(&value) {
+    match number_of(field.form, &value) {
         None => Ok((value, None)),
-        Some(n) => {
-            let meaning = meaning_of_value(field.form, field.name);
-            let lines = may_name_lines(root, before);
-            means(first, sections, home, lines, meaning, n)
-        }
+        Some(n) => means(
+            first,
+            sections,
+            home,
+            may_name_lines(root, before),
+            field,
+            n,
+        ),
     }
 }
 
 /// Whether a `DW_AT_stmt_list` behind those before names the unit's line table.
-fn may_name_lines(root: bool, before: &[Attr]) -> bool
-    ensures { result ≡ names_lines root before.now }
+fn may_name_lines(root: bool, before: &Builder) -> bool
+    ensures { result ≡ names_lines root before.now.attrs }
 {
-    root && !has_attribute(DW_AT_stmt_list, before)
+    root && !before.has(DW_AT_stmt_list)
 }
 
 /// The number of a reference, an offset or an index.
-fn number_of(value: &Value) -> Option<u64>
-    ensures { result ≡ number_in value.now }
+fn number_of(form: u16, value: &RawValue) -> Option<u64>
+    ensures { result ≡ number_in (value_read form value.now) }
 {
     match value {
-        Value::Offset(n) => Some(*n),
+        RawValue::Offset(n) => Some(*n),
         _ => None,
     }
 }
 
-/// Whether one of the attributes has the name.
-fn has_attribute(name: u16, attrs: &[Attr]) -> bool
-    ensures { result ≡ has_attr name attrs.now }
-{
-    attrs.iter().any(|a| a.name == name)
-}
-
-/// The value that a number means, which stands at the cursor, and the reference that it is.
+/// The value that the number of a field means, which stands at the cursor, and the reference that it is.
 #[tactic(auto, unfolding(crate::specs::Attribute::meant_at))]
-fn means(
+fn means<'a>(
     first: &Cursor,
     sections: &Sections,
     home: Home,
     lines: bool,
-    meaning: Meaning,
+    field: &Field,
     n: u64,
-) -> Result<(Value, Option<Reference>), Fault>
+) -> Result<(RawValue<'a>, Option<Reference>), Fault>
     requires { IsSmall first.now }
-    ensures { Finds (λ meant. meant) result (meant_at (bytes_in sections.now) home lines meaning n first.now) }
+    ensures { Finds (λ meant. (value_read field.now.form meant.0, meant.1)) result (meant_at (bytes_in sections.now) home lines (meaning_of field.now.form field.now.name) n first.now) }
 {
-    match meaning {
+    match meaning_of_value(field.form, field.name) {
         Meaning::InUnit => {
             let place = u64::from(home.place).saturating_add(n);
-            Ok(refer(first, place, Some(home.unit)))
+            let reference = refer(first, place, Some(home.unit));
+            return Ok((RawValue::Ref(reference.target), Some(reference)));
         }
-        Meaning::InObject => Ok(refer(first, n, None)),
-        Meaning::LineTable if lines => offset(first, sections.line, n),
-        Meaning::RangeList => offset(first, sections.ranges, n),
-        Meaning::LocationList => offset(first, sections.loc, n),
-        _ => Ok((Value::Offset(n), None)),
+        Meaning::InObject => {
+            let reference = refer(first, n, None);
+            return Ok((RawValue::Ref(reference.target), Some(reference)));
+        }
+        Meaning::LineTable if lines => try_offset(first, sections.line, n)?,
+        Meaning::RangeList => try_offset(first, sections.ranges, n)?,
+        Meaning::LocationList => try_offset(first, sections.loc, n)?,
+        _ => {}
     }
+    Ok((RawValue::Offset(n), None))
 }
 
-/// An offset to a table or list of a section.
-fn offset(first: &Cursor, section: &[u8], n: u64) -> Result<(Value, Option<Reference>), Fault>
-    ensures { Finds (λ meant. meant) result (offset_in section.now n first.now) }
+/// Whether an offset to a table or list is inside of its section.
+fn try_offset(first: &Cursor, section: &[u8], n: u64) -> Result<(), Fault>
+    ensures { Finds (λ u. u) result (refuse_if (not (nat_lt n (length section.now))) (fault_at first.now BadOffset)) }
 {
     if n >= section.len() as u64 {
         return Err(first.fault(Kind::BadOffset));
     }
-    Ok((Value::Offset(n), None))
+    Ok(())
 }
 
 /// A reference to a place, from a value that stands at the cursor.
-fn refer(first: &Cursor, place: u64, unit: Option<u32>) -> (Value, Option<Reference>)
+fn refer(first: &Cursor, place: u64, unit: Option<u32>) -> Reference
     requires { IsSmall first.now }
-    ensures { result ≡ reference_to place unit first.now }
+    ensures { (Ref result.target, Some result) ≡ reference_to place unit first.now }
 {
-    let target = place.min(u64::from(u32::MAX)) as u32;
-    let reference = Reference {
+    Reference {
         place: first.place() as u32,
-        target,
+        target: place.min(u64::from(u32::MAX)) as u32,
         unit,
-    };
-    (Value::Ref(target), Some(reference))
+    }
 }

@@ -1,19 +1,19 @@
 //! The entries of a unit.
 
-ghost use Rattle.std.specs.Prelude.{◌≡◌, ◌<◌, ◌-◌, ◌==◌, length, IfOk, OnOk};
+ghost use Rattle.std.specs.Prelude.{◌≡◌, ◌<◌, ◌-◌, ◌==◌, length, IfOk, IfSome, OnOk};
 ghost use Rattle.std.specs.List.{list_any};
 ghost use Rattle.ds_base.specs.Reading.{Finds, Moves, ReadsUnlessFull, uleb_at};
 ghost use Rattle.ds_base.specs.Spot.{IsSmall};
 ghost use Rattle.dwarf_types.specs.SectionBytes.{bytes_in};
 ghost use Rattle.unit_tree.specs.Entry.{is_dwo_name, entry_at, root_at, innermost, closed, opened, listed_at, child_at, children_at, tree_at};
-ghost use Rattle.unit_tree.specs.Bounds.{IsFew, NumbersNext};
+ghost use Rattle.unit_tree.specs.Bounds.{AreNumbers, IsReady, NumbersNext, parsed_seen};
 
 use crate::attribute::{Home, read_attrs};
 use crate::reference::Reference;
 use crate::table::Table;
 use ds_base::dwarf::{DW_AT_GNU_dwo_name, DW_AT_dwo_name, DW_TAG_compile_unit};
 use ds_base::{Cursor, Fault, Kind, List, NoMemory, ReadError};
-use dwarf_types::{Abbrev, Entry, Field, Sections};
+use dwarf_types::{Abbrev, Builder, Field, Sections};
 use std::alloc::Global;
 
 /// The most entries that an object may have.
@@ -26,7 +26,7 @@ const MOST_OPEN: usize = 1000;
 #[derive(Drop)]
 pub(crate) struct Parsed {
     /// The entries in document order.
-    pub(crate) entries: List<Entry>,
+    pub(crate) built: Builder,
     /// The references of their values, in document order.
     pub(crate) references: List<Reference>,
 }
@@ -34,43 +34,45 @@ pub(crate) struct Parsed {
 /// Reads the tree of the unit that begins at `start`, and puts its entries behind those before. Answers
 /// the number of its root.
 #[tactic(auto, unfolding(crate::specs::Entry::tree_at))]
-pub(crate) fn read_tree(
+pub(crate) fn read_tree<'a>(
     alloc: Global,
     start: &Cursor,
-    cursor: &mut Cursor,
-    sections: &Sections,
+    cursor: &mut Cursor<'a>,
+    sections: &Sections<'a>,
     home: Home,
     table: &Table,
     parsed: &mut Parsed,
 ) -> Result<u32, ReadError>
+    requires ready { IsReady parsed.old }
     requires small { IsSmall cursor.old }
-    ensures read { ReadsUnlessFull (λ _. parsed.new) result cursor.new (tree_at start.now (bytes_in sections.now) home table.now parsed.old cursor.old) }
-    ensures number { IfOk result (λ number. number ≡ length parsed.old.entries) }
-    ensures few { OnOk result (IsFew parsed.new) }
+    ensures read { ReadsUnlessFull (λ _. parsed_seen parsed.new) result cursor.new (tree_at start.now (bytes_in sections.now) home table.now (parsed_seen parsed.old) cursor.old) }
+    ensures number { IfOk result (λ number. number ≡ length parsed.old.built.entries) }
+    ensures ready { OnOk result (IsReady parsed.new) }
 {
-    let (number, children) = read_root(alloc, start, cursor, sections, home, table, parsed)?;
+    let (number, children) = read_root(start, cursor, sections, home, table, parsed)?;
     let mut lists = List::new(alloc);
     open_list(&mut lists, children, number)?;
-    read_children(alloc, cursor, sections, home, table, parsed, &mut lists)?;
+    read_children(cursor, sections, home, table, parsed, &mut lists)?;
     Ok(number)
 }
 
 /// Reads the root of the unit that begins at `start`. Answers its number, and whether it has a list of
 /// children.
 #[tactic(auto, unfolding(crate::specs::Entry::root_at))]
-fn read_root(
-    alloc: Global,
+fn read_root<'a>(
     start: &Cursor,
-    cursor: &mut Cursor,
-    sections: &Sections,
+    cursor: &mut Cursor<'a>,
+    sections: &Sections<'a>,
     home: Home,
     table: &Table,
     parsed: &mut Parsed,
 ) -> Result<(u32, bool), ReadError>
+    requires ready { IsReady parsed.old }
     requires small { IsSmall cursor.old }
-    ensures read { ReadsUnlessFull (λ root. (root.1, parsed.new)) result cursor.new (root_at start.now (bytes_in sections.now) home table.now parsed.old cursor.old) }
-    ensures number { IfOk result (λ root. root.0 ≡ length parsed.old.entries) }
-    ensures few { OnOk result (IsFew parsed.new) }
+    ensures read { ReadsUnlessFull (λ root. (root.1, parsed_seen parsed.new)) result cursor.new (root_at start.now (bytes_in sections.now) home table.now (parsed_seen parsed.old) cursor.old) }
+    ensures number { IfOk result (λ root. root.0 ≡ length parsed.old.built.entries) }
+    ensures below { IfOk result (λ root. root.0 < MOST_ENTRIES) }
+    ensures ready { OnOk result (IsReady parsed.new) }
     ensures small { OnOk result (IsSmall cursor.new) }
 {
     let first = cursor.fork();
@@ -89,7 +91,6 @@ fn read_root(
     }
     let number = next_number(&first, parsed)?;
     read_entry(
-        alloc,
         cursor,
         sections,
         home,
@@ -102,19 +103,19 @@ fn read_root(
 }
 
 /// Reads entries until no list is open.
-fn read_children(
-    alloc: Global,
-    cursor: &mut Cursor,
-    sections: &Sections,
+fn read_children<'a>(
+    cursor: &mut Cursor<'a>,
+    sections: &Sections<'a>,
     home: Home,
     table: &Table,
     parsed: &mut Parsed,
     lists: &mut List<u32>,
 ) -> Result<(), ReadError>
-    requires few { IsFew parsed.old }
+    requires ready { IsReady parsed.old }
+    requires numbers { AreNumbers lists.old }
     requires small { IsSmall cursor.old }
-    ensures read { ReadsUnlessFull (λ _. parsed.new) result cursor.new (children_at (bytes_in sections.now) home table.now (cursor.old.end - cursor.old.place) (parsed.old, lists.old) cursor.old) }
-    ensures few { OnOk result (IsFew parsed.new) }
+    ensures read { ReadsUnlessFull (λ _. parsed_seen parsed.new) result cursor.new (children_at (bytes_in sections.now) home table.now (cursor.old.end - cursor.old.place) (parsed_seen parsed.old, lists.old) cursor.old) }
+    ensures ready { OnOk result (IsReady parsed.new) }
 {
     let left = cursor.left();
     for _ in 0..left {
@@ -124,7 +125,7 @@ fn read_children(
         if cursor.left() == 0 {
             return Err(ReadError::Faulty(cursor.fault(Kind::UnclosedSiblings)));
         }
-        read_child(alloc, cursor, sections, home, table, parsed, lists)?;
+        read_child(cursor, sections, home, table, parsed, lists)?;
     }
     if !are_closed(lists) {
         return Err(ReadError::Faulty(cursor.fault(Kind::UnclosedSiblings)));
@@ -141,19 +142,20 @@ fn are_closed(lists: &List<u32>) -> bool
 
 /// Reads an entry of the innermost list, or the code 0 that closes it.
 #[tactic(auto, unfolding(crate::specs::Entry::child_at))]
-fn read_child(
-    alloc: Global,
-    cursor: &mut Cursor,
-    sections: &Sections,
+fn read_child<'a>(
+    cursor: &mut Cursor<'a>,
+    sections: &Sections<'a>,
     home: Home,
     table: &Table,
     parsed: &mut Parsed,
     lists: &mut List<u32>,
 ) -> Result<(), ReadError>
-    requires few { IsFew parsed.old }
+    requires ready { IsReady parsed.old }
+    requires numbers { AreNumbers lists.old }
     requires small { IsSmall cursor.old }
-    ensures read { ReadsUnlessFull (λ _. (parsed.new, lists.new)) result cursor.new (child_at (bytes_in sections.now) home table.now (parsed.old, lists.old) cursor.old) }
-    ensures few { OnOk result (IsFew parsed.new) }
+    ensures read { ReadsUnlessFull (λ _. (parsed_seen parsed.new, lists.new)) result cursor.new (child_at (bytes_in sections.now) home table.now (parsed_seen parsed.old, lists.old) cursor.old) }
+    ensures ready { OnOk result (IsReady parsed.new) }
+    ensures numbers { OnOk result (AreNumbers lists.new) }
 {
     let first = cursor.fork();
     let code = read_code(cursor)?;
@@ -164,27 +166,27 @@ fn read_child(
     let Some(declared) = table.find(code) else {
         return Err(ReadError::Faulty(first.fault(Kind::UnknownCode)));
     };
-    read_listed(
-        alloc, cursor, sections, home, &first, declared, parsed, lists,
-    )
+    read_listed(cursor, sections, home, &first, declared, parsed, lists)
 }
 
 /// Reads what is behind the code of an entry of the innermost list that begins at `first`.
 #[tactic(auto, unfolding(crate::specs::Entry::listed_at))]
-fn read_listed(
-    alloc: Global,
-    cursor: &mut Cursor,
-    sections: &Sections,
+fn read_listed<'a>(
+    cursor: &mut Cursor<'a>,
+    sections: &Sections<'a>,
     home: Home,
     first: &Cursor,
     declared: &Abbrev,
     parsed: &mut Parsed,
     lists: &mut List<u32>,
 ) -> Result<(), ReadError>
+    requires ready { IsReady parsed.old }
+    requires numbers { AreNumbers lists.old }
     requires first { IsSmall first.now }
     requires small { IsSmall cursor.old }
-    ensures read { ReadsUnlessFull (λ _. (parsed.new, lists.new)) result cursor.new (listed_at (bytes_in sections.now) home declared.now (parsed.old, lists.old) first.now cursor.old) }
-    ensures few { OnOk result (IsFew parsed.new) }
+    ensures read { ReadsUnlessFull (λ _. (parsed_seen parsed.new, lists.new)) result cursor.new (listed_at (bytes_in sections.now) home declared.now (parsed_seen parsed.old, lists.old) first.now cursor.old) }
+    ensures ready { OnOk result (IsReady parsed.new) }
+    ensures numbers { OnOk result (AreNumbers lists.new) }
 {
     if declared.children && lists.len() >= MOST_OPEN {
         return Err(ReadError::Faulty(first.fault(Kind::LimitDepth)));
@@ -192,57 +194,49 @@ fn read_listed(
     let number = next_number(first, parsed)?;
     let parent = innermost_of(lists);
     let place = first.place() as u32;
-    read_entry(
-        alloc, cursor, sections, home, parent, place, declared, parsed,
-    )?;
+    read_entry(cursor, sections, home, parent, place, declared, parsed)?;
     open_list(lists, declared.children, number)?;
     Ok(())
 }
 
 /// Reads the entry that begins at `place` and has a declaration, whose values stand at the cursor.
 #[tactic(auto, unfolding(crate::specs::Entry::entry_at))]
-fn read_entry(
-    alloc: Global,
-    cursor: &mut Cursor,
-    sections: &Sections,
+fn read_entry<'a>(
+    cursor: &mut Cursor<'a>,
+    sections: &Sections<'a>,
     home: Home,
     parent: Option<u32>,
     place: u32,
     declared: &Abbrev,
     parsed: &mut Parsed,
 ) -> Result<(), ReadError>
-    requires room { length parsed.old.entries < MOST_ENTRIES }
+    requires ready { IsReady parsed.old }
+    requires room { length parsed.old.built.entries < MOST_ENTRIES }
+    requires parent { IfSome parent (λ p. p < MOST_ENTRIES) }
     requires small { IsSmall cursor.old }
-    ensures read { ReadsUnlessFull (λ _. parsed.new) result cursor.new (entry_at (bytes_in sections.now) home parent place declared.now parsed.old cursor.old) }
-    ensures few { OnOk result (IsFew parsed.new) }
+    ensures read { ReadsUnlessFull (λ _. parsed_seen parsed.new) result cursor.new (entry_at (bytes_in sections.now) home parent place declared.now (parsed_seen parsed.old) cursor.old) }
+    ensures ready { OnOk result (IsReady parsed.new) }
 {
-    let fields = declared.fields.as_slice();
     let root = parent.is_none();
-    let attrs = read_attrs(
-        alloc,
+    let fields = declared.fields.as_slice();
+    read_attrs(
         cursor,
         sections,
         home,
         root,
         fields,
+        &mut parsed.built,
         &mut parsed.references,
     )?;
-    let entry = Entry {
-        parent,
-        unit: home.unit,
-        place,
-        tag: declared.tag,
-        attrs,
-    };
-    parsed.entries.push(entry)?;
+    parsed.built.close(parent, home.unit, place, declared.tag)?;
     Ok(())
 }
 
 /// The number of the next entry, which begins at `first`.
 fn next_number(first: &Cursor, parsed: &Parsed) -> Result<u32, Fault>
-    ensures { NumbersNext result parsed.now first.now }
+    ensures { NumbersNext result (parsed_seen parsed.now) first.now }
 {
-    let number = parsed.entries.len();
+    let number = parsed.built.len();
     if number >= MOST_ENTRIES {
         return Err(first.fault(Kind::LimitEntries));
     }
@@ -266,14 +260,16 @@ fn has_dwo_name(fields: &[Field]) -> bool
 
 /// The entry whose list is the innermost.
 fn innermost_of(lists: &List<u32>) -> Option<u32>
-    ensures { result ≡ innermost lists.now }
+    ensures is { result ≡ innermost lists.now }
+    ensures below { AreNumbers lists.now → IfSome result (λ number. number < MOST_ENTRIES) }
 {
     lists.as_slice().last().copied()
 }
 
 /// Opens the list of an entry, if it has one.
 fn open_list(lists: &mut List<u32>, children: bool, number: u32) -> Result<(), NoMemory>
-    ensures { OnOk result (lists.new ≡ opened children number lists.old) }
+    ensures is { OnOk result (lists.new ≡ opened children number lists.old) }
+    ensures numbers { AreNumbers lists.old → number < MOST_ENTRIES → OnOk result (AreNumbers lists.new) }
 {
     if children {
         lists.push(number)?;
@@ -283,7 +279,8 @@ fn open_list(lists: &mut List<u32>, children: bool, number: u32) -> Result<(), N
 
 /// Closes the innermost list.
 fn close_list(lists: &mut List<u32>)
-    ensures { lists.new ≡ closed lists.old }
+    ensures is { lists.new ≡ closed lists.old }
+    ensures numbers { AreNumbers lists.old → AreNumbers lists.new }
 {
     let _ = lists.pop();
 }

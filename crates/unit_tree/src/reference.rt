@@ -1,11 +1,12 @@
 //! References between entries.
 
-ghost use Rattle.std.specs.Prelude.{◌≡◌};
-ghost use Rattle.ds_base.specs.Reading.{Finds};
+ghost use Rattle.std.specs.Prelude.{◌≡◌, map, IfOk};
+ghost use Rattle.ds_base.specs.Reading.{Gives};
 ghost use Rattle.unit_tree.specs.Reference.{reaches, leads, resolved, IsRising};
 
-use ds_base::{Fault, Kind, Part};
-use dwarf_types::Entry;
+use ds_base::{Fault, Kind, List, NoMemory, Part, ReadError};
+use dwarf_types::RawEntries;
+use std::alloc::Global;
 
 /// A reference to an entry, which is tried once all entries are known.
 #[derive(Clone, Copy, Debug, PartialEq, Eq)]
@@ -19,29 +20,47 @@ pub(crate) struct Reference {
 }
 
 /// Tries the references in their order: each leads to the first byte of an entry.
-pub(crate) fn try_references(entries: &[Entry], references: &[Reference]) -> Result<(), Fault>
+pub(crate) fn try_references(
+    alloc: Global,
+    entries: &RawEntries,
+    references: &[Reference],
+) -> Result<(), ReadError>
     requires rising { IsRising entries.now }
-    ensures exact { Finds (λ _. entries.now) result (resolved entries.now references.now) }
+    ensures exact { Gives (λ _. entries.now) result (resolved entries.now references.now) }
 {
+    let places = places_of(alloc, entries)?;
     for reference in references {
-        if !leads_somewhere(entries, reference) {
-            return Err(Fault {
+        if !leads_somewhere(places.as_slice(), entries, reference) {
+            return Err(ReadError::Faulty(Fault {
                 kind: Kind::BadReference,
                 section: Part::Info,
                 place: u64::from(reference.place),
-            });
+            }));
         }
     }
     Ok(())
 }
 
-/// Whether a reference leads to the first byte of an entry that it may lead to.
-fn leads_somewhere(entries: &[Entry], reference: &Reference) -> bool
-    requires { IsRising entries.now }
+/// The places of the entries in `__debug_info`.
+fn places_of(alloc: Global, entries: &RawEntries) -> Result<List<u32>, NoMemory>
+    ensures { IfOk result (λ places. places ≡ map (λ e. e.place) entries.now) }
+{
+    let mut places = List::with_capacity(alloc, entries.len())?;
+    for i in 0..entries.len() {
+        places.push(entries.entry(i).place())?;
+    }
+    Ok(places)
+}
+
+/// Whether a reference leads to the first byte of an entry that it may lead to. `places` are those of the
+/// entries.
+fn leads_somewhere(places: &[u32], entries: &RawEntries, reference: &Reference) -> bool
+    requires rising { IsRising entries.now }
+    requires places { places.now ≡ map (λ e. e.place) entries.now }
     ensures { result ≡ leads entries.now reference.now }
 {
-    match entries.binary_search_by_key(&reference.target, |entry| entry.place) {
-        Ok(i) => reaches_unit(reference.unit, entries[i].unit),
+    match places.binary_search(&reference.target) {
+        Ok(i) => reaches_unit(reference.unit, entries.entry(i).unit()),
         Err(_) => false,
     }
 }

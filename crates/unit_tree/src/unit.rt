@@ -1,12 +1,13 @@
 //! The units of an object.
 
-ghost use Rattle.std.specs.Prelude.{◌≡◌, ◌≤◌, ◌<◌, ◌^◌, ◌==◌, [], length, IfOk};
-ghost use Rattle.std.specs.List.{find, list_all};
-ghost use Rattle.std.specs.Option.{option_copied};
+ghost use Rattle.std.specs.Prelude.{◌≡◌, ◌≤◌, ◌<◌, ◌^◌, [], length, IfOk, OnOk};
+ghost use Rattle.std.specs.List.{list_all};
 ghost use Rattle.ds_base.specs.Reading.{Finds, Gives};
 ghost use Rattle.dwarf_types.specs.SectionBytes.{bytes_in};
+ghost use Rattle.dwarf_types.specs.Seen.{value_seen};
 ghost use Rattle.dwarf_types.specs.Spelled.{AreBytes};
-ghost use Rattle.unit_tree.specs.Bounds.{IsFew};
+ghost use Rattle.unit_tree.specs.declared.entry.TheConstants.{MOST_ENTRIES};
+ghost use Rattle.unit_tree.specs.Bounds.{IsReady, parsed_seen};
 ghost use Rattle.unit_tree.specs.Inside.{AreInside};
 ghost use Rattle.unit_tree.specs.Sound.{AreSound};
 ghost use Rattle.unit_tree.specs.Table.{AreRead};
@@ -19,8 +20,7 @@ use crate::reference::try_references;
 use crate::table::{Tables, add_table, kept_table};
 use ds_base::dwarf::DW_AT_language;
 use ds_base::{Cursor, Fault, Kind, List, ReadError};
-use dwarf_types::{Attr, InUnit, RawUnits, Sections, Value};
-use form_value::is_flag;
+use dwarf_types::{Builder, InUnit, RawEntryRef, RawUnits, Sections, ValueRef, is_flag};
 use std::alloc::Global;
 use std::collections::BTreeMap;
 
@@ -45,15 +45,14 @@ pub fn read_units(alloc: Global, sections: &Sections) -> Result<RawUnits, ReadEr
     ensures inside { AreBytes sections.now.info.now → AreBytes sections.now.abbrev.now → IfOk result (λ raw. AreInside (bytes_in sections.now) raw.entries) }
 {
     let mut parsed = Parsed {
-        entries: List::new(alloc),
+        built: Builder::new(alloc, sections.strings)?,
         references: List::new(alloc),
     };
     let units = read_each(alloc, sections, &mut parsed)?;
-    try_references(parsed.entries.as_slice(), parsed.references.as_slice())?;
-    Ok(RawUnits {
-        units,
-        entries: parsed.entries,
-    })
+    let Parsed { built, references } = parsed;
+    let entries = built.finish();
+    try_references(alloc, &entries, references.as_slice())?;
+    Ok(RawUnits { units, entries })
 }
 
 /// Reads the units one after the other, and puts their entries behind those before.
@@ -63,8 +62,9 @@ fn read_each(
     parsed: &mut Parsed,
 ) -> Result<List<InUnit>, ReadError>
     requires info { length sections.now.info.now < 2 ^ 32 }
-    requires nothing { parsed.old ≡ nothing }
-    ensures read { Gives (λ units. (units, parsed.new)) result (units_at (bytes_in sections.now) (length sections.now.info.now) [] nothing 0) }
+    requires nothing { parsed_seen parsed.old ≡ nothing }
+    requires ready { IsReady parsed.old }
+    ensures read { Gives (λ units. (units, parsed_seen parsed.new)) result (units_at (bytes_in sections.now) (length sections.now.info.now) [] nothing 0) }
 {
     let mut tables: Tables = BTreeMap::new(alloc);
     let mut units = List::new(alloc);
@@ -94,9 +94,11 @@ fn read_unit(
 ) -> Result<(InUnit, u64), ReadError>
     requires info { length sections.now.info.now < 2 ^ 32 }
     requires inside { place ≤ length sections.now.info.now }
+    requires ready { IsReady parsed.old }
     requires tables { AreRead sections.now.abbrev.now tables.old }
-    ensures read { Gives (λ unit. ((unit.0, parsed.new), unit.1)) result (unit_at (bytes_in sections.now) number parsed.old place) }
+    ensures read { Gives (λ unit. ((unit.0, parsed_seen parsed.new), unit.1)) result (unit_at (bytes_in sections.now) number (parsed_seen parsed.old) place) }
     ensures inside { IfOk result (λ unit. unit.1 ≤ length sections.now.info.now) }
+    ensures ready { OnOk result (IsReady parsed.new) }
     ensures tables { AreRead sections.now.abbrev.now tables.new }
 {
     let (header, mut cursor) = read_header(sections, place)?;
@@ -109,7 +111,7 @@ fn read_unit(
     };
     let first = read_tree(alloc, &start, &mut cursor, sections, home, table, parsed)?;
     read_zeros(&start, &mut cursor)?;
-    Ok((unit_of(first, parsed), header.end))
+    Ok((unit_of(first, &parsed.built), header.end))
 }
 
 /// Reads the zero bytes up to the end of the unit that begins at `start`.
@@ -131,13 +133,13 @@ fn are_zeros(bytes: &[u8]) -> bool
 }
 
 /// The unit whose entries are those from `first` on.
-fn unit_of(first: u32, parsed: &Parsed) -> InUnit
-    requires { IsFew parsed.now }
-    ensures { result ≡ unit_from first parsed.now.entries }
+fn unit_of(first: u32, built: &Builder) -> InUnit
+    requires { length built.now.entries ≤ MOST_ENTRIES }
+    ensures { result ≡ unit_from first built.now.entries }
 {
-    let count = parsed.entries.len() as u32;
-    let language = match parsed.entries.get(first as usize) {
-        Some(root) => language_in(root.attrs.as_slice()),
+    let count = built.len() as u32;
+    let language = match built.get(first as usize) {
+        Some(root) => language_in(&root),
         None => 0,
     };
     InUnit {
@@ -150,28 +152,21 @@ fn unit_of(first: u32, parsed: &Parsed) -> InUnit
 }
 
 /// The language that a root's attributes name, 0 where they name none.
-fn language_in(attrs: &[Attr]) -> u16
-    ensures { result ≡ language_of attrs.now }
+fn language_in(root: &RawEntryRef) -> u16
+    ensures { result ≡ language_of root.now.attrs }
 {
-    match language_attr(attrs) {
+    match root.find(DW_AT_language) {
         Some(attr) => short_of(&attr.value),
         None => 0,
     }
 }
 
-/// The first attribute that names a language.
-fn language_attr(attrs: &[Attr]) -> Option<&Attr>
-    ensures { option_copied result ≡ find (λ a. a.name == DW_AT_language) attrs.now }
-{
-    attrs.iter().find(|attr| attr.name == DW_AT_language)
-}
-
 /// A constant of 16 bits, or 0. A flag is no constant.
-fn short_of(value: &Value) -> u16
-    ensures { result ≡ short_in value.now }
+fn short_of(value: &ValueRef) -> u16
+    ensures { result ≡ short_in (value_seen value.now) }
 {
     match value {
-        Value::Number { form, bits } if !is_flag(*form) && *bits < 65536 => *bits as u16,
+        ValueRef::Number { form, bits } if !is_flag(*form) && *bits < 65536 => *bits as u16,
         _ => 0,
     }
 }

@@ -1,11 +1,11 @@
-use Rattle.std.proofs.Common.{◌≡◌, drop, []}
+use Rattle.std.proofs.Common.{◌≡◌, drop}
 use Rattle.ds_base.specs.Spot.{IsSmall}
 use Rattle.dwarf_types.specs.SectionBytes.{bytes_in}
 use Rattle.unit_tree.specs.Attribute.{attrs_at}
 use Rattle.unit_tree.proofs.attribute.read_attrs.Given as goal
-use Rattle.dwarf_types.specs.SectionBytes.{bytes_in}
 
 abbrev pub invariant-loop-field : goal.invariant-loop-field
 invariant-loop-field l =
     IsSmall l.cursor
-    × (attrs_at (bytes_in l.sections) l.home l.root (drop l.field-index l.fields) (l.attrs.items, l.references) l.cursor ≡ attrs_at (bytes_in l.sections) l.home l.root l.fields ([], l.fn.references) l.fn.cursor)
+    × (l.built.entries ≡ l.fn.built.entries)
+    × (attrs_at (bytes_in l.sections) l.home l.root (drop l.field-index l.fields) (l.built.attrs, l.references) l.cursor ≡ attrs_at (bytes_in l.sections) l.home l.root l.fields (l.fn.built.attrs, l.fn.references) l.fn.cursor)
