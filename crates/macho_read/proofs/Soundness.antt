@@ -115,17 +115,17 @@ segment_kept command e =
 kept_alone : (uuid : Option (List ℕ)) (symtab : Option Symtab) → IsSoundKept (record { uuid = uuid; symtab = symtab; segments = []; sections = [] })
 kept_alone uuid symtab = record { counts = refl; segments = All-nil IsSoundSegment; sections = All-nil IsSoundSection }
 
-what_by : (a b c : Bool) (command : List ℕ) (kept-a kept-b kept-c : Commands) (bad-b bad-c : Bool) → (is_bad_segment command ≡ false → IsSoundKept kept-a) → IsSoundKept kept-b → IsSoundKept kept-c
-    → cond a (is_bad_segment command) (cond b bad-b (cond c bad-c false)) ≡ false → IsSoundKept (cond a kept-a (cond b kept-b (cond c kept-c nothing)))
-what_by true b c command ka kb kc bb bc pa pb pc e = pa e
-what_by false true c command ka kb kc bb bc pa pb pc e = pb
-what_by false false true command ka kb kc bb bc pa pb pc e = pc
-what_by false false false command ka kb kc bb bc pa pb pc e = nothing_sound
+what_by : (P : Commands → Type 0) (a b c : Bool) (command : List ℕ) (kept-a kept-b kept-c : Commands) (bad-b bad-c : Bool) → (is_bad_segment command ≡ false → P kept-a) → P kept-b → P kept-c → P nothing
+    → cond a (is_bad_segment command) (cond b bad-b (cond c bad-c false)) ≡ false → P (cond a kept-a (cond b kept-b (cond c kept-c nothing)))
+what_by P true b c command ka kb kc bb bc pa pb pc pn e = pa e
+what_by P false true c command ka kb kc bb bc pa pb pc pn e = pb
+what_by P false false true command ka kb kc bb bc pa pb pc pn e = pc
+what_by P false false false command ka kb kc bb bc pa pb pc pn e = pn
 
 what_sound : (command : List ℕ) → is_bad command ≡ false → IsSoundKept (what_is_in command)
 unfolding is_bad what_is_in
 what_sound command e =
-    what_by (number_of 4 0 command == LC_SEGMENT_64) (number_of 4 0 command == LC_SYMTAB) (number_of 4 0 command == LC_UUID) command _ _ _ _ _ (segment_kept command) (kept_alone None _) (kept_alone _ None) e
+    what_by IsSoundKept (number_of 4 0 command == LC_SEGMENT_64) (number_of 4 0 command == LC_SYMTAB) (number_of 4 0 command == LC_UUID) command _ _ _ _ _ (segment_kept command) (kept_alone None _) (kept_alone _ None) nothing_sound e
 
 command_whole : (place : ℕ) (area command : List ℕ) → command_at place area ≡ Ok command → is_bad command ≡ false
 unfolding command_at
@@ -149,6 +149,48 @@ pub kept_sound : (count place : ℕ) (area : List ℕ) (kept : Commands) → gat
 kept_sound count place area kept e =
     let b = bind_ok (commands_of count place area) (λ cs. Ok (gathered cs)) kept e in
     subst IsSoundKept (ok_is (gathered b.0) kept b.2) (commands_sound count place area b.0 b.1)
+
+-- ---- no more sections than the commands have bytes
+
+segment_room : (command : List ℕ) → is_bad_segment command ≡ false → length (sections_of command) ≤ length command
+unfolding is_bad_segment
+segment_room command e =
+    let p = or_parts _ _ e in
+    let q = or_parts _ _ p.1 in
+    let room : 72 + 80 * nsects_of command ≤ length command = ltb-false (length command) (72 + 80 * nsects_of command) q.0 in
+    omega (arith, room, length-map-range_with_len (λ i. section_of (drop (72 + 80 * i) command)) 0 (nsects_of command))
+
+what_room : (command : List ℕ) → is_bad command ≡ false → length (what_is_in command).sections ≤ length command
+unfolding is_bad what_is_in
+what_room command e =
+    let P : Commands → Type 0 = λ kept. length kept.sections ≤ length command in
+    what_by P (number_of 4 0 command == LC_SEGMENT_64) (number_of 4 0 command == LC_SYMTAB) (number_of 4 0 command == LC_UUID) command _ _ _ _ _ (segment_room command) (omega arith) (omega arith) (omega arith) e
+
+command_within : (place : ℕ) (area command : List ℕ) → command_at place area ≡ Ok command → length command ≤ length area
+unfolding command_at
+command_within place area command e =
+    let found : List ℕ = take (number_of 4 4 area) area in
+    let p = passed _ (bad_command place) _ command e in
+    let q = passed _ (bad_command place) _ command p.1 in
+    let r = passed (is_bad found) (bad_command place) (Ok found) command q.1 in
+    subst (λ (c : List ℕ). length c ≤ length area) (ok_is found command r.1) (omega (arith, length-take (number_of 4 4 area) area))
+
+commands_room : (count place : ℕ) (area : List ℕ) (cs : List (List ℕ)) → commands_of count place area ≡ Ok cs → length (gathered cs).sections ≤ length area
+unfolding commands_of
+commands_room zero place area cs e = subst (λ (x : List (List ℕ)). length (gathered x).sections ≤ length area) (ok_is [] cs e) (omega arith)
+commands_room (suc count) place area cs e =
+    let b = bind_ok (command_at place area) (λ c. commands_of count (place + length c) (drop (length c) area) >>= λ others. Ok (c ∷ others)) cs e in
+    let o = bind_ok (commands_of count (place + length b.0) (drop (length b.0) area)) (λ others. Ok (b.0 ∷ others)) cs b.2 in
+    let first = what_room b.0 (command_whole place area b.0 b.1) in
+    let rest = commands_room count (place + length b.0) (drop (length b.0) area) o.0 o.1 in
+    subst (λ (x : List (List ℕ)). length (gathered x).sections ≤ length area) (ok_is (b.0 ∷ o.0) cs o.2)
+    (omega (arith, first, rest, command_within place area b.0 b.1, length-drop (length b.0) area, length-append (what_is_in b.0).sections (gathered o.0).sections))
+
+-- the area of the commands has so many bytes at most
+pub kept_few : (count place limit : ℕ) (bytes : List ℕ) (kept : Commands) → gathered_of (commands_of count place (take limit bytes)) ≡ Ok kept → length kept.sections ≤ limit
+kept_few count place limit bytes kept e =
+    let b = bind_ok (commands_of count place (take limit bytes)) (λ cs. Ok (gathered cs)) kept e in
+    subst (λ (k : Commands). length k.sections ≤ limit) (ok_is (gathered b.0) kept b.2) (omega (arith, commands_room count place (take limit bytes) b.0 b.1, length-take limit bytes))
 
 -- ---- symbols
 

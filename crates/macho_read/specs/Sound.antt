@@ -30,3 +30,4 @@ pub record IsSound (image : Image) : Type 0 where
   pub sections : All IsSoundSection image.sections
   pub symbols : All IsSoundSymbol image.symbols
   pub few : length image.symbols < 2 ^ 32
+  pub few_sections : length image.sections < 2 ^ 32

@@ -1,6 +1,6 @@
 //! The header of a file (mach-o/loader.h, `mach_header_64`).
 
-ghost use Rattle.std.specs.Prelude.{◌≡◌, ◌+◌, ◌≤◌, length, IfOk};
+ghost use Rattle.std.specs.Prelude.{◌≡◌, ◌+◌, ◌≤◌, ◌<◌, ◌^◌, length, IfOk};
 ghost use Rattle.ds_base.specs.Reading.{Finds};
 ghost use Rattle.macho_read.specs.Header.{header_of};
 
@@ -42,6 +42,7 @@ pub(crate) fn header_fault(kind: Kind, place: u64) -> Fault
 pub(crate) fn read_header(bytes: &[u8]) -> Result<Header, Fault>
     ensures read { Finds (λ h. h) result (header_of bytes.now) }
     ensures fits { IfOk result (λ h. 32 + h.sizeofcmds ≤ length bytes.now) }
+    ensures small { IfOk result (λ h. h.sizeofcmds < 2 ^ 32) }
 {
     let size = MACH_HEADER_64_SIZE as usize;
     if bytes.len() < size {

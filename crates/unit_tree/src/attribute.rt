@@ -158,7 +158,7 @@ fn means<'a>(
     Ok((RawValue::Offset(n), None))
 }
 
-/// Whether an offset to a table or list is inside of its section.
+/// Tries an offset to a table or list, from a value that stands at the cursor: it is inside of the section.
 fn try_offset(first: &Cursor, section: &[u8], n: u64) -> Result<(), Fault>
     ensures { Finds (λ u. u) result (refuse_if (not (nat_lt n (length section.now))) (fault_at first.now BadOffset)) }
 {
