@@ -44,7 +44,7 @@ impl Builder {
         Ok(Builder {
             heads: Vec::new(alloc),
             cells: Vec::new(alloc),
-            sides: Sides::new(alloc, strings)?,
+            sides: Sides::with_texts(alloc, strings)?,
             open_from: 0,
         })
     }

@@ -1,6 +1,6 @@
 //! Entries in document order, as they are read and as they are understood.
 
-ghost use Rattle.std.specs.Prelude.{◌≡◌, ◌<◌, length, map, take, slice_get, slice_index_or, slice_set, Some, IfOk, OnOk, OnErr};
+ghost use Rattle.std.specs.Prelude.{◌≡◌, ◌<◌, [], length, map, take, slice_get, slice_index_or, slice_set, Some, IfOk, OnOk, OnErr};
 ghost use Rattle.dwarf_types.specs.declared.entry.Attr.{Attr as AnAttr};
 ghost use Rattle.dwarf_types.specs.declared.entry.Entry.{Entry as AnEntry};
 ghost use Rattle.dwarf_types.specs.declared.entry.RawAttr.{RawAttr as ARawAttr};
@@ -70,6 +70,17 @@ impl Model for RawEntries {
 }
 
 impl Entries {
+    /// No entries.
+    pub fn new(alloc: Global) -> Entries
+        ensures { result ≡ [] }
+    {
+        Entries {
+            heads: Vec::new(alloc),
+            cells: Vec::new(alloc),
+            sides: Sides::new(alloc),
+        }
+    }
+
     /// How many entries there are.
     pub fn len(&self) -> usize
         ensures { result ≡ length self.now }

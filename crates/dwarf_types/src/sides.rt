@@ -111,18 +111,25 @@ pub(crate) struct Sides {
 }
 
 impl Sides {
-    /// Columns that are empty but for the section of texts.
-    pub(crate) fn new(alloc: Global, strings: &[u8]) -> Result<Sides, NoMemory> {
-        Ok(Sides {
+    /// Empty columns.
+    pub(crate) fn new(alloc: Global) -> Sides {
+        Sides {
             large: Vec::new(alloc),
-            bytes: Vec::from_slice(alloc, strings)?,
+            bytes: Vec::new(alloc),
             stretches: Vec::new(alloc),
             places: Vec::new(alloc),
             spans: Vec::new(alloc),
             ops: Vec::new(alloc),
             inner: Vec::new(alloc),
             items: Vec::new(alloc),
-        })
+        }
+    }
+
+    /// Columns that are empty but for the section of texts.
+    pub(crate) fn with_texts(alloc: Global, strings: &[u8]) -> Result<Sides, NoMemory> {
+        let mut sides = Sides::new(alloc);
+        sides.bytes.extend_from_slice(strings)?;
+        Ok(sides)
     }
 
     /// Columns with the same items.
