@@ -1,5 +1,5 @@
 -- The stations of an analysis make what the definition says.
-use Rattle.std.proofs.Common.{◌≡◌, ℕ, List, map, Option, Some, None, slice_get, Result, Ok, Err, refl, sym, ap, ◌∙◌}
+use Rattle.std.proofs.Common.{◌≡◌, ℕ, List, map, Option, Some, None, slice_get, Result, Ok, Err, refl, ap, ◌∙◌}
 use Rattle.std.specs.Option.{option_and_then, option_map, option_map_or, unwrap_or}
 use Rattle.std.proofs.Math.Path.{fun_ext}
 use Rattle.std.proofs.lemmas.Option.{slice_get-map}
@@ -13,16 +13,17 @@ use Rattle.dwarf_types.specs.declared.entry.Attr.{Attr}
 use Rattle.dwarf_types.specs.declared.entry.Entry.{Entry}
 use Rattle.dwarf_types.specs.declared.entry.InUnit.{InUnit}
 use Rattle.dwarf_types.specs.declared.entry.RawUnits.{RawUnits}
+use Rattle.dwarf_types.specs.declared.entry.RawAttr.{RawAttr}
+use Rattle.dwarf_types.specs.declared.entry.RawEntry.{RawEntry}
 use Rattle.dwarf_types.specs.declared.value.Value.{Value}
+use Rattle.dwarf_types.specs.Raw.{entry_of}
 use Rattle.addr_map.specs.declared.map.AddrMap.{AddrMap}
-use Rattle.expr_resolve.specs.declared.context.BaseType.{BaseType}
 use Rattle.object_view.specs.Analysis.{units_analysed}
-use Rattle.object_view.specs.Attributes.{all_marked, base_of, entries_by, entries_meant, info_context, loc_context, locations_meant, ranges_meant, unit_base, units_meant, value_meant}
+use Rattle.object_view.specs.Attributes.{all_marked, base_of, entries_by, entries_meant, info_context, loc_context, locations_meant, ranges_meant, raw_entries_by, unit_base, units_meant, value_meant}
 use Rattle.object_view.specs.Opened.{Opened}
 use Rattle.object_view.specs.Ready.{base_at}
-use Rattle.object_view.specs.Stages.{analysed, bases_of, context_by, finished, info_meant, lists_meant, made_of}
-use Rattle.object_view.specs.Units.{base_types, places_of, start_of, unit_start}
-use Rattle.object_view.proofs.Kept.{Kept, entries_kept, starts_kept, types_kept}
+use Rattle.object_view.specs.Stages.{analysed, bases_of, context_by, finished, info_done, info_meant, lists_meant, made_of}
+use Rattle.object_view.specs.Units.{places_of, start_of, unit_start}
 
 -- ---- look-ups in lists
 
@@ -41,7 +42,7 @@ base_found entries (Some u) = refl
 pub base_same : (units : List InUnit) (entries : List Entry) (unit : ℕ) → base_at (bases_of units entries) unit ≡ unit_base units entries unit
 base_same units entries unit = look_up (λ (u : InUnit). option_map_or base_of (slice_get entries u.first) (addrs.Fixed 0)) units unit (addrs.Fixed 0) ∙ base_found entries (slice_get units unit)
 
-pub start_same : (units : List InUnit) (entries : List Entry) (unit : ℕ) → unwrap_or (slice_get (map (start_of entries) units) unit) 0 ≡ unit_start units entries unit
+pub start_same : (units : List InUnit) (entries : List RawEntry) (unit : ℕ) → unwrap_or (slice_get (map (start_of entries) units) unit) 0 ≡ unit_start units entries unit
 start_same units entries unit = look_up (start_of entries) units unit 0
 
 -- ---- steps
@@ -49,33 +50,28 @@ start_same units entries unit = look_up (start_of entries) units unit 0
 abbrev Meant : Type 0
 Meant = ℕ → Attr → Result Value Fault
 
-same_step : (f g : Meant) → ((unit : ℕ) (a : Attr) → f unit a ≡ g unit a) → f ≡ g
+same_step : {A : Type 0} (f g : ℕ → A → Result Value Fault) → ((unit : ℕ) (a : A) → f unit a ≡ g unit a) → f ≡ g
 same_step f g same = fun_ext (λ unit. fun_ext (λ a. same unit a))
 
-module _ (o : Opened) (m : AddrMap) (units : List InUnit) (raw : List Entry) where
-  info_same : entries_by (info_meant o m (made_of units raw)) raw ≡ entries_meant o m units raw
-  info_same = ap (λ (step : Meant). entries_by step raw)
+module _ (o : Opened) (m : AddrMap) (units : List InUnit) (raw : List RawEntry) where
+  info_same : info_done o m (made_of units raw) raw ≡ entries_meant o m units raw
+  info_same = ap (λ (step : ℕ → RawAttr → Result Value Fault). raw_entries_by step raw >>= λ made. Ok (map entry_of made))
       (same_step (info_meant o m (made_of units raw)) (λ unit a. value_meant (info_context o m raw unit (unit_start units raw unit)) (places_of raw) a a.value)
       (λ unit a. ap (λ (start : ℕ). value_meant (info_context o m raw unit start) (places_of raw) a a.value) (start_same units raw unit)))
-
-  starts_same : (meant : List Entry) → Kept meant raw → (unit : ℕ) → unwrap_or (slice_get (map (start_of raw) units) unit) 0 ≡ unit_start units meant unit
-  starts_same meant kept unit =
-      start_same units raw unit ∙ ap (λ (f : InUnit → ℕ). option_map_or f (slice_get units unit) 0) (fun_ext (λ u. sym (starts_kept meant raw kept u)))
 
   ranges_same : (meant entries : List Entry) → entries_by (λ unit a. ranges_meant o m (base_at (bases_of units meant) unit) a a.value) entries ≡ entries_by (λ unit a. ranges_meant o m (unit_base units meant unit) a a.value) entries
   ranges_same meant entries = ap (λ (step : Meant). entries_by step entries)
       (same_step (λ unit a. ranges_meant o m (base_at (bases_of units meant) unit) a a.value) (λ unit a. ranges_meant o m (unit_base units meant unit) a a.value)
       (λ unit a. ap (λ (base : Addr). ranges_meant o m base a a.value) (base_same units meant unit)))
 
-  locations_same : (meant entries : List Entry) → Kept meant raw
+  locations_same : (meant entries : List Entry)
       → entries_by (λ unit a. locations_meant o (context_by o m (made_of units raw) parts.Loc o.relocs.loc unit) (base_at (bases_of units meant) unit) a a.value) entries
-      ≡ entries_by (λ unit a. locations_meant o (loc_context o m meant unit (unit_start units meant unit)) (unit_base units meant unit) a a.value) entries
-  locations_same meant entries kept = ap (λ (step : Meant). entries_by step entries)
+      ≡ entries_by (λ unit a. locations_meant o (loc_context o m raw unit (unit_start units raw unit)) (unit_base units meant unit) a a.value) entries
+  locations_same meant entries = ap (λ (step : Meant). entries_by step entries)
       (same_step (λ unit a. locations_meant o (context_by o m (made_of units raw) parts.Loc o.relocs.loc unit) (base_at (bases_of units meant) unit) a a.value)
-      (λ unit a. locations_meant o (loc_context o m meant unit (unit_start units meant unit)) (unit_base units meant unit) a a.value)
+      (λ unit a. locations_meant o (loc_context o m raw unit (unit_start units raw unit)) (unit_base units meant unit) a a.value)
       (λ unit a. ap (λ (base : Addr). locations_meant o (context_by o m (made_of units raw) parts.Loc o.relocs.loc unit) base a a.value) (base_same units meant unit)
-      ∙ ap (λ (start : ℕ). locations_meant o (record { image = o.image; map = m; bases = base_types raw; part = parts.Loc; relocs = o.relocs.loc; unit = unit; start = start }) (unit_base units meant unit) a a.value) (starts_same meant kept unit)
-      ∙ ap (λ (types : List BaseType). locations_meant o (record { image = o.image; map = m; bases = types; part = parts.Loc; relocs = o.relocs.loc; unit = unit; start = unit_start units meant unit }) (unit_base units meant unit) a a.value) (sym (types_kept meant raw kept))))
+      ∙ ap (λ (start : ℕ). locations_meant o (loc_context o m raw unit start) (unit_base units meant unit) a a.value) (start_same units raw unit)))
 
   -- what is left once attributes of `__debug_info` are understood
   abbrev behind_info : List Entry → Result Analysis Fault
@@ -88,7 +84,7 @@ module _ (o : Opened) (m : AddrMap) (units : List InUnit) (raw : List Entry) whe
   defined meant = do
     with_lines ← units_meant o m meant units
     ranged ← entries_by (λ unit a. ranges_meant o m (unit_base units meant unit) a a.value) (all_marked meant)
-    entries ← entries_by (λ unit a. locations_meant o (loc_context o m meant unit (unit_start units meant unit)) (unit_base units meant unit) a a.value) ranged
+    entries ← entries_by (λ unit a. locations_meant o (loc_context o m raw unit (unit_start units raw unit)) (unit_base units meant unit) a a.value) ranged
     finished o m with_lines entries
 
   grouped : (a : Result (List Entry) Fault) (f : List Entry → Result (List Entry) Fault) (g : List Entry → Result Analysis Fault) → ((a >>= f) >>= g) ≡ (a >>= λ x. f x >>= g)
@@ -99,30 +95,25 @@ module _ (o : Opened) (m : AddrMap) (units : List InUnit) (raw : List Entry) whe
   ranged meant = entries_by (λ unit a. ranges_meant o m (unit_base units meant unit) a a.value) (all_marked meant)
 
   abbrev located : List Entry → List Entry → Result (List Entry) Fault
-  located meant entries = entries_by (λ unit a. locations_meant o (loc_context o m meant unit (unit_start units meant unit)) (unit_base units meant unit) a a.value) entries
+  located meant entries = entries_by (λ unit a. locations_meant o (loc_context o m raw unit (unit_start units raw unit)) (unit_base units meant unit) a a.value) entries
 
-  lists_same : (meant : List Entry) → Kept meant raw → lists_meant o m (made_of units raw) (bases_of units meant) meant ≡ (ranged meant >>= located meant)
-  lists_same meant kept =
+  lists_same : (meant : List Entry) → lists_meant o m (made_of units raw) (bases_of units meant) meant ≡ (ranged meant >>= located meant)
+  lists_same meant =
       ap (λ (r : Result (List Entry) Fault). r >>= λ entries. entries_by (λ unit a. locations_meant o (context_by o m (made_of units raw) parts.Loc o.relocs.loc unit) (base_at (bases_of units meant) unit) a a.value) entries)
       (ranges_same meant (all_marked meant))
-      ∙ ap (λ (f : List Entry → Result (List Entry) Fault). ranged meant >>= f) (fun_ext (λ entries. locations_same meant entries kept))
+      ∙ ap (λ (f : List Entry → Result (List Entry) Fault). ranged meant >>= f) (fun_ext (λ entries. locations_same meant entries))
 
-  after_lists : (meant : List Entry) → Kept meant raw → (with_lines : List InUnit)
+  after_lists : (meant : List Entry) (with_lines : List InUnit)
       → (lists_meant o m (made_of units raw) (bases_of units meant) meant >>= λ listed. finished o m with_lines listed) ≡ (ranged meant >>= λ entries. located meant entries >>= λ listed. finished o m with_lines listed)
-  after_lists meant kept with_lines =
-      ap (λ (r : Result (List Entry) Fault). r >>= λ listed. finished o m with_lines listed) (lists_same meant kept) ∙ grouped (ranged meant) (located meant) (λ listed. finished o m with_lines listed)
+  after_lists meant with_lines =
+      ap (λ (r : Result (List Entry) Fault). r >>= λ listed. finished o m with_lines listed) (lists_same meant) ∙ grouped (ranged meant) (located meant) (λ listed. finished o m with_lines listed)
 
-  behind_same : (meant : List Entry) → Kept meant raw → behind_info meant ≡ defined meant
-  behind_same meant kept = ap (λ (f : List InUnit → Result Analysis Fault). units_meant o m meant units >>= f) (fun_ext (λ with_lines. after_lists meant kept with_lines))
-
-  by_info : (r : Result (List Entry) Fault) → ((meant : List Entry) → r ≡ Ok meant → Kept meant raw) → (r >>= behind_info) ≡ (r >>= defined)
-  by_info (Ok meant) keeps = behind_same meant (keeps meant refl)
-  by_info (Err e) keeps = refl
+  behind_same : (meant : List Entry) → behind_info meant ≡ defined meant
+  behind_same meant = ap (λ (f : List InUnit → Result Analysis Fault). units_meant o m meant units >>= f) (fun_ext (λ with_lines. after_lists meant with_lines))
 
 -- the stations make the analysis
 pub analysed_same : (o : Opened) (m : AddrMap) (raw : RawUnits) → analysed o m raw ≡ units_analysed o m raw
 unfolding units_analysed
 analysed_same o m raw =
-    by_info o m raw.units raw.entries (entries_by (info_meant o m (made_of raw.units raw.entries)) raw.entries)
-    (λ meant is. entries_kept (info_meant o m (made_of raw.units raw.entries)) raw.entries meant is)
+    ap (λ (f : List Entry → Result Analysis Fault). info_done o m (made_of raw.units raw.entries) raw.entries >>= f) (fun_ext (λ meant. behind_same o m raw.units raw.entries meant))
     ∙ ap (λ (r : Result (List Entry) Fault). r >>= defined o m raw.units raw.entries) (info_same o m raw.units raw.entries)

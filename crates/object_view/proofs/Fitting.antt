@@ -16,10 +16,13 @@ use Rattle.dwarf_types.specs.declared.address.Addr.{Addr}
 use Rattle.dwarf_types.specs.declared.entry.Attr.{Attr}
 use Rattle.dwarf_types.specs.declared.entry.Entry.{Entry}
 use Rattle.dwarf_types.specs.declared.entry.InUnit.{InUnit}
+use Rattle.dwarf_types.specs.declared.entry.RawAttr.{RawAttr}
+use Rattle.dwarf_types.specs.declared.entry.RawEntry.{RawEntry}
 use Rattle.dwarf_types.specs.declared.lists.RawSpan.{RawSpan}
 use Rattle.dwarf_types.specs.declared.value.Value.{Value}
 use Rattle.dwarf_types.specs.declared.value.Value.TheVariants as values
 use Rattle.dwarf_types.specs.Moves.{value_of}
+use Rattle.dwarf_types.specs.Raw.{attr_of}
 use Rattle.dwarf_types.specs.SectionBytes.{SectionBytes}
 use Rattle.addr_map.specs.declared.map.AddrMap.{AddrMap}
 use Rattle.range_lists.specs.Reading.{ranges_of}
@@ -33,11 +36,12 @@ use Rattle.unit_tree.specs.Meaning.{table_of}
 use Rattle.unit_tree.specs.Spelling.{begins_at}
 use Rattle.object_view.specs.Attributes.{all_marked, attr_by, attrs_by, dangling, each_of, entries_by, entry_by, entry_marked, line_place, lines_marked, lines_value, locations_meant, number_at, offset_in, ranges_by_role, ranges_meant, value_meant, with_value}
 use Rattle.object_view.specs.Opened.{Opened}
-use Rattle.object_view.specs.Ready.{AllAttrs, IsLinesInside, IsListAttr, IsReadValue, IsRooted, base_at}
+use Rattle.object_view.specs.Ready.{AllAttrs, AllRawAttrs, IsLinesInside, IsListAttr, IsReadValue, IsRooted, base_at}
 use Rattle.object_view.specs.Stages.{MadeOnce, context_by, lists_meant}
 use Rattle.object_view.specs.Units.{places_of}
-use Rattle.object_view.proofs.Kept.{Kept, all_kept, bare, entries_kept}
+use Rattle.object_view.proofs.Kept.{Kept, all_kept, bare, entries_kept, given_kept, kept_length}
 use Rattle.object_view.proofs.Names.{each_all}
+use Rattle.object_view.proofs.Understood.{as_attr, as_entry, attr_given, entries_given, entry_given, given_all}
 
 -- ---- as it was read
 
@@ -50,27 +54,27 @@ either true c e f = absurd cc
 either false c e f = e
 
 -- an entry begins at a place, so that is one of the places
-found_before : (entries : List Entry) (place : ℕ) → begins_at entries None place ≡ true → position_or_len (λ (p : ℕ). p == place) (places_of entries) < length (places_of entries)
+found_before : (entries : List RawEntry) (place : ℕ) → begins_at entries None place ≡ true → position_or_len (λ (p : ℕ). p == place) (places_of entries) < length (places_of entries)
 found_before [] place e = absurd cc
 found_before (x ∷ entries) place e =
     place_behind (λ (p : ℕ). p == place) x.place (places_of entries) (x.place == place) refl (λ is. found_before entries place (either (x.place == place) (begins_at entries None place) e is))
 
-found_place : (entries : List Entry) (place : ℕ) → begins_at entries None place ≡ true → IsSome (number_at (places_of entries) place)
+found_place : (entries : List RawEntry) (place : ℕ) → begins_at entries None place ≡ true → IsSome (number_at (places_of entries) place)
 found_place entries place e = rw (lt-ltb _ _ (found_before entries place e)) refl
 
-value_read : (sections : SectionBytes) (all : List Entry) (a : Attr) (value : Value) → IsValueInside sections all a value → IsReadValue (places_of all) a.end value
+value_read : (sections : SectionBytes) (all : List RawEntry) (a : RawAttr) (value : Value) → IsValueInside sections all a value → IsReadValue (places_of all) a.end value
 value_read sections all a (values.Address place) h = h
 value_read sections all a (values.Ref place) h = found_place all place h
 value_read sections all a (values.Block form bytes) h = h
 value_read sections all a value h = tt
 
-value_listed : (sections : SectionBytes) (all : List Entry) (a : Attr) (value : Value) (n : ℕ) → IsValueInside sections all a value → value ≡ values.Offset n → IsListInside sections (table_of a.name) n
+value_listed : (sections : SectionBytes) (all : List RawEntry) (a : RawAttr) (value : Value) (n : ℕ) → IsValueInside sections all a value → value ≡ values.Offset n → IsListInside sections (table_of a.name) n
 value_listed sections all a value n h is = (subst (IsValueInside sections all a) is h)
 
-pub all_read : (sections : SectionBytes) (entries : List Entry) → AreInside sections entries → AllAttrs (λ (a : Attr). IsReadValue (places_of entries) a.end a.value) entries
+pub all_read : (sections : SectionBytes) (entries : List RawEntry) → AreInside sections entries → AllRawAttrs (λ (a : RawAttr). IsReadValue (places_of entries) a.end a.value) entries
 all_read sections entries h k d lt i x within = value_read sections entries (get_or (get_or entries k d).attrs i x) (get_or (get_or entries k d).attrs i x).value (h.values k d lt i x within)
 
-pub all_listed : (sections : SectionBytes) (entries : List Entry) → AreInside sections entries → AllAttrs (IsListAttr sections) entries
+pub all_listed : (sections : SectionBytes) (entries : List RawEntry) → AreInside sections entries → AllRawAttrs (λ (a : RawAttr). IsListAttr sections (attr_of a)) entries
 all_listed sections entries h k d lt i x within n is = value_listed sections entries (get_or (get_or entries k d).attrs i x) (get_or (get_or entries k d).attrs i x).value n (h.values k d lt i x within) is
 
 -- ---- offsets are what they were before a step
@@ -104,7 +108,7 @@ module _ (s : Context) (places : List ℕ) where
       absurd (let no : values.Expr ops.0 ≡ values.Offset n = ok_is (values.Expr ops.0) now ops.2 ∙ is in cc)
   no_block false form bytes first now n e is = ok_is (values.Block form bytes) now e ∙ is
 
-  pub offset_was : (a : Attr) (value now : Value) (n : ℕ) → value_meant s places a value ≡ Ok now → now ≡ values.Offset n → value ≡ values.Offset n
+  pub offset_was : (a : RawAttr) (value now : Value) (n : ℕ) → value_meant s places a value ≡ Ok now → now ≡ values.Offset n → value ≡ values.Offset n
   offset_was a (values.Address place) now n e is = absurd (let other = ok_is _ now e ∙ is in cc)
   offset_was a (values.Ref place) now n e is =
       let k = bind_ok (or_fault (number_at places place) (dangling a)) (λ k. Ok (values.Ref k)) now e in
@@ -119,9 +123,11 @@ module _ (s : Context) (places : List ℕ) where
   offset_was a values.Lines now n e is = ok_is values.Lines now e ∙ is
   offset_was a (values.Offset m) now n e is = ok_is (values.Offset m) now e ∙ is
 
-pub info_listed : (sections : SectionBytes) (context : ℕ → Context) (places : List ℕ) (entries now : List Entry) → entries_by (λ unit a. value_meant (context unit) places a a.value) entries ≡ Ok now → AllAttrs (IsListAttr sections) entries → AllAttrs (IsListAttr sections) now
-info_listed sections context places entries now e h =
-    listed_after sections (λ unit a. value_meant (context unit) places a a.value) (λ unit a value n made is. offset_was (context unit) places a a.value value n made is) entries now e h
+pub info_listed : (sections : SectionBytes) (context : ℕ → Context) (places : List ℕ) (raw : List RawEntry) (now : List Entry) → entries_given (λ unit a. value_meant (context unit) places a a.value) raw ≡ Ok now
+    → AllRawAttrs (λ (a : RawAttr). IsListAttr sections (attr_of a)) raw → AllAttrs (IsListAttr sections) now
+info_listed sections context places raw now e h =
+    given_all (λ unit a. value_meant (context unit) places a a.value) (λ unit a. IsListAttr sections (attr_of a)) (λ unit a. IsListAttr sections a)
+    (λ unit a value r made n is. r n (offset_was (context unit) places a a.value value n made is)) raw now e h
 
 -- ---- line tables are marked, and range lists read
 
@@ -180,20 +186,23 @@ each_got f (x ∷ xs) ys e (suc k) y is =
 abbrev first_lines : List Attr → Option Value
 first_lines attrs = option_map (λ a. a.value) (find (λ a. a.name == DW_AT_stmt_list) attrs)
 
-lines_step : (b : Bool) (a : Attr) (value : Value) (attrs others : List Attr) (n : ℕ) → (value ≡ values.Offset n → a.value ≡ values.Offset n) → (first_lines others ≡ Some (values.Offset n) → first_lines attrs ≡ Some (values.Offset n))
-    → option_map (λ (x : Attr). x.value) (cond b (Some (with_value a value)) (find (λ (x : Attr). x.name == DW_AT_stmt_list) others)) ≡ Some (values.Offset n)
-    → option_map (λ (x : Attr). x.value) (cond b (Some a) (find (λ (x : Attr). x.name == DW_AT_stmt_list) attrs)) ≡ Some (values.Offset n)
+abbrev first_raw_lines : List RawAttr → Option Value
+first_raw_lines attrs = option_map (λ a. a.value) (find (λ a. a.name == DW_AT_stmt_list) attrs)
+
+lines_step : (b : Bool) (a : RawAttr) (value : Value) (attrs : List RawAttr) (others : List Attr) (n : ℕ) → (value ≡ values.Offset n → a.value ≡ values.Offset n) → (first_lines others ≡ Some (values.Offset n) → first_raw_lines attrs ≡ Some (values.Offset n))
+    → option_map (λ (x : Attr). x.value) (cond b (Some (as_attr a value)) (find (λ (x : Attr). x.name == DW_AT_stmt_list) others)) ≡ Some (values.Offset n)
+    → option_map (λ (x : RawAttr). x.value) (cond b (Some a) (find (λ (x : RawAttr). x.name == DW_AT_stmt_list) attrs)) ≡ Some (values.Offset n)
 lines_step true a value attrs others n here behind e = ap Some (here cc)
 lines_step false a value attrs others n here behind e = behind e
 
-lines_were : (meant : Attr → Result Value Fault) → ((a : Attr) (value : Value) (n : ℕ) → meant a ≡ Ok value → value ≡ values.Offset n → a.value ≡ values.Offset n) → (attrs now : List Attr) → attrs_by meant attrs ≡ Ok now
-    → (n : ℕ) → first_lines now ≡ Some (values.Offset n) → first_lines attrs ≡ Some (values.Offset n)
+lines_were : (meant : RawAttr → Result Value Fault) → ((a : RawAttr) (value : Value) (n : ℕ) → meant a ≡ Ok value → value ≡ values.Offset n → a.value ≡ values.Offset n) → (attrs : List RawAttr) (now : List Attr) → each_of (attr_given meant) attrs ≡ Ok now
+    → (n : ℕ) → first_lines now ≡ Some (values.Offset n) → first_raw_lines attrs ≡ Some (values.Offset n)
 lines_were meant keeps [] now e n is = absurd (let none : None ≡ Some (values.Offset n) = ap first_lines (ok_is [] now e) ∙ is in cc)
 lines_were meant keeps (a ∷ attrs) now e n is =
-    let first = bind_ok (attr_by meant a) (λ here. each_of (attr_by meant) attrs >>= λ others. Ok (here ∷ others)) now e in
-    let others = bind_ok (each_of (attr_by meant) attrs) (λ others. Ok (first.0 ∷ others)) now first.2 in
-    let value = bind_ok (meant a) (λ value. Ok (with_value a value)) first.0 first.1 in
-    let now_is : (with_value a value.0 ∷ others.0) ≡ now = ap (λ (x : Attr). x ∷ others.0) (ok_is (with_value a value.0) first.0 value.2) ∙ ok_is (first.0 ∷ others.0) now others.2 in
+    let first = bind_ok (attr_given meant a) (λ here. each_of (attr_given meant) attrs >>= λ others. Ok (here ∷ others)) now e in
+    let others = bind_ok (each_of (attr_given meant) attrs) (λ others. Ok (first.0 ∷ others)) now first.2 in
+    let value = bind_ok (meant a) (λ value. Ok (as_attr a value)) first.0 first.1 in
+    let now_is : (as_attr a value.0 ∷ others.0) ≡ now = ap (λ (x : Attr). x ∷ others.0) (ok_is (as_attr a value.0) first.0 value.2) ∙ ok_is (first.0 ∷ others.0) now others.2 in
     lines_step (a.name == DW_AT_stmt_list) a value.0 attrs others.0 n (λ v. keeps a value.0 n value.1 v) (λ later. lines_were meant keeps attrs others.0 others.1 n later) (ap first_lines now_is ∙ is)
 
 lines_if : (o : Option Value) (P : ℕ → Type 0) → ((n : ℕ) → o ≡ Some (values.Offset n) → P n) → IfSome (option_and_then offset_in o) P
@@ -208,23 +217,23 @@ root_if (Some e) P h = h e refl
 pub one_of : {X : Type 0} (P : X → Type 0) (xs : List X) (k : ℕ) (x : X) → All P xs → slice_get xs k ≡ Some x → P x
 one_of P xs k x h is = subst P (get_or_from_slice_get xs k x x is) (h k x (slice_get_within xs k x is))
 
-unit_lines : (sections : SectionBytes) (context : ℕ → Context) (places : List ℕ) (entries now : List Entry) → entries_by (λ unit a. value_meant (context unit) places a a.value) entries ≡ Ok now → AreInside sections entries
-    → (unit : InUnit) → IsRooted entries unit → IsLinesInside sections now unit
-unit_lines sections context places entries now made inside unit rooted =
-    let meant : ℕ → Attr → Result Value Fault = λ unit a. value_meant (context unit) places a a.value in
+unit_lines : (sections : SectionBytes) (context : ℕ → Context) (places : List ℕ) (raw : List RawEntry) (now : List Entry) → entries_given (λ unit a. value_meant (context unit) places a a.value) raw ≡ Ok now → AreInside sections raw
+    → (unit : InUnit) → IsRooted raw unit → IsLinesInside sections now unit
+unit_lines sections context places raw now made inside unit rooted =
+    let meant : ℕ → RawAttr → Result Value Fault = λ unit a. value_meant (context unit) places a a.value in
     let P : ℕ → Type 0 = λ n. n < length sections.line in
     root_if (slice_get now unit.first) P (λ e is.
-    let was = each_got (λ (x : Entry). entry_by (meant x.unit) x) entries now made unit.first e is in
-    let root : was.0.parent ≡ None = subst (λ (o : Option Entry). IfSome o (λ x. x.parent ≡ None)) was.1 rooted in
-    let attrs = bind_ok (attrs_by (meant was.0.unit) was.0.attrs) (λ attrs. Ok (record was.0 { attrs = attrs })) e was.2 in
-    let attrs_are : attrs.0 ≡ e.attrs = ap (λ (x : Entry). x.attrs) (ok_is (record was.0 { attrs = attrs.0 }) e attrs.2) in
+    let was = each_got (λ (x : RawEntry). entry_given (meant x.unit) x) raw now made unit.first e is in
+    let root : was.0.parent ≡ None = subst (λ (o : Option RawEntry). IfSome o (λ x. x.parent ≡ None)) was.1 rooted in
+    let attrs = bind_ok (each_of (attr_given (meant was.0.unit)) was.0.attrs) (λ attrs. Ok (as_entry was.0 attrs)) e was.2 in
+    let attrs_are : attrs.0 ≡ e.attrs = ap (λ (x : Entry). x.attrs) (ok_is (as_entry was.0 attrs.0) e attrs.2) in
     lines_if (value_of DW_AT_stmt_list e) P (λ n named.
-    one_of (IsRootInside sections) entries unit.first was.0 inside.lines was.1 n root
+    one_of (IsRootInside sections) raw unit.first was.0 inside.lines was.1 n root
     (lines_were (meant was.0.unit) (λ a value k i j. offset_was (context was.0.unit) places a a.value value k i j) was.0.attrs attrs.0 attrs.1 n (ap first_lines attrs_are ∙ named))))
 
-pub units_lines : (sections : SectionBytes) (context : ℕ → Context) (places : List ℕ) (entries now : List Entry) (units : List InUnit) → entries_by (λ unit a. value_meant (context unit) places a a.value) entries ≡ Ok now → AreInside sections entries
-    → All (IsRooted entries) units → All (IsLinesInside sections now) units
-units_lines sections context places entries now units made inside rooted k d lt = unit_lines sections context places entries now made inside (get_or units k d) (rooted k d lt)
+pub units_lines : (sections : SectionBytes) (context : ℕ → Context) (places : List ℕ) (raw : List RawEntry) (now : List Entry) (units : List InUnit) → entries_given (λ unit a. value_meant (context unit) places a a.value) raw ≡ Ok now → AreInside sections raw
+    → All (IsRooted raw) units → All (IsLinesInside sections now) units
+units_lines sections context places raw now units made inside rooted k d lt = unit_lines sections context places raw now made inside (get_or units k d) (rooted k d lt)
 
 -- ---- no entry comes or goes
 
@@ -238,5 +247,5 @@ lists_count o m t bases entries now e =
     let ranged = bind_ok (entries_by range (all_marked entries)) (λ ranged. entries_by locate ranged) now e in
     same_count now entries (entries_kept locate ranged.0 now ranged.2 ∙ entries_kept range (all_marked entries) ranged.0 ranged.1 ∙ all_kept entries)
 
-pub info_count : (context : ℕ → Context) (places : List ℕ) (entries now : List Entry) → entries_by (λ unit a. value_meant (context unit) places a a.value) entries ≡ Ok now → length now ≡ length entries
-info_count context places entries now e = same_count now entries (entries_kept (λ unit a. value_meant (context unit) places a a.value) entries now e)
+pub info_count : (context : ℕ → Context) (places : List ℕ) (raw : List RawEntry) (now : List Entry) → entries_given (λ unit a. value_meant (context unit) places a a.value) raw ≡ Ok now → length now ≡ length raw
+info_count context places raw now e = kept_length now raw (given_kept (λ unit a. value_meant (context unit) places a a.value) raw now e)

@@ -3,6 +3,7 @@ pub mod Definitions
 pub mod EachOf
 pub mod FileBytes
 pub mod Fitting
+pub mod InPlace
 pub mod Items
 pub mod Kept
 pub mod KnownTypes
@@ -19,3 +20,4 @@ pub mod Soundness
 pub mod SpelledAnalysis
 pub mod Trees
 pub mod Trying
+pub mod Understood

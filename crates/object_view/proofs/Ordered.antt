@@ -6,7 +6,7 @@ use Rattle.std.proofs.lemmas.List.{get_or-map, length-map}
 use Rattle.std.proofs.lemmas.List.Elements.{All-cons}
 use Rattle.std.proofs.lemmas.List.Kept.{AllPairs-cons}
 use Rattle.ds_base.specs.declared.dwarf.TheConstants.{DW_TAG_base_type}
-use Rattle.dwarf_types.specs.declared.entry.Entry.{Entry}
+use Rattle.dwarf_types.specs.declared.entry.RawEntry.{RawEntry}
 use Rattle.dwarf_types.specs.declared.entry.InUnit.{InUnit}
 use Rattle.unit_tree.specs.Reference.{IsRising}
 use Rattle.expr_resolve.specs.declared.context.BaseType.{BaseType}
@@ -15,15 +15,15 @@ use Rattle.object_view.specs.Ready.{Rise}
 use Rattle.object_view.specs.Stages.{made_of, AreInOrder as AreInOrderTables}
 use Rattle.object_view.specs.Units.{base_type_in, places_of}
 
-pub places_rise : (entries : List Entry) → IsRising entries → Rise (places_of entries)
+pub places_rise : (entries : List RawEntry) → IsRising entries → Rise (places_of entries)
 places_rise entries rising i j d lt within =
-    let inside : j < length entries = omega (arith, length-map entries (λ (e : Entry). e.place)) in
-    let none : Entry = record { parent = None; unit = 0; place = d; tag = 0; attrs = [] } in
-    let first : get_or (places_of entries) i d ≡ (get_or entries i none).place = get_or-map (λ (e : Entry). e.place) entries i none d (omega arith) in
-    let second : get_or (places_of entries) j d ≡ (get_or entries j none).place = get_or-map (λ (e : Entry). e.place) entries j none d inside in
+    let inside : j < length entries = omega (arith, length-map entries (λ (e : RawEntry). e.place)) in
+    let none : RawEntry = record { parent = None; unit = 0; place = d; tag = 0; attrs = [] } in
+    let first : get_or (places_of entries) i d ≡ (get_or entries i none).place = get_or-map (λ (e : RawEntry). e.place) entries i none d (omega arith) in
+    let second : get_or (places_of entries) j d ≡ (get_or entries j none).place = get_or-map (λ (e : RawEntry). e.place) entries j none d inside in
     rw (first, second) (rising i j none lt inside)
 
-abbrev pub types_from : ℕ → List Entry → List BaseType
+abbrev pub types_from : ℕ → List RawEntry → List BaseType
 types_from k entries = filter_map base_type_in (enumerate_from k entries)
 
 -- a base type, if the entry is one, before others
@@ -31,10 +31,10 @@ abbrev pub with_type : Bool → BaseType → List BaseType → List BaseType
 with_type true b others = b ∷ others
 with_type false b others = others
 
-abbrev pub as_type : ℕ → Entry → BaseType
+abbrev pub as_type : ℕ → RawEntry → BaseType
 as_type k e = record { entry = k; unit = e.unit; place = e.place }
 
-pub types_step : (k : ℕ) (e : Entry) (entries : List Entry) (b : Bool) → (e.tag == DW_TAG_base_type) ≡ b → types_from k (e ∷ entries) ≡ with_type b (as_type k e) (types_from (k + 1) entries)
+pub types_step : (k : ℕ) (e : RawEntry) (entries : List RawEntry) (b : Bool) → (e.tag == DW_TAG_base_type) ≡ b → types_from k (e ∷ entries) ≡ with_type b (as_type k e) (types_from (k + 1) entries)
 types_step k e entries true is = rw is refl
 types_step k e entries false is = rw is refl
 
@@ -43,7 +43,7 @@ all_with P true t others here behind = All-cons P t others here behind
 all_with P false t others here behind = behind
 
 -- each base type stands behind a place where each entry does
-behind_place : (p k : ℕ) (entries : List Entry) → All (λ (e : Entry). p < e.place) entries → All (λ (b : BaseType). p < b.place) (types_from k entries)
+behind_place : (p k : ℕ) (entries : List RawEntry) → All (λ (e : RawEntry). p < e.place) entries → All (λ (b : BaseType). p < b.place) (types_from k entries)
 behind_place p k [] h = λ i d lt. absurd (omega arith)
 behind_place p k (e ∷ entries) h =
     let others : All (λ (b : BaseType). p < b.place) (types_from (k + 1) entries) = behind_place p (k + 1) entries (λ i d lt. h (suc i) d (omega arith)) in
@@ -56,16 +56,16 @@ pairs_with : (b : Bool) (t : BaseType) (others : List BaseType) → All (λ (x :
 pairs_with true t others behind order = AllPairs-cons Behind t others behind order
 pairs_with false t others behind order = order
 
-pub types_in_order : (k : ℕ) (entries : List Entry) → IsRising entries → AreInOrder (types_from k entries)
+pub types_in_order : (k : ℕ) (entries : List RawEntry) → IsRising entries → AreInOrder (types_from k entries)
 types_in_order k [] rising = λ i j d lt within. absurd (omega arith)
 types_in_order k (e ∷ entries) rising =
     let others : AreInOrder (types_from (k + 1) entries) = types_in_order (k + 1) entries (λ i j d lt within. rising (suc i) (suc j) d (omega arith) (omega arith)) in
     let behind : All (λ (b : BaseType). e.place < b.place) (types_from (k + 1) entries) = behind_place e.place (k + 1) entries (λ i d lt. rising 0 (suc i) d (omega arith) (omega arith)) in
     rw (types_step k e entries (e.tag == DW_TAG_base_type) refl) (pairs_with (e.tag == DW_TAG_base_type) (as_type k e) (types_from (k + 1) entries) behind others)
 
-pub made_in_order : (units : List InUnit) (entries : List Entry) → IsRising entries → length entries < 2 ^ 32 → AreInOrderTables (made_of units entries)
+pub made_in_order : (units : List InUnit) (entries : List RawEntry) → IsRising entries → length entries < 2 ^ 32 → AreInOrderTables (made_of units entries)
 made_in_order units entries rising few = record {
   types = types_in_order 0 entries rising;
   places = places_rise entries rising;
-  few = omega (arith, few, length-map entries (λ (e : Entry). e.place));
+  few = omega (arith, few, length-map entries (λ (e : RawEntry). e.place));
 }

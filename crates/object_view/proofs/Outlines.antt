@@ -15,6 +15,8 @@ use Rattle.dwarf_types.specs.declared.analysis.Analysis.{Analysis}
 use Rattle.dwarf_types.specs.declared.entry.Attr.{Attr}
 use Rattle.dwarf_types.specs.declared.entry.Entry.{Entry}
 use Rattle.dwarf_types.specs.declared.entry.InUnit.{InUnit}
+use Rattle.dwarf_types.specs.declared.entry.RawAttr.{RawAttr}
+use Rattle.dwarf_types.specs.declared.entry.RawEntry.{RawEntry}
 use Rattle.dwarf_types.specs.declared.entry.RawUnits.{RawUnits}
 use Rattle.dwarf_types.specs.declared.lines.RawLines.{RawLines}
 use Rattle.dwarf_types.specs.declared.lists.RawLocation.{RawLocation}
@@ -44,7 +46,8 @@ use Rattle.object_view.specs.Ready.{IsReadValue}
 use Rattle.object_view.specs.Spelled.{ByItem, IsAttr, IsEntry, IsUnit, LeadsAs}
 use Rattle.object_view.specs.Units.{places_of, unit_start}
 use Rattle.object_view.proofs.Fitting.{all_read}
-use Rattle.object_view.proofs.Kept.{bare}
+use Rattle.object_view.proofs.Kept.{bare, each_seen, raw_bare}
+use Rattle.object_view.proofs.Understood.{as_attr, as_entry, attr_given, entries_given, entry_given, given_is}
 use Rattle.std.specs.List.{flat_map}
 
 -- ---- what is seen of attributes and entries
@@ -52,13 +55,13 @@ use Rattle.std.specs.List.{flat_map}
 abbrev Seen : Type 0
 Seen = ℕ × ℕ × Option ℕ
 
--- an attribute's name, its end, and the entry to which it leads
+-- an attribute's name, its form, and the entry to which it leads
 abbrev seen : Attr → Seen
-seen a = (a.name, a.end, target_in a.value)
+seen a = (a.name, a.form, target_in a.value)
 
 -- the same of one that was read, with the places of all entries
-abbrev led : List ℕ → Attr → Seen
-led places a = (a.name, a.end, option_and_then (number_at places) (target_in a.value))
+abbrev led : List ℕ → RawAttr → Seen
+led places a = (a.name, a.form, option_and_then (number_at places) (target_in a.value))
 
 abbrev Outline : Type 0
 Outline = Entry × List Seen
@@ -66,42 +69,42 @@ Outline = Entry × List Seen
 abbrev outline : Entry → Outline
 outline e = (bare e, map seen e.attrs)
 
-abbrev outline_led : List ℕ → Entry → Outline
-outline_led places e = (bare e, map (led places) e.attrs)
+abbrev outline_led : List ℕ → RawEntry → Outline
+outline_led places e = (raw_bare e, map (led places) e.attrs)
 
 -- ---- steps
 
-each_seen : {X V : Type 0} (view was : X → V) (f : X → Result X Fault) → ((x y : X) → f x ≡ Ok y → view y ≡ was x) → (xs ys : List X) → each_of f xs ≡ Ok ys → map view ys ≡ map was xs
-each_seen view was f keeps [] ys e = ap (map view) (sym (ok_is [] ys e))
-each_seen view was f keeps (x ∷ xs) ys e =
-    let first = bind_ok (f x) (λ here. each_of f xs >>= λ others. Ok (here ∷ others)) ys e in
-    let others = bind_ok (each_of f xs) (λ others. Ok (first.0 ∷ others)) ys first.2 in
-    ap (map view) (sym (ok_is (first.0 ∷ others.0) ys others.2)) ∙ rw (keeps x first.0 first.1, each_seen view was f keeps xs others.0 others.1) refl
-
--- what a step makes of the targets of values
-abbrev Targets : (Option ℕ → Option ℕ) → (ℕ → Attr → Result Value Fault) → Type 0
-Targets through meant = (unit : ℕ) (a : Attr) (now : Value) → meant unit a ≡ Ok now → target_in now ≡ through (target_in a.value)
-
-module _ (through : Option ℕ → Option ℕ) (meant : ℕ → Attr → Result Value Fault) (targets : Targets through meant) where
-  abbrev was_seen : Attr → Seen
-  was_seen a = (a.name, a.end, through (target_in a.value))
-
-  attr_seen : (unit : ℕ) (a b : Attr) → attr_by (meant unit) a ≡ Ok b → seen b ≡ was_seen a
+-- a step over understood entries leaves the targets of values
+module _ (meant : ℕ → Attr → Result Value Fault) (targets : (unit : ℕ) (a : Attr) (now : Value) → meant unit a ≡ Ok now → target_in now ≡ target_in a.value) where
+  attr_seen : (unit : ℕ) (a b : Attr) → attr_by (meant unit) a ≡ Ok b → seen b ≡ seen a
   attr_seen unit a b e =
       let value = bind_ok (meant unit a) (λ value. Ok (with_value a value)) b e in
-      ap seen (sym (ok_is (with_value a value.0) b value.2)) ∙ ap (λ (t : Option ℕ). (a.name, a.end, t)) (targets unit a value.0 value.1)
+      ap seen (sym (ok_is (with_value a value.0) b value.2)) ∙ ap (λ (t : Option ℕ). (a.name, a.form, t)) (targets unit a value.0 value.1)
 
-  entry_seen : (e now : Entry) → entry_by (meant e.unit) e ≡ Ok now → outline now ≡ (bare e, map was_seen e.attrs)
+  entry_seen : (e now : Entry) → entry_by (meant e.unit) e ≡ Ok now → outline now ≡ outline e
   entry_seen e now is =
       let attrs = bind_ok (attrs_by (meant e.unit) e.attrs) (λ attrs. Ok (record e { attrs = attrs })) now is in
       ap outline (sym (ok_is (record e { attrs = attrs.0 }) now attrs.2))
-      ∙ ap (λ (s : List Seen). (bare e, s)) (each_seen seen was_seen (attr_by (meant e.unit)) (λ x y i. attr_seen e.unit x y i) e.attrs attrs.0 attrs.1)
+      ∙ ap (λ (s : List Seen). (bare e, s)) (each_seen seen seen (attr_by (meant e.unit)) (λ x y i. attr_seen e.unit x y i) e.attrs attrs.0 attrs.1)
 
-  entries_seen : (entries now : List Entry) → entries_by meant entries ≡ Ok now → map outline now ≡ map (λ (e : Entry). (bare e, map was_seen e.attrs)) entries
-  entries_seen entries now e = each_seen outline (λ (e : Entry). (bare e, map was_seen e.attrs)) (λ (x : Entry). entry_by (meant x.unit) x) (λ x y i. entry_seen x y i) entries now e
+  entries_seen : (entries now : List Entry) → entries_by meant entries ≡ Ok now → map outline now ≡ map outline entries
+  entries_seen entries now e = each_seen outline outline (λ (x : Entry). entry_by (meant x.unit) x) (λ x y i. entry_seen x y i) entries now e
 
-abbrev same : Option ℕ → Option ℕ
-same o = o
+-- what is understood leads to the numbers of entries
+module _ (places : List ℕ) (meant : ℕ → RawAttr → Result Value Fault) (targets : (unit : ℕ) (a : RawAttr) (now : Value) → meant unit a ≡ Ok now → target_in now ≡ option_and_then (number_at places) (target_in a.value)) where
+  attr_led : (unit : ℕ) (a : RawAttr) (b : Attr) → attr_given (meant unit) a ≡ Ok b → seen b ≡ led places a
+  attr_led unit a b e =
+      let value = bind_ok (meant unit a) (λ value. Ok (as_attr a value)) b e in
+      ap seen (sym (ok_is (as_attr a value.0) b value.2)) ∙ ap (λ (t : Option ℕ). (a.name, a.form, t)) (targets unit a value.0 value.1)
+
+  entry_led : (e : RawEntry) (now : Entry) → entry_given (meant e.unit) e ≡ Ok now → outline now ≡ outline_led places e
+  entry_led e now is =
+      let attrs = bind_ok (each_of (attr_given (meant e.unit)) e.attrs) (λ attrs. Ok (as_entry e attrs)) now is in
+      ap outline (sym (ok_is (as_entry e attrs.0) now attrs.2))
+      ∙ ap (λ (s : List Seen). (raw_bare e, s)) (each_seen seen (led places) (attr_given (meant e.unit)) (λ x y i. attr_led e.unit x y i) e.attrs attrs.0 attrs.1)
+
+  entries_led : (raw : List RawEntry) (now : List Entry) → entries_given meant raw ≡ Ok now → map outline now ≡ map (outline_led places) raw
+  entries_led raw now e = each_seen outline (outline_led places) (λ (x : RawEntry). entry_given (meant x.unit) x) (λ x y i. entry_led x y i) raw now e
 
 -- ---- values
 
@@ -112,7 +115,7 @@ module _ (s : Context) (places : List ℕ) where
       ap target_in (sym (ok_is (values.Expr ops.0) now ops.2))
   block_target false form bytes first now e = ap target_in (sym (ok_is (values.Block form bytes) now e))
 
-  value_target : (a : Attr) (value now : Value) → value_meant s places a value ≡ Ok now → target_in now ≡ option_and_then (number_at places) (target_in value)
+  value_target : (a : RawAttr) (value now : Value) → value_meant s places a value ≡ Ok now → target_in now ≡ option_and_then (number_at places) (target_in value)
   value_target a (values.Address place) now e = ap target_in (sym (ok_is _ now e))
   value_target a (values.Ref place) now e =
       let k = bind_ok (or_fault (number_at places place) (dangling a)) (λ k. Ok (values.Ref k)) now e in
@@ -157,7 +160,7 @@ module _ (o : Opened) (s : Context) (base : Addr) where
 -- ---- line tables
 
 first_seen : (b : Bool) (a : Attr) (attrs others : List Attr) → map seen others ≡ map seen attrs → map seen (if b then with_value a (lines_value a.value) ∷ attrs else a ∷ others) ≡ seen a ∷ map seen attrs
-first_seen true a attrs others e = ap (λ (t : Option ℕ). (a.name, a.end, t) ∷ map seen attrs) (lines_target a.value)
+first_seen true a attrs others e = ap (λ (t : Option ℕ). (a.name, a.form, t) ∷ map seen attrs) (lines_target a.value)
 first_seen false a attrs others e = ap (λ (s : List Seen). seen a ∷ s) e
 
 marked_seen : (attrs : List Attr) → map seen (lines_marked attrs) ≡ map seen attrs
@@ -218,7 +221,11 @@ got [] k d lt = absurd (omega (arith, lt))
 got (x ∷ xs) zero d lt = refl
 got (x ∷ xs) (suc k) d lt = got xs k d (omega (arith, lt))
 
-module _ (places : List ℕ) (all : List Entry) (are : places_of all ≡ places) where
+-- the places of entries of an analysis
+abbrev places_now : List Entry → List ℕ
+places_now entries = map (λ e. e.place) entries
+
+module _ (places : List ℕ) (all : List Entry) (are : places_now all ≡ places) where
   -- the entry that stands at a place
   target_there : (place k : ℕ) → number_at places place ≡ Some k → (target : Entry) × Stands all k target × (target.place ≡ place)
   target_there place k e =
@@ -245,22 +252,22 @@ module _ (places : List ℕ) (all : List Entry) (are : places_of all ≡ places)
   value_leads end values.Lines now h e = e
   value_leads end (values.Offset n) now h e = e
 
-  attr_is : (spelled now : Attr) → IsReadValue places spelled.end spelled.value → seen now ≡ led places spelled → IsAttr all spelled now
+  attr_is : (spelled : RawAttr) (now : Attr) → IsReadValue places spelled.end spelled.value → seen now ≡ led places spelled → IsAttr all spelled now
   attr_is spelled now h e = record {
     name = ap (λ (s : Seen). s.0) e;
-    end = ap (λ (s : Seen). s.1) e;
+    form = ap (λ (s : Seen). s.1) e;
     leads = value_leads spelled.end spelled.value now.value h (ap (λ (s : Seen). s.2) e);
   }
 
-  entry_is : (spelled now : Entry) → All (λ (a : Attr). IsReadValue places a.end a.value) spelled.attrs → outline now ≡ outline_led places spelled → IsEntry all spelled now
+  entry_is : (spelled : RawEntry) (now : Entry) → All (λ (a : RawAttr). IsReadValue places a.end a.value) spelled.attrs → outline now ≡ outline_led places spelled → IsEntry all spelled now
   entry_is spelled now h e =
-      let bare_is : bare now ≡ bare spelled = ap (λ (o : Outline). o.0) e in
+      let bare_is : bare now ≡ raw_bare spelled = ap (λ (o : Outline). o.0) e in
       record {
         parent = ap (λ (x : Entry). x.parent) bare_is;
         unit = ap (λ (x : Entry). x.unit) bare_is;
         place = ap (λ (x : Entry). x.place) bare_is;
         tag = ap (λ (x : Entry). x.tag) bare_is;
-        attrs = by_item (λ (a : Attr). IsReadValue places a.end a.value) (IsAttr all) seen (led places) (λ y x r i. attr_is y x r i) now.attrs spelled.attrs h (ap (λ (o : Outline). o.1) e);
+        attrs = by_item (λ (a : RawAttr). IsReadValue places a.end a.value) (IsAttr all) seen (led places) (λ y x r i. attr_is y x r i) now.attrs spelled.attrs h (ap (λ (o : Outline). o.1) e);
       }
 
 unit_is : (spelled now : InUnit) → unit_seen now ≡ unit_seen spelled → IsUnit spelled now
@@ -273,15 +280,15 @@ unit_is spelled now e = record {
 
 -- ---- the analysis
 
-outline_places : (now : List Entry) → places_of now ≡ map (λ (o : Outline). o.0.place) (map outline now)
+outline_places : (now : List Entry) → places_now now ≡ map (λ (o : Outline). o.0.place) (map outline now)
 outline_places [] = refl
 outline_places (e ∷ now) = ap (λ (ps : List ℕ). e.place ∷ ps) (outline_places now)
 
-led_places : (places : List ℕ) (old : List Entry) → places_of old ≡ map (λ (o : Outline). o.0.place) (map (outline_led places) old)
+led_places : (places : List ℕ) (old : List RawEntry) → places_of old ≡ map (λ (o : Outline). o.0.place) (map (outline_led places) old)
 led_places places [] = refl
 led_places places (e ∷ old) = ap (λ (ps : List ℕ). e.place ∷ ps) (led_places places old)
 
-places_from : (places : List ℕ) (now old : List Entry) → map outline now ≡ map (outline_led places) old → places_of now ≡ places_of old
+places_from : (places : List ℕ) (now : List Entry) (old : List RawEntry) → map outline now ≡ map (outline_led places) old → places_now now ≡ places_of old
 places_from places now old e = outline_places now ∙ ap (map (λ (o : Outline). o.0.place)) e ∙ sym (led_places places old)
 
 -- what was read, and what it is in an analysis
@@ -294,7 +301,7 @@ unfolding units_analysed
 analysis_of_raw o m raw a inside e =
     let places : List ℕ = places_of raw.entries in
     let last : List InUnit → List Entry → Result Analysis Fault = λ units entries. (frames_of o.image o.relocs.frame o.sections.frame >>= λ frames. Ok (record { units = units; entries = entries; code = code_of m entries; frames = frames_moved m frames })) in
-    let locate : List Entry → List Entry → Result (List Entry) Fault = λ meant ranged. entries_by (λ unit x. locations_meant o (loc_context o m meant unit (unit_start raw.units meant unit)) (unit_base raw.units meant unit) x x.value) ranged in
+    let locate : List Entry → List Entry → Result (List Entry) Fault = λ meant ranged. entries_by (λ unit x. locations_meant o (loc_context o m raw.entries unit (unit_start raw.units raw.entries unit)) (unit_base raw.units meant unit) x x.value) ranged in
     let range : List Entry → Result (List Entry) Fault = λ meant. entries_by (λ unit x. ranges_meant o m (unit_base raw.units meant unit) x x.value) (all_marked meant) in
     let meant = bind_ok (entries_meant o m raw.units raw.entries) (λ meant. units_meant o m meant raw.units >>= λ units. range meant >>= λ ranged. locate meant ranged >>= λ entries. last units entries) a e in
     let units = bind_ok (units_meant o m meant.0 raw.units) (λ units. range meant.0 >>= λ ranged. locate meant.0 ranged >>= λ entries. last units entries) a meant.2 in
@@ -303,16 +310,17 @@ analysis_of_raw o m raw a inside e =
     let frames = bind_ok (frames_of o.image o.relocs.frame o.sections.frame) (λ frames. Ok (record { units = units.0; entries = entries.0; code = code_of m entries.0; frames = frames_moved m frames })) a entries.2 in
     let done : Analysis = record { units = units.0; entries = entries.0; code = code_of m entries.0; frames = frames_moved m frames.0 } in
     let seen_meant : map outline meant.0 ≡ map (outline_led places) raw.entries =
-    entries_seen (option_and_then (number_at places)) (λ unit x. value_meant (info_context o m raw.entries unit (unit_start raw.units raw.entries unit)) places x x.value)
-    (λ unit x now i. value_target (info_context o m raw.entries unit (unit_start raw.units raw.entries unit)) places x x.value now i) raw.entries meant.0 meant.1 in
+    entries_led places (λ unit x. value_meant (info_context o m raw.entries unit (unit_start raw.units raw.entries unit)) places x x.value)
+    (λ unit x now i. value_target (info_context o m raw.entries unit (unit_start raw.units raw.entries unit)) places x x.value now i) raw.entries meant.0
+    (given_is (λ unit x. value_meant (info_context o m raw.entries unit (unit_start raw.units raw.entries unit)) places x x.value) raw.entries meant.0 meant.1) in
     let seen_ranged : map outline ranged.0 ≡ map outline (all_marked meant.0) =
-    entries_seen same (λ unit x. ranges_meant o m (unit_base raw.units meant.0 unit) x x.value) (λ unit x now i. range_target o m (unit_base raw.units meant.0 unit) x x.value now i) (all_marked meant.0) ranged.0 ranged.1 in
+    entries_seen (λ unit x. ranges_meant o m (unit_base raw.units meant.0 unit) x x.value) (λ unit x now i. range_target o m (unit_base raw.units meant.0 unit) x x.value now i) (all_marked meant.0) ranged.0 ranged.1 in
     let seen_located : map outline entries.0 ≡ map outline ranged.0 =
-    entries_seen same (λ unit x. locations_meant o (loc_context o m meant.0 unit (unit_start raw.units meant.0 unit)) (unit_base raw.units meant.0 unit) x x.value)
-    (λ unit x now i. location_target o (loc_context o m meant.0 unit (unit_start raw.units meant.0 unit)) (unit_base raw.units meant.0 unit) x x.value now i) ranged.0 entries.0 entries.1 in
+    entries_seen (λ unit x. locations_meant o (loc_context o m raw.entries unit (unit_start raw.units raw.entries unit)) (unit_base raw.units meant.0 unit) x x.value)
+    (λ unit x now i. location_target o (loc_context o m raw.entries unit (unit_start raw.units raw.entries unit)) (unit_base raw.units meant.0 unit) x x.value now i) ranged.0 entries.0 entries.1 in
     let whole : map outline entries.0 ≡ map (outline_led places) raw.entries = seen_located ∙ seen_ranged ∙ all_marked_seen meant.0 ∙ seen_meant in
-    let are : places_of entries.0 ≡ places = places_from places entries.0 raw.entries whole in
+    let are : places_now entries.0 ≡ places = places_from places entries.0 raw.entries whole in
     let u : ByItem IsUnit raw.units units.0 = by_item (λ (x : InUnit). Unit {0}) IsUnit unit_seen unit_seen (λ y x t i. unit_is y x i) units.0 raw.units (λ k d lt. tt) (units_seen o m meant.0 raw.units units.0 units.1) in
     let es : ByItem (IsEntry entries.0) raw.entries entries.0 =
-    by_item (λ (x : Entry). All (λ (b : Attr). IsReadValue places b.end b.value) x.attrs) (IsEntry entries.0) outline (outline_led places) (λ y x r i. entry_is places entries.0 are y x r i) entries.0 raw.entries (all_read o.sections raw.entries inside) whole in
+    by_item (λ (x : RawEntry). All (λ (b : RawAttr). IsReadValue places b.end b.value) x.attrs) (IsEntry entries.0) outline (outline_led places) (λ y x r i. entry_is places entries.0 are y x r i) entries.0 raw.entries (all_read o.sections raw.entries inside) whole in
     subst (IsOfRaw raw) (ok_is done a frames.2) (record { units = u; entries = es })

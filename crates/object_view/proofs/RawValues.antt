@@ -4,8 +4,8 @@ use Rattle.std.specs.List.{All}
 use Rattle.std.proofs.lemmas.List.Elements.{All-nil, All-cons, All-append}
 use Rattle.dwarf_types.specs.declared.abbrev.Abbrev.{Abbrev}
 use Rattle.dwarf_types.specs.declared.abbrev.Field.{Field}
-use Rattle.dwarf_types.specs.declared.entry.Attr.{Attr}
-use Rattle.dwarf_types.specs.declared.entry.Entry.{Entry}
+use Rattle.dwarf_types.specs.declared.entry.RawAttr.{RawAttr}
+use Rattle.dwarf_types.specs.declared.entry.RawEntry.{RawEntry}
 use Rattle.dwarf_types.specs.declared.entry.RawUnits.{RawUnits}
 use Rattle.dwarf_types.specs.declared.value.Value.{Value}
 use Rattle.dwarf_types.specs.declared.value.Value.TheVariants as values
@@ -26,10 +26,10 @@ use Rattle.unit_tree.proofs.UnitLaws.{units_spelled}
 abbrev pub IsPlain : Value → Type 0
 IsPlain value = operations_of value ≡ []
 
-abbrev pub IsPlainAttr : Attr → Type 0
+abbrev pub IsPlainAttr : RawAttr → Type 0
 IsPlainAttr a = IsPlain a.value
 
-abbrev pub IsPlainEntry : Entry → Type 0
+abbrev pub IsPlainEntry : RawEntry → Type 0
 IsPlainEntry e = All IsPlainAttr e.attrs
 
 -- ---- attributes
@@ -60,11 +60,11 @@ value_plain : (place : ℕ) (field : Field) (value : Value) → IsPlain value �
 value_plain place field (values.Offset n) h = meant_plain place (meaning_of field.form field.name) n
 value_plain place field value h = h
 
-attr_plain : (sections : SectionBytes) (unit : ℕ) (lines : Bool) (field : Field) (attr : Attr) (place : ℕ) (bytes : List ℕ) → SpellsAttr sections unit lines field attr place bytes → IsPlainAttr attr
+attr_plain : (sections : SectionBytes) (unit : ℕ) (lines : Bool) (field : Field) (attr : RawAttr) (place : ℕ) (bytes : List ℕ) → SpellsAttr sections unit lines field attr place bytes → IsPlainAttr attr
 attr_plain sections unit lines field attr place bytes h =
     subst IsPlainAttr (sym h.is) (value_plain unit field h.value (stored_plain h.spells.row.class field sections bytes h.value h.spells.spells))
 
-attrs_plain : (sections : SectionBytes) (unit : ℕ) (root : Bool) (fields : List Field) (before attrs : List Attr) (place : ℕ) (bytes : List ℕ) → SpellsAttrs sections unit root fields before attrs place bytes → All IsPlainAttr attrs
+attrs_plain : (sections : SectionBytes) (unit : ℕ) (root : Bool) (fields : List Field) (before attrs : List RawAttr) (place : ℕ) (bytes : List ℕ) → SpellsAttrs sections unit root fields before attrs place bytes → All IsPlainAttr attrs
 attrs_plain sections unit root [] before [] place bytes h = All-nil IsPlainAttr
 attrs_plain sections unit root [] before (attr ∷ attrs) place bytes h = absurd h
 attrs_plain sections unit root (field ∷ fields) before [] place bytes h = absurd h

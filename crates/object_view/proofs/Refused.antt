@@ -16,6 +16,8 @@ use Rattle.dwarf_types.specs.declared.address.Addr.{Addr}
 use Rattle.dwarf_types.specs.declared.entry.Attr.{Attr}
 use Rattle.dwarf_types.specs.declared.entry.Entry.{Entry}
 use Rattle.dwarf_types.specs.declared.entry.InUnit.{InUnit}
+use Rattle.dwarf_types.specs.declared.entry.RawAttr.{RawAttr}
+use Rattle.dwarf_types.specs.declared.entry.RawEntry.{RawEntry}
 use Rattle.dwarf_types.specs.declared.entry.RawUnits.{RawUnits}
 use Rattle.dwarf_types.specs.declared.lists.RawLocation.{RawLocation}
 use Rattle.dwarf_types.specs.declared.value.Value.{Value}
@@ -46,7 +48,7 @@ use Rattle.unit_tree.specs.Meaning.{table_of}
 use Rattle.unit_tree.specs.Unit.{units_of}
 use Rattle.object_view.specs.declared.locations.TheConstants.{EXPRESSION_LIMIT}
 use Rattle.object_view.specs.Analysis.{analysis_of, units_analysed}
-use Rattle.object_view.specs.Attributes.{all_marked, attr_by, attrs_by, dangling, each_of, entries_by, entries_meant, entry_by, info_context, item_meant, line_place, loc_context, locations_at, locations_by_role, locations_meant, number_at, ranges_at, ranges_by_role, ranges_meant, unit_base, unit_with_lines, units_meant, value_meant}
+use Rattle.object_view.specs.Attributes.{all_marked, attr_by, attrs_by, dangling, each_of, entries_by, entries_meant, entry_by, info_context, item_meant, line_place, loc_context, locations_at, locations_by_role, locations_meant, number_at, ranges_at, ranges_by_role, ranges_meant, raw_attr_by, raw_attrs_by, raw_entries_by, raw_entry_by, unit_base, unit_with_lines, units_meant, value_meant}
 use Rattle.object_view.specs.Faults.{object_kinds}
 use Rattle.object_view.specs.Opened.{Opened, opened_of, part_relocs, relocs_among, relocs_in}
 use Rattle.object_view.specs.Parts.{all_tried, is_tried, section_of, section_tried}
@@ -91,6 +93,15 @@ entry_kinds meant h e = bind_kinds IsOne (attrs_by meant e.attrs) _ (each_kinds 
 
 entries_kinds : (meant : ℕ → Attr → Result Value Fault) → ((unit : ℕ) (a : Attr) → FaultsAre IsOne (meant unit a)) → (entries : List Entry) → FaultsAre IsOne (entries_by meant entries)
 entries_kinds meant h entries = each_kinds (λ (e : Entry). entry_by (meant e.unit) e) (λ e. entry_kinds (meant e.unit) (h e.unit) e) entries
+
+raw_attr_kinds : (meant : RawAttr → Result Value Fault) → ((a : RawAttr) → FaultsAre IsOne (meant a)) → (a : RawAttr) → FaultsAre IsOne (raw_attr_by meant a)
+raw_attr_kinds meant h a = bind_kinds IsOne (meant a) _ (h a) (λ value. ok_kinds IsOne _)
+
+raw_entry_kinds : (meant : RawAttr → Result Value Fault) → ((a : RawAttr) → FaultsAre IsOne (meant a)) → (e : RawEntry) → FaultsAre IsOne (raw_entry_by meant e)
+raw_entry_kinds meant h e = bind_kinds IsOne (raw_attrs_by meant e.attrs) _ (each_kinds (raw_attr_by meant) (raw_attr_kinds meant h) e.attrs) (λ attrs. ok_kinds IsOne _)
+
+raw_entries_kinds : (meant : ℕ → RawAttr → Result Value Fault) → ((unit : ℕ) (a : RawAttr) → FaultsAre IsOne (meant unit a)) → (entries : List RawEntry) → FaultsAre IsOne (raw_entries_by meant entries)
+raw_entries_kinds meant h entries = each_kinds (λ (e : RawEntry). raw_entry_by (meant e.unit) e) (λ e. raw_entry_kinds (meant e.unit) (h e.unit) e) entries
 
 module _ (laws : Laws) where
   -- ---- the object
@@ -168,7 +179,7 @@ module _ (laws : Laws) where
   block_kinds : (s : Context) (b : Bool) (form : ℕ) (bytes : List ℕ) (first : ℕ) → FaultsAre IsOne (if b then (expression_of s bytes first >>= λ ops. Ok (values.Expr ops)) else Ok (values.Block form bytes))
   block_kinds s b form bytes first = either_kinds IsOne b _ (Ok (values.Block form bytes)) (bind_kinds IsOne (expression_of s bytes first) _ (expression_kinds s bytes first) (λ ops. ok_kinds IsOne _)) (ok_kinds IsOne _)
 
-  value_kinds : (s : Context) (places : List ℕ) (a : Attr) (value : Value) → FaultsAre IsOne (value_meant s places a value)
+  value_kinds : (s : Context) (places : List ℕ) (a : RawAttr) (value : Value) → FaultsAre IsOne (value_meant s places a value)
   value_kinds s places a (values.Address place) = ok_kinds IsOne _
   value_kinds s places a (values.Ref place) =
       bind_kinds IsOne (or_fault (number_at places place) (dangling a)) _ (found_kinds IsOne (number_at places place) (dangling a) (15, omega arith, refl)) (λ k. ok_kinds IsOne _)
@@ -245,14 +256,15 @@ module _ (laws : Laws) where
   unfolding units_analysed
   analysed_kinds o map raw =
       bind_kinds IsOne (entries_meant o map raw.units raw.entries) _
-      (entries_kinds (λ unit a. value_meant (info_context o map raw.entries unit (unit_start raw.units raw.entries unit)) (places_of raw.entries) a a.value)
-      (λ unit a. value_kinds (info_context o map raw.entries unit (unit_start raw.units raw.entries unit)) (places_of raw.entries) a a.value) raw.entries) (λ meant.
+      (bind_kinds IsOne (raw_entries_by (λ unit a. value_meant (info_context o map raw.entries unit (unit_start raw.units raw.entries unit)) (places_of raw.entries) a a.value) raw.entries) _
+      (raw_entries_kinds (λ unit a. value_meant (info_context o map raw.entries unit (unit_start raw.units raw.entries unit)) (places_of raw.entries) a a.value)
+      (λ unit a. value_kinds (info_context o map raw.entries unit (unit_start raw.units raw.entries unit)) (places_of raw.entries) a a.value) raw.entries) (λ made. ok_kinds IsOne _)) (λ meant.
       bind_kinds IsOne (units_meant o map meant raw.units) _ (units_meant_kinds o map meant raw.units) (λ units.
       bind_kinds IsOne (entries_by (λ unit a. ranges_meant o map (unit_base raw.units meant unit) a a.value) (all_marked meant)) _
       (entries_kinds (λ unit a. ranges_meant o map (unit_base raw.units meant unit) a a.value) (λ unit a. ranges_kinds o map (unit_base raw.units meant unit) a a.value) (all_marked meant)) (λ ranged.
-      bind_kinds IsOne (entries_by (λ unit a. locations_meant o (loc_context o map meant unit (unit_start raw.units meant unit)) (unit_base raw.units meant unit) a a.value) ranged) _
-      (entries_kinds (λ unit a. locations_meant o (loc_context o map meant unit (unit_start raw.units meant unit)) (unit_base raw.units meant unit) a a.value)
-      (λ unit a. locations_kinds o (loc_context o map meant unit (unit_start raw.units meant unit)) (unit_base raw.units meant unit) a a.value) ranged) (λ entries.
+      bind_kinds IsOne (entries_by (λ unit a. locations_meant o (loc_context o map raw.entries unit (unit_start raw.units raw.entries unit)) (unit_base raw.units meant unit) a a.value) ranged) _
+      (entries_kinds (λ unit a. locations_meant o (loc_context o map raw.entries unit (unit_start raw.units raw.entries unit)) (unit_base raw.units meant unit) a a.value)
+      (λ unit a. locations_kinds o (loc_context o map raw.entries unit (unit_start raw.units raw.entries unit)) (unit_base raw.units meant unit) a a.value) ranged) (λ entries.
       bind_kinds IsOne (frames_of o.image o.relocs.frame o.sections.frame) _ (frames_kinds o) (λ frames. ok_kinds IsOne _)))))
 
   pub analysis_kinds : (bytes : List ℕ) (object : MapObject) (cpu : ℕ) → FaultsAre IsOne (analysis_of bytes object cpu)

@@ -1,5 +1,5 @@
 -- Every analysis is sound, where the units that it was made of are.
-use Rattle.std.proofs.Common.{◌≡◌, ℕ, suc, ◌+◌, ◌≤◌, ◌==◌, Bool, true, false, List, [], ◌∷◌, ◌++◌, map, Option, Some, None, length, get_or, slice_get, Result, Ok, Err, refl, sym, ap, subst, ◌∙◌, arith}
+use Rattle.std.proofs.Common.{◌≡◌, ℕ, ◌+◌, ◌≤◌, ◌==◌, Bool, true, false, List, [], ◌∷◌, ◌++◌, map, Option, Some, None, length, get_or, slice_get, Result, Ok, Err, refl, sym, ap, subst, ◌∙◌, arith}
 use Rattle.std.specs.Prelude.{if◌then◌else◌, IfOk}
 use Rattle.std.specs.List.{All, enumerate_from, flat_map}
 use Rattle.std.specs.Option.{option_and_then}
@@ -18,7 +18,10 @@ use Rattle.dwarf_types.specs.declared.analysis.CodeRange.{CodeRange}
 use Rattle.dwarf_types.specs.declared.entry.Attr.{Attr}
 use Rattle.dwarf_types.specs.declared.entry.Entry.{Entry}
 use Rattle.dwarf_types.specs.declared.entry.InUnit.{InUnit}
+use Rattle.dwarf_types.specs.declared.entry.RawAttr.{RawAttr}
+use Rattle.dwarf_types.specs.declared.entry.RawEntry.{RawEntry}
 use Rattle.dwarf_types.specs.declared.entry.RawUnits.{RawUnits}
+use Rattle.dwarf_types.specs.declared.value.Value.{Value}
 use Rattle.dwarf_types.specs.declared.lines.RawLines.{RawLines}
 use Rattle.dwarf_types.specs.Live.{Stands, bases_of, op_bases, operations_of}
 use Rattle.dwarf_types.specs.Sound.{AreCodeRanges, AreUnits, IsBaseType, IsParent, IsSound, IsSoundEntry}
@@ -37,12 +40,14 @@ use Rattle.object_view.specs.Opened.{Opened}
 use Rattle.object_view.specs.Stages.{analysed}
 use Rattle.object_view.specs.Units.{base_types, places_of, unit_start}
 use Rattle.object_view.proofs.Definitions.{analysed_same}
-use Rattle.object_view.proofs.Kept.{Kept, all_kept, bare, each_kept, entries_kept, stood, types_kept}
+use Rattle.object_view.proofs.Kept.{Kept, KeptRaw, all_kept, bare, each_seen, entries_kept, given_kept, kept_length, raw_bare, stood}
 use Rattle.object_view.proofs.KnownTypes.{IsTypeOf}
 use Rattle.object_view.proofs.Names.{all_flat}
 use Rattle.object_view.proofs.Ordered.{as_type, types_from, types_step, with_type}
 use Rattle.object_view.proofs.RawValues.{IsPlain, IsPlainEntry}
 use Rattle.object_view.proofs.Soundness.{AreGood, IsGood, all_marked_good, locations_good, ranges_good, step_all, value_good}
+use Rattle.object_view.proofs.Trees.{StandFrom, all_stand, behind_stand, first_stands}
+use Rattle.object_view.proofs.Understood.{entries_given, given_all, given_is}
 
 -- ---- units
 
@@ -57,7 +62,7 @@ lines_kept o m u now (Some place) e =
 
 units_kept : (o : Opened) (m : AddrMap) (entries : List Entry) (units now : List InUnit) → units_meant o m entries units ≡ Ok now → map span_of now ≡ map span_of units
 units_kept o m entries units now e =
-    each_kept span_of (λ (u : InUnit). unit_with_lines o m u (option_and_then line_place (slice_get entries u.first))) (λ x y is. lines_kept o m x y (option_and_then line_place (slice_get entries x.first)) is) units now e
+    each_seen span_of span_of (λ (u : InUnit). unit_with_lines o m u (option_and_then line_place (slice_get entries u.first))) (λ x y is. lines_kept o m x y (option_and_then line_place (slice_get entries x.first)) is) units now e
 
 are_units : (at : ℕ) (now old : List InUnit) (end : ℕ) → map span_of now ≡ map span_of old → AreUnits at old end → AreUnits at now end
 are_units at [] [] end e h = h
@@ -76,36 +81,34 @@ parent_kept u v k (Some p) e h = (omega (arith, e, h.0), h.1)
 
 -- ---- base types
 
-abbrev IsTypeIn : List Entry → BaseType → Type 0
-IsTypeIn all b = IsBaseType all b.unit b.entry
+-- a base type is one of the entries that were read
+record IsTypeIn (raw : List RawEntry) (b : BaseType) : Type 0 where
+  entry : RawEntry
+  stands : slice_get raw b.entry ≡ Some entry
+  tag : entry.tag ≡ DW_TAG_base_type
+  unit : entry.unit ≡ b.unit
 
--- items stand in a list from a number on
-abbrev StandFrom : ℕ → List Entry → List Entry → Type 0
-StandFrom k entries all = (i : ℕ) (e : Entry) → slice_get entries i ≡ Some e → slice_get all (k + i) ≡ Some e
+with_type_in : (raw : List RawEntry) (k : ℕ) (e : RawEntry) (b : Bool) (others : List BaseType) → (e.tag == DW_TAG_base_type) ≡ b → slice_get raw k ≡ Some e → All (IsTypeIn raw) others → All (IsTypeIn raw) (with_type b (as_type k e) others)
+with_type_in raw k e true others is stands h = All-cons (IsTypeIn raw) (as_type k e) others (record { entry = e; stands = stands; tag = eqb-true e.tag DW_TAG_base_type is; unit = refl }) h
+with_type_in raw k e false others is stands h = h
 
-stand_behind : (k : ℕ) (e : Entry) (entries all : List Entry) → StandFrom k (e ∷ entries) all → StandFrom (k + 1) entries all
-stand_behind k e entries all h i x is = subst (λ (n : ℕ). slice_get all n ≡ Some x) (omega arith) (h (suc i) x is)
+types_in : (raw : List RawEntry) (k : ℕ) (entries : List RawEntry) → StandFrom k entries raw → All (IsTypeIn raw) (types_from k entries)
+types_in raw k [] h = All-nil (IsTypeIn raw)
+types_in raw k (e ∷ entries) h =
+    subst (All (IsTypeIn raw)) (sym (types_step k e entries (e.tag == DW_TAG_base_type) refl))
+    (with_type_in raw k e (e.tag == DW_TAG_base_type) (types_from (k + 1) entries) refl (first_stands k e entries raw h) (types_in raw (k + 1) entries (behind_stand k e entries raw h)))
 
-stand_first : (k : ℕ) (e : Entry) (entries all : List Entry) → StandFrom k (e ∷ entries) all → Stands all k e
-stand_first k e entries all h = subst (λ (n : ℕ). slice_get all n ≡ Some e) (omega arith) (h 0 e refl)
-
-all_stand : (all : List Entry) → StandFrom 0 all all
-all_stand all i e is = let same : i ≡ 0 + i = omega arith in subst (λ (n : ℕ). slice_get all n ≡ Some e) same is
-
-with_type_in : (all : List Entry) (k : ℕ) (e : Entry) (b : Bool) (others : List BaseType) → (e.tag == DW_TAG_base_type) ≡ b → Stands all k e → All (IsTypeIn all) others → All (IsTypeIn all) (with_type b (as_type k e) others)
-with_type_in all k e true others is stands h = All-cons (IsTypeIn all) (as_type k e) others (record { entry = e; stands = stands; tag = eqb-true e.tag DW_TAG_base_type is; unit = refl }) h
-with_type_in all k e false others is stands h = h
-
-types_in : (all : List Entry) (k : ℕ) (entries : List Entry) → StandFrom k entries all → All (IsTypeIn all) (types_from k entries)
-types_in all k [] h = All-nil (IsTypeIn all)
-types_in all k (e ∷ entries) h =
-    subst (All (IsTypeIn all)) (sym (types_step k e entries (e.tag == DW_TAG_base_type) refl))
-    (with_type_in all k e (e.tag == DW_TAG_base_type) (types_from (k + 1) entries) refl (stand_first k e entries all h) (types_in all (k + 1) entries (stand_behind k e entries all h)))
-
-named_in : (all : List Entry) (unit j : ℕ) → IsTypeOf (base_types all) unit j → IsBaseType all unit j
-named_in all unit j h =
-    let there : IsTypeIn all h.base = All-contains (IsTypeIn all) (base_types all) h.base (types_in all 0 all (all_stand all)) h.known in
-    subst (λ (u : ℕ). IsBaseType all u j) h.its_unit (subst (λ (n : ℕ). IsBaseType all h.base.unit n) h.its_entry there)
+named_in : (all : List Entry) (raw : List RawEntry) → KeptRaw all raw → (unit j : ℕ) → IsTypeOf (base_types raw) unit j → IsBaseType all unit j
+named_in all raw kept unit j h =
+    let there : IsTypeIn raw h.base = All-contains (IsTypeIn raw) (base_types raw) h.base (types_in raw 0 raw (all_stand raw)) h.known in
+    let now = stood raw_bare bare raw all (sym kept) h.base.entry there.entry there.stands in
+    let here : IsBaseType all h.base.unit h.base.entry = record {
+      entry = now.0;
+      stands = now.1;
+      tag = ap (λ (x : Entry). x.tag) (sym now.2) ∙ there.tag;
+      unit = ap (λ (x : Entry). x.unit) (sym now.2) ∙ there.unit;
+    } in
+    subst (λ (u : ℕ). IsBaseType all u j) h.its_unit (subst (λ (n : ℕ). IsBaseType all h.base.unit n) h.its_entry here)
 
 -- ---- code
 
@@ -128,9 +131,9 @@ entry_before all from k e false spans others le is stands h = rise_from all from
 code_in : (m : AddrMap) (all : List Entry) (k : ℕ) (entries : List Entry) → StandFrom k entries all → AreCodeRanges all k (flat_map (code_ranges m) (enumerate_from k entries))
 code_in m all k [] h = tt
 code_in m all k (e ∷ entries) h =
-    let others = rise_from all k (k + 1) (flat_map (code_ranges m) (enumerate_from (k + 1) entries)) (omega arith) (code_in m all (k + 1) entries (stand_behind k e entries all h)) in
+    let others = rise_from all k (k + 1) (flat_map (code_ranges m) (enumerate_from (k + 1) entries)) (omega arith) (code_in m all (k + 1) entries (behind_stand k e entries all h)) in
     subst (AreCodeRanges all k) (sym (flat_map-cons (code_ranges m) (k, e) (enumerate_from (k + 1) entries)))
-    (entry_before all k k e (e.tag == DW_TAG_subprogram) (ranges_pieces e ++ low_high_pieces m e) (flat_map (code_ranges m) (enumerate_from (k + 1) entries)) (omega arith) refl (stand_first k e entries all h) others)
+    (entry_before all k k e (e.tag == DW_TAG_subprogram) (ranges_pieces e ++ low_high_pieces m e) (flat_map (code_ranges m) (enumerate_from (k + 1) entries)) (omega arith) refl (first_stands k e entries all h) others)
 
 -- ---- entries
 
@@ -139,32 +142,29 @@ bases_known types count e h =
     all_flat (IsTypeOf types e.unit) (λ (a : Attr). flat_map op_bases (operations_of a.value)) e.attrs (λ k d lt.
     all_flat (IsTypeOf types e.unit) op_bases (operations_of (get_or e.attrs k d).value) (IsGood.known (h k d lt)))
 
-entry_sound : (raw : RawUnits) (a : Analysis) → AreSound raw → Kept a.entries raw.entries → map span_of a.units ≡ map span_of raw.units → AreGood (base_types a.entries) (length a.entries) a.entries → (k : ℕ) (e : Entry) → Stands a.entries k e → IsSoundEntry a k e
+entry_sound : (raw : RawUnits) (a : Analysis) → AreSound raw → KeptRaw a.entries raw.entries → map span_of a.units ≡ map span_of raw.units → AreGood (base_types raw.entries) (length a.entries) a.entries → (k : ℕ) (e : Entry) → Stands a.entries k e → IsSoundEntry a k e
 entry_sound raw a sound kept units good k e stands =
-    let was = stood bare a.entries raw.entries kept k e stands in
+    let was = stood bare raw_bare a.entries raw.entries kept k e stands in
     let unit_is : e.unit ≡ was.0.unit = ap (λ (x : Entry). x.unit) was.2 in
     let parent_is : e.parent ≡ was.0.parent = ap (λ (x : Entry). x.parent) was.2 in
     let lies = sound.entries k was.0 was.1 in
-    let now = stood span_of raw.units a.units (sym units) was.0.unit lies.unit lies.its_unit in
+    let now = stood span_of span_of raw.units a.units (sym units) was.0.unit lies.unit lies.its_unit in
     let first : now.0.first ≡ lies.unit.first = ap (λ (p : ℕ × ℕ). p.0) (sym now.2) in
     let count : now.0.count ≡ lies.unit.count = ap (λ (p : ℕ × ℕ). p.1) (sym now.2) in
     let from_first = lies.lies.from_first in
     let before_end = lies.lies.before_end in
-    let here : All (λ (x : Attr). IsGood (base_types a.entries) (length a.entries) e.unit x.value) e.attrs =
-    subst (λ (x : Entry). All (λ (b : Attr). IsGood (base_types a.entries) (length a.entries) x.unit b.value) x.attrs) (get_or_from_slice_get a.entries k e e stands) (good k e (slice_get_within a.entries k e stands)) in
+    let here : All (λ (x : Attr). IsGood (base_types raw.entries) (length a.entries) e.unit x.value) e.attrs =
+    subst (λ (x : Entry). All (λ (b : Attr). IsGood (base_types raw.entries) (length a.entries) x.unit b.value) x.attrs) (get_or_from_slice_get a.entries k e e stands) (good k e (slice_get_within a.entries k e stands)) in
     record {
       unit = now.0;
       its_unit = subst (λ (n : ℕ). slice_get a.units n ≡ Some now.0) (sym unit_is) now.1;
       lies = record { from_first = omega (arith, first, from_first); before_end = omega (arith, first, count, before_end) };
       parent = parent_kept lies.unit now.0 k e.parent first (subst (IsParent lies.unit k) (sym parent_is) lies.parent);
-      targets = λ attr j contains is. IsGood.target (All-contains (λ (x : Attr). IsGood (base_types a.entries) (length a.entries) e.unit x.value) e.attrs attr here contains) j is;
-      bases = λ j contains. named_in a.entries e.unit j (All-contains (IsTypeOf (base_types a.entries) e.unit) (bases_of e) j (bases_known (base_types a.entries) (length a.entries) e here) contains);
+      targets = λ attr j contains is. IsGood.target (All-contains (λ (x : Attr). IsGood (base_types raw.entries) (length a.entries) e.unit x.value) e.attrs attr here contains) j is;
+      bases = λ j contains. named_in a.entries raw.entries kept e.unit j (All-contains (IsTypeOf (base_types raw.entries) e.unit) (bases_of e) j (bases_known (base_types raw.entries) (length a.entries) e here) contains);
     }
 
 -- ---- the analysis
-
-kept_length : (now old : List Entry) → Kept now old → length now ≡ length old
-kept_length now old kept = sym (length-map now bare) ∙ ap (λ (es : List Entry). length es) kept ∙ length-map old bare
 
 pub analysis_sound : (o : Opened) (m : AddrMap) (raw : RawUnits) (a : Analysis) → AreSound raw → All IsPlainEntry raw.entries → units_analysed o m raw ≡ Ok a → IsSound a
 unfolding units_analysed
@@ -172,7 +172,7 @@ analysis_sound o m raw a sound plain e =
     let types : List BaseType = base_types raw.entries in
     let count : ℕ = length raw.entries in
     let last : List InUnit → List Entry → Result Analysis Fault = λ units entries. (frames_of o.image o.relocs.frame o.sections.frame >>= λ frames. Ok (record { units = units; entries = entries; code = code_of m entries; frames = frames_moved m frames })) in
-    let locate : List Entry → List Entry → Result (List Entry) Fault = λ meant ranged. entries_by (λ unit x. locations_meant o (loc_context o m meant unit (unit_start raw.units meant unit)) (unit_base raw.units meant unit) x x.value) ranged in
+    let locate : List Entry → List Entry → Result (List Entry) Fault = λ meant ranged. entries_by (λ unit x. locations_meant o (loc_context o m raw.entries unit (unit_start raw.units raw.entries unit)) (unit_base raw.units meant unit) x x.value) ranged in
     let range : List Entry → Result (List Entry) Fault = λ meant. entries_by (λ unit x. ranges_meant o m (unit_base raw.units meant unit) x x.value) (all_marked meant) in
     let meant = bind_ok (entries_meant o m raw.units raw.entries) (λ meant. units_meant o m meant raw.units >>= λ units. range meant >>= λ ranged. locate meant ranged >>= λ entries. last units entries) a e in
     let units = bind_ok (units_meant o m meant.0 raw.units) (λ units. range meant.0 >>= λ ranged. locate meant.0 ranged >>= λ entries. last units entries) a meant.2 in
@@ -180,23 +180,21 @@ analysis_sound o m raw a sound plain e =
     let entries = bind_ok (locate meant.0 ranged.0) (λ entries. last units.0 entries) a ranged.2 in
     let frames = bind_ok (frames_of o.image o.relocs.frame o.sections.frame) (λ frames. Ok (record { units = units.0; entries = entries.0; code = code_of m entries.0; frames = frames_moved m frames })) a entries.2 in
     let done : Analysis = record { units = units.0; entries = entries.0; code = code_of m entries.0; frames = frames_moved m frames.0 } in
-    let kept_meant : Kept meant.0 raw.entries = entries_kept (λ unit x. value_meant (info_context o m raw.entries unit (unit_start raw.units raw.entries unit)) (places_of raw.entries) x x.value) raw.entries meant.0 meant.1 in
-    let kept_ranged : Kept ranged.0 raw.entries = entries_kept (λ unit x. ranges_meant o m (unit_base raw.units meant.0 unit) x x.value) (all_marked meant.0) ranged.0 ranged.1 ∙ all_kept meant.0 ∙ kept_meant in
-    let kept : Kept entries.0 raw.entries = entries_kept (λ unit x. locations_meant o (loc_context o m meant.0 unit (unit_start raw.units meant.0 unit)) (unit_base raw.units meant.0 unit) x x.value) ranged.0 entries.0 entries.1 ∙ kept_ranged in
+    let understand : ℕ → RawAttr → Result Value Fault = λ unit x. value_meant (info_context o m raw.entries unit (unit_start raw.units raw.entries unit)) (places_of raw.entries) x x.value in
+    let given : entries_given understand raw.entries ≡ Ok meant.0 = given_is understand raw.entries meant.0 meant.1 in
+    let kept_ranged : Kept ranged.0 meant.0 = entries_kept (λ unit x. ranges_meant o m (unit_base raw.units meant.0 unit) x x.value) (all_marked meant.0) ranged.0 ranged.1 ∙ all_kept meant.0 in
+    let kept : KeptRaw entries.0 raw.entries =
+    entries_kept (λ unit x. locations_meant o (loc_context o m raw.entries unit (unit_start raw.units raw.entries unit)) (unit_base raw.units meant.0 unit) x x.value) ranged.0 entries.0 entries.1
+    ∙ kept_ranged ∙ given_kept understand raw.entries meant.0 given in
     let same_count : length entries.0 ≡ count = kept_length entries.0 raw.entries kept in
-    let same_types : base_types entries.0 ≡ types = types_kept entries.0 raw.entries kept in
-    let long : length (places_of raw.entries) ≡ count = length-map raw.entries (λ (x : Entry). x.place) in
-    let understood : AreGood types count meant.0 = step_all (λ unit x. value_meant (info_context o m raw.entries unit (unit_start raw.units raw.entries unit)) (places_of raw.entries) x x.value) (λ unit value. IsPlain value) (IsGood types count)
-    (λ unit x now r is. value_good (info_context o m raw.entries unit (unit_start raw.units raw.entries unit)) (places_of raw.entries) count long x x.value now r is) raw.entries meant.0 meant.1 plain in
+    let long : length (places_of raw.entries) ≡ count = length-map raw.entries (λ (x : RawEntry). x.place) in
+    let understood : AreGood types count meant.0 = given_all understand (λ unit x. IsPlain x.value) (λ unit x. IsGood types count unit x.value)
+    (λ unit x now r is. value_good (info_context o m raw.entries unit (unit_start raw.units raw.entries unit)) (places_of raw.entries) count long x x.value now r is) raw.entries meant.0 given plain in
     let with_ranges : AreGood types count ranged.0 = step_all (λ unit x. ranges_meant o m (unit_base raw.units meant.0 unit) x x.value) (IsGood types count) (IsGood types count)
     (λ unit x now r is. ranges_good o m types count unit (unit_base raw.units meant.0 unit) x x.value now r is) (all_marked meant.0) ranged.0 ranged.1 (all_marked_good types count meant.0 understood) in
-    let located : AreGood types count entries.0 = step_all (λ unit x. locations_meant o (loc_context o m meant.0 unit (unit_start raw.units meant.0 unit)) (unit_base raw.units meant.0 unit) x x.value) (IsGood types count) (IsGood types count)
-    (λ unit x now r is.
-    let same : base_types meant.0 ≡ types = types_kept meant.0 raw.entries kept_meant in
-    subst (λ (ts : List BaseType). IsGood ts count unit now) same
-    (locations_good o (loc_context o m meant.0 unit (unit_start raw.units meant.0 unit)) count (unit_base raw.units meant.0 unit) x x.value now (subst (λ (ts : List BaseType). IsGood ts count unit x.value) (sym same) r) is)) ranged.0 entries.0 entries.1 with_ranges in
-    let good : AreGood (base_types entries.0) (length entries.0) entries.0 =
-    subst (λ (ts : List BaseType). AreGood ts (length entries.0) entries.0) (sym same_types) (subst (λ (n : ℕ). AreGood types n entries.0) (sym same_count) located) in
+    let located : AreGood types count entries.0 = step_all (λ unit x. locations_meant o (loc_context o m raw.entries unit (unit_start raw.units raw.entries unit)) (unit_base raw.units meant.0 unit) x x.value) (IsGood types count) (IsGood types count)
+    (λ unit x now r is. locations_good o (loc_context o m raw.entries unit (unit_start raw.units raw.entries unit)) count (unit_base raw.units meant.0 unit) x x.value now r is) ranged.0 entries.0 entries.1 with_ranges in
+    let good : AreGood types (length entries.0) entries.0 = subst (λ (n : ℕ). AreGood types n entries.0) (sym same_count) located in
     let same_units = units_kept o m meant.0 raw.units units.0 units.1 in
     let few = sound.few in
     subst IsSound (ok_is done a frames.2) (record {

@@ -13,6 +13,7 @@ use Rattle.dwarf_types.specs.declared.address.Addr.{Addr}
 use Rattle.dwarf_types.specs.declared.address.Span.{Span}
 use Rattle.dwarf_types.specs.declared.entry.Attr.{Attr}
 use Rattle.dwarf_types.specs.declared.entry.Entry.{Entry}
+use Rattle.dwarf_types.specs.declared.entry.RawAttr.{RawAttr}
 use Rattle.dwarf_types.specs.declared.expr.Op.{Op}
 use Rattle.dwarf_types.specs.declared.lists.Location.{Location}
 use Rattle.dwarf_types.specs.declared.lists.RawLocation.{RawLocation}
@@ -83,7 +84,7 @@ module _ (s : Context) (places : List ℕ) (count : ℕ) (long : length places �
   kept_good : (value now : Value) → target_in value ≡ None → IsPlain value → as_it_is value ≡ Ok now → IsGood s.bases count s.unit now
   kept_good value now none plain e = subst (IsGood s.bases count s.unit) (ok_is value now e) (plain_good s.bases count s.unit value none plain)
 
-  pub value_good : (a : Attr) (value now : Value) → IsPlain value → value_meant s places a value ≡ Ok now → IsGood s.bases count s.unit now
+  pub value_good : (a : RawAttr) (value now : Value) → IsPlain value → value_meant s places a value ≡ Ok now → IsGood s.bases count s.unit now
   value_good a (values.Address place) now plain e = kept_good _ now refl refl e
   value_good a (values.Ref place) now plain e =
       let k = bind_ok (or_fault (number_at places place) (dangling a)) (λ k. Ok (values.Ref k)) now e in

@@ -5,8 +5,7 @@ use Rattle.std.specs.List.{All}
 use Rattle.std.specs.Option.{option_map_or}
 use Rattle.std.proofs.lemmas.List.{length-append}
 use Rattle.std.proofs.lemmas.List.Elements.{All-nil, All-cons}
-use Rattle.dwarf_types.specs.declared.entry.Entry.{Entry}
-use Rattle.dwarf_types.specs.Live.{Stands}
+use Rattle.dwarf_types.specs.declared.entry.RawEntry.{RawEntry}
 use Rattle.dwarf_types.specs.SectionBytes.{SectionBytes}
 use Rattle.unit_tree.specs.Spelling.{SpellsUnit, SpellsUnits, UnitTree, entries_of, entry_of, in_unit, in_units, preorder, size, unit_entries}
 use Rattle.unit_tree.proofs.TreeLaws.{length_preorder}
@@ -30,32 +29,32 @@ get_right (y ∷ xs) ys i x e =
     subst (λ (n : ℕ). slice_get (y ∷ (xs ++ ys)) n ≡ Some x) same (get_right xs ys i x e)
 
 -- items stand in a list from a number on
-abbrev pub StandFrom : ℕ → List Entry → List Entry → Type 0
-StandFrom k xs all = (i : ℕ) (e : Entry) → slice_get xs i ≡ Some e → slice_get all (k + i) ≡ Some e
+abbrev pub StandFrom : {X : Type 0} → ℕ → List X → List X → Type 0
+StandFrom {X} k xs all = (i : ℕ) (e : X) → slice_get xs i ≡ Some e → slice_get all (k + i) ≡ Some e
 
-pub first_stands : (k : ℕ) (e : Entry) (xs all : List Entry) → StandFrom k (e ∷ xs) all → Stands all k e
+pub first_stands : {X : Type 0} (k : ℕ) (e : X) (xs all : List X) → StandFrom k (e ∷ xs) all → slice_get all k ≡ Some e
 first_stands k e xs all h = subst (λ (n : ℕ). slice_get all n ≡ Some e) (omega arith) (h 0 e refl)
 
-pub behind_stand : (k : ℕ) (e : Entry) (xs all : List Entry) → StandFrom k (e ∷ xs) all → StandFrom (k + 1) xs all
+pub behind_stand : {X : Type 0} (k : ℕ) (e : X) (xs all : List X) → StandFrom k (e ∷ xs) all → StandFrom (k + 1) xs all
 behind_stand k e xs all h i x is = subst (λ (n : ℕ). slice_get all n ≡ Some x) (omega arith) (h (suc i) x is)
 
-pub left_stand : (k : ℕ) (xs ys all : List Entry) → StandFrom k (xs ++ ys) all → StandFrom k xs all
+pub left_stand : {X : Type 0} (k : ℕ) (xs ys all : List X) → StandFrom k (xs ++ ys) all → StandFrom k xs all
 left_stand k xs ys all h i x is = h i x (get_left xs ys i x is)
 
-pub right_stand : (k : ℕ) (xs ys all : List Entry) → StandFrom k (xs ++ ys) all → StandFrom (k + length xs) ys all
+pub right_stand : {X : Type 0} (k : ℕ) (xs ys all : List X) → StandFrom k (xs ++ ys) all → StandFrom (k + length xs) ys all
 right_stand k xs ys all h i x is = subst (λ (n : ℕ). slice_get all n ≡ Some x) (omega arith) (h (length xs + i) x (get_right xs ys i x is))
 
-pub all_stand : (all : List Entry) → StandFrom 0 all all
+pub all_stand : {X : Type 0} (all : List X) → StandFrom 0 all all
 all_stand all i e is = let same : i ≡ 0 + i = omega arith in subst (λ (n : ℕ). slice_get all n ≡ Some e) same is
 
 -- ---- the units of trees
 
-module _ (all : List Entry) where
+module _ (all : List RawEntry) where
   -- the root of a tree
-  abbrev root_of : ℕ → UnitTree → Entry
+  abbrev root_of : ℕ → UnitTree → RawEntry
   root_of unit t = entry_of unit None t.root
 
-  tree_root : (t : UnitTree) (ts : List UnitTree) (unit number : ℕ) → StandFrom number (entries_of unit number (t ∷ ts)) all → Stands all number (root_of unit t)
+  tree_root : (t : UnitTree) (ts : List UnitTree) (unit number : ℕ) → StandFrom number (entries_of unit number (t ∷ ts)) all → slice_get all number ≡ Some (root_of unit t)
   tree_root t ts unit number h =
       first_stands number (root_of unit t) (preorder unit (Some number) (number + 1) t.kids) all (left_stand number (unit_entries unit number t) (entries_of (suc unit) (number + 1 + size t.kids) ts) all h)
 
@@ -69,7 +68,7 @@ module _ (all : List Entry) where
   units_rooted : (ts : List UnitTree) (unit number : ℕ) → StandFrom number (entries_of unit number ts) all → All (IsRooted all) (in_units number ts)
   units_rooted [] unit number h = All-nil (IsRooted all)
   units_rooted (t ∷ ts) unit number h =
-      let root : IsRooted all (in_unit number t) = subst (λ (o : Option Entry). IfSome o (λ e. e.parent ≡ None)) (sym (tree_root t ts unit number h)) refl in
+      let root : IsRooted all (in_unit number t) = subst (λ (o : Option RawEntry). IfSome o (λ e. e.parent ≡ None)) (sym (tree_root t ts unit number h)) refl in
       All-cons (IsRooted all) (in_unit number t) (in_units (number + 1 + size t.kids) ts) root (units_rooted ts (suc unit) (number + 1 + size t.kids) (trees_behind t ts unit number h))
 
   -- the root stands behind the header
@@ -88,8 +87,8 @@ module _ (all : List Entry) where
       → (k : ℕ) → k < length ts → BeginsAt sections ts place bytes k (option_map_or (start_of all) (slice_get (in_units number ts) k) 0)
   unit_begins sections [] unit number place bytes h stand k lt = absurd (omega (arith, lt))
   unit_begins sections (t ∷ ts) unit number place bytes h stand zero lt =
-      let start : option_map_or (λ (root : Entry). root.place - HEADER_SIZE) (slice_get all number) 0 ≡ place =
-      ap (λ (o : Option Entry). option_map_or (λ (root : Entry). root.place - HEADER_SIZE) o 0) (tree_root t ts unit number stand) ∙ root_place sections t place h.front h.first in
+      let start : option_map_or (λ (root : RawEntry). root.place - HEADER_SIZE) (slice_get all number) 0 ≡ place =
+      ap (λ (o : Option RawEntry). option_map_or (λ (root : RawEntry). root.place - HEADER_SIZE) o 0) (tree_root t ts unit number stand) ∙ root_place sections t place h.front h.first in
       record {
         before = [];
         own = h.front;

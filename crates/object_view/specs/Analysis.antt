@@ -21,7 +21,7 @@ units_analysed o map raw = do
   meant ← entries_meant o map raw.units raw.entries
   units ← units_meant o map meant raw.units
   ranged ← entries_by (λ unit a. ranges_meant o map (unit_base raw.units meant unit) a a.value) (all_marked meant)
-  entries ← entries_by (λ unit a. locations_meant o (loc_context o map meant unit (unit_start raw.units meant unit)) (unit_base raw.units meant unit) a a.value) ranged
+  entries ← entries_by (λ unit a. locations_meant o (loc_context o map raw.entries unit (unit_start raw.units raw.entries unit)) (unit_base raw.units meant unit) a a.value) ranged
   frames ← frames_of o.image o.relocs.frame o.sections.frame
   Ok (record { units = units; entries = entries; code = code_of map entries; frames = frames_moved map frames })
 

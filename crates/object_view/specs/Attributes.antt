@@ -12,12 +12,15 @@ use Rattle.dwarf_types.specs.declared.address.Addr.TheVariants as addrs
 use Rattle.dwarf_types.specs.declared.entry.Attr.{Attr}
 use Rattle.dwarf_types.specs.declared.entry.Entry.{Entry}
 use Rattle.dwarf_types.specs.declared.entry.InUnit.{InUnit}
+use Rattle.dwarf_types.specs.declared.entry.RawAttr.{RawAttr}
+use Rattle.dwarf_types.specs.declared.entry.RawEntry.{RawEntry}
 use Rattle.dwarf_types.specs.declared.expr.Op.{Op}
 use Rattle.dwarf_types.specs.declared.lists.Location.{Location}
 use Rattle.dwarf_types.specs.declared.lists.RawLocation.{RawLocation}
 use Rattle.dwarf_types.specs.declared.value.Value.{Value}
 use Rattle.dwarf_types.specs.declared.value.Value.TheVariants as values
 use Rattle.dwarf_types.specs.Moves.{place_in, value_of}
+use Rattle.dwarf_types.specs.Raw.{entry_of}
 use Rattle.reloc_table.specs.Address.{address_of}
 use Rattle.addr_map.specs.declared.map.AddrMap.{AddrMap}
 use Rattle.expr_walk.specs.Length.{ops_len}
@@ -64,6 +67,19 @@ entry_by meant e = attrs_by meant e.attrs >>= λ attrs. Ok (record e { attrs = a
 abbrev pub entries_by : (ℕ → Attr → Result Value Fault) → List Entry → Result (List Entry) Fault
 entries_by meant entries = each_of (λ e. entry_by (meant e.unit) e) entries
 
+-- the same of attributes and entries as they are read
+abbrev pub raw_attr_by : (RawAttr → Result Value Fault) → RawAttr → Result RawAttr Fault
+raw_attr_by meant a = meant a >>= λ value. Ok (record a { value = value })
+
+abbrev pub raw_attrs_by : (RawAttr → Result Value Fault) → List RawAttr → Result (List RawAttr) Fault
+raw_attrs_by meant attrs = each_of (raw_attr_by meant) attrs
+
+abbrev pub raw_entry_by : (RawAttr → Result Value Fault) → RawEntry → Result RawEntry Fault
+raw_entry_by meant e = raw_attrs_by meant e.attrs >>= λ attrs. Ok (record e { attrs = attrs })
+
+abbrev pub raw_entries_by : (ℕ → RawAttr → Result Value Fault) → List RawEntry → Result (List RawEntry) Fault
+raw_entries_by meant entries = each_of (λ e. raw_entry_by (meant e.unit) e) entries
+
 -- ---- addresses, references and expressions
 
 -- a field of eight bytes that ends at a place of `__debug_info`
@@ -75,11 +91,11 @@ abbrev pub number_at : List ℕ → ℕ → Option ℕ
 number_at places place = position (λ p. p == place) places
 
 -- a reference that leads to no entry; units in which one stands are refused before, so it is never met here
-abbrev pub dangling : Attr → Fault
+abbrev pub dangling : RawAttr → Fault
 dangling a = record { kind = kinds.BadReference; section = parts.Info; place = a.end }
 
 -- a value as it was read, in a context of `__debug_info`
-abbrev pub value_meant : Context → List ℕ → Attr → Value → Result Value Fault
+abbrev pub value_meant : Context → List ℕ → RawAttr → Value → Result Value Fault
 value_meant s places a (values.Address place) = Ok (values.Address (place_of s.map (field_address s a.end place.at)))
 value_meant s places a (values.Ref place) = or_fault (number_at places place) (dangling a) >>= λ k. Ok (values.Ref k)
 value_meant s places a (values.Block form bytes) =
@@ -87,18 +103,18 @@ value_meant s places a (values.Block form bytes) =
 value_meant s places a value = Ok value
 
 -- where an expression of a unit stands in `__debug_info`, and where in `__debug_loc`
-abbrev pub info_context : Opened → AddrMap → List Entry → ℕ → ℕ → Context
+abbrev pub info_context : Opened → AddrMap → List RawEntry → ℕ → ℕ → Context
 info_context o map entries unit start =
     record { image = o.image; map = map; bases = base_types entries; part = parts.Info; relocs = o.relocs.info; unit = unit; start = start }
 
-abbrev pub loc_context : Opened → AddrMap → List Entry → ℕ → ℕ → Context
+abbrev pub loc_context : Opened → AddrMap → List RawEntry → ℕ → ℕ → Context
 loc_context o map entries unit start =
     record { image = o.image; map = map; bases = base_types entries; part = parts.Loc; relocs = o.relocs.loc; unit = unit; start = start }
 
--- all entries, with moved addresses, numbers of entries, and operations
-abbrev pub entries_meant : Opened → AddrMap → List InUnit → List Entry → Result (List Entry) Fault
-entries_meant o map units entries =
-    entries_by (λ unit a. value_meant (info_context o map entries unit (unit_start units entries unit)) (places_of entries) a a.value) entries
+-- all entries, with moved addresses, numbers of entries, and operations, and without the places of their values
+abbrev pub entries_meant : Opened → AddrMap → List InUnit → List RawEntry → Result (List Entry) Fault
+entries_meant o m units raw =
+    raw_entries_by (λ unit a. value_meant (info_context o m raw unit (unit_start units raw unit)) (places_of raw) a a.value) raw >>= λ meant. Ok (map entry_of meant)
 
 -- ---- line tables
 

@@ -1,7 +1,9 @@
 pub mod Analysis
 pub mod Attributes
+pub mod Changes
 pub mod Code
 pub mod Faults
+pub mod Infos
 pub mod Opened
 pub mod Parts
 pub mod Ready

@@ -1,8 +1,7 @@
 -- Stations between the code and the definitions: the contexts of an object's expressions, and what must hold of them.
-use Rattle.std.specs.Prelude.{◌≡◌, ℕ, ◌+◌, ◌-◌, ◌^◌, ◌<◌, ◌≤◌, ◌==◌, List, ◌++◌, length, slice_get, None, IsSome, IfSome, Result, Ok, if◌then◌else◌}
+use Rattle.std.specs.Prelude.{◌≡◌, ℕ, ◌+◌, ◌^◌, ◌<◌, ◌≤◌, List, ◌++◌, length, slice_get, slice_set, Option, None, Some, IsSome, IfSome, Result, Ok}
 use Rattle.std.specs.List.{All, AllPairs, flat_map}
 use Rattle.std.specs.Option.{option_and_then, unwrap_or}
-use Rattle.ds_base.specs.declared.dwarf.TheConstants.{DW_FORM_exprloc}
 use Rattle.ds_base.specs.declared.fault.Fault.{Fault}
 use Rattle.ds_base.specs.Reading.{◌>>=◌}
 use Rattle.dwarf_types.specs.declared.address.Addr.{Addr}
@@ -10,6 +9,8 @@ use Rattle.dwarf_types.specs.declared.address.Addr.TheVariants as addrs
 use Rattle.dwarf_types.specs.declared.entry.Attr.{Attr}
 use Rattle.dwarf_types.specs.declared.entry.Entry.{Entry}
 use Rattle.dwarf_types.specs.declared.entry.InUnit.{InUnit}
+use Rattle.dwarf_types.specs.declared.entry.RawAttr.{RawAttr}
+use Rattle.dwarf_types.specs.declared.entry.RawEntry.{RawEntry}
 use Rattle.dwarf_types.specs.declared.lists.Location.{Location}
 use Rattle.dwarf_types.specs.declared.lists.RawLocation.{RawLocation}
 use Rattle.dwarf_types.specs.declared.value.Value.{Value}
@@ -21,11 +22,10 @@ use Rattle.addr_map.specs.declared.map.AddrMap.{AddrMap}
 use Rattle.addr_map.specs.Sound.{IsSound as IsSoundMap}
 use Rattle.list_items.specs.Sound.{IsSoundSpan}
 use Rattle.expr_resolve.specs.Context.{Context, AreInOrder}
-use Rattle.expr_resolve.specs.Expressions.{expression_of}
 use Rattle.object_view.specs.declared.expressions.Expressions.{Expressions}
 use Rattle.unit_tree.specs.Inside.{IsListInside}
 use Rattle.unit_tree.specs.Meaning.{table_of}
-use Rattle.object_view.specs.Attributes.{each_of, item_meant, item_moved, line_place, number_at}
+use Rattle.object_view.specs.Attributes.{each_of, entry_marked, item_meant, item_moved, line_place, lines_marked, lines_value, number_at, with_value}
 use Rattle.object_view.specs.Opened.{Opened}
 use Rattle.object_view.specs.Sound.{AreSmall, AreSound}
 
@@ -61,6 +61,9 @@ Rise places = AllPairs (λ p later. p < later) places
 abbrev pub AllAttrs : (Attr → Type 0) → List Entry → Type 0
 AllAttrs P entries = All (λ e. All P e.attrs) entries
 
+abbrev pub AllRawAttrs : (RawAttr → Type 0) → List RawEntry → Type 0
+AllRawAttrs P entries = All (λ e. All P e.attrs) entries
+
 -- as it was read: its bytes stand before the place behind it, and a reference leads to one of these places
 abbrev pub IsReadValue : List ℕ → ℕ → Value → Type 0
 IsReadValue places end (values.Address place) = 8 ≤ end
@@ -77,13 +80,20 @@ abbrev pub IsLinesInside : SectionBytes → List Entry → InUnit → Type 0
 IsLinesInside sections entries unit = IfSome (option_and_then line_place (slice_get entries unit.first)) (λ n. n < length sections.line)
 
 -- the first entry of a unit is its root
-abbrev pub IsRooted : List Entry → InUnit → Type 0
+abbrev pub IsRooted : List RawEntry → InUnit → Type 0
 IsRooted entries unit = IfSome (slice_get entries unit.first) (λ e. e.parent ≡ None)
 
--- a block that ends at a place, where an expression means its operations
-abbrev pub block_meant : Context → ℕ → ℕ → List ℕ → Result Value Fault
-block_meant s end form bytes =
-    if form == DW_FORM_exprloc then (expression_of s bytes (end - length bytes) >>= λ ops. Ok (values.Expr ops)) else Ok (values.Block form bytes)
+-- ---- line tables
+
+-- the place of the first stmt_list among attributes, or that there is none
+abbrev pub IsFirstList : List Attr → Option ℕ → Type 0
+IsFirstList attrs None = lines_marked attrs ≡ attrs
+IsFirstList attrs (Some j) = (a : Attr) × (slice_get attrs j ≡ Some a) × (lines_marked attrs ≡ slice_set attrs j (with_value a (lines_value a.value)))
+
+-- the place of the attribute by which an entry names a line table, or that it names none
+abbrev pub IsMarkedAt : Entry → Option ℕ → Type 0
+IsMarkedAt e None = entry_marked e ≡ e
+IsMarkedAt e (Some j) = (a : Attr) × (slice_get e.attrs j ≡ Some a) × (entry_marked e ≡ record e { attrs = slice_set e.attrs j (with_value a values.Lines) })
 
 -- ---- items of location lists
 

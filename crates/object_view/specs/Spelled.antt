@@ -4,6 +4,8 @@ use Rattle.dwarf_types.specs.declared.analysis.Analysis.{Analysis}
 use Rattle.dwarf_types.specs.declared.entry.Attr.{Attr}
 use Rattle.dwarf_types.specs.declared.entry.Entry.{Entry}
 use Rattle.dwarf_types.specs.declared.entry.InUnit.{InUnit}
+use Rattle.dwarf_types.specs.declared.entry.RawAttr.{RawAttr}
+use Rattle.dwarf_types.specs.declared.entry.RawEntry.{RawEntry}
 use Rattle.dwarf_types.specs.declared.value.Value.{Value}
 use Rattle.dwarf_types.specs.declared.value.Value.TheVariants as values
 use Rattle.dwarf_types.specs.Live.{Stands, target_in}
@@ -25,12 +27,12 @@ LeadsAs entries (values.Ref place) now = (k : ℕ) × (target : Entry) × (now �
 LeadsAs entries spelled now = target_in now ≡ None
 
 -- an attribute as it is spelled, and in an analysis with these entries
-pub record IsAttr (entries : List Entry) (spelled now : Attr) : Type 0 where
+pub record IsAttr (entries : List Entry) (spelled : RawAttr) (now : Attr) : Type 0 where
   pub name : now.name ≡ spelled.name
-  pub end : now.end ≡ spelled.end
+  pub form : now.form ≡ spelled.form
   pub leads : LeadsAs entries spelled.value now.value
 
-pub record IsEntry (entries : List Entry) (spelled now : Entry) : Type 0 where
+pub record IsEntry (entries : List Entry) (spelled : RawEntry) (now : Entry) : Type 0 where
   pub parent : now.parent ≡ spelled.parent
   pub unit : now.unit ≡ spelled.unit
   pub place : now.place ≡ spelled.place

@@ -8,18 +8,20 @@ use Rattle.ds_base.specs.Reading.{◌>>=◌}
 use Rattle.dwarf_types.specs.declared.address.Addr.{Addr}
 use Rattle.dwarf_types.specs.declared.address.Addr.TheVariants as addrs
 use Rattle.dwarf_types.specs.declared.analysis.Analysis.{Analysis}
-use Rattle.dwarf_types.specs.declared.entry.Attr.{Attr}
 use Rattle.dwarf_types.specs.declared.entry.Entry.{Entry}
 use Rattle.dwarf_types.specs.declared.entry.InUnit.{InUnit}
+use Rattle.dwarf_types.specs.declared.entry.RawAttr.{RawAttr}
+use Rattle.dwarf_types.specs.declared.entry.RawEntry.{RawEntry}
 use Rattle.dwarf_types.specs.declared.entry.RawUnits.{RawUnits}
 use Rattle.dwarf_types.specs.declared.value.Value.{Value}
+use Rattle.dwarf_types.specs.Raw.{entry_of}
 use Rattle.reloc_table.specs.declared.relocation.Relocs.{Relocs}
 use Rattle.addr_map.specs.declared.map.AddrMap.{AddrMap}
 use Rattle.frame_table.specs.Frames.{frames_of}
 use Rattle.moved_parts.specs.Frames.{frames_moved}
 use Rattle.expr_resolve.specs.declared.context.BaseType.{BaseType}
 use Rattle.expr_resolve.specs.Context.{Context, AreInOrder as AreInOrderTypes}
-use Rattle.object_view.specs.Attributes.{all_marked, base_of, entries_by, locations_meant, ranges_meant, units_meant, value_meant}
+use Rattle.object_view.specs.Attributes.{all_marked, base_of, entries_by, locations_meant, ranges_meant, raw_entries_by, units_meant, value_meant}
 use Rattle.object_view.specs.Code.{code_of}
 use Rattle.object_view.specs.Opened.{Opened}
 use Rattle.object_view.specs.Ready.{Rise, base_at}
@@ -35,7 +37,7 @@ pub record MadeOnce : Type 0 where
 abbrev pub tables_in : Tables → MadeOnce
 tables_in t = record { types = t.types.now; places = t.places.now; starts = t.starts.now }
 
-abbrev pub made_of : List InUnit → List Entry → MadeOnce
+abbrev pub made_of : List InUnit → List RawEntry → MadeOnce
 made_of units entries = record { types = base_types entries; places = places_of entries; starts = map (start_of entries) units }
 
 pub record AreInOrder (t : MadeOnce) : Type 0 where
@@ -49,8 +51,12 @@ context_by o m t part relocs unit =
     record { image = o.image; map = m; bases = t.types; part = part; relocs = relocs; unit = unit; start = unwrap_or (slice_get t.starts unit) 0 }
 
 -- an attribute of `__debug_info`
-abbrev pub info_meant : Opened → AddrMap → MadeOnce → ℕ → Attr → Result Value Fault
+abbrev pub info_meant : Opened → AddrMap → MadeOnce → ℕ → RawAttr → Result Value Fault
 info_meant o m t unit a = value_meant (context_by o m t parts.Info o.relocs.info unit) t.places a a.value
+
+-- entries as they are read, understood
+abbrev pub info_done : Opened → AddrMap → MadeOnce → List RawEntry → Result (List Entry) Fault
+info_done o m t raw = raw_entries_by (info_meant o m t) raw >>= λ meant. Ok (map entry_of meant)
 
 -- entries whose range lists and location lists are read
 abbrev pub lists_meant : Opened → AddrMap → MadeOnce → List Addr → List Entry → Result (List Entry) Fault
@@ -69,9 +75,9 @@ abbrev pub bases_of : List InUnit → List Entry → List Addr
 bases_of units entries = map (λ u. option_map_or base_of (slice_get entries u.first) (addrs.Fixed 0)) units
 
 -- what units and entries mean
-abbrev pub entries_analysed : Opened → AddrMap → MadeOnce → List InUnit → List Entry → Result Analysis Fault
-entries_analysed o m t units entries = do
-  meant ← entries_by (info_meant o m t) entries
+abbrev pub entries_analysed : Opened → AddrMap → MadeOnce → List InUnit → List RawEntry → Result Analysis Fault
+entries_analysed o m t units raw = do
+  meant ← info_done o m t raw
   with_lines ← units_meant o m meant units
   listed ← lists_meant o m t (bases_of units meant) meant
   finished o m with_lines listed

@@ -8,16 +8,16 @@ ghost use Rattle.dwarf_types.specs.Sound.{IsSound};
 ghost use Rattle.unit_tree.specs.Inside.{AreInside};
 ghost use Rattle.unit_tree.specs.Sound.{AreSound as AreSoundUnits};
 ghost use Rattle.object_view.specs.Analysis.{analysis_of};
-ghost use Rattle.object_view.specs.Attributes.{entries_by};
 ghost use Rattle.object_view.specs.Opened.{opened_seen};
-ghost use Rattle.object_view.specs.Ready.{AllAttrs, IsListAttr, IsOpen, IsReadValue, IsRooted};
+ghost use Rattle.object_view.specs.Ready.{AllAttrs, AllRawAttrs, IsListAttr, IsOpen, IsReadValue, IsRooted};
 ghost use Rattle.object_view.specs.Spelled.{IsOfObject};
-ghost use Rattle.object_view.specs.Stages.{AreInOrder as AreInOrderTables, analysed, entries_analysed, finished, info_meant, lists_meant, tables_in};
+ghost use Rattle.object_view.specs.Stages.{AreInOrder as AreInOrderTables, analysed, entries_analysed, finished, info_done, lists_meant, tables_in};
 ghost use Rattle.object_view.specs.Units;
 
 use crate::attributes::InfoValues;
 use crate::code::code_of;
 use crate::expressions::Expressions;
+use crate::info::understand_entries;
 use crate::line_tables::{mark_all, read_line_tables};
 use crate::locations::LocationLists;
 use crate::open::{OpenObject, open_object};
@@ -26,7 +26,7 @@ use crate::steps::change_entries;
 use crate::units::{Tables, base_types, places_of, unit_starts};
 use addr_map::{AddrMap, build};
 use ds_base::{List, Part, ReadError};
-use dwarf_types::{Addr, Analysis, Entry, InUnit, RawUnits};
+use dwarf_types::{Addr, Analysis, Entries, InUnit, RawEntries, RawUnits};
 use frame_table::read_frames;
 use moved_parts::move_frames;
 use stab_map::MapObject;
@@ -77,9 +77,9 @@ fn analyse_units(
     ensures { Gives (λ analysis. analysis) result (analysed (opened_seen object.now) map.now raw) }
 {
     let RawUnits { units, entries } = raw;
-    let types = base_types(alloc, entries.as_slice())?;
-    let places = places_of(alloc, entries.as_slice())?;
-    let starts = unit_starts(alloc, units.as_slice(), entries.as_slice())?;
+    let types = base_types(alloc, &entries)?;
+    let places = places_of(alloc, &entries)?;
+    let starts = unit_starts(alloc, units.as_slice(), &entries)?;
     let tables = Tables {
         types: types.as_slice(),
         places: places.as_slice(),
@@ -95,18 +95,18 @@ fn analyse_entries(
     map: &AddrMap,
     tables: &Tables,
     units: List<InUnit>,
-    entries: List<Entry>,
+    raw: RawEntries,
 ) -> Result<Analysis, ReadError>
     requires open { IsOpen (opened_seen object.now) map.now }
     requires tables { AreInOrderTables (tables_in tables.now) }
-    requires places { tables.now.places.now ≡ Units.places_of entries }
-    requires inside { AreInside (bytes_in object.now.sections) entries }
-    requires rooted { All (IsRooted entries) units }
-    ensures { Gives (λ analysis. analysis) result (entries_analysed (opened_seen object.now) map.now (tables_in tables.now) units entries) }
+    requires places { tables.now.places.now ≡ Units.places_of raw }
+    requires inside { AreInside (bytes_in object.now.sections) raw }
+    requires rooted { All (IsRooted raw) units }
+    ensures { Gives (λ analysis. analysis) result (entries_analysed (opened_seen object.now) map.now (tables_in tables.now) units raw) }
 {
-    let entries = understand_info(alloc, object, map, tables, entries)?;
-    let bases = unit_bases(alloc, units.as_slice(), entries.as_slice())?;
-    let units = read_line_tables(alloc, object, map, entries.as_slice(), units)?;
+    let entries = understand_info(alloc, object, map, tables, raw)?;
+    let bases = unit_bases(alloc, units.as_slice(), &entries)?;
+    let units = read_line_tables(alloc, object, map, &entries, units)?;
     let entries = read_lists(alloc, object, map, tables, bases.as_slice(), entries)?;
     finish(alloc, object, map, units, entries)
 }
@@ -117,14 +117,14 @@ fn understand_info(
     object: &OpenObject,
     map: &AddrMap,
     tables: &Tables,
-    entries: List<Entry>,
-) -> Result<List<Entry>, ReadError>
+    mut raw: RawEntries,
+) -> Result<Entries, ReadError>
     requires open { IsOpen (opened_seen object.now) map.now }
     requires tables { AreInOrderTables (tables_in tables.now) }
-    requires fits { AllAttrs (λ a. IsReadValue tables.now.places.now a.end a.value) entries }
-    ensures { Gives (λ entries. entries) result (entries_by (info_meant (opened_seen object.now) map.now (tables_in tables.now)) entries) }
+    requires fits { AllRawAttrs (λ a. IsReadValue tables.now.places.now a.end a.value) raw }
+    ensures { Gives (λ entries. entries) result (info_done (opened_seen object.now) map.now (tables_in tables.now) raw) }
 {
-    let step = InfoValues {
+    let values = InfoValues {
         expressions: Expressions {
             image: &object.image,
             map,
@@ -135,7 +135,8 @@ fn understand_info(
         },
         places: tables.places,
     };
-    change_entries(alloc, &step, entries)
+    understand_entries(alloc, &values, &mut raw)?;
+    Ok(raw.into_entries()?)
 }
 
 /// Reads the range lists and then the location lists that entries name.
@@ -145,8 +146,8 @@ fn read_lists(
     map: &AddrMap,
     tables: &Tables,
     bases: &[Addr],
-    entries: List<Entry>,
-) -> Result<List<Entry>, ReadError>
+    mut entries: Entries,
+) -> Result<Entries, ReadError>
     requires open { IsOpen (opened_seen object.now) map.now }
     requires tables { AreInOrderTables (tables_in tables.now) }
     requires fits { AllAttrs (IsListAttr (bytes_in object.now.sections)) entries }
@@ -165,8 +166,10 @@ fn read_lists(
         },
         bases,
     };
-    let entries = change_entries(alloc, &ranges, mark_all(entries))?;
-    change_entries(alloc, &locations, entries)
+    mark_all(&mut entries)?;
+    change_entries(alloc, &ranges, &mut entries)?;
+    change_entries(alloc, &locations, &mut entries)?;
+    Ok(entries)
 }
 
 /// The analysis with these units and entries: the code of subprograms and the frame descriptions come to it.
@@ -175,14 +178,14 @@ fn finish(
     object: &OpenObject,
     map: &AddrMap,
     units: List<InUnit>,
-    entries: List<Entry>,
+    entries: Entries,
 ) -> Result<Analysis, ReadError>
     requires open { IsOpen (opened_seen object.now) map.now }
     requires few { length entries < 2 ^ 32 }
     ensures { Gives (λ analysis. analysis) result (finished (opened_seen object.now) map.now units entries) }
 {
     let frames = read_frames(alloc, &object.sections, &object.relocs.frame, &object.image)?;
-    let code = code_of(alloc, map, entries.as_slice())?;
+    let code = code_of(alloc, map, &entries)?;
     Ok(Analysis {
         units,
         entries,

@@ -2,27 +2,28 @@
 
 ghost use Rattle.std.specs.Prelude.{◌≡◌, ◌<◌, ◌≤◌, ◌^◌, length, Some, IsSome};
 ghost use Rattle.ds_base.specs.Reading.{Gives};
-ghost use Rattle.dwarf_types.specs.declared.entry.Attr.{Attr as AnAttr};
+ghost use Rattle.dwarf_types.specs.Seen.{raw_attr_seen};
 ghost use Rattle.list_items.specs.Ends;
 ghost use Rattle.expr_resolve.specs.Context.{context_in};
 ghost use Rattle.object_view.specs.Attributes;
-ghost use Rattle.object_view.specs.Ready.{IsReadValue, IsReady, Rise, block_meant};
+ghost use Rattle.object_view.specs.Changes.{understood_as};
+ghost use Rattle.object_view.specs.Infos.{FitsInfo, IsReadyInfo, info_value};
+ghost use Rattle.object_view.specs.Ready.{IsReady, Rise};
 
 use crate::expressions::{Expressions, context};
-use crate::steps::Step;
 use ds_base::dwarf::DW_FORM_exprloc;
-use ds_base::{Bytes, ReadError};
-use dwarf_types::{Addr, Attr, Boxed, Value};
+use ds_base::{List, ReadError};
+use dwarf_types::{Addr, Op, Place, RawAttrRef, ValueRef};
 use expr_resolve::{ExprContext, read_expression};
 use moved_parts::place;
 use reloc_table::resolve;
 use std::alloc::Global;
-use std::mem::replace;
 
 /// So many bytes has an address.
 const ADDRESS_SIZE: u32 = 8;
 
-/// The step in which addresses move, references lead to the numbers of entries, and expressions are understood.
+/// By what the attributes of `__debug_info` are understood: addresses move, references lead to the numbers of entries,
+/// and expressions become operations.
 #[derive(Clone, Copy)]
 pub(crate) struct InfoValues<'a> {
     pub(crate) expressions: Expressions<'a>,
@@ -30,47 +31,41 @@ pub(crate) struct InfoValues<'a> {
     pub(crate) places: &'a [u32],
 }
 
-impl<'a> Step for InfoValues<'a> {
-    ghost use Rattle.std.specs.Prelude.{ℕ, ◌<◌, ◌^◌, length};
-    ghost use Rattle.object_view.specs.Attributes.{value_meant};
-    ghost use Rattle.object_view.specs.Ready.{IsReadValue, IsReady, Rise, context_of};
-
-    ghost ready = { λ s. ((unit : ℕ) → IsReady (context_of s.expressions unit)) × Rise s.places.now × (length s.places.now < 2 ^ 32) };
-
-    ghost fits = { λ s a. IsReadValue s.places.now a.end a.value };
-
-    ghost meant = { λ s unit a. value_meant (context_of s.expressions unit) s.places.now a a.value };
-
-    fn change(&self, alloc: Global, unit: u32, attr: &mut Attr) -> Result<(), ReadError> {
-        let context = context(&self.expressions, unit);
-        let value = replace(&mut attr.value, Value::Lines);
-        attr.value = understand(alloc, &context, self.places, attr.end, value)?;
-        Ok(())
-    }
+/// What becomes of a value that was read.
+#[derive(Drop)]
+pub(crate) enum Understood {
+    Same,
+    Address(Place),
+    /// The number of an entry.
+    Ref(u32),
+    /// The operations of an expression.
+    Expr(List<Op>),
 }
 
-/// A value as it was read, understood. `end` is the place behind it in `__debug_info`.
-fn understand(
+/// An attribute as it was read, understood. Its entry is of the unit of this number.
+pub(crate) fn understand(
     alloc: Global,
-    context: &ExprContext,
-    places: &[u32],
-    end: u32,
-    value: Value,
-) -> Result<Value, ReadError>
-    requires ready { IsReady (context_in context.now) }
-    requires rise { Rise places.now }
-    requires few { length places.now < 2 ^ 32 }
-    requires fits { IsReadValue places.now end value }
-    ensures { (a : AnAttr) → a.end ≡ end → Gives (λ v. v) result (Attributes.value_meant (context_in context.now) places.now a value) }
+    values: &InfoValues,
+    unit: u32,
+    attr: &RawAttrRef<'_>,
+) -> Result<Understood, ReadError>
+    requires ready { IsReadyInfo values.now }
+    requires fits { FitsInfo values.now (raw_attr_seen attr.now) }
+    ensures { Gives (understood_as (raw_attr_seen attr.now).value) result (info_value values.now unit (raw_attr_seen attr.now)) }
 {
-    match value {
-        Value::Address(stored) => {
-            let at = field_address(context, end, &stored.get().at);
-            Ok(Value::Address(Boxed::new(alloc, place(context.map, at))?))
+    match &attr.value {
+        ValueRef::Address(stored) => {
+            let context = context(&values.expressions, unit);
+            let at = field_address(&context, attr.end, &stored.at);
+            Ok(Understood::Address(place(context.map, at)))
         }
-        Value::Ref(place) => Ok(Value::Ref(number_at(places, place))),
-        Value::Block { form, bytes } => block(alloc, context, end, form, bytes),
-        other => Ok(other),
+        ValueRef::Ref(place) => Ok(Understood::Ref(number_at(values.places, *place))),
+        ValueRef::Block { form, bytes } if *form == DW_FORM_exprloc => {
+            let context = context(&values.expressions, unit);
+            let first = u64::from(attr.end) - bytes.len() as u64;
+            Ok(Understood::Expr(read_expression(alloc, &context, bytes, first)?))
+        }
+        _ => Ok(Understood::Same),
     }
 }
 
@@ -106,24 +101,4 @@ fn number_at(places: &[u32], place: u32) -> u32
         Ok(i) => i as u32,
         Err(_) => unreachable!(),
     }
-}
-
-/// A block, or the operations of an expression. `end` is the place behind it.
-fn block(
-    alloc: Global,
-    context: &ExprContext,
-    end: u32,
-    form: u16,
-    bytes: Bytes,
-) -> Result<Value, ReadError>
-    requires ready { IsReady (context_in context.now) }
-    requires there { length bytes ≤ end }
-    ensures { Gives (λ v. v) result (block_meant (context_in context.now) end form bytes) }
-{
-    if form != DW_FORM_exprloc {
-        return Ok(Value::Block { form, bytes });
-    }
-    let first = u64::from(end) - bytes.len() as u64;
-    let ops = read_expression(alloc, context, bytes.as_slice(), first)?;
-    Ok(Value::Expr(ops))
 }

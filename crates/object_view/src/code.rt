@@ -1,8 +1,9 @@
 //! The code of subprograms in the linked program (DWARF 4, section 2.17).
 
 ghost use Rattle.std.specs.Prelude.{◌≡◌, ◌<◌, ◌^◌, ◌++◌, length, map, IfOk, OnOk};
-ghost use Rattle.std.specs.Option.{option_and_then, option_copied};
-ghost use Rattle.dwarf_types.specs.Moves.{place_in, value_of};
+ghost use Rattle.std.specs.Option.{option_and_then};
+ghost use Rattle.dwarf_types.specs.Moves.{place_in, spans_in, value_of};
+ghost use Rattle.dwarf_types.specs.Seen.{value_seen};
 ghost use Rattle.addr_map.specs.Sound.{IsSound};
 ghost use Rattle.line_read.specs.Rising.{placed};
 ghost use Rattle.object_view.specs.Code;
@@ -10,23 +11,22 @@ ghost use Rattle.object_view.specs.Code;
 use addr_map::{AddrMap, pieces};
 use ds_base::dwarf::{DW_AT_high_pc, DW_AT_low_pc, DW_AT_ranges, DW_FORM_sdata, DW_TAG_subprogram};
 use ds_base::{List, NoMemory};
-use dwarf_types::{Addr, CodeRange, Entry, Place, Span, Value};
-use form_value::is_flag;
+use dwarf_types::{Addr, CodeRange, Entries, EntryRef, Place, Span, ValueRef, is_flag};
 use std::alloc::Global;
 
 /// The pieces of the code of all subprograms, in the order of the entries.
 pub(crate) fn code_of(
     alloc: Global,
     map: &AddrMap,
-    entries: &[Entry],
+    entries: &Entries,
 ) -> Result<List<CodeRange>, NoMemory>
     requires map { IsSound map.now }
     requires few { length entries.now < 2 ^ 32 }
     ensures { IfOk result (λ code. code ≡ Code.code_of map.now entries.now) }
 {
     let mut code = List::new(alloc);
-    for (i, entry) in entries.iter().enumerate() {
-        add_code(alloc, map, i as u32, entry, &mut code)?;
+    for i in 0..entries.len() {
+        add_code(alloc, map, i as u32, &entries.entry(i), &mut code)?;
     }
     Ok(code)
 }
@@ -36,13 +36,13 @@ fn add_code(
     alloc: Global,
     map: &AddrMap,
     number: u32,
-    entry: &Entry,
+    entry: &EntryRef,
     code: &mut List<CodeRange>,
 ) -> Result<(), NoMemory>
     requires { IsSound map.now }
     ensures { OnOk result (code.new ≡ code.old ++ Code.code_ranges map.now (number, entry.now)) }
 {
-    if entry.tag != DW_TAG_subprogram {
+    if entry.tag() != DW_TAG_subprogram {
         return Ok(());
     }
     add_spans(number, ranges_pieces(entry), code)?;
@@ -65,17 +65,27 @@ fn add_spans(number: u32, spans: &[Span], code: &mut List<CodeRange>) -> Result<
 }
 
 /// The pieces of an entry's range list.
-fn ranges_pieces(entry: &Entry) -> &[Span]
+fn ranges_pieces<'a>(entry: &EntryRef<'a>) -> &'a [Span]
     ensures { result.now ≡ Code.ranges_pieces entry.now }
 {
-    match value_of(entry, DW_AT_ranges) {
-        Some(Value::Ranges(spans)) => spans.as_slice(),
+    match entry.find(DW_AT_ranges) {
+        Some(attr) => spans_in(attr.value),
+        None => &[],
+    }
+}
+
+/// The pieces of a range list.
+fn spans_in<'a>(value: ValueRef<'a>) -> &'a [Span]
+    ensures { result.now ≡ spans_in (value_seen value.entry) }
+{
+    match value {
+        ValueRef::Ranges(spans) => spans,
         _ => &[],
     }
 }
 
 /// The pieces from an entry's low_pc to its high_pc.
-fn low_high_pieces(alloc: Global, map: &AddrMap, entry: &Entry) -> Result<List<Span>, NoMemory>
+fn low_high_pieces(alloc: Global, map: &AddrMap, entry: &EntryRef) -> Result<List<Span>, NoMemory>
     requires { IsSound map.now }
     ensures { IfOk result (λ spans. spans ≡ Code.low_high_pieces map.now entry.now) }
 {
@@ -89,25 +99,25 @@ fn low_high_pieces(alloc: Global, map: &AddrMap, entry: &Entry) -> Result<List<S
 }
 
 /// The address of the object that is an entry's low_pc.
-fn low_of(entry: &Entry) -> Option<u64>
+fn low_of(entry: &EntryRef) -> Option<u64>
     ensures { result ≡ option_and_then Code.object_address (value_of DW_AT_low_pc entry.now) }
 {
-    object_address(value_of(entry, DW_AT_low_pc)?)
+    object_address(&entry.find(DW_AT_low_pc)?.value)
 }
 
 /// Where the code ends by an entry's high_pc that begins at an address.
-fn end_of(entry: &Entry, low: u64) -> Option<u64>
+fn end_of(entry: &EntryRef, low: u64) -> Option<u64>
     ensures { result ≡ option_and_then (Code.end_from low) (value_of DW_AT_high_pc entry.now) }
 {
-    end_from(low, value_of(entry, DW_AT_high_pc)?)
+    end_from(low, &entry.find(DW_AT_high_pc)?.value)
 }
 
 /// Where code ends that begins at an address: "the value may be an address, or a constant that is the length".
-fn end_from(low: u64, value: &Value) -> Option<u64>
-    ensures { result ≡ Code.end_from low value.now }
+fn end_from(low: u64, value: &ValueRef<'_>) -> Option<u64>
+    ensures { result ≡ Code.end_from low (value_seen value.now) }
 {
     match value {
-        Value::Number { form, bits } => low.checked_add(length_of(*form, *bits)?),
+        ValueRef::Number { form, bits } => low.checked_add(length_of(*form, *bits)?),
         _ => object_address(value),
     }
 }
@@ -123,8 +133,8 @@ fn length_of(form: u16, bits: u64) -> Option<u64>
 }
 
 /// The address of the object that a value is.
-fn object_address(value: &Value) -> Option<u64>
-    ensures { result ≡ Code.object_address value.now }
+fn object_address(value: &ValueRef<'_>) -> Option<u64>
+    ensures { result ≡ Code.object_address (value_seen value.now) }
 {
     match place_in(value)?.at {
         Addr::Placed(at) => Some(at),
@@ -133,23 +143,11 @@ fn object_address(value: &Value) -> Option<u64>
 }
 
 /// The address that a value of class address holds.
-fn place_in(value: &Value) -> Option<Place>
-    ensures { result ≡ place_in value.now }
+fn place_in(value: &ValueRef<'_>) -> Option<Place>
+    ensures { result ≡ place_in (value_seen value.now) }
 {
     match value {
-        Value::Address(place) => Some(*place.get()),
+        ValueRef::Address(place) => Some(*place),
         _ => None,
     }
-}
-
-/// The value of the entry's first attribute of a name.
-pub(crate) fn value_of(entry: &Entry, name: u16) -> Option<&Value>
-    ensures { option_copied result ≡ value_of name entry.now }
-{
-    let attr = entry
-        .attrs
-        .as_slice()
-        .iter()
-        .find(|attr| attr.name == name)?;
-    Some(&attr.value)
 }

@@ -12,6 +12,7 @@ mod analysis;
 mod attributes;
 mod code;
 mod expressions;
+mod info;
 mod laws;
 mod line_tables;
 mod locations;

@@ -1,20 +1,20 @@
 //! The line tables of units (DWARF 4, section 3.1.1, the statement list).
 
-ghost use Rattle.std.specs.Prelude.{◌≡◌, slice_get};
+ghost use Rattle.std.specs.Prelude.{◌≡◌, ◌<◌, length, slice_get, slice_set, Some, OnOk};
 ghost use Rattle.std.specs.List.{All};
 ghost use Rattle.std.specs.Option.{option_and_then};
 ghost use Rattle.ds_base.specs.Reading.{Gives};
 ghost use Rattle.dwarf_types.specs.SectionBytes.{bytes_in};
+ghost use Rattle.dwarf_types.specs.declared.entry.Entry.{Entry as AnEntry};
 ghost use Rattle.object_view.specs.Attributes;
 ghost use Rattle.object_view.specs.Opened.{opened_seen};
-ghost use Rattle.object_view.specs.Ready.{IsLinesInside, IsOpen};
+ghost use Rattle.object_view.specs.Ready.{IsFirstList, IsLinesInside, IsMarkedAt, IsOpen};
 
-use crate::code::value_of;
 use crate::open::OpenObject;
 use addr_map::AddrMap;
 use ds_base::dwarf::DW_AT_stmt_list;
-use ds_base::{List, ReadError};
-use dwarf_types::{Attr, Entry, InUnit, Value};
+use ds_base::{List, NoMemory, ReadError};
+use dwarf_types::{Entries, EntryRef, InUnit, NewValue, ValueRef};
 use line_read::read_lines;
 use moved_parts::move_lines;
 use std::alloc::Global;
@@ -24,7 +24,7 @@ pub(crate) fn read_line_tables(
     alloc: Global,
     object: &OpenObject,
     map: &AddrMap,
-    entries: &[Entry],
+    entries: &Entries,
     mut units: List<InUnit>,
 ) -> Result<List<InUnit>, ReadError>
     requires open { IsOpen (opened_seen object.now) map.now }
@@ -40,7 +40,7 @@ fn read_each(
     alloc: Global,
     object: &OpenObject,
     map: &AddrMap,
-    entries: &[Entry],
+    entries: &Entries,
     units: &mut [InUnit],
 ) -> Result<(), ReadError>
     requires open { IsOpen (opened_seen object.now) map.now }
@@ -58,7 +58,7 @@ fn read_unit_lines(
     alloc: Global,
     object: &OpenObject,
     map: &AddrMap,
-    entries: &[Entry],
+    entries: &Entries,
     unit: &mut InUnit,
 ) -> Result<(), ReadError>
     requires open { IsOpen (opened_seen object.now) map.now }
@@ -81,65 +81,66 @@ fn read_unit_lines(
 }
 
 /// The place of the line table of the unit whose root has this number.
-fn place_of_lines(entries: &[Entry], first: u32) -> Option<u64>
+fn place_of_lines(entries: &Entries, first: u32) -> Option<u64>
     ensures { result ≡ option_and_then Attributes.line_place (slice_get entries.now first) }
 {
-    line_place(entries.get(first as usize)?)
+    line_place(&entries.get(first as usize)?)
 }
 
 /// The place of a unit's line table, which its root's first stmt_list tells where it is a section offset.
-fn line_place(root: &Entry) -> Option<u64>
+fn line_place(root: &EntryRef) -> Option<u64>
     ensures { result ≡ Attributes.line_place root.now }
 {
-    match value_of(root, DW_AT_stmt_list)? {
-        Value::Offset(place) => Some(*place),
+    match root.find(DW_AT_stmt_list)?.value {
+        ValueRef::Offset(place) => Some(place),
         _ => None,
     }
 }
 
 /// Tells of each unit's root that the unit has a line table, where it names one.
-pub(crate) fn mark_all(mut entries: List<Entry>) -> List<Entry>
-    ensures { result ≡ Attributes.all_marked entries }
+pub(crate) fn mark_all(entries: &mut Entries) -> Result<(), NoMemory>
+    ensures { OnOk result (entries.new ≡ Attributes.all_marked entries.old) }
 {
-    mark_each(entries.as_mut_slice());
-    entries
-}
-
-/// The same, in place.
-fn mark_each(entries: &mut [Entry])
-    ensures { entries.new ≡ Attributes.all_marked entries.old }
-{
-    for entry in entries.iter_mut() {
-        mark_entry(entry);
+    for i in 0..entries.len() {
+        mark_entry(entries, i)?;
     }
+    Ok(())
 }
 
 /// The same of one entry, if it is a root.
-fn mark_entry(entry: &mut Entry)
-    ensures { entry.new ≡ Attributes.entry_marked entry.old }
+fn mark_entry(entries: &mut Entries, i: usize) -> Result<(), NoMemory>
+    requires { i < length entries.old }
+    ensures { (e : AnEntry) → slice_get entries.old i ≡ Some e → OnOk result (entries.new ≡ slice_set entries.old i (Attributes.entry_marked e)) }
 {
-    if entry.parent.is_none() {
-        mark_attrs(entry.attrs.as_mut_slice());
+    match lines_at(&entries.entry(i)) {
+        Some(j) => entries.set(i, j, NewValue::Lines),
+        None => Ok(()),
     }
 }
 
-/// The first stmt_list of some attributes is the unit's line table, where it is a section offset.
-fn mark_attrs(attrs: &mut [Attr])
-    ensures { attrs.new ≡ Attributes.lines_marked attrs.old }
+/// Where the attribute stands by which a root names the unit's line table: its first stmt_list, if that is a section
+/// offset.
+fn lines_at(entry: &EntryRef) -> Option<usize>
+    ensures { IsMarkedAt entry.now result }
 {
-    for attr in attrs.iter_mut() {
-        if attr.name == DW_AT_stmt_list {
-            mark(attr);
-            return;
+    if entry.parent().is_some() {
+        return None;
+    }
+    let j = stmt_list_at(entry)?;
+    match entry.attr(j).value {
+        ValueRef::Offset(_) => Some(j),
+        _ => None,
+    }
+}
+
+/// Where an entry's first stmt_list stands.
+fn stmt_list_at(entry: &EntryRef) -> Option<usize>
+    ensures { IsFirstList entry.now.attrs result }
+{
+    for j in 0..entry.len() {
+        if entry.attr(j).name == DW_AT_stmt_list {
+            return Some(j);
         }
     }
-}
-
-/// A section offset becomes the unit's line table.
-fn mark(attr: &mut Attr)
-    ensures { attr.new ≡ Attributes.with_value attr.old (Attributes.lines_value attr.old.value) }
-{
-    if let Value::Offset(_) = attr.value {
-        attr.value = Value::Lines;
-    }
+    None
 }

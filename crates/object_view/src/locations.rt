@@ -3,6 +3,7 @@
 ghost use Rattle.std.specs.Prelude.{◌≡◌, ◌<◌, ◌++◌, length, map, OnOk, IfOk};
 ghost use Rattle.std.specs.List.{All};
 ghost use Rattle.ds_base.specs.Reading.{Gives};
+ghost use Rattle.dwarf_types.specs.declared.value.Value.TheVariants as values;
 ghost use Rattle.expr_resolve.specs.Context.{context_in};
 ghost use Rattle.object_view.specs.Attributes;
 ghost use Rattle.object_view.specs.Opened.{opened_seen};
@@ -11,9 +12,9 @@ ghost use Rattle.object_view.specs.Ready.{IsOpen, IsReady, IsItem, item_given, i
 use crate::expressions::{Expressions, context};
 use crate::open::OpenObject;
 use crate::ranges::{LIST_VERSION, base_of_unit};
-use crate::steps::Step;
+use crate::steps::{Changed, Step};
 use ds_base::{Fault, Kind, List, NoMemory, Part, ReadError};
-use dwarf_types::{Addr, Attr, Location, Op, PlainOp, RawLocation, Span, Value};
+use dwarf_types::{Addr, AttrRef, Location, Op, PlainOp, RawLocation, Span, ValueRef};
 use expr_resolve::{ExprContext, read_expression};
 use expr_walk::new_length;
 use loc_lists::read_locations;
@@ -47,17 +48,17 @@ impl<'a> Step for LocationLists<'a> {
 
     ghost meant = { λ s unit a. locations_meant (opened_seen s.object.now) (context_of s.expressions unit) (base_at s.bases.now unit) a a.value };
 
-    fn change(&self, alloc: Global, unit: u32, attr: &mut Attr) -> Result<(), ReadError> {
-        let Value::Offset(place) = attr.value else {
-            return Ok(());
+    fn change(&self, alloc: Global, unit: u32, attr: &AttrRef<'_>) -> Result<Changed, ReadError> {
+        let ValueRef::Offset(place) = &attr.value else {
+            return Ok(Changed::Same);
         };
         let Meaning::LocationList = meaning_of_offset(attr.name) else {
-            return Ok(());
+            return Ok(Changed::Same);
         };
         let context = context(&self.expressions, unit);
         let base = base_of_unit(self.bases, unit);
-        attr.value = locations_at(alloc, self.object, &context, &base, place)?;
-        Ok(())
+        let locations = locations_at(alloc, self.object, &context, &base, *place)?;
+        Ok(Changed::Locations(locations))
     }
 }
 
@@ -68,11 +69,11 @@ fn locations_at(
     context: &ExprContext,
     base: &Addr,
     place: u64,
-) -> Result<Value, ReadError>
+) -> Result<List<Location>, ReadError>
     requires open { IsOpen (opened_seen object.now) context.now.map.now }
     requires ready { IsReady (context_in context.now) }
     requires inside { place < length object.now.sections.loc.now }
-    ensures { Gives (λ v. v) result (Attributes.locations_at (opened_seen object.now) (context_in context.now) base.now place) }
+    ensures { Gives (λ items. values.Locations items) result (Attributes.locations_at (opened_seen object.now) (context_in context.now) base.now place) }
 {
     let items = read_locations(
         alloc,
@@ -83,7 +84,7 @@ fn locations_at(
         LIST_VERSION,
         base,
     )?;
-    Ok(Value::Locations(locations_of(alloc, context, items.as_slice())?))
+    locations_of(alloc, context, items.as_slice())
 }
 
 /// The pieces of the items of a list, each with its operations.

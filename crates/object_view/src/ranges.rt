@@ -4,17 +4,19 @@ ghost use Rattle.std.specs.Prelude.{◌≡◌, ◌<◌, map, length, slice_get, 
 ghost use Rattle.std.specs.List.{filter_map};
 ghost use Rattle.std.specs.Option.{option_map_or};
 ghost use Rattle.ds_base.specs.Reading.{Gives};
+ghost use Rattle.dwarf_types.specs.Seen.{attr_seen};
 ghost use Rattle.dwarf_types.specs.declared.address.Addr.TheVariants as addrs;
+ghost use Rattle.dwarf_types.specs.declared.value.Value.TheVariants as values;
 ghost use Rattle.object_view.specs.Attributes;
 ghost use Rattle.object_view.specs.Opened.{opened_seen};
 ghost use Rattle.object_view.specs.Ready.{IsOpen, base_at};
 
 use crate::open::OpenObject;
-use crate::steps::Step;
+use crate::steps::{Changed, Step};
 use addr_map::AddrMap;
 use ds_base::dwarf::DW_AT_low_pc;
 use ds_base::{List, NoMemory, ReadError};
-use dwarf_types::{Addr, Attr, Entry, InUnit, Value};
+use dwarf_types::{Addr, AttrRef, Entries, EntryRef, InUnit, Span, ValueRef};
 use moved_parts::move_spans;
 use range_lists::read_ranges;
 use std::alloc::Global;
@@ -44,16 +46,16 @@ impl<'a> Step for RangeLists<'a> {
 
     ghost meant = { λ s unit a. ranges_meant (opened_seen s.object.now) s.map.now (base_at s.bases.now unit) a a.value };
 
-    fn change(&self, alloc: Global, unit: u32, attr: &mut Attr) -> Result<(), ReadError> {
-        let Value::Offset(place) = attr.value else {
-            return Ok(());
+    fn change(&self, alloc: Global, unit: u32, attr: &AttrRef<'_>) -> Result<Changed, ReadError> {
+        let ValueRef::Offset(place) = &attr.value else {
+            return Ok(Changed::Same);
         };
         let Meaning::RangeList = meaning_of_offset(attr.name) else {
-            return Ok(());
+            return Ok(Changed::Same);
         };
         let base = base_of_unit(self.bases, unit);
-        attr.value = ranges_at(alloc, self.object, self.map, &base, place)?;
-        Ok(())
+        let spans = ranges_at(alloc, self.object, self.map, &base, *place)?;
+        Ok(Changed::Ranges(spans))
     }
 }
 
@@ -64,10 +66,10 @@ fn ranges_at(
     map: &AddrMap,
     base: &Addr,
     place: u64,
-) -> Result<Value, ReadError>
+) -> Result<List<Span>, ReadError>
     requires open { IsOpen (opened_seen object.now) map.now }
     requires inside { place < length object.now.sections.ranges.now }
-    ensures { Gives (λ v. v) result (Attributes.ranges_at (opened_seen object.now) map.now base.now place) }
+    ensures { Gives (λ spans. values.Ranges spans) result (Attributes.ranges_at (opened_seen object.now) map.now base.now place) }
 {
     let spans = read_ranges(
         alloc,
@@ -78,7 +80,7 @@ fn ranges_at(
         LIST_VERSION,
         base,
     )?;
-    Ok(Value::Ranges(move_spans(alloc, map, spans.as_slice())?))
+    Ok(move_spans(alloc, map, spans.as_slice())?)
 }
 
 /// The address from which the lists of the unit of this number count.
@@ -95,7 +97,7 @@ pub(crate) fn base_of_unit(bases: &[Addr], unit: u32) -> Addr
 pub(crate) fn unit_bases(
     alloc: Global,
     units: &[InUnit],
-    entries: &[Entry],
+    entries: &Entries,
 ) -> Result<List<Addr>, NoMemory>
     ensures { IfOk result (λ bases. bases ≡ map (λ u. option_map_or Attributes.base_of (slice_get entries.now u.first) (addrs.Fixed 0)) units.now) }
 {
@@ -107,31 +109,31 @@ pub(crate) fn unit_bases(
 }
 
 /// The address from which the lists of a unit count.
-fn unit_base(entries: &[Entry], unit: &InUnit) -> Addr
+fn unit_base(entries: &Entries, unit: &InUnit) -> Addr
     ensures { result ≡ option_map_or Attributes.base_of (slice_get entries.now unit.now.first) (addrs.Fixed 0) }
 {
     match entries.get(unit.first as usize) {
-        Some(root) => base_of(root),
+        Some(root) => base_of(&root),
         None => Addr::Fixed(0),
     }
 }
 
 /// The first low_pc of class address of a root, else 0.
-fn base_of(root: &Entry) -> Addr
+fn base_of(root: &EntryRef) -> Addr
     ensures { result ≡ Attributes.base_of root.now }
 {
-    match first_low_pc(root.attrs.as_slice()) {
+    match first_low_pc(root) {
         Some(at) => at,
         None => Addr::Fixed(0),
     }
 }
 
 /// The first low_pc of class address.
-fn first_low_pc(attrs: &[Attr]) -> Option<Addr>
-    ensures { result ≡ slice_get (filter_map Attributes.low_pc_in attrs.now) 0 }
+fn first_low_pc(root: &EntryRef) -> Option<Addr>
+    ensures { result ≡ slice_get (filter_map Attributes.low_pc_in root.now.attrs) 0 }
 {
-    for attr in attrs {
-        if let Some(at) = low_pc_in(attr) {
+    for j in 0..root.len() {
+        if let Some(at) = low_pc_in(&root.attr(j)) {
             return Some(at);
         }
     }
@@ -139,14 +141,14 @@ fn first_low_pc(attrs: &[Attr]) -> Option<Addr>
 }
 
 /// The address that an attribute tells as low_pc.
-fn low_pc_in(attr: &Attr) -> Option<Addr>
-    ensures { result ≡ Attributes.low_pc_in attr.now }
+fn low_pc_in(attr: &AttrRef<'_>) -> Option<Addr>
+    ensures { result ≡ Attributes.low_pc_in (attr_seen attr.now) }
 {
     if attr.name != DW_AT_low_pc {
         return None;
     }
     match &attr.value {
-        Value::Address(place) => Some(place.get().at),
+        ValueRef::Address(place) => Some(place.at),
         _ => None,
     }
 }

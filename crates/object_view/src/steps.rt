@@ -1,21 +1,36 @@
 //! Steps over all attributes of an object, in document order.
 
+ghost use Rattle.std.specs.Prelude.{◌≡◌, ◌<◌, length, slice_get, slice_set, Some, OnOk};
 ghost use Rattle.std.specs.List.{All};
 ghost use Rattle.ds_base.specs.Reading.{Gives};
-ghost use Rattle.object_view.specs.Attributes.{attrs_by, entry_by, entries_by};
+ghost use Rattle.dwarf_types.specs.declared.entry.Attr.{Attr as AnAttr};
+ghost use Rattle.dwarf_types.specs.declared.entry.Entry.{Entry as AnEntry};
+ghost use Rattle.object_view.specs.Attributes.{attr_by, entry_by, entries_by, with_value};
+ghost use Rattle.object_view.specs.Changes.{after, making};
 ghost use Rattle.object_view.specs.Ready.{AllAttrs};
 
-use ds_base::{List, ReadError};
-use dwarf_types::{Attr, Entry};
+use ds_base::{List, NoMemory, ReadError};
+use dwarf_types::{AttrRef, Entries, Location, NewValue, Span};
 use std::alloc::Global;
+
+/// What becomes of a value.
+#[derive(Drop)]
+pub(crate) enum Changed {
+    Same,
+    /// A range list.
+    Ranges(List<Span>),
+    /// A location list.
+    Locations(List<Location>),
+}
 
 /// What a step makes of the attributes of an object.
 pub(crate) trait Step {
     ghost use Rattle.std.specs.Prelude.{ℕ, Result};
     ghost use Rattle.ds_base.specs.declared.fault.Fault.{Fault as AFault};
+    ghost use Rattle.dwarf_types.specs.Seen.{attr_seen};
     ghost use Rattle.dwarf_types.specs.declared.entry.Attr.{Attr as AnAttr};
     ghost use Rattle.dwarf_types.specs.declared.value.Value.{Value};
-    ghost use Rattle.object_view.specs.Attributes.{attr_by};
+    ghost use Rattle.object_view.specs.Changes.{after};
 
     /// What must hold where the step is taken.
     ghost ready: { Self → Type 0 };
@@ -26,62 +41,95 @@ pub(crate) trait Step {
     /// What the value of an attribute means, by its entry's unit.
     ghost meant: { Self → ℕ → AnAttr → Result Value AFault };
 
-    /// Changes the value of an attribute, whose entry is of the unit of this number.
-    fn change(&self, alloc: Global, unit: u32, attr: &mut Attr) -> Result<(), ReadError>
+    /// What becomes of the value of an attribute, whose entry is of the unit of this number.
+    fn change(&self, alloc: Global, unit: u32, attr: &AttrRef<'_>) -> Result<Changed, ReadError>
         requires ready { ready self.now }
-        requires fits { fits self.now attr.old }
-        ensures { Gives (λ _. attr.new) result (attr_by (meant self.now unit) attr.old) };
+        requires fits { fits self.now (attr_seen attr.now) }
+        ensures { Gives (after (attr_seen attr.now).value) result (meant self.now unit (attr_seen attr.now)) };
 }
 
-/// Takes a step over all entries.
+/// Takes a step over all entries, in place.
 pub(crate) fn change_entries<S: Step>(
     alloc: Global,
     step: &S,
-    mut entries: List<Entry>,
-) -> Result<List<Entry>, ReadError>
-    requires ready { S.ready step.now }
-    requires fits { AllAttrs (S.fits step.now) entries }
-    ensures { Gives (λ entries. entries) result (entries_by (S.meant step.now) entries) }
-{
-    change_each(alloc, step, entries.as_mut_slice())?;
-    Ok(entries)
-}
-
-/// The same, in place.
-fn change_each<S: Step>(alloc: Global, step: &S, entries: &mut [Entry]) -> Result<(), ReadError>
+    entries: &mut Entries,
+) -> Result<(), ReadError>
     requires ready { S.ready step.now }
     requires fits { AllAttrs (S.fits step.now) entries.old }
     ensures { Gives (λ _. entries.new) result (entries_by (S.meant step.now) entries.old) }
 {
-    for entry in entries.iter_mut() {
-        change_entry(alloc, step, entry)?;
+    for i in 0..entries.len() {
+        change_entry(alloc, step, entries, i)?;
     }
     Ok(())
 }
 
 /// Takes a step over the attributes of an entry.
-fn change_entry<S: Step>(alloc: Global, step: &S, entry: &mut Entry) -> Result<(), ReadError>
-    requires ready { S.ready step.now }
-    requires fits { All (S.fits step.now) entry.old.attrs }
-    ensures { Gives (λ _. entry.new) result (entry_by (S.meant step.now entry.old.unit) entry.old) }
-{
-    let unit = entry.unit;
-    change_attrs(alloc, step, unit, entry.attrs.as_mut_slice())
-}
-
-/// Takes a step over the attributes of an entry.
-fn change_attrs<S: Step>(
+fn change_entry<S: Step>(
     alloc: Global,
     step: &S,
-    unit: u32,
-    attrs: &mut [Attr],
+    entries: &mut Entries,
+    i: usize,
 ) -> Result<(), ReadError>
     requires ready { S.ready step.now }
-    requires fits { All (S.fits step.now) attrs.old }
-    ensures { Gives (λ _. attrs.new) result (attrs_by (S.meant step.now unit) attrs.old) }
+    requires within { i < length entries.old }
+    requires fits { (e : AnEntry) → slice_get entries.old i ≡ Some e → All (S.fits step.now) e.attrs }
+    ensures { (e : AnEntry) → slice_get entries.old i ≡ Some e
+        → Gives (λ _. entries.new) result (making (entry_by (S.meant step.now e.unit) e) (λ made. slice_set entries.old i made)) }
 {
-    for attr in attrs.iter_mut() {
-        step.change(alloc, unit, attr)?;
+    let count = entries.entry(i).len();
+    for j in 0..count {
+        change_attr(alloc, step, entries, i, j)?;
     }
     Ok(())
+}
+
+/// Takes a step over an attribute.
+fn change_attr<S: Step>(
+    alloc: Global,
+    step: &S,
+    entries: &mut Entries,
+    i: usize,
+    j: usize,
+) -> Result<(), ReadError>
+    requires ready { S.ready step.now }
+    requires within { (e : AnEntry) × (slice_get entries.old i ≡ Some e) × (j < length e.attrs) }
+    requires fits { (e : AnEntry) (a : AnAttr) → slice_get entries.old i ≡ Some e → slice_get e.attrs j ≡ Some a → S.fits step.now a }
+    ensures { (e : AnEntry) (a : AnAttr) → slice_get entries.old i ≡ Some e → slice_get e.attrs j ≡ Some a
+        → Gives (λ _. entries.new) result (making (attr_by (S.meant step.now e.unit) a) (λ b. slice_set entries.old i (record e { attrs = slice_set e.attrs j b }))) }
+{
+    let changed = changed_at(alloc, step, entries, i, j)?;
+    put(entries, i, j, &changed)?;
+    Ok(())
+}
+
+/// What becomes of the value at a place.
+fn changed_at<S: Step>(
+    alloc: Global,
+    step: &S,
+    entries: &Entries,
+    i: usize,
+    j: usize,
+) -> Result<Changed, ReadError>
+    requires ready { S.ready step.now }
+    requires within { (e : AnEntry) × (slice_get entries.now i ≡ Some e) × (j < length e.attrs) }
+    requires fits { (e : AnEntry) (a : AnAttr) → slice_get entries.now i ≡ Some e → slice_get e.attrs j ≡ Some a → S.fits step.now a }
+    ensures { (e : AnEntry) (a : AnAttr) → slice_get entries.now i ≡ Some e → slice_get e.attrs j ≡ Some a
+        → Gives (after a.value) result (S.meant step.now e.unit a) }
+{
+    let entry = entries.entry(i);
+    step.change(alloc, entry.unit(), &entry.attr(j))
+}
+
+/// Another value for an attribute.
+fn put(entries: &mut Entries, i: usize, j: usize, changed: &Changed) -> Result<(), NoMemory>
+    requires { (e : AnEntry) × (slice_get entries.old i ≡ Some e) × (j < length e.attrs) }
+    ensures { (e : AnEntry) (a : AnAttr) → slice_get entries.old i ≡ Some e → slice_get e.attrs j ≡ Some a
+        → OnOk result (entries.new ≡ slice_set entries.old i (record e { attrs = slice_set e.attrs j (with_value a (after a.value changed.now)) })) }
+{
+    match changed {
+        Changed::Same => Ok(()),
+        Changed::Ranges(spans) => entries.set(i, j, NewValue::Ranges(spans.as_slice())),
+        Changed::Locations(items) => entries.set(i, j, NewValue::Locations(items.as_slice())),
+    }
 }

@@ -5,7 +5,7 @@ ghost use Rattle.object_view.specs.Units;
 
 use ds_base::dwarf::DW_TAG_base_type;
 use ds_base::{List, NoMemory};
-use dwarf_types::{Entry, InUnit};
+use dwarf_types::{InUnit, RawEntries};
 use expr_resolve::BaseType;
 use std::alloc::Global;
 
@@ -24,17 +24,18 @@ pub(crate) struct Tables<'a> {
 }
 
 /// All base types of an object, in the order of the entries.
-pub(crate) fn base_types(alloc: Global, entries: &[Entry]) -> Result<List<BaseType>, NoMemory>
+pub(crate) fn base_types(alloc: Global, entries: &RawEntries) -> Result<List<BaseType>, NoMemory>
     requires { length entries.now < 2 ^ 32 }
     ensures { IfOk result (λ bases. bases ≡ Units.base_types entries.now) }
 {
     let mut bases = List::new(alloc);
-    for (i, entry) in entries.iter().enumerate() {
-        if entry.tag == DW_TAG_base_type {
+    for i in 0..entries.len() {
+        let entry = entries.entry(i);
+        if entry.tag() == DW_TAG_base_type {
             bases.push(BaseType {
                 entry: i as u32,
-                unit: entry.unit,
-                place: entry.place,
+                unit: entry.unit(),
+                place: entry.place(),
             })?;
         }
     }
@@ -42,12 +43,12 @@ pub(crate) fn base_types(alloc: Global, entries: &[Entry]) -> Result<List<BaseTy
 }
 
 /// The places of all entries.
-pub(crate) fn places_of(alloc: Global, entries: &[Entry]) -> Result<List<u32>, NoMemory>
+pub(crate) fn places_of(alloc: Global, entries: &RawEntries) -> Result<List<u32>, NoMemory>
     ensures { IfOk result (λ places. places ≡ Units.places_of entries.now) }
 {
     let mut places = List::new(alloc);
-    for entry in entries {
-        places.push(entry.place)?;
+    for i in 0..entries.len() {
+        places.push(entries.entry(i).place())?;
     }
     Ok(places)
 }
@@ -56,7 +57,7 @@ pub(crate) fn places_of(alloc: Global, entries: &[Entry]) -> Result<List<u32>, N
 pub(crate) fn unit_starts(
     alloc: Global,
     units: &[InUnit],
-    entries: &[Entry],
+    entries: &RawEntries,
 ) -> Result<List<u32>, NoMemory>
     ensures { IfOk result (λ starts. starts ≡ map (Units.start_of entries.now) units.now) }
 {
@@ -68,11 +69,11 @@ pub(crate) fn unit_starts(
 }
 
 /// The place of a unit's first byte: its root stands behind the header.
-fn start_of(entries: &[Entry], unit: &InUnit) -> u32
+fn start_of(entries: &RawEntries, unit: &InUnit) -> u32
     ensures { result ≡ Units.start_of entries.now unit.now }
 {
     match entries.get(unit.first as usize) {
-        Some(root) => root.place.saturating_sub(HEADER_SIZE),
+        Some(root) => root.place().saturating_sub(HEADER_SIZE),
         None => 0,
     }
 }

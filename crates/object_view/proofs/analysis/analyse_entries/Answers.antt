@@ -1,49 +1,46 @@
-use Rattle.std.proofs.Common.{◌≡◌, ◌∙◌, ℕ, List, Ok, ap, arith, length, refl}
+use Rattle.std.proofs.Common.{◌≡◌, ◌∙◌, ℕ, List, ap, arith, length, refl}
 use Rattle.std.proofs.lemmas.List.{length-map}
 use Rattle.std.proofs.lemmas.Result.{err_from_is_err_and}
-use Rattle.ds_base.specs.declared.fault.Part.TheVariants as parts
 use Rattle.ds_base.proofs.Refusals.{refused_from_gives, refused_gives}
 use Rattle.dwarf_types.specs.declared.entry.Entry.{Entry}
+use Rattle.dwarf_types.specs.declared.entry.RawEntry.{RawEntry}
 use Rattle.dwarf_types.specs.SectionBytes.{bytes_in}
-use Rattle.object_view.specs.Attributes.{units_meant}
 use Rattle.object_view.specs.Opened.{opened_seen}
-use Rattle.object_view.specs.Stages.{bases_of, context_by, tables_in}
-use Rattle.object_view.proofs.Fitting.{all_listed, all_read, info_count, info_listed, lists_count, units_lines}
-use Rattle.object_view.proofs.Assembling.{listed_gives, unlisted_gives}
+use Rattle.object_view.specs.Stages.{bases_of, tables_in}
+use Rattle.object_view.proofs.Fitting.{all_listed, all_read, lists_count}
+use Rattle.object_view.proofs.Assembling.{done_count, done_lines, done_listed, listed_gives, unlisted_gives}
 use Rattle.object_view.proofs.analysis.analyse_entries.Goals as goal
 
 pub returns-in_err-entries-2 : goal.returns-in_err-entries-2
 returns-in_err-entries-2 c =
     let p = err_from_is_err_and c.from_residual-in_err-entries-2.result c.from_residual-in_err-entries-2.ensures.1 in
-    let lines : units_meant (opened_seen c.args.object.now) c.args.map.now c.in_ok-entries.entries c.args.units ≡ Ok c.in_ok-units.units = rw (← c.as_slice-3.ensures) c.in_ok-units.ensures in
-    let bases : c.as_slice-4.result.now ≡ bases_of c.args.units c.in_ok-entries.entries = rw (c.as_slice-4.ensures, c.in_ok-bases.ensures, c.as_slice.ensures, c.as_slice-2.ensures) refl in
+    let bases : c.as_slice-2.result.now ≡ bases_of c.args.units c.in_ok-entries.entries = rw (c.as_slice-2.ensures, c.in_ok-bases.ensures, c.as_slice.ensures) refl in
     let r = refused_from_gives (λ (es : List Entry). es) _ _ c.in_err-entries-2.ensures in
-    let h = unlisted_gives (opened_seen c.args.object.now) c.args.map.now (tables_in c.args.tables.now) c.args.units c.args.entries c.in_ok-entries.entries c.in_ok-units.units c.as_slice-4.result.now
-    c.in_ok-entries.ensures lines bases _ r in
+    let h = unlisted_gives (opened_seen c.args.object.now) c.args.map.now (tables_in c.args.tables.now) c.args.units c.args.raw c.in_ok-entries.entries c.in_ok-units.units c.as_slice-2.result.now
+    c.in_ok-entries.ensures c.in_ok-units.ensures bases _ r in
     rw (p.1, p.2) (search (refused_gives, h))
 
 pub returns : goal.returns
 returns c =
-    let lines : units_meant (opened_seen c.args.object.now) c.args.map.now c.in_ok-entries.entries c.args.units ≡ Ok c.in_ok-units.units = rw (← c.as_slice-3.ensures) c.in_ok-units.ensures in
-    let bases : c.as_slice-4.result.now ≡ bases_of c.args.units c.in_ok-entries.entries = rw (c.as_slice-4.ensures, c.in_ok-bases.ensures, c.as_slice.ensures, c.as_slice-2.ensures) refl in
-    listed_gives (opened_seen c.args.object.now) c.args.map.now (tables_in c.args.tables.now) c.args.units c.args.entries c.in_ok-entries.entries c.in_ok-units.units c.as_slice-4.result.now
-    c.in_ok-entries.ensures lines bases c.in_ok-entries-2.entries c.finish.result c.in_ok-entries-2.ensures c.finish.ensures
+    let bases : c.as_slice-2.result.now ≡ bases_of c.args.units c.in_ok-entries.entries = rw (c.as_slice-2.ensures, c.in_ok-bases.ensures, c.as_slice.ensures) refl in
+    listed_gives (opened_seen c.args.object.now) c.args.map.now (tables_in c.args.tables.now) c.args.units c.args.raw c.in_ok-entries.entries c.in_ok-units.units c.as_slice-2.result.now
+    c.in_ok-entries.ensures c.in_ok-units.ensures bases c.in_ok-entries-2.entries c.finish.result c.in_ok-entries-2.ensures c.finish.ensures
 
 pub understand_info-requires-clause-fits : goal.understand_info-requires-clause-fits
-understand_info-requires-clause-fits c = rw c.requires.places (all_read (bytes_in c.args.object.now.sections) c.args.entries c.requires.inside)
+understand_info-requires-clause-fits c = rw c.requires.places (all_read (bytes_in c.args.object.now.sections) c.args.raw c.requires.inside)
 
 pub read_line_tables-requires-clause-inside : goal.read_line_tables-requires-clause-inside
 read_line_tables-requires-clause-inside c =
-    rw c.as_slice-3.ensures (units_lines (bytes_in c.args.object.now.sections) (λ unit. context_by (opened_seen c.args.object.now) c.args.map.now (tables_in c.args.tables.now) parts.Info c.args.object.now.relocs.info unit) c.args.tables.now.places.now c.args.entries c.in_ok-entries.entries c.args.units c.in_ok-entries.ensures c.requires.inside c.requires.rooted)
+    done_lines (opened_seen c.args.object.now) c.args.map.now (tables_in c.args.tables.now) c.args.raw c.in_ok-entries.entries c.in_ok-entries.ensures c.args.units c.requires.inside c.requires.rooted
 
 pub read_lists-requires-clause-fits : goal.read_lists-requires-clause-fits
 read_lists-requires-clause-fits c =
-    info_listed (bytes_in c.args.object.now.sections) (λ unit. context_by (opened_seen c.args.object.now) c.args.map.now (tables_in c.args.tables.now) parts.Info c.args.object.now.relocs.info unit) c.args.tables.now.places.now c.args.entries c.in_ok-entries.entries c.in_ok-entries.ensures (all_listed (bytes_in c.args.object.now.sections) c.args.entries c.requires.inside)
+    done_listed (opened_seen c.args.object.now) c.args.map.now (tables_in c.args.tables.now) c.args.raw c.in_ok-entries.entries c.in_ok-entries.ensures (all_listed (bytes_in c.args.object.now.sections) c.args.raw c.requires.inside)
 
 pub finish-requires-clause-few : goal.finish-requires-clause-few
 finish-requires-clause-few c =
     let few = c.requires.tables.few in
-    let listed = lists_count (opened_seen c.args.object.now) c.args.map.now (tables_in c.args.tables.now) c.as_slice-4.result.now c.in_ok-entries.entries c.in_ok-entries-2.entries c.in_ok-entries-2.ensures in
-    let understood = info_count (λ unit. context_by (opened_seen c.args.object.now) c.args.map.now (tables_in c.args.tables.now) parts.Info c.args.object.now.relocs.info unit) c.args.tables.now.places.now c.args.entries c.in_ok-entries.entries c.in_ok-entries.ensures in
-    let places = ap (λ (ps : List ℕ). length ps) c.requires.places ∙ length-map c.args.entries (λ (e : Entry). e.place) in
+    let listed = lists_count (opened_seen c.args.object.now) c.args.map.now (tables_in c.args.tables.now) c.as_slice-2.result.now c.in_ok-entries.entries c.in_ok-entries-2.entries c.in_ok-entries-2.ensures in
+    let understood = done_count (opened_seen c.args.object.now) c.args.map.now (tables_in c.args.tables.now) c.args.raw c.in_ok-entries.entries c.in_ok-entries.ensures in
+    let places = ap (λ (ps : List ℕ). length ps) c.requires.places ∙ length-map c.args.raw (λ (e : RawEntry). e.place) in
     omega (arith, few, listed, understood, places)

@@ -5,9 +5,9 @@ use Rattle.object_view.proofs.Fitting.{all_marked_listed, ranges_listed}
 use Rattle.object_view.proofs.analysis.read_lists.Goals as goal
 
 pub change_entries-requires-clause-fits : goal.change_entries-requires-clause-fits
-change_entries-requires-clause-fits c = rw c.mark_all.ensures (all_marked_listed (bytes_in c.args.object.now.sections) c.args.entries c.requires.fits)
+change_entries-requires-clause-fits c = rw c.in_ok-mark_all.ensures (all_marked_listed (bytes_in c.args.object.now.sections) c.args.entries c.requires.fits)
 
 pub change_entries-requires-2-clause-fits : goal.change_entries-requires-2-clause-fits
 change_entries-requires-2-clause-fits c =
-    ranges_listed (bytes_in c.args.object.now.sections) (opened_seen c.args.object.now) c.args.map.now (base_at c.args.bases.now) c.mark_all.result c.in_ok-entries.entries c.in_ok-entries.ensures
-    (rw c.mark_all.ensures (all_marked_listed (bytes_in c.args.object.now.sections) c.args.entries c.requires.fits))
+    ranges_listed (bytes_in c.args.object.now.sections) (opened_seen c.args.object.now) c.args.map.now (base_at c.args.bases.now) c.mark_all.new.entries c.change_entries.new.entries c.in_ok-change_entries.ensures
+    (rw c.in_ok-mark_all.ensures (all_marked_listed (bytes_in c.args.object.now.sections) c.args.entries c.requires.fits))

@@ -1,7 +1,7 @@
 use Rattle.std.proofs.Common.{◌≡◌, drop, slice_get}
 use Rattle.std.specs.List.{filter_map}
-use Rattle.object_view.specs.Attributes as Attributes
+use Rattle.object_view.specs.Attributes.{low_pc_in}
 use Rattle.object_view.proofs.ranges.first_low_pc.Given as goal
 
-abbrev pub invariant-loop-attr : goal.invariant-loop-attr
-invariant-loop-attr l = slice_get (filter_map Attributes.low_pc_in (drop l.attr-index l.attrs)) 0 ≡ slice_get (filter_map Attributes.low_pc_in l.attrs) 0
+abbrev pub invariant-loop-j : goal.invariant-loop-j
+invariant-loop-j l = slice_get (filter_map low_pc_in (drop l.j l.root.attrs)) 0 ≡ slice_get (filter_map low_pc_in l.root.attrs) 0

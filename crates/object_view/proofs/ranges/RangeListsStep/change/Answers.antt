@@ -1,5 +1,6 @@
-use Rattle.std.proofs.Common.{subst, sym, ◌∙◌}
+use Rattle.std.proofs.Common.{ap, subst, sym, ◌∙◌}
 use Rattle.dwarf_types.specs.SectionBytes.{bytes_in}
+use Rattle.dwarf_types.specs.Seen.{value_seen}
 use Rattle.unit_tree.specs.declared.meaning.Meaning.{Meaning}
 use Rattle.unit_tree.specs.Inside.{IsListInside}
 use Rattle.object_view.proofs.ranges.RangeListsStep.change.Goals as goal
@@ -7,4 +8,4 @@ use Rattle.object_view.proofs.ranges.RangeListsStep.change.Goals as goal
 pub ranges_at-requires-clause-inside : goal.ranges_at-requires-clause-inside
 ranges_at-requires-clause-inside c =
     let role = sym c.meaning_of_offset.ensures ∙ c.in-RangeList.is in
-    subst (λ (m : Meaning). IsListInside (bytes_in c.args.self.now.object.now.sections) m c.in-Offset.place) role (c.requires.fits c.in-Offset.place c.in-Offset.is)
+    subst (λ (m : Meaning). IsListInside (bytes_in c.args.self.now.object.now.sections) m c.in-Offset.place) role (c.requires.fits c.in-Offset.place (ap value_seen c.in-Offset.is))

@@ -1,0 +1,43 @@
+use Rattle.std.proofs.Common.{◌<◌, length, arith}
+use Rattle.std.specs.List.{All}
+use Rattle.std.proofs.lemmas.Result.{err_from_is_err_and}
+use Rattle.ds_base.proofs.Refusals.{refused_from_gives, refused_gives}
+use Rattle.dwarf_types.specs.declared.entry.RawEntry.{RawEntry}
+use Rattle.object_view.specs.Infos.{FitsInfo, info_value}
+use Rattle.object_view.proofs.EachOf.{changed_all, changed_none}
+use Rattle.object_view.proofs.Fitting.{one_of}
+use Rattle.object_view.proofs.InPlace.{raw_turn, item_more, item_refused, item_was, turned}
+use Rattle.object_view.proofs.info.understand_entries.Goals as goal
+
+pub loop-i-init : goal.loop-i-init
+loop-i-init c = changed_none (turned (raw_turn (info_value c.args.values.now))) c.args.entries.now
+
+pub understand_entry-requires-clause-within : goal.understand_entry-requires-clause-within
+understand_entry-requires-clause-within c = let long = c.loop-i.invariant.long in omega (arith, long)
+
+pub understand_entry-requires-clause-fits : goal.understand_entry-requires-clause-fits
+understand_entry-requires-clause-fits c e is =
+    let long = c.loop-i.invariant.long in
+    let lt : c.loop-i.i < length c.loop-i.entries = omega (arith, long) in
+    let was = item_was (turned (raw_turn (info_value c.args.values.now))) c.args.entries.now c.loop-i.entries c.loop-i.i lt c.loop-i.invariant e is in
+    one_of (λ (x : RawEntry). All (FitsInfo c.args.values.now) x.attrs) c.args.entries.now c.loop-i.i e c.requires.fits was
+
+pub loop-i-preserved : goal.loop-i-preserved
+loop-i-preserved c =
+    let long = c.loop-i.invariant.long in
+    let lt : c.loop-i.i < length c.loop-i.entries = omega (arith, long) in
+    item_more (turned (raw_turn (info_value c.args.values.now))) c.args.entries.now c.loop-i.entries c.loop-i.i lt c.loop-i.invariant c.understand_entry.new.entries c.in_ok-understand_entry.ensures
+
+pub returns : goal.returns
+returns c =
+    let long = c.loop-i.invariant.long in
+    changed_all (turned (raw_turn (info_value c.args.values.now))) c.args.entries.now c.loop-i.entries c.loop-i.i (omega (arith, long)) c.loop-i.invariant
+
+pub returns-in_err-understand_entry : goal.returns-in_err-understand_entry
+returns-in_err-understand_entry c =
+    let p = err_from_is_err_and c.from_residual.result c.from_residual.ensures.1 in
+    let long = c.loop-i.invariant.long in
+    let lt : c.loop-i.i < length c.loop-i.entries = omega (arith, long) in
+    let err = c.in_err-understand_entry.field-0.0 in
+    let h = item_refused (turned (raw_turn (info_value c.args.values.now))) c.args.entries.now c.loop-i.entries c.loop-i.i lt c.loop-i.invariant err (λ x r. refused_from_gives (λ (_ : Unit {0}). c.understand_entry.new.entries) _ _ (c.in_err-understand_entry.ensures x r)) in
+    rw (p.1, p.2) (search (refused_gives, h))

@@ -1,0 +1,8 @@
+use Rattle.std.proofs.Common.{◌≡◌, slice_get, Some}
+use Rattle.dwarf_types.specs.declared.entry.RawEntry.{RawEntry}
+use Rattle.object_view.specs.Infos.{info_value}
+use Rattle.object_view.proofs.InPlace.{Part, raw_turn}
+use Rattle.object_view.proofs.info.understand_entry.Given as goal
+
+abbrev pub invariant-loop-j : goal.invariant-loop-j
+invariant-loop-j l = (e : RawEntry) → slice_get l.fn.entries l.i ≡ Some e → Part (raw_turn (info_value l.values)) l.fn.entries l.entries l.i l.j e

@@ -1,0 +1,108 @@
+//! The entries of `__debug_info`, understood one after the other.
+
+ghost use Rattle.std.specs.Prelude.{◌≡◌, ◌<◌, length, slice_get, slice_set, Some, OnOk};
+ghost use Rattle.std.specs.List.{All};
+ghost use Rattle.ds_base.specs.Reading.{Gives};
+ghost use Rattle.dwarf_types.specs.declared.entry.RawAttr.{RawAttr as ARawAttr};
+ghost use Rattle.dwarf_types.specs.declared.entry.RawEntry.{RawEntry as ARawEntry};
+ghost use Rattle.object_view.specs.Attributes.{raw_attr_by, raw_entry_by, raw_entries_by};
+ghost use Rattle.object_view.specs.Changes.{making, understood_as};
+ghost use Rattle.object_view.specs.Infos.{FitsInfo, IsReadyInfo, info_value};
+ghost use Rattle.object_view.specs.Ready.{AllRawAttrs};
+
+use crate::attributes::{InfoValues, Understood, understand};
+use ds_base::{NoMemory, ReadError};
+use dwarf_types::{NewValue, RawEntries};
+use std::alloc::Global;
+
+/// Understands all entries, in place.
+pub(crate) fn understand_entries(
+    alloc: Global,
+    values: &InfoValues,
+    entries: &mut RawEntries,
+) -> Result<(), ReadError>
+    requires ready { IsReadyInfo values.now }
+    requires fits { AllRawAttrs (FitsInfo values.now) entries.old }
+    ensures { Gives (λ _. entries.new) result (raw_entries_by (info_value values.now) entries.old) }
+{
+    for i in 0..entries.len() {
+        understand_entry(alloc, values, entries, i)?;
+    }
+    Ok(())
+}
+
+/// Understands the attributes of an entry.
+fn understand_entry(
+    alloc: Global,
+    values: &InfoValues,
+    entries: &mut RawEntries,
+    i: usize,
+) -> Result<(), ReadError>
+    requires ready { IsReadyInfo values.now }
+    requires within { i < length entries.old }
+    requires fits { (e : ARawEntry) → slice_get entries.old i ≡ Some e → All (FitsInfo values.now) e.attrs }
+    ensures { (e : ARawEntry) → slice_get entries.old i ≡ Some e
+        → Gives (λ _. entries.new) result (making (raw_entry_by (info_value values.now e.unit) e) (λ made. slice_set entries.old i made)) }
+{
+    let count = entries.entry(i).len();
+    for j in 0..count {
+        understand_attr(alloc, values, entries, i, j)?;
+    }
+    Ok(())
+}
+
+/// Understands an attribute.
+fn understand_attr(
+    alloc: Global,
+    values: &InfoValues,
+    entries: &mut RawEntries,
+    i: usize,
+    j: usize,
+) -> Result<(), ReadError>
+    requires ready { IsReadyInfo values.now }
+    requires within { (e : ARawEntry) × (slice_get entries.old i ≡ Some e) × (j < length e.attrs) }
+    requires fits { (e : ARawEntry) (a : ARawAttr) → slice_get entries.old i ≡ Some e → slice_get e.attrs j ≡ Some a → FitsInfo values.now a }
+    ensures { (e : ARawEntry) (a : ARawAttr) → slice_get entries.old i ≡ Some e → slice_get e.attrs j ≡ Some a
+        → Gives (λ _. entries.new) result (making (raw_attr_by (info_value values.now e.unit) a) (λ b. slice_set entries.old i (record e { attrs = slice_set e.attrs j b }))) }
+{
+    let understood = understood_at(alloc, values, entries, i, j)?;
+    put(entries, i, j, &understood)?;
+    Ok(())
+}
+
+/// What becomes of the value at a place.
+fn understood_at(
+    alloc: Global,
+    values: &InfoValues,
+    entries: &RawEntries,
+    i: usize,
+    j: usize,
+) -> Result<Understood, ReadError>
+    requires ready { IsReadyInfo values.now }
+    requires within { (e : ARawEntry) × (slice_get entries.now i ≡ Some e) × (j < length e.attrs) }
+    requires fits { (e : ARawEntry) (a : ARawAttr) → slice_get entries.now i ≡ Some e → slice_get e.attrs j ≡ Some a → FitsInfo values.now a }
+    ensures { (e : ARawEntry) (a : ARawAttr) → slice_get entries.now i ≡ Some e → slice_get e.attrs j ≡ Some a
+        → Gives (understood_as a.value) result (info_value values.now e.unit a) }
+{
+    let entry = entries.entry(i);
+    understand(alloc, values, entry.unit(), &entry.attr(j))
+}
+
+/// Another value for an attribute.
+fn put(
+    entries: &mut RawEntries,
+    i: usize,
+    j: usize,
+    understood: &Understood,
+) -> Result<(), NoMemory>
+    requires { (e : ARawEntry) × (slice_get entries.old i ≡ Some e) × (j < length e.attrs) }
+    ensures { (e : ARawEntry) (a : ARawAttr) → slice_get entries.old i ≡ Some e → slice_get e.attrs j ≡ Some a
+        → OnOk result (entries.new ≡ slice_set entries.old i (record e { attrs = slice_set e.attrs j (record a { value = understood_as a.value understood.now }) })) }
+{
+    match understood {
+        Understood::Same => Ok(()),
+        Understood::Address(place) => entries.set(i, j, NewValue::Address(*place)),
+        Understood::Ref(number) => entries.set(i, j, NewValue::Ref(*number)),
+        Understood::Expr(ops) => entries.set(i, j, NewValue::Expr(ops.as_slice())),
+    }
+}
