@@ -15,6 +15,7 @@ pub mod LinesTables
 pub mod Locations
 pub mod Marked
 pub mod Preorder
+pub mod Raw
 pub mod Read
 pub mod Sound
 pub mod Spans

@@ -1,35 +1,38 @@
 -- The entries of an object stand in preorder.
-use Rattle.std.proofs.Common.{◌≡◌, ◌+◌, ℕ, zero, suc, List, [], ◌∷◌, ◌++◌, length, slice_get, Option, Some, None, refl, sym, ap, subst, arith}
+use Rattle.std.proofs.Common.{◌≡◌, ◌+◌, ℕ, zero, suc, List, [], ◌∷◌, ◌++◌, length, map, get_or, slice_get, Option, Some, None, refl, sym, ap, subst, ◌∙◌, arith}
 use Rattle.std.specs.Prelude.{IfSome}
 use Rattle.std.specs.List.{All}
 use Rattle.dwarf_types.specs.declared.entry.Entry.{Entry}
 use Rattle.dwarf_types.specs.declared.entry.InUnit.{InUnit}
+use Rattle.dwarf_types.specs.declared.entry.RawEntry.{RawEntry}
 use Rattle.dwarf_types.specs.Live.{Stands}
+use Rattle.dwarf_types.specs.Raw.{entry_of as as_entry}
 use Rattle.linked_laws.specs.Given.{ArePreorder, IsUp}
 use Rattle.unit_tree.specs.Spelling.{Forest, UnitTree, entries_of, entry_of, in_units, no_more, preorder, size, tree, unit_entries}
 use Rattle.unit_tree.proofs.TreeLaws.{length_preorder}
 use Rattle.object_view.proofs.Trees.{StandFrom, all_stand, behind_stand, first_stands, left_stand, right_stand, trees_rooted as rooted}
+use Rattle.object_laws.proofs.Raw.{raw_stands, raw_stood}
 
-module _ (all : List Entry) where
+module _ (all : List RawEntry) where
   -- entry p is entry k, or one above it
   abbrev Up : ℕ → ℕ → Type 0
-  Up k p = (n : ℕ) × IsUp all n k p
+  Up k p = (n : ℕ) × IsUp (map as_entry all) n k p
 
   -- an entry's parent is right before it, or above that
-  abbrev IsFine : ℕ → Entry → Type 0
+  abbrev IsFine : ℕ → RawEntry → Type 0
   IsFine number e = (k p : ℕ) → number ≡ k + 1 → e.parent ≡ Some p → Up k p
 
-  abbrev AreFine : ℕ → List Entry → Type 0
+  abbrev AreFine : ℕ → List RawEntry → Type 0
   AreFine number [] = Unit {0}
   AreFine number (e ∷ es) = IsFine number e × AreFine (number + 1) es
 
-  fine_both : (number : ℕ) (xs ys : List Entry) → AreFine number xs → AreFine (number + length xs) ys → AreFine number (xs ++ ys)
+  fine_both : (number : ℕ) (xs ys : List RawEntry) → AreFine number xs → AreFine (number + length xs) ys → AreFine number (xs ++ ys)
   fine_both number [] ys h k = subst (λ (n : ℕ). AreFine n ys) (omega arith) k
   fine_both number (x ∷ xs) ys h k = (h.0, fine_both (number + 1) xs ys h.1 (subst (λ (n : ℕ). AreFine n ys) (omega arith) k))
 
   -- one more parent up
-  up_more : (n k a p : ℕ) (e : Entry) → IsUp all n k a → Stands all a e → e.parent ≡ Some p → Up k p
-  up_more zero k a p e up stands parent = (1, (e, p, subst (λ (x : ℕ). Stands all x e) up stands, parent, refl))
+  up_more : (n k a p : ℕ) (e : RawEntry) → IsUp (map as_entry all) n k a → slice_get all a ≡ Some e → e.parent ≡ Some p → Up k p
+  up_more zero k a p e up stands parent = (1, (as_entry e, p, subst (λ (x : ℕ). slice_get (map as_entry all) x ≡ Some (as_entry e)) up (raw_stands all a e stands), parent, refl))
   up_more (suc n) k a p e up stands parent =
       let more = up_more n up.1 a p e up.4 stands parent in
       (suc more.0, (up.0, up.1, up.2, up.3, more.1))
@@ -79,18 +82,21 @@ module _ (all : List Entry) where
 abbrev pub HasRoot : List Entry → InUnit → Type 0
 HasRoot all u = (e : Entry) → Stands all u.first e → e.parent ≡ None
 
-pub trees_rooted : (ts : List UnitTree) → All (HasRoot (entries_of 0 0 ts)) (in_units 0 ts)
-trees_rooted ts k d lt e stands = subst (λ (o : Option Entry). IfSome o (λ x. x.parent ≡ None)) stands (rooted ts k d lt)
+pub trees_rooted : (ts : List UnitTree) → All (HasRoot (map as_entry (entries_of 0 0 ts))) (in_units 0 ts)
+trees_rooted ts k d lt e stands =
+    let was = raw_stood (entries_of 0 0 ts) (get_or (in_units 0 ts) k d).first e stands in
+    ap (λ (x : Entry). x.parent) was.2 ∙ subst (λ (o : Option RawEntry). IfSome o (λ x. x.parent ≡ None)) was.1 (rooted ts k d lt)
 
 -- ---- all entries
 
-fine_at : (all : List Entry) (number : ℕ) (xs : List Entry) (i : ℕ) (e : Entry) → AreFine all number xs → slice_get xs i ≡ Some e → IsFine all (number + i) e
+fine_at : (all : List RawEntry) (number : ℕ) (xs : List RawEntry) (i : ℕ) (e : RawEntry) → AreFine all number xs → slice_get xs i ≡ Some e → IsFine all (number + i) e
 fine_at all number [] i e h is = absurd cc
 fine_at all number (x ∷ xs) zero e h is = let same : x ≡ e = cc in let at : number ≡ number + 0 = omega arith in subst (IsFine all (number + 0)) same (subst (λ (n : ℕ). IsFine all n x) at h.0)
 fine_at all number (x ∷ xs) (suc i) e h is = let at : number + 1 + i ≡ number + suc i = omega arith in subst (λ (n : ℕ). IsFine all n e) at (fine_at all (number + 1) xs i e h.1 is)
 
-pub trees_preorder : (ts : List UnitTree) → ArePreorder (entries_of 0 0 ts)
+pub trees_preorder : (ts : List UnitTree) → ArePreorder (map as_entry (entries_of 0 0 ts))
 trees_preorder ts k p e stands parent =
     let all = entries_of 0 0 ts in
     let fine = units_fine all ts 0 0 (all_stand all) in
-    fine_at all 0 all (k + 1) e fine stands k p (omega arith) parent
+    let was = raw_stood all (k + 1) e stands in
+    fine_at all 0 all (k + 1) was.0 fine was.1 k p (omega arith) (ap (λ (x : Entry). x.parent) (sym was.2) ∙ parent)

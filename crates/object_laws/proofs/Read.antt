@@ -6,8 +6,8 @@ use Rattle.std.proofs.lemmas.List.Elements.{All-nil, All-cons, All-append}
 use Rattle.ds_base.specs.declared.dwarf.TheConstants.{DW_TAG_compile_unit}
 use Rattle.dwarf_types.specs.declared.abbrev.Abbrev.{Abbrev}
 use Rattle.dwarf_types.specs.declared.abbrev.Field.{Field}
-use Rattle.dwarf_types.specs.declared.entry.Attr.{Attr}
-use Rattle.dwarf_types.specs.declared.entry.Entry.{Entry}
+use Rattle.dwarf_types.specs.declared.entry.RawAttr.{RawAttr}
+use Rattle.dwarf_types.specs.declared.entry.RawEntry.{RawEntry}
 use Rattle.dwarf_types.specs.declared.entry.RawUnits.{RawUnits}
 use Rattle.dwarf_types.specs.SectionBytes.{SectionBytes}
 use Rattle.dwarf_types.specs.Spelled.{AreBytes}
@@ -20,20 +20,20 @@ use Rattle.unit_tree.specs.Unit.{units_of}
 use Rattle.unit_tree.proofs.UnitLaws.{units_spelled}
 use Rattle.object_laws.proofs.Stored.{IsStored, attr_stored, value_stored}
 
-pub record IsReadAttr (a : Attr) : Type 0 where
+pub record IsReadAttr (a : RawAttr) : Type 0 where
   pub some : 0 < a.name
   pub fits : a.name < 2 ^ 16
   pub value : IsStored a.value
 
-pub record IsReadRoot (e : Entry) : Type 0 where
+pub record IsRawRoot (e : RawEntry) : Type 0 where
   pub tag : e.tag ≡ DW_TAG_compile_unit
   pub whole : list_any (λ a. is_split a.name) e.attrs ≡ false
 
-pub record IsReadEntry (e : Entry) : Type 0 where
+pub record IsReadEntry (e : RawEntry) : Type 0 where
   pub some : 0 < e.tag
   pub fits : e.tag < 2 ^ 16
   pub attrs : All IsReadAttr e.attrs
-  pub root : is_none e.parent ≡ true → IsReadRoot e
+  pub root : is_none e.parent ≡ true → IsRawRoot e
 
 -- ---- declarations
 
@@ -51,7 +51,7 @@ declared_sound code before (x ∷ table) d h e = elim (pick (x.code == code) x d
 -- ---- attributes
 
 module _ (sections : SectionBytes) (strings : AreBytes sections.strings) where
-  attr_read : (unit : ℕ) (lines : Bool) (field : Field) (attr : Attr) (place : ℕ) (bytes : List ℕ) → (0 < field.name) × (field.name ≤ 65535) → SpellsAttr sections unit lines field attr place bytes → IsReadAttr attr
+  attr_read : (unit : ℕ) (lines : Bool) (field : Field) (attr : RawAttr) (place : ℕ) (bytes : List ℕ) → (0 < field.name) × (field.name ≤ 65535) → SpellsAttr sections unit lines field attr place bytes → IsReadAttr attr
   attr_read unit lines field attr place bytes short h =
       subst IsReadAttr (sym h.is) (record {
         some = short.0;
@@ -59,7 +59,7 @@ module _ (sections : SectionBytes) (strings : AreBytes sections.strings) where
         value = attr_stored unit field h.value (value_stored field sections bytes h.value strings h.spells);
       })
 
-  attrs_read : (unit : ℕ) (root : Bool) (fields : List Field) (before attrs : List Attr) (place : ℕ) (bytes : List ℕ) → AreFields fields → SpellsAttrs sections unit root fields before attrs place bytes → All IsReadAttr attrs
+  attrs_read : (unit : ℕ) (root : Bool) (fields : List Field) (before attrs : List RawAttr) (place : ℕ) (bytes : List ℕ) → AreFields fields → SpellsAttrs sections unit root fields before attrs place bytes → All IsReadAttr attrs
   attrs_read unit root [] before [] place bytes fit h = All-nil IsReadAttr
   attrs_read unit root [] before (attr ∷ attrs) place bytes fit h = absurd h
   attrs_read unit root (field ∷ fields) before [] place bytes fit h = absurd h
@@ -68,13 +68,13 @@ module _ (sections : SectionBytes) (strings : AreBytes sections.strings) where
       (attrs_read unit root fields (before ++ attr ∷ []) attrs (place + length h.front) h.back fit.1 h.second)
 
   -- attributes have the names of their fields
-  names_read : (unit : ℕ) (root : Bool) (fields : List Field) (before attrs : List Attr) (place : ℕ) (bytes : List ℕ) → SpellsAttrs sections unit root fields before attrs place bytes
+  names_read : (unit : ℕ) (root : Bool) (fields : List Field) (before attrs : List RawAttr) (place : ℕ) (bytes : List ℕ) → SpellsAttrs sections unit root fields before attrs place bytes
       → list_any (λ a. is_split a.name) attrs ≡ list_any tree_of.is_dwo_name fields
   names_read unit root [] before [] place bytes h = refl
   names_read unit root [] before (attr ∷ attrs) place bytes h = absurd h
   names_read unit root (field ∷ fields) before [] place bytes h = absurd h
   names_read unit root (field ∷ fields) before (attr ∷ attrs) place bytes h =
-      let name : attr.name ≡ field.name = ap (λ (a : Attr). a.name) h.first.is in
+      let name : attr.name ≡ field.name = ap (λ (a : RawAttr). a.name) h.first.is in
       rw (name, names_read unit root fields (before ++ attr ∷ []) attrs (place + length h.front) h.back h.second) refl
 
   -- ---- trees

@@ -9,7 +9,7 @@ use Rattle.ds_base.specs.declared.fault.Kind.TheVariants as kinds
 use Rattle.ds_base.specs.declared.fault.Part.TheVariants as parts
 use Rattle.ds_base.specs.Reading.{◌>>=◌}
 use Rattle.dwarf_types.specs.declared.analysis.Analysis.{Analysis}
-use Rattle.dwarf_types.specs.declared.entry.Entry.{Entry}
+use Rattle.dwarf_types.specs.declared.entry.RawEntry.{RawEntry}
 use Rattle.dwarf_types.specs.declared.entry.RawUnits.{RawUnits}
 use Rattle.dwarf_types.specs.LinkedGraph.{linked}
 use Rattle.dwarf_types.specs.LinkedUnits.{Object}
@@ -35,11 +35,11 @@ use Rattle.object_laws.proofs.Whole.{analysis_given, parts_are}
 
 -- ---- units
 
-kept_or_fault : {R : Type 0} (entries now : List Entry) (f : R → Fault) (o : Option R) → option_map_or (λ r. Err (f r)) o (Ok entries) ≡ Ok now → entries ≡ now
+kept_or_fault : {R : Type 0} (entries now : List RawEntry) (f : R → Fault) (o : Option R) → option_map_or (λ r. Err (f r)) o (Ok entries) ≡ Ok now → entries ≡ now
 kept_or_fault entries now f None e = ok_is entries now e
 kept_or_fault entries now f (Some r) e = absurd cc
 
-resolved_is : (entries now : List Entry) (references : List _) → resolved entries references ≡ Ok now → entries ≡ now
+resolved_is : (entries now : List RawEntry) (references : List _) → resolved entries references ≡ Ok now → entries ≡ now
 unfolding resolved
 resolved_is entries now references e = kept_or_fault entries now (λ r. record { kind = kinds.BadReference; section = parts.Info; place = r.place }) _ e
 
@@ -50,7 +50,7 @@ raw_sound sections raw e =
     let entries = bind_ok (resolved read.0.1.entries read.0.1.references) (λ entries. Ok (record { units = read.0.0; entries = entries })) raw read.2 in
     let sound = units_sound sections (length sections.info) read.0.0 read.0.1 read.1 in
     subst AreSound (ok_is (record { units = read.0.0; entries = entries.0 }) raw entries.2)
-    (subst (λ (es : List Entry). AreSound (record { units = read.0.0; entries = es })) (resolved_is read.0.1.entries entries.0 read.0.1.references entries.1) sound)
+    (subst (λ (es : List RawEntry). AreSound (record { units = read.0.0; entries = es })) (resolved_is read.0.1.entries entries.0 read.0.1.references entries.1) sound)
 
 -- ---- analyses
 

@@ -3,19 +3,23 @@ use Rattle.std.proofs.Common.{◌≡◌, ◌<◌, ◌^◌, ◌||◌, ◌==◌, �
 use Rattle.std.specs.Prelude.{is_none, if◌then◌else◌}
 use Rattle.std.specs.List.{All, list_any}
 use Rattle.std.proofs.lemmas.List.Elements.{All-nil, All-cons}
-use Rattle.ds_base.specs.declared.dwarf.TheConstants.{DW_AT_stmt_list}
+use Rattle.ds_base.specs.declared.dwarf.TheConstants.{DW_AT_stmt_list, DW_TAG_compile_unit}
 use Rattle.ds_base.specs.declared.fault.Fault.{Fault}
 use Rattle.ds_base.specs.Reading.{◌>>=◌}
 use Rattle.ds_base.proofs.Passing.{bind_ok, ok_is}
 use Rattle.dwarf_types.specs.declared.entry.Attr.{Attr}
 use Rattle.dwarf_types.specs.declared.entry.Entry.{Entry}
+use Rattle.dwarf_types.specs.declared.entry.RawAttr.{RawAttr}
+use Rattle.dwarf_types.specs.declared.entry.RawEntry.{RawEntry}
 use Rattle.dwarf_types.specs.declared.value.Value.{Value}
 use Rattle.dwarf_types.specs.WellRoots.{is_split}
 use Rattle.linked_laws.specs.Given.{IsGivenAttr, IsGivenValue, has_lines, is_lines, names_lines_first}
 use Rattle.object_view.specs.Attributes.{all_marked, attr_by, attrs_by, each_of, entries_by, entry_by, entry_marked, lines_marked, lines_value, with_value}
+use Rattle.object_view.proofs.Kept.{each_seen as each_made}
 use Rattle.object_view.proofs.Names.{each_all}
+use Rattle.object_view.proofs.Understood.{as_attr, as_entry, attr_given, entries_given, entry_given}
 use Rattle.object_laws.proofs.Marked.{first_kept, has_kept, marked_first, seen}
-use Rattle.object_laws.proofs.Read.{IsReadAttr, IsReadEntry, IsReadRoot}
+use Rattle.object_laws.proofs.Read.{IsRawRoot, IsReadAttr, IsReadEntry}
 use Rattle.object_laws.proofs.Stored.{IsStored}
 use Rattle.object_laws.proofs.Values.{IsGivenAs, IsPlainly, lines_given}
 
@@ -48,12 +52,22 @@ module _ (f : Attr → Result Value Fault) (P Q : Attr → Type 0) (keeps : (a :
 
 -- ---- roots
 
-split_by_names : (attrs : List Attr) → list_any (λ a. is_split a.name) attrs ≡ list_any is_split (map (λ a. a.name) attrs)
-split_by_names [] = refl
-split_by_names (a ∷ attrs) = ap (λ (b : Bool). is_split a.name || b) (split_by_names attrs)
+pub record IsReadRoot (e : Entry) : Type 0 where
+  pub tag : e.tag ≡ DW_TAG_compile_unit
+  pub whole : list_any (λ a. is_split a.name) e.attrs ≡ false
+
+split_by_names : {A : Type 0} (name : A → ℕ) (attrs : List A) → list_any (λ a. is_split (name a)) attrs ≡ list_any is_split (map name attrs)
+split_by_names name [] = refl
+split_by_names name (a ∷ attrs) = ap (λ (b : Bool). is_split (name a) || b) (split_by_names name attrs)
+
+whole_kept : {A B : Type 0} (name : A → ℕ) (now_name : B → ℕ) (attrs : List A) (now : List B) → map now_name now ≡ map name attrs → list_any (λ a. is_split (name a)) attrs ≡ false → list_any (λ a. is_split (now_name a)) now ≡ false
+whole_kept name now_name attrs now same whole = split_by_names now_name now ∙ ap (λ (names : List ℕ). list_any is_split names) same ∙ sym (split_by_names name attrs) ∙ whole
 
 root_kept : (e : Entry) (attrs : List Attr) → map (λ a. a.name) attrs ≡ map (λ a. a.name) e.attrs → IsReadRoot e → IsReadRoot (record e { attrs = attrs })
-root_kept e attrs same h = record { tag = h.tag; whole = split_by_names attrs ∙ ap (λ (names : List ℕ). list_any is_split names) same ∙ sym (split_by_names e.attrs) ∙ h.whole }
+root_kept e attrs same h = record { tag = h.tag; whole = whole_kept (λ (a : Attr). a.name) (λ (a : Attr). a.name) e.attrs attrs same h.whole }
+
+root_given : (e : RawEntry) (attrs : List Attr) → map (λ a. a.name) attrs ≡ map (λ a. a.name) e.attrs → IsRawRoot e → IsReadRoot (as_entry e attrs)
+root_given e attrs same h = record { tag = h.tag; whole = whole_kept (λ (a : RawAttr). a.name) (λ (a : Attr). a.name) e.attrs attrs same h.whole }
 
 -- ---- as units are read, with meanings
 
@@ -67,21 +81,31 @@ pub record IsPlainEntry (e : Entry) : Type 0 where
   pub attrs : All IsPlainAttr e.attrs
   pub root : is_none e.parent ≡ true → IsReadRoot e
 
-module _ (meant : ℕ → Attr → Result Value Fault) (given : (unit : ℕ) (a : Attr) (v : Value) → IsStored a.value → meant unit a ≡ Ok v → IsPlainly a.name v) where
-  attr_plain : (unit : ℕ) (a : Attr) (v : Value) → IsReadAttr a → meant unit a ≡ Ok v → IsPlainAttr (with_value a v)
-  attr_plain unit a v h e =
-      let p = given unit a v h.value e in
-      record { given = record { some = h.some; fits = h.fits; value = p.0 }; plain = p.1 }
+module _ (meant : ℕ → RawAttr → Result Value Fault) (given : (unit : ℕ) (a : RawAttr) (v : Value) → IsStored a.value → meant unit a ≡ Ok v → IsPlainly a.name v) where
+  attr_plain : (unit : ℕ) (a : RawAttr) (b : Attr) → IsReadAttr a → attr_given (meant unit) a ≡ Ok b → IsPlainAttr b
+  attr_plain unit a b h e =
+      let value = bind_ok (meant unit a) (λ value. Ok (as_attr a value)) b e in
+      let p = given unit a value.0 h.value value.1 in
+      subst IsPlainAttr (ok_is (as_attr a value.0) b value.2) (record { given = record { some = h.some; fits = h.fits; value = p.0 }; plain = p.1 })
 
-  entry_plain : (e now : Entry) → IsReadEntry e → entry_by (meant e.unit) e ≡ Ok now → IsPlainEntry now
+  attr_name : (unit : ℕ) (a : RawAttr) (b : Attr) → attr_given (meant unit) a ≡ Ok b → b.name ≡ a.name
+  attr_name unit a b e =
+      let value = bind_ok (meant unit a) (λ value. Ok (as_attr a value)) b e in
+      ap (λ (x : Attr). x.name) (sym (ok_is (as_attr a value.0) b value.2))
+
+  entry_plain : (e : RawEntry) (now : Entry) → IsReadEntry e → entry_given (meant e.unit) e ≡ Ok now → IsPlainEntry now
   entry_plain e now h is =
-      let attrs = bind_ok (attrs_by (meant e.unit) e.attrs) (λ attrs. Ok (record e { attrs = attrs })) now is in
-      let names = attrs_seen (meant e.unit) IsReadAttr IsPlainAttr (attr_plain e.unit) (λ a. a.name) (λ a v p i. refl) e.attrs attrs.0 h.attrs attrs.1 in
-      subst IsPlainEntry (ok_is (record e { attrs = attrs.0 }) now attrs.2)
-      (record { some = h.some; fits = h.fits; attrs = attrs_step (meant e.unit) IsReadAttr IsPlainAttr (attr_plain e.unit) e.attrs attrs.0 h.attrs attrs.1; root = λ none. root_kept e attrs.0 names (h.root none) })
+      let attrs = bind_ok (each_of (attr_given (meant e.unit)) e.attrs) (λ attrs. Ok (as_entry e attrs)) now is in
+      let names = each_made (λ (b : Attr). b.name) (λ (a : RawAttr). a.name) (attr_given (meant e.unit)) (λ a b i. attr_name e.unit a b i) e.attrs attrs.0 attrs.1 in
+      subst IsPlainEntry (ok_is (as_entry e attrs.0) now attrs.2) (record {
+        some = h.some;
+        fits = h.fits;
+        attrs = each_all (attr_given (meant e.unit)) IsReadAttr IsPlainAttr (λ a b p i. attr_plain e.unit a b p i) e.attrs attrs.0 attrs.1 h.attrs;
+        root = λ none. root_given e attrs.0 names (h.root none);
+      })
 
-  pub entries_plain : (entries now : List Entry) → All IsReadEntry entries → entries_by meant entries ≡ Ok now → All IsPlainEntry now
-  entries_plain entries now h e = each_all (λ (x : Entry). entry_by (meant x.unit) x) IsReadEntry IsPlainEntry (λ x y p is. entry_plain x y p is) entries now e h
+  pub entries_plain : (raw : List RawEntry) (now : List Entry) → All IsReadEntry raw → entries_given meant raw ≡ Ok now → All IsPlainEntry now
+  entries_plain raw now h e = each_all (λ (x : RawEntry). entry_given (meant x.unit) x) IsReadEntry IsPlainEntry (λ x y p is. entry_plain x y p is) raw now e h
 
 -- ---- with line tables marked
 

@@ -66,11 +66,11 @@ module _ (now old : List Entry) (kept : Kept now old) where
   up_kept : (n k a : ℕ) → IsUp old n k a → IsUp now n k a
   up_kept zero k a h = h
   up_kept (suc n) k a h =
-      let there = stood bare old now (sym kept) k h.0 h.2 in
+      let there = stood bare bare old now (sym kept) k h.0 h.2 in
       (there.0, h.1, there.1, ap (λ (e : Entry). e.parent) (sym there.2) ∙ h.3, up_kept n h.1 a h.4)
 
   pub preorder_kept : ArePreorder old → ArePreorder now
   preorder_kept h k p e stands parent =
-      let was = stood bare now old kept (k + 1) e stands in
+      let was = stood bare bare now old kept (k + 1) e stands in
       let up = h k p was.0 was.1 (ap (λ (x : Entry). x.parent) (sym was.2) ∙ parent) in
       (up.0, up_kept up.0 k p up.1)

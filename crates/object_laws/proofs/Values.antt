@@ -17,6 +17,7 @@ use Rattle.ds_base.specs.Reading.{◌>>=◌, or_fault, refuse_if}
 use Rattle.ds_base.proofs.Passing.{bind_ok, ok_is, passed}
 use Rattle.dwarf_types.specs.declared.address.Addr.{Addr}
 use Rattle.dwarf_types.specs.declared.entry.Attr.{Attr}
+use Rattle.dwarf_types.specs.declared.entry.RawAttr.{RawAttr}
 use Rattle.dwarf_types.specs.declared.expr.Op.{Op}
 use Rattle.dwarf_types.specs.declared.lists.RawLocation.{RawLocation}
 use Rattle.dwarf_types.specs.declared.value.Value.{Value}
@@ -71,7 +72,7 @@ module _ (s : Context) (places : List ℕ) (sound : IsSoundMap s.map) where
         refl,
       )
 
-  pub value_given : (a : Attr) (value now : Value) → IsStored value → value_meant s places a value ≡ Ok now → IsPlainly a.name now
+  pub value_given : (a : RawAttr) (value now : Value) → IsStored value → value_meant s places a value ≡ Ok now → IsPlainly a.name now
   value_given a (values.Address place) now h e = subst (IsPlainly a.name) (ok_is _ now e) (place_is_given s.map (field_address s a.end place.at) sound, refl)
   value_given a (values.Ref place) now h e =
       let k = bind_ok (or_fault (number_at places place) (dangling a)) (λ k. Ok (values.Ref k)) now e in

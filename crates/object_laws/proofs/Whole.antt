@@ -13,9 +13,11 @@ use Rattle.dwarf_types.specs.declared.analysis.Analysis.{Analysis}
 use Rattle.dwarf_types.specs.declared.entry.Attr.{Attr}
 use Rattle.dwarf_types.specs.declared.entry.Entry.{Entry}
 use Rattle.dwarf_types.specs.declared.entry.InUnit.{InUnit}
+use Rattle.dwarf_types.specs.declared.entry.RawAttr.{RawAttr}
 use Rattle.dwarf_types.specs.declared.entry.RawUnits.{RawUnits}
 use Rattle.dwarf_types.specs.declared.lines.RawLines.{RawLines}
 use Rattle.dwarf_types.specs.declared.value.Value.{Value}
+use Rattle.dwarf_types.specs.Raw.{entry_of}
 use Rattle.dwarf_types.specs.SectionBytes.{SectionBytes}
 use Rattle.dwarf_types.specs.Spelled.{AreBytes}
 use Rattle.dwarf_types.proofs.Readers.{AreBytes-from, IsBytes-drop, IsBytes-from, IsBytes-take}
@@ -42,11 +44,13 @@ use Rattle.macho_read.specs.Image.{image_of}
 use Rattle.macho_read.specs.Kind.{kind_of}
 use Rattle.object_view.specs.Units.{places_of, unit_start}
 use Rattle.object_view.proofs.FileBytes.{AreOf}
-use Rattle.object_view.proofs.Kept.{Kept, all_kept, bare, entries_kept, stood}
+use Rattle.object_view.proofs.Kept.{Kept, all_kept, bare, entries_kept, given_kept, stood}
+use Rattle.object_view.proofs.Understood.{entries_given, given_is}
 use Rattle.object_laws.proofs.Frames.{frames_are}
 use Rattle.object_laws.proofs.Lines.{lines_are}
 use Rattle.object_laws.proofs.Marked.{has_kept, marked_has}
 use Rattle.object_laws.proofs.Preorder.{HasRoot, trees_preorder, trees_rooted}
+use Rattle.object_laws.proofs.Raw.{kept_entries}
 use Rattle.object_laws.proofs.Read.{IsReadEntry, entries_read}
 use Rattle.object_laws.proofs.SpansCode.{code_given}
 use Rattle.object_laws.proofs.SpansMap.{map_is_sound}
@@ -93,7 +97,7 @@ unit_given meant now u plain marked same rooted has =
           let none : is_none e.parent ≡ true = none_is e.parent (rooted e stands) in
           let entry = all_at IsMarkedEntry now u.first e marked stands in
           let read = entry.root none in
-          let was = stood entry_seen now (all_marked meant) same u.first e stands in
+          let was = stood entry_seen entry_seen now (all_marked meant) same u.first e stands in
           let understood = found_in entry_marked (slice_get meant u.first) was.0 (sym (slice_get-map entry_marked meant u.first) ∙ was.1) in
           let old : Entry = understood.0 in
           let views : entry_seen e ≡ entry_seen (entry_marked old) = was.2 ∙ ap entry_seen understood.2 in
@@ -107,7 +111,7 @@ unit_given meant now u plain marked same rooted has =
 
 root_kept : (now raw : List Entry) (u : InUnit) → Kept now raw → HasRoot raw u → HasRoot now u
 root_kept now raw u kept h e stands =
-    let was = stood bare now raw kept u.first e stands in
+    let was = stood bare bare now raw kept u.first e stands in
     ap (λ (x : Entry). x.parent) was.2 ∙ h was.0 was.1
 
 units_given : (raw meant now : List Entry) (units : List InUnit) → All IsPlainEntry meant → All IsMarkedEntry now → map entry_seen now ≡ map entry_seen (all_marked meant) → Kept now raw → All (λ u. HasLines meant u × HasRoot raw u) units
@@ -171,8 +175,8 @@ others_given entries h k d lt = (h k d lt).others
 record AreRead (raw : RawUnits) : Type 0 where
   pub entries : All IsReadEntry raw.entries
   pub units : All IsReadUnit raw.units
-  pub roots : All (HasRoot raw.entries) raw.units
-  pub preorder : ArePreorder raw.entries
+  pub roots : All (HasRoot (map entry_of raw.entries)) raw.units
+  pub preorder : ArePreorder (map entry_of raw.entries)
 
 raw_read : (bytes : List ℕ) (o : Opened) (raw : RawUnits) → length bytes < 2 ^ 32 → ArePartsOf bytes o.sections → units_of o.sections ≡ Ok raw → AreRead raw
 raw_read bytes o raw small are e =
@@ -182,8 +186,8 @@ raw_read bytes o raw small are e =
     record {
       entries = entries_read o.sections raw (omega (arith, few, small)) info.are are.abbrevs.are are.strings.are e;
       units = subst (λ (r : RawUnits). All IsReadUnit r.units) (sym s.is) (units_read s.trees 0);
-      roots = subst (λ (r : RawUnits). All (HasRoot r.entries) r.units) (sym s.is) (trees_rooted s.trees);
-      preorder = subst (λ (r : RawUnits). ArePreorder r.entries) (sym s.is) (trees_preorder s.trees);
+      roots = subst (λ (r : RawUnits). All (HasRoot (map entry_of r.entries)) r.units) (sym s.is) (trees_rooted s.trees);
+      preorder = subst (λ (r : RawUnits). ArePreorder (map entry_of r.entries)) (sym s.is) (trees_preorder s.trees);
     }
 
 module _ (bytes : List ℕ) (o : Opened) (m : AddrMap) (sound : IsSoundMap m) (are : ArePartsOf bytes o.sections) (raw : RawUnits) (read : AreRead raw)
@@ -192,32 +196,35 @@ module _ (bytes : List ℕ) (o : Opened) (m : AddrMap) (sound : IsSoundMap m) (a
   unfolding units_analysed
   units_analysed_given a e =
       let last : List InUnit → List Entry → Result Analysis Fault = λ units entries. (frames_of o.image o.relocs.frame o.sections.frame >>= λ frames. Ok (record { units = units; entries = entries; code = code_of m entries; frames = frames_moved m frames })) in
-      let locating : List Entry → ℕ → Attr → Result Value Fault = λ meant unit x. locations_meant o (loc_context o m meant unit (unit_start raw.units meant unit)) (unit_base raw.units meant unit) x x.value in
+      let locating : List Entry → ℕ → Attr → Result Value Fault = λ meant unit x. locations_meant o (loc_context o m raw.entries unit (unit_start raw.units raw.entries unit)) (unit_base raw.units meant unit) x x.value in
       let ranging : List Entry → ℕ → Attr → Result Value Fault = λ meant unit x. ranges_meant o m (unit_base raw.units meant unit) x x.value in
-      let reading : ℕ → Attr → Result Value Fault = λ unit x. value_meant (info_context o m raw.entries unit (unit_start raw.units raw.entries unit)) (places_of raw.entries) x x.value in
+      let reading : ℕ → RawAttr → Result Value Fault = λ unit x. value_meant (info_context o m raw.entries unit (unit_start raw.units raw.entries unit)) (places_of raw.entries) x x.value in
       let meant = bind_ok (entries_meant o m raw.units raw.entries) (λ meant. units_meant o m meant raw.units >>= λ units. entries_by (ranging meant) (all_marked meant) >>= λ ranged. entries_by (locating meant) ranged >>= λ entries. last units entries) a e in
       let units = bind_ok (units_meant o m meant.0 raw.units) (λ units. entries_by (ranging meant.0) (all_marked meant.0) >>= λ ranged. entries_by (locating meant.0) ranged >>= λ entries. last units entries) a meant.2 in
       let ranged = bind_ok (entries_by (ranging meant.0) (all_marked meant.0)) (λ ranged. entries_by (locating meant.0) ranged >>= λ entries. last units.0 entries) a units.2 in
       let entries = bind_ok (entries_by (locating meant.0) ranged.0) (λ entries. last units.0 entries) a ranged.2 in
       let frames = bind_ok (frames_of o.image o.relocs.frame o.sections.frame) (λ frames. Ok (record { units = units.0; entries = entries.0; code = code_of m entries.0; frames = frames_moved m frames })) a entries.2 in
       let done : Analysis = record { units = units.0; entries = entries.0; code = code_of m entries.0; frames = frames_moved m frames.0 } in
-      let kept : Kept entries.0 raw.entries = entries_kept (locating meant.0) ranged.0 entries.0 entries.1 ∙ entries_kept (ranging meant.0) (all_marked meant.0) ranged.0 ranged.1 ∙ all_kept meant.0 ∙ entries_kept reading raw.entries meant.0 meant.1 in
+      let old : List Entry = map entry_of raw.entries in
+      let understood : entries_given reading raw.entries ≡ Ok meant.0 = given_is reading raw.entries meant.0 meant.1 in
+      let kept : Kept entries.0 old =
+      entries_kept (locating meant.0) ranged.0 entries.0 entries.1 ∙ entries_kept (ranging meant.0) (all_marked meant.0) ranged.0 ranged.1 ∙ all_kept meant.0 ∙ kept_entries meant.0 raw.entries (given_kept reading raw.entries meant.0 understood) in
       let plain : All IsPlainEntry meant.0 = entries_plain reading
-      (λ unit x v h is. value_given (info_context o m raw.entries unit (unit_start raw.units raw.entries unit)) (places_of raw.entries) sound x x.value v h is) raw.entries meant.0 read.entries meant.1 in
+      (λ unit x v h is. value_given (info_context o m raw.entries unit (unit_start raw.units raw.entries unit)) (places_of raw.entries) sound x x.value v h is) raw.entries meant.0 read.entries understood in
       let marked = entries_marked meant.0 plain in
       let with_ranges = entries_listed (ranging meant.0) (λ unit x v h is. ranges_given o m sound (unit_base raw.units meant.0 unit) x x.value v h is) (all_marked meant.0) ranged.0 marked ranged.1 in
       let located = entries_listed (locating meant.0)
-      (λ unit x v h is. locations_given o (loc_context o m meant.0 unit (unit_start raw.units meant.0 unit)) sound are.loc.are (unit_base raw.units meant.0 unit) x x.value v h is) ranged.0 entries.0 with_ranges entries.1 in
+      (λ unit x v h is. locations_given o (loc_context o m raw.entries unit (unit_start raw.units raw.entries unit)) sound are.loc.are (unit_base raw.units meant.0 unit) x x.value v h is) ranged.0 entries.0 with_ranges entries.1 in
       let seen_ranged = listed_seen (ranging meant.0) (λ unit x v h is. ranges_given o m sound (unit_base raw.units meant.0 unit) x x.value v h is) (all_marked meant.0) ranged.0 marked ranged.1 in
       let seen_located = listed_seen (locating meant.0)
-      (λ unit x v h is. locations_given o (loc_context o m meant.0 unit (unit_start raw.units meant.0 unit)) sound are.loc.are (unit_base raw.units meant.0 unit) x x.value v h is) ranged.0 entries.0 with_ranges entries.1 in
-      let have = units_have o m tables meant.0 raw.entries raw.units units.0 read.units read.roots units.1 in
+      (λ unit x v h is. locations_given o (loc_context o m raw.entries unit (unit_start raw.units raw.entries unit)) sound are.loc.are (unit_base raw.units meant.0 unit) x x.value v h is) ranged.0 entries.0 with_ranges entries.1 in
+      let have = units_have o m tables meant.0 old raw.units units.0 read.units read.roots units.1 in
       let given : All IsGivenEntry entries.0 = λ k d lt. entry_given (get_or entries.0 k d) (located k d lt) in
       subst IsGiven (ok_is done a frames.2) (record {
-        units = units_given raw.entries meant.0 entries.0 units.0 plain located (seen_located ∙ seen_ranged) kept have;
+        units = units_given old meant.0 entries.0 units.0 plain located (seen_located ∙ seen_ranged) kept have;
         entries = given;
         no_lines = others_given entries.0 located;
-        preorder = preorder_kept entries.0 raw.entries kept read.preorder;
+        preorder = preorder_kept entries.0 old kept read.preorder;
         code = code_given m entries.0 sound given;
         frames = frames_are o.image o.relocs.frame o.sections.frame frames.0 m frames.1 are.frame.are sound;
       })
