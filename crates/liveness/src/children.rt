@@ -6,7 +6,7 @@ ghost use Rattle.liveness.specs.Roots.{ParentsStandBefore};
 ghost use Rattle.liveness.specs.ChildTable.{IsTable};
 
 use ds_base::NoMemory;
-use dwarf_types::Entry;
+use dwarf_types::Entries;
 use std::alloc::Global;
 
 /// The children of each entry as chains, from the last child to the first.
@@ -19,15 +19,15 @@ pub(crate) struct Children {
 }
 
 /// The children of each of some entries.
-pub(crate) fn children_of(alloc: Global, entries: &[Entry]) -> Result<Children, NoMemory>
+pub(crate) fn children_of(alloc: Global, entries: &Entries) -> Result<Children, NoMemory>
     requires few { length entries.now ≤ 2 ^ 24 }
     requires parents { ParentsStandBefore entries.now }
     ensures { IfOk result (λ children. IsTable entries.now (length entries.now) children.last.items children.before.items) }
 {
     let mut last = vec![in alloc; None; entries.len()]?;
     let mut before = Vec::with_capacity(alloc, entries.len())?;
-    for (i, entry) in entries.iter().enumerate() {
-        before.push(enter_child(&mut last, entry.parent, i as u32))?;
+    for i in 0..entries.len() {
+        before.push(enter_child(&mut last, entries.entry(i).parent(), i as u32))?;
     }
     Ok(Children { last, before })
 }

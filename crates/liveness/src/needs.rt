@@ -4,7 +4,8 @@
 ghost use Rattle.std.specs.Prelude.{◌≡◌, ◌<◌, ◌↔◌, ◌⊎◌, ℕ, [], ◌∷◌, ◌++◌, ◌==◌, None, length, map, OnOk, if◌then◌else◌};
 ghost use Rattle.std.specs.List.{Contains, filter_map, flat_map};
 ghost use Rattle.std.specs.Option.{option_to_list};
-ghost use Rattle.dwarf_types.specs.Live.{Needs, base_in, bases_of, is_import, is_left_behind, keeps_children, op_bases, operations_of, target_in, targets_of};
+ghost use Rattle.dwarf_types.specs.Live.{Needs, base_in, is_import, is_left_behind, keeps_children, op_bases, operations_of, target_in};
+ghost use Rattle.dwarf_types.specs.Seen.{attr_seen, inner_seen, location_seen, op_seen, value_seen};
 ghost use Rattle.liveness.specs.ChildTable.{IsKept, IsTable, is_wanted};
 
 use crate::children::Children;
@@ -14,11 +15,13 @@ use ds_base::dwarf::{
     DW_AT_sibling, DW_TAG_imported_declaration, DW_TAG_imported_module, DW_TAG_module,
     DW_TAG_namespace,
 };
-use dwarf_types::{Attr, Base, Entry, Location, Op, PlainOp, Value};
+use dwarf_types::{
+    AttrRef, Base, Entries, EntryRef, InnerOpsRef, LocationsRef, OpRef, OpsRef, ValueRef,
+};
 
 /// Puts what entry `k` needs into `out`, and nothing else.
 pub(crate) fn find_needs(
-    entries: &[Entry],
+    entries: &Entries,
     children: &Children,
     k: u32,
     out: &mut Vec<u32>,
@@ -28,101 +31,90 @@ pub(crate) fn find_needs(
     ensures { OnOk result ((j : ℕ) → Contains out.new.items j ↔ Needs entries.now k j) }
 {
     out.clear();
-    let entry = &entries[k as usize];
-    push_parent(entry, out)?;
-    push_targets(entry, out)?;
-    push_bases(entry, out)?;
+    let entry = entries.entry(k as usize);
+    push_parent(&entry, out)?;
+    push_named(&entry, out)?;
     push_children(entries, children, k, out)?;
     Ok(())
 }
 
 /// Puts the parent behind `out`, where there is one.
-fn push_parent(entry: &Entry, out: &mut Vec<u32>) -> Result<(), NoMemory>
+fn push_parent(entry: &EntryRef, out: &mut Vec<u32>) -> Result<(), NoMemory>
     ensures { OnOk result (out.new.items ≡ out.old.items ++ option_to_list entry.now.parent) }
 {
-    if let Some(parent) = entry.parent {
+    if let Some(parent) = entry.parent() {
         out.push(parent)?;
     }
     Ok(())
 }
 
-/// Puts the targets of an entry's references behind `out`. That of its sibling does not count.
-fn push_targets(entry: &Entry, out: &mut Vec<u32>) -> Result<(), NoMemory>
-    ensures { OnOk result (out.new.items ≡ out.old.items ++ targets_of entry.now) }
+/// Puts what an entry's attributes name behind `out`, attribute by attribute: the targets of its references, and the
+/// base types of its expressions. The target of its sibling does not count.
+fn push_named(entry: &EntryRef, out: &mut Vec<u32>) -> Result<(), NoMemory>
+    ensures { OnOk result (out.new.items ≡ out.old.items ++ flat_map (λ a. option_to_list (if a.name == DW_AT_sibling then None else target_in a.value) ++ flat_map op_bases (operations_of a.value)) entry.now.attrs) }
 {
-    for attr in entry.attrs.as_slice() {
-        if let Some(target) = needed_target(attr) {
-            out.push(target)?;
-        }
+    for j in 0..entry.len() {
+        push_named_by(&entry.attr(j), out)?;
     }
     Ok(())
 }
 
-/// The entry to which an attribute leads, where that counts.
-fn needed_target(attr: &Attr) -> Option<u32>
-    ensures { result ≡ (if attr.now.name == DW_AT_sibling then None else target_in attr.now.value) }
+/// Puts what an attribute names behind `out`.
+fn push_named_by(attr: &AttrRef, out: &mut Vec<u32>) -> Result<(), NoMemory>
+    ensures { let a = attr_seen attr.now in OnOk result (out.new.items ≡ out.old.items ++ option_to_list (if a.name == DW_AT_sibling then None else target_in a.value) ++ flat_map op_bases (operations_of a.value)) }
 {
-    match attr.value {
-        Value::Ref(target) if attr.name != DW_AT_sibling => Some(target),
-        _ => None,
-    }
-}
-
-/// Puts the base types that an entry's expressions name behind `out`.
-pub(crate) fn push_bases(entry: &Entry, out: &mut Vec<u32>) -> Result<(), NoMemory>
-    ensures { OnOk result (out.new.items ≡ out.old.items ++ bases_of entry.now) }
-{
-    for attr in entry.attrs.as_slice() {
-        push_value_bases(&attr.value, out)?;
-    }
-    Ok(())
-}
-
-/// Puts the base types that a value's expressions name behind `out`.
-fn push_value_bases(value: &Value, out: &mut Vec<u32>) -> Result<(), NoMemory>
-    ensures { OnOk result (out.new.items ≡ out.old.items ++ flat_map op_bases (operations_of value.now)) }
-{
-    match value {
-        Value::Expr(ops) => push_all_op_bases(ops.as_slice(), out),
-        Value::Locations(items) => push_location_bases(items.as_slice(), out),
+    match &attr.value {
+        ValueRef::Ref(target) => push_target(attr.name, *target, out),
+        ValueRef::Expr(ops) => push_all_op_bases(ops, out),
+        ValueRef::Locations(items) => push_location_bases(items, out),
         _ => Ok(()),
     }
 }
 
+/// Puts the target of a reference behind `out`, where it counts.
+fn push_target(name: u16, target: u32, out: &mut Vec<u32>) -> Result<(), NoMemory>
+    ensures { OnOk result (out.new.items ≡ out.old.items ++ (if name == DW_AT_sibling then [] else target ∷ [])) }
+{
+    if name != DW_AT_sibling {
+        out.push(target)?;
+    }
+    Ok(())
+}
+
 /// Puts the base types that the expressions of a location list name behind `out`.
-fn push_location_bases(items: &[Location], out: &mut Vec<u32>) -> Result<(), NoMemory>
+fn push_location_bases(items: &LocationsRef, out: &mut Vec<u32>) -> Result<(), NoMemory>
     ensures { OnOk result (out.new.items ≡ out.old.items ++ flat_map op_bases (flat_map (λ item. item.ops) items.now)) }
 {
-    for item in items {
-        push_all_op_bases(item.ops.as_slice(), out)?;
+    for k in 0..items.len() {
+        push_all_op_bases(&items.item(k).ops, out)?;
     }
     Ok(())
 }
 
 /// Puts the base types that operations name behind `out`.
-fn push_all_op_bases(ops: &[Op], out: &mut Vec<u32>) -> Result<(), NoMemory>
+fn push_all_op_bases(ops: &OpsRef, out: &mut Vec<u32>) -> Result<(), NoMemory>
     ensures { OnOk result (out.new.items ≡ out.old.items ++ flat_map op_bases ops.now) }
 {
-    for op in ops {
-        push_op_bases(op, out)?;
+    for k in 0..ops.len() {
+        push_op_bases(&ops.op(k), out)?;
     }
     Ok(())
 }
 
 /// Puts the base types that an operation and those inside it name behind `out`.
-fn push_op_bases(op: &Op, out: &mut Vec<u32>) -> Result<(), NoMemory>
-    ensures { OnOk result (out.new.items ≡ out.old.items ++ op_bases op.now) }
+fn push_op_bases(op: &OpRef, out: &mut Vec<u32>) -> Result<(), NoMemory>
+    ensures { OnOk result (out.new.items ≡ out.old.items ++ op_bases (op_seen op.now)) }
 {
     push_base(op.base, out)?;
-    push_inner_bases(op.inner.as_slice(), out)
+    push_inner_bases(&op.inner, out)
 }
 
 /// Puts the base types that the operations inside an operation name behind `out`.
-fn push_inner_bases(inner: &[PlainOp], out: &mut Vec<u32>) -> Result<(), NoMemory>
+fn push_inner_bases(inner: &InnerOpsRef, out: &mut Vec<u32>) -> Result<(), NoMemory>
     ensures { OnOk result (out.new.items ≡ out.old.items ++ filter_map base_in (map (λ plain. plain.base) inner.now)) }
 {
-    for plain in inner {
-        push_base(plain.base, out)?;
+    for k in 0..inner.len() {
+        push_base(inner.op(k).base, out)?;
     }
     Ok(())
 }
@@ -139,7 +131,7 @@ fn push_base(base: Option<Base>, out: &mut Vec<u32>) -> Result<(), NoMemory>
 
 /// Puts the children of entry `k` that stay with it behind `out`.
 fn push_children(
-    entries: &[Entry],
+    entries: &Entries,
     children: &Children,
     k: u32,
     out: &mut Vec<u32>,
@@ -148,17 +140,22 @@ fn push_children(
     requires table { IsTable entries.now (length entries.now) children.now.last.items children.now.before.items }
     ensures { OnOk result ((j : ℕ) → Contains out.new.items j ↔ (Contains out.old.items j ⊎ IsKept entries.now k j)) }
 {
-    let keeps = keeps_children(&entries[k as usize]);
+    let keeps = keeps_children(&entries.entry(k as usize));
     let mut next = children.last[k as usize];
     while let Some(child) = next {
-        push_wanted(keeps, &entries[child as usize], child, out)?;
+        push_wanted(keeps, &entries.entry(child as usize), child, out)?;
         next = children.before[child as usize];
     }
     Ok(())
 }
 
 /// Puts a child with its number behind `out`, where it stays with a parent that keeps its children or not.
-fn push_wanted(keeps: bool, child: &Entry, number: u32, out: &mut Vec<u32>) -> Result<(), NoMemory>
+fn push_wanted(
+    keeps: bool,
+    child: &EntryRef,
+    number: u32,
+    out: &mut Vec<u32>,
+) -> Result<(), NoMemory>
     ensures { OnOk result (out.new.items ≡ out.old.items ++ (if is_wanted keeps child.now then number ∷ [] else [])) }
 {
     if (keeps && !is_left_behind(child)) || is_import(child) {
@@ -168,25 +165,25 @@ fn push_wanted(keeps: bool, child: &Entry, number: u32, out: &mut Vec<u32>) -> R
 }
 
 /// Whether a live entry keeps its children: it is no unit, namespace or module.
-fn keeps_children(entry: &Entry) -> bool
+fn keeps_children(entry: &EntryRef) -> bool
     ensures { result ≡ keeps_children entry.now }
 {
-    entry.parent.is_some() && !matches!(entry.tag, DW_TAG_namespace | DW_TAG_module)
+    entry.parent().is_some() && !matches!(entry.tag(), DW_TAG_namespace | DW_TAG_module)
 }
 
 /// Whether an entry was not linked: it has an address, and none of its addresses moved.
-fn is_left_behind(entry: &Entry) -> bool
+fn is_left_behind(entry: &EntryRef) -> bool
     ensures { result ≡ is_left_behind entry.now }
 {
     has_address(entry) && !moves(entry)
 }
 
 /// Whether an entry imports a declaration or a module.
-fn is_import(entry: &Entry) -> bool
+fn is_import(entry: &EntryRef) -> bool
     ensures { result ≡ is_import entry.now }
 {
     matches!(
-        entry.tag,
+        entry.tag(),
         DW_TAG_imported_declaration | DW_TAG_imported_module
     )
 }

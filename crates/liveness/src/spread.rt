@@ -23,7 +23,7 @@ pub fn live(alloc: Global, seen: &Analysis) -> Result<BitRow, NoMemory>
     ensures size { IfOk result (λ row. length row ≡ length seen.now.entries) }
     ensures exact { IfOk result (λ row. (k : ℕ) → (slice_index_or row k false ≡ true) ↔ IsLive seen.now.entries k) }
 {
-    let entries = seen.entries.as_slice();
+    let entries = &seen.entries;
     let mut row = BitRow::new(alloc, entries.len() as u32)?;
     let mut work = Vec::new(alloc);
     mark_all(&mut row, &mut work, &roots_of(alloc, entries)?)?;
@@ -45,7 +45,7 @@ fn spread(
     requires begun { Spread seen.now.entries row.old work.old.items }
     ensures { OnOk result (Spread seen.now.entries row.new []) }
 {
-    let entries = seen.entries.as_slice();
+    let entries = &seen.entries;
     let mut needs = Vec::new(alloc);
     while let Some(k) = work.pop() {
         find_needs(entries, children, k, &mut needs)?;

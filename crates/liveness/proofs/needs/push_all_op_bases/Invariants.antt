@@ -3,5 +3,5 @@ use Rattle.std.specs.List.{flat_map}
 use Rattle.dwarf_types.specs.Live.{op_bases}
 use Rattle.liveness.proofs.needs.push_all_op_bases.Given as goal
 
-abbrev pub invariant-loop-op : goal.invariant-loop-op
-invariant-loop-op l = l.out.items ≡ l.initial.out.items ++ flat_map op_bases (take l.op-index l.ops)
+abbrev pub invariant-loop-k : goal.invariant-loop-k
+invariant-loop-k l = l.out.items ≡ l.fn.out.items ++ flat_map op_bases (take l.k l.ops)

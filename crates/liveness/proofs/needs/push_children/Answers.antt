@@ -1,7 +1,6 @@
-use Rattle.std.proofs.Common.{◌≡◌, ◌+◌, ◌<◌, ◌++◌, [], ◌∷◌, ℕ, Option, Some, List, cond, refl, sym, subst}
+use Rattle.std.proofs.Common.{◌≡◌, ◌+◌, ◌<◌, ◌++◌, [], ◌∷◌, ℕ, Option, Some, List, cond, sym, subst}
 use Rattle.std.specs.Option.{option_map_or}
-use Rattle.std.proofs.lemmas.Option.{slice_get_read, slice_get_within}
-use Rattle.dwarf_types.specs.Live.{Stands, keeps_children}
+use Rattle.dwarf_types.specs.Live.{keeps_children}
 use Rattle.liveness.specs.ChildTable.{is_wanted}
 use Rattle.liveness.proofs.ChildChains.{HasWalked, next_is_last, walk_ends, walk_falls, walk_goes_on}
 use Rattle.liveness.proofs.needs.push_children.Goals as goal
@@ -19,11 +18,9 @@ loop-next-preserved c =
     let entries = c.args.entries.now in
     let walked : HasWalked entries c.args.k c.args.out.now.items c.loop-next.out.items (Some c.in-Some.child) = subst (HasWalked entries c.args.k c.args.out.now.items c.loop-next.out.items) c.in-Some.is c.loop-next.invariant in
     let last = next_is_last entries c.args.k c.in-Some.child c.args.children.now.last.items c.args.children.now.before.items c.index-next-in-Some.result.now c.requires.table walked.1.1 c.index-next-in-Some.ensures in
-    let at : Stands entries c.args.k c.index-entries-k.result = slice_get_read entries _ _ _ refl c.requires.place c.index-entries-k.is in
-    let at_child : Stands entries c.in-Some.child c.index-entries-child.result = slice_get_read entries _ _ _ refl (slice_get_within entries c.in-Some.child walked.1.1.0 walked.1.1.1) c.index-entries-child.is in
-    let pushed : c.push_wanted.new.out.items ≡ c.loop-next.out.items ++ cond (is_wanted (keeps_children c.index-entries-k.result) c.index-entries-child.result) (c.in-Some.child ∷ []) [] = rw (← c.keeps_children-keeps.ensures) c.in_ok-push_wanted.ensures in
+    let pushed : c.push_wanted.new.out.items ≡ c.loop-next.out.items ++ cond (is_wanted (keeps_children c.entry.result) c.entry-in-Some.result) (c.in-Some.child ∷ []) [] = rw (← c.keeps_children-keeps.ensures) c.in_ok-push_wanted.ensures in
     subst (λ (out : List ℕ). HasWalked entries c.args.k c.args.out.now.items out c.index-next-in-Some.result.now) (sym pushed)
-    (walk_goes_on entries c.args.k c.in-Some.child c.index-entries-k.result c.index-entries-child.result c.args.out.now.items c.loop-next.out.items c.index-next-in-Some.result.now at at_child walked last)
+    (walk_goes_on entries c.args.k c.in-Some.child c.entry.result c.entry-in-Some.result c.args.out.now.items c.loop-next.out.items c.index-next-in-Some.result.now c.entry.ensures.stands c.entry-in-Some.ensures.stands walked last)
 
 pub returns : goal.returns
 returns c = walk_ends c.args.entries.now c.args.k c.args.out.now.items c.loop-next.out.items (subst (HasWalked c.args.entries.now c.args.k c.args.out.now.items c.loop-next.out.items) c.in_default.is c.loop-next.invariant)

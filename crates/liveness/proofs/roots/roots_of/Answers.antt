@@ -1,8 +1,7 @@
-use Rattle.std.proofs.Common.{◌≡◌, ℕ, ◌+◌, ◌<◌, ◌↔◌, true, List, Vec, Global, refl, arith, sym, ap, subst, ◌∙◌}
+use Rattle.std.proofs.Common.{◌≡◌, ℕ, ◌+◌, ◌<◌, ◌↔◌, true, List, Vec, Global, arith, sym, ap, subst, ◌∙◌}
 use Rattle.std.specs.List.{Contains}
 use Rattle.std.proofs.lemmas.Bool.{both_ways}
-use Rattle.std.proofs.lemmas.Option.{slice_get_read}
-use Rattle.dwarf_types.specs.Live.{IsInSubprogram, IsRoot, Stands}
+use Rattle.dwarf_types.specs.Live.{IsInSubprogram, IsRoot}
 use Rattle.liveness.proofs.Elements.{number_joins, number_stays_out}
 use Rattle.liveness.proofs.RootTests.{is_root_is, root_within}
 use Rattle.liveness.proofs.roots.roots_of.Goals.{then-is_root+in_ok-push, else-is_root}
@@ -11,10 +10,9 @@ use Rattle.liveness.proofs.roots.roots_of.Goals as goal
 pub loop-i-preserved : goal.loop-i-preserved
 loop-i-preserved c =
     let entries = c.args.entries.now in
-    let at : Stands entries c.loop-i.i c.index-entries-i.result = slice_get_read entries _ _ _ refl (omega arith) c.index-entries-i.is in
     let marks = c.in_ok-inside.ensures.marks c.loop-i.i in
-    let tells : (c.get.result ≡ true) ↔ IsInSubprogram entries c.loop-i.i = ((λ t. (marks.0 (sym c.get.ensures ∙ t)).1), (λ w. c.get.ensures ∙ marks.1 (c.loop-i-test.true, w))) in
-    let is = is_root_is entries c.loop-i.i c.index-entries-i.result c.get.result at tells in
+    let tells : (c.get.result ≡ true) ↔ IsInSubprogram entries c.loop-i.i = ((λ t. (marks.0 (sym c.get.ensures ∙ t)).1), (λ w. c.get.ensures ∙ marks.1 (omega (arith, c.loop-i-test.true, c.len-i-end.ensures), w))) in
+    let is = is_root_is entries c.loop-i.i c.entry.result c.get.result c.entry.ensures.stands tells in
     let so_far : List ℕ → Type 0 = λ roots. (k : ℕ) → Contains roots k ↔ ((k < c.loop-i.i + 1) × IsRoot entries k) in
     elim c.if-is_root.branch [
       | then-is_root+in_ok-push w ↦ subst so_far (sym (ap (λ (v : Vec ℕ Global). v.items) w.roots-is ∙ w.in_ok-push.ensures.items)) (number_joins (IsRoot entries) c.loop-i.roots.items c.loop-i.i c.loop-i.invariant (is.0 (sym c.is_root.ensures ∙ w.if-is_root.true)))
