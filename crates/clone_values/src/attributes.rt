@@ -3,6 +3,7 @@
 ghost use Rattle.std.specs.Prelude.{◌≡◌, ◌||◌, ◌&&◌, is_none, IfOk};
 ghost use Rattle.clone_values.specs.Images.{image_at};
 ghost use Rattle.dwarf_types.specs.LinkedValues.{attr_written, attrs_written};
+ghost use Rattle.dwarf_types.specs.Seen.{attr_seen};
 ghost use Rattle.dwarf_types.specs.WellNodes.{is_dropped};
 ghost use Rattle.dwarf_types.specs.WellRoots.{is_code_range};
 
@@ -12,7 +13,7 @@ use ds_base::dwarf::{
     DW_AT_rnglists_base, DW_AT_sibling, DW_AT_str_offsets_base,
 };
 use ds_base::{List, NoMemory};
-use dwarf_types::{Attr, Entry, OutAttr, Target};
+use dwarf_types::{AttrRef, EntryRef, OutAttr, Target};
 use std::alloc::Global;
 
 /// What an entry says where it is written: its attributes in order, moved to the linked program, or dropped.
@@ -23,13 +24,13 @@ use std::alloc::Global;
 pub fn attrs_of(
     alloc: Global,
     images: &[Option<Target>],
-    entry: &Entry,
+    entry: &EntryRef,
 ) -> Result<List<OutAttr>, NoMemory>
     ensures { IfOk result (λ attrs. attrs ≡ attrs_written (image_at images.now) entry.now) }
 {
-    let mut attrs = List::with_capacity(alloc, entry.attrs.len())?;
-    for attr in entry.attrs.as_slice() {
-        if let Some(written) = attr_written(alloc, images, entry, attr)? {
+    let mut attrs = List::with_capacity(alloc, entry.len())?;
+    for j in 0..entry.len() {
+        if let Some(written) = attr_written(alloc, images, entry, &entry.attr(j))? {
             attrs.push(written)?;
         }
     }
@@ -40,10 +41,10 @@ pub fn attrs_of(
 fn attr_written(
     alloc: Global,
     images: &[Option<Target>],
-    entry: &Entry,
-    attr: &Attr,
+    entry: &EntryRef,
+    attr: &AttrRef,
 ) -> Result<Option<OutAttr>, NoMemory>
-    ensures { IfOk result (λ it. it ≡ attr_written (image_at images.now) entry.now attr.now) }
+    ensures { IfOk result (λ it. it ≡ attr_written (image_at images.now) entry.now (attr_seen attr.now)) }
 {
     if is_left_out(entry, attr.name) {
         return Ok(None);
@@ -58,10 +59,10 @@ fn attr_written(
 }
 
 /// Whether an attribute of an entry is left out by its name.
-fn is_left_out(entry: &Entry, name: u16) -> bool
+fn is_left_out(entry: &EntryRef, name: u16) -> bool
     ensures { result ≡ (is_dropped name || (is_none entry.now.parent && is_code_range name)) }
 {
-    is_dropped(name) || (entry.parent.is_none() && is_code_range(name))
+    is_dropped(name) || (entry.parent().is_none() && is_code_range(name))
 }
 
 /// Whether an attribute speaks of how the input was laid out.

@@ -5,26 +5,27 @@ ghost use Rattle.clone_values.specs.Cut.{ended, is_nested, part_done, part_open}
 ghost use Rattle.clone_values.specs.Images.{image_at};
 ghost use Rattle.dwarf_types.specs.LinkedExpressions.{as_part, op_part, outside, parts_of, plain_part};
 ghost use Rattle.dwarf_types.specs.Operations.{operands_of};
+ghost use Rattle.dwarf_types.specs.Seen.{op_seen};
 
 use crate::inside::plain_parts;
 use crate::stretch::longer_stretch;
 use crate::typed::cut_typed;
 use ds_base::{Bytes, List, NoMemory};
-use dwarf_types::{ExprPart, Op, Operands, Target, operands_after};
+use dwarf_types::{ExprPart, OpRef, Operands, OpsRef, Target, operands_after};
 use std::alloc::Global;
 
 /// The parts of an expression as it is written, with stretches of bytes as long as can be.
 pub(crate) fn parts_of(
     alloc: Global,
     images: &[Option<Target>],
-    ops: &[Op],
+    ops: &OpsRef,
 ) -> Result<List<ExprPart>, NoMemory>
     ensures { IfOk result (λ parts. parts ≡ parts_of (image_at images.now) ops.now) }
 {
     let mut parts = List::with_capacity(alloc, 1)?;
     let mut stretch = None;
-    for op in ops {
-        stretch = add_op(alloc, images, op, &mut parts, stretch)?;
+    for k in 0..ops.len() {
+        stretch = add_op(alloc, images, &ops.op(k), &mut parts, stretch)?;
     }
     end_stretch(&mut parts, stretch)?;
     Ok(parts)
@@ -34,17 +35,17 @@ pub(crate) fn parts_of(
 fn add_op(
     alloc: Global,
     images: &[Option<Target>],
-    op: &Op,
+    op: &OpRef,
     parts: &mut List<ExprPart>,
     stretch: Option<Bytes>,
 ) -> Result<Option<Bytes>, NoMemory>
-    ensures done { OnOk result (parts.new ≡ part_done (op_part (image_at images.now) (operands_of op.now.code) op.now) parts.old stretch) }
-    ensures stretch { IfOk result (λ it. it ≡ part_open (op_part (image_at images.now) (operands_of op.now.code) op.now) stretch) }
+    ensures done { OnOk result (parts.new ≡ part_done (op_part (image_at images.now) (operands_of op.now.code) (op_seen op.now)) parts.old stretch) }
+    ensures stretch { IfOk result (λ it. it ≡ part_open (op_part (image_at images.now) (operands_of op.now.code) (op_seen op.now)) stretch) }
 {
     if !is_nested(op.code) {
         return add_outside(alloc, images, op, parts, stretch);
     }
-    let inner = plain_parts(alloc, images, op.inner.as_slice())?;
+    let inner = plain_parts(alloc, images, &op.inner)?;
     end_stretch(parts, stretch)?;
     parts.push(ExprPart::Nested {
         code: op.code,
@@ -57,19 +58,18 @@ fn add_op(
 fn add_outside(
     alloc: Global,
     images: &[Option<Target>],
-    op: &Op,
+    op: &OpRef,
     parts: &mut List<ExprPart>,
     stretch: Option<Bytes>,
 ) -> Result<Option<Bytes>, NoMemory>
-    ensures done { OnOk result (parts.new ≡ part_done (as_part (plain_part (image_at images.now) (outside op.now))) parts.old stretch) }
-    ensures stretch { IfOk result (λ it. it ≡ part_open (as_part (plain_part (image_at images.now) (outside op.now))) stretch) }
+    ensures done { OnOk result (parts.new ≡ part_done (as_part (plain_part (image_at images.now) (outside (op_seen op.now)))) parts.old stretch) }
+    ensures stretch { IfOk result (λ it. it ≡ part_open (as_part (plain_part (image_at images.now) (outside (op_seen op.now)))) stretch) }
 {
-    let bytes = op.bytes.as_slice();
     let Some(base) = op.base else {
-        let longer = longer_stretch(alloc, stretch, op.code, bytes, op.address)?;
+        let longer = longer_stretch(alloc, stretch, op.code, op.bytes, op.address)?;
         return Ok(Some(longer));
     };
-    let it = cut_typed(alloc, images, op.code, bytes, base)?;
+    let it = cut_typed(alloc, images, op.code, op.bytes, base)?;
     end_stretch(parts, stretch)?;
     parts.push(ExprPart::Typed {
         code: op.code,

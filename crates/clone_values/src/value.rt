@@ -6,14 +6,19 @@ ghost use Rattle.std.specs.Option.{option_map};
 ghost use Rattle.clone_values.specs.Images.{image_at};
 ghost use Rattle.dwarf_types.specs.declared.graph.OutValue.TheVariants as out;
 ghost use Rattle.dwarf_types.specs.LinkedExpressions.{parts_of};
-ghost use Rattle.dwarf_types.specs.LinkedValues.{all_move, is_flag, location_written, loses_low_pc, unless_empty, value_written};
+ghost use Rattle.dwarf_types.specs.Forms.{is_flag};
+ghost use Rattle.dwarf_types.specs.LinkedValues.{all_move, location_written, loses_low_pc, unless_empty, value_written};
 ghost use Rattle.dwarf_types.specs.Moves.{address_moved};
+ghost use Rattle.dwarf_types.specs.Seen.{attr_seen, location_seen};
 
 use crate::expression::parts_of;
 use crate::images::image_at;
-use ds_base::dwarf::{DW_AT_high_pc, DW_FORM_flag, DW_FORM_flag_present};
-use ds_base::{List, NoMemory};
-use dwarf_types::{Attr, Entry, Location, Op, OutLocation, OutValue, Span, Target, Value};
+use ds_base::dwarf::DW_AT_high_pc;
+use ds_base::{Bytes, List, NoMemory};
+use dwarf_types::{
+    AttrRef, EntryRef, LocationRef, LocationsRef, OpsRef, OutLocation, OutValue, Span, Target,
+    ValueRef, is_flag,
+};
 use liveness::{address_moved, all_fields_moved, low_pc_moves};
 use std::alloc::Global;
 
@@ -21,41 +26,41 @@ use std::alloc::Global;
 pub(crate) fn value_written(
     alloc: Global,
     images: &[Option<Target>],
-    entry: &Entry,
-    attr: &Attr,
+    entry: &EntryRef,
+    attr: &AttrRef,
 ) -> Result<Option<OutValue>, NoMemory>
-    ensures { IfOk result (λ it. it ≡ value_written (image_at images.now) entry.now attr.now attr.now.value) }
+    ensures { IfOk result (λ it. it ≡ value_written (image_at images.now) entry.now (attr_seen attr.now) (attr_seen attr.now).value) }
 {
     match &attr.value {
-        Value::Address(_) => Ok(address_written(entry.tag, attr)),
-        Value::Text(text) => Ok(Some(OutValue::Text(text.copy(alloc)?))),
-        Value::Number { form, bits } => Ok(number_written(entry, attr, *form, *bits)),
-        Value::Wide(bytes) if loses_low_pc(entry, attr) => Ok(None),
-        Value::Wide(bytes) => Ok(Some(OutValue::Wide(bytes.copy(alloc)?))),
-        Value::Block { form, bytes } => Ok(Some(OutValue::Block {
+        ValueRef::Address(_) => Ok(address_written(entry.tag(), attr)),
+        ValueRef::Text(text) => Ok(Some(OutValue::Text(Bytes::from_slice(alloc, text)?))),
+        ValueRef::Number { form, bits } => Ok(number_written(entry, attr, *form, *bits)),
+        ValueRef::Wide(bytes) if loses_low_pc(entry, attr) => Ok(None),
+        ValueRef::Wide(bytes) => Ok(Some(OutValue::Wide(Bytes::from_slice(alloc, bytes)?))),
+        ValueRef::Block { form, bytes } => Ok(Some(OutValue::Block {
             form: *form,
-            bytes: bytes.copy(alloc)?,
+            bytes: Bytes::from_slice(alloc, bytes)?,
         })),
-        Value::Expr(ops) => expression_written(alloc, images, ops.as_slice()),
-        Value::Ref(k) => Ok(reference_written(images, *k)),
-        Value::Ranges(spans) => ranges_written(alloc, spans.as_slice()),
-        Value::Locations(items) => locations_written(alloc, images, items.as_slice()),
-        Value::Lines => Ok(Some(OutValue::Lines)),
-        Value::Offset(_) => Ok(None),
+        ValueRef::Expr(ops) => expression_written(alloc, images, ops),
+        ValueRef::Ref(k) => Ok(reference_written(images, *k)),
+        ValueRef::Ranges(spans) => ranges_written(alloc, spans),
+        ValueRef::Locations(items) => locations_written(alloc, images, items),
+        ValueRef::Lines => Ok(Some(OutValue::Lines)),
+        ValueRef::Offset(_) => Ok(None),
     }
 }
 
 /// An address, where it moved.
-fn address_written(tag: u16, attr: &Attr) -> Option<OutValue>
-    ensures { result ≡ option_map (λ n. out.Address n) (address_moved tag attr.now) }
+fn address_written(tag: u16, attr: &AttrRef) -> Option<OutValue>
+    ensures { result ≡ option_map (λ n. out.Address n) (address_moved tag (attr_seen attr.now)) }
 {
     let address = address_moved(tag, attr)?;
     Some(OutValue::Address(address))
 }
 
 /// A number, where it is no length that goes with its low_pc.
-fn number_written(entry: &Entry, attr: &Attr, form: u16, bits: u64) -> Option<OutValue>
-    ensures { result ≡ (if not (is_flag form) && loses_low_pc entry.now attr.now then None else Some (out.Number form bits)) }
+fn number_written(entry: &EntryRef, attr: &AttrRef, form: u16, bits: u64) -> Option<OutValue>
+    ensures { result ≡ (if not (is_flag form) && loses_low_pc entry.now (attr_seen attr.now) then None else Some (out.Number form bits)) }
 {
     if !is_flag(form) && loses_low_pc(entry, attr) {
         return None;
@@ -63,16 +68,9 @@ fn number_written(entry: &Entry, attr: &Attr, form: u16, bits: u64) -> Option<Ou
     Some(OutValue::Number { form, bits })
 }
 
-/// Whether a form is one of class flag.
-fn is_flag(form: u16) -> bool
-    ensures { result ≡ is_flag form }
-{
-    form == DW_FORM_flag || form == DW_FORM_flag_present
-}
-
 /// Whether an attribute of class constant is a length that goes with its low_pc.
-fn loses_low_pc(entry: &Entry, attr: &Attr) -> bool
-    ensures { result ≡ loses_low_pc entry.now attr.now }
+fn loses_low_pc(entry: &EntryRef, attr: &AttrRef) -> bool
+    ensures { result ≡ loses_low_pc entry.now (attr_seen attr.now) }
 {
     attr.name == DW_AT_high_pc && !low_pc_moves(entry)
 }
@@ -81,7 +79,7 @@ fn loses_low_pc(entry: &Entry, attr: &Attr) -> bool
 fn expression_written(
     alloc: Global,
     images: &[Option<Target>],
-    ops: &[Op],
+    ops: &OpsRef,
 ) -> Result<Option<OutValue>, NoMemory>
     ensures { IfOk result (λ it. it ≡ (if all_move ops.now then Some (out.Expr (parts_of (image_at images.now) ops.now)) else None)) }
 {
@@ -121,7 +119,7 @@ pub fn copy_of_spans(alloc: Global, spans: &[Span]) -> Result<List<Span>, NoMemo
 fn locations_written(
     alloc: Global,
     images: &[Option<Target>],
-    items: &[Location],
+    items: &LocationsRef,
 ) -> Result<Option<OutValue>, NoMemory>
     ensures { IfOk result (λ it. it ≡ unless_empty (λ list. out.Locations list) (filter_map (location_written (image_at images.now)) items.now)) }
 {
@@ -136,13 +134,13 @@ fn locations_written(
 fn items_written(
     alloc: Global,
     images: &[Option<Target>],
-    items: &[Location],
+    items: &LocationsRef,
 ) -> Result<List<OutLocation>, NoMemory>
     ensures { IfOk result (λ locations. locations ≡ filter_map (location_written (image_at images.now)) items.now) }
 {
     let mut locations = List::with_capacity(alloc, items.len())?;
-    for item in items {
-        if let Some(location) = item_written(alloc, images, item)? {
+    for k in 0..items.len() {
+        if let Some(location) = item_written(alloc, images, &items.item(k))? {
             locations.push(location)?;
         }
     }
@@ -153,14 +151,14 @@ fn items_written(
 fn item_written(
     alloc: Global,
     images: &[Option<Target>],
-    item: &Location,
+    item: &LocationRef,
 ) -> Result<Option<OutLocation>, NoMemory>
-    ensures { IfOk result (λ it. it ≡ location_written (image_at images.now) item.now) }
+    ensures { IfOk result (λ it. it ≡ location_written (image_at images.now) (location_seen item.now)) }
 {
-    if !all_fields_moved(item.ops.as_slice()) {
+    if !all_fields_moved(&item.ops) {
         return Ok(None);
     }
-    let parts = parts_of(alloc, images, item.ops.as_slice())?;
+    let parts = parts_of(alloc, images, &item.ops)?;
     Ok(Some(OutLocation {
         span: item.span,
         parts,

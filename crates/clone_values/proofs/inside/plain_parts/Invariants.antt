@@ -5,5 +5,5 @@ use Rattle.clone_values.specs.Images.{image_at}
 use Rattle.clone_values.proofs.inside.plain_parts.Given as goal
 
 -- the parts so far and those of what is left make the whole
-abbrev pub invariant-loop-op : goal.invariant-loop-op
-invariant-loop-op l = l.parts ++ with_plain l.stretch (plain_parts (image_at l.images) (drop l.op-index l.ops)) ≡ plain_parts (image_at l.images) l.ops
+abbrev pub invariant-loop-k : goal.invariant-loop-k
+invariant-loop-k l = l.parts ++ with_plain l.stretch (plain_parts (image_at l.images) (drop l.k l.ops)) ≡ plain_parts (image_at l.images) l.ops

@@ -5,5 +5,5 @@ use Rattle.clone_values.specs.Images.{image_at}
 use Rattle.clone_values.proofs.value.items_written.Given as goal
 
 -- the items so far and those that are left
-abbrev pub invariant-loop-item : goal.invariant-loop-item
-invariant-loop-item l = l.locations ++ filter_map (location_written (image_at l.images)) (drop l.item-index l.items) ≡ filter_map (location_written (image_at l.images)) l.items
+abbrev pub invariant-loop-k : goal.invariant-loop-k
+invariant-loop-k l = l.locations ++ filter_map (location_written (image_at l.images)) (drop l.k l.items) ≡ filter_map (location_written (image_at l.images)) l.items
