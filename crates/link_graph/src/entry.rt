@@ -4,7 +4,7 @@ ghost use Rattle.std.specs.Prelude.{◌≡◌, ◌++◌, [], ◌∷◌, length, 
 ghost use Rattle.link_graph.specs.Passes.{image_with, nodes_with, parent_in};
 
 use ds_base::{List, NoMemory};
-use dwarf_types::{Entry, Origin, Target};
+use dwarf_types::{EntryRef, Origin, Target};
 
 /// Puts entry `k` of an object, if it is kept, behind the nodes of its unit, and where it went behind the images.
 ///
@@ -13,7 +13,7 @@ pub(crate) fn add_entry(
     object: u32,
     unit: u32,
     k: u32,
-    entry: &Entry,
+    entry: &EntryRef,
     kept: bool,
     nodes: &mut List<Origin>,
     images: &mut List<Option<Target>>,
@@ -29,7 +29,7 @@ pub(crate) fn add_entry(
     nodes.push(Origin {
         object,
         entry: k,
-        parent: parent_in(images, entry.parent),
+        parent: parent_in(images, entry.parent()),
     })?;
     images.push(Some(Target { unit, node }))?;
     Ok(())

@@ -61,7 +61,6 @@ fn nodes_in(
     ensures images { OnOk result (images.new ≡ images.old ++ images_in_unit number (marked seen.now live.now) u (entries_of (marked seen.now live.now) u)) }
 {
     let unit = &seen.units.as_slice()[u];
-    let entries = seen.entries.as_slice();
     let mut nodes = List::new(alloc);
     for n in 0..unit.count {
         let k = unit.first + n;
@@ -69,7 +68,7 @@ fn nodes_in(
             object + 1,
             number,
             k,
-            &entries[k as usize],
+            &seen.entries.entry(k as usize),
             live.get(k),
             &mut nodes,
             images,

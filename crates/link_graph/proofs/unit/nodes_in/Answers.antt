@@ -1,7 +1,5 @@
-use Rattle.std.proofs.Common.{◌≡◌, ◌+◌, ◌++◌, ◌<◌, length, arith, refl, sym, ap, subst, ◌∙◌, List, Option}
+use Rattle.std.proofs.Common.{◌≡◌, ◌+◌, ◌++◌, ◌<◌, length, arith, sym, ap, subst, ◌∙◌, Option}
 use Rattle.std.specs.Option.{IfSome}
-use Rattle.std.proofs.lemmas.Option.{slice_get_read}
-use Rattle.dwarf_types.specs.declared.entry.Entry.{Entry}
 use Rattle.dwarf_types.specs.declared.entry.InUnit.{InUnit}
 use Rattle.dwarf_types.specs.Live.{Stands}
 use Rattle.dwarf_types.specs.LinkedUnits.{Object, is_kept}
@@ -18,13 +16,12 @@ overflow_add-k c =
     let span = unit_spans 0 seen.units (length seen.entries) c.args.u c.index-as_slice-u.result c.requires.sound.units is in
     omega (arith, span.ends, c.requires.sound.few)
 
-pub bounds-entries-k : goal.bounds-entries-k
-bounds-entries-k c =
+pub entry-requires : goal.entry-requires
+entry-requires c =
     let seen = c.args.seen.now in
     let is = unit_read seen.units c.as_slice.result.now c.args.u c.index-as_slice-u.result c.as_slice.ensures c.requires.unit c.index-as_slice-u.is in
     let span = unit_spans 0 seen.units (length seen.entries) c.args.u c.index-as_slice-u.result c.requires.sound.units is in
-    let len : length c.as_slice-entries.result.now ≡ length seen.entries = ap length c.as_slice-entries.ensures in
-    omega (arith, span.ends, len)
+    omega (arith, span.ends)
 
 pub get-requires : goal.get-requires
 get-requires c =
@@ -42,14 +39,13 @@ loop-n-preserved c =
     let begun : length c.args.images.now ≡ unit.first = subst (λ (found : Option InUnit). IfSome found (λ unit. length c.args.images.now ≡ unit.first)) is c.requires.begun in
     let k = unit.first + c.loop-n.n in
     let within : k < length o.seen.entries = omega (arith, span.ends) in
-    let at : Stands o.seen.entries k c.index-entries-k.result = subst (λ (es : List Entry). Stands es k c.index-entries-k.result) c.as_slice-entries.ensures
-    (slice_get_read c.as_slice-entries.result.now _ k _ refl (omega (arith, within, ap length c.as_slice-entries.ensures)) c.index-entries-k.is) in
+    let at : Stands o.seen.entries k c.entry.result = c.entry.ensures.stands in
     let kept : c.get.result ≡ is_kept o k = c.get.ensures ∙ sym (kept_read o k (omega (arith, within, c.requires.marked))) in
     record {
       nodes = c.in_ok-add_entry.ensures.nodes
-          ∙ nodes_step o c.args.object c.args.number c.args.u unit c.loop-n.n c.index-entries-k.result c.args.images.now _ _ c.get.result c.requires.sound is c.loop-n-test.true at begun kept c.loop-n.invariant.nodes c.loop-n.invariant.images;
+          ∙ nodes_step o c.args.object c.args.number c.args.u unit c.loop-n.n c.entry.result c.args.images.now _ _ c.get.result c.requires.sound is c.loop-n-test.true at begun kept c.loop-n.invariant.nodes c.loop-n.invariant.images;
       images = c.in_ok-add_entry.ensures.images
-          ∙ images_step o c.args.object c.args.number c.args.u unit c.loop-n.n c.index-entries-k.result c.args.images.now _ _ c.get.result c.requires.sound is c.loop-n-test.true at kept c.loop-n.invariant.nodes c.loop-n.invariant.images;
+          ∙ images_step o c.args.object c.args.number c.args.u unit c.loop-n.n c.entry.result c.args.images.now _ _ c.get.result c.requires.sound is c.loop-n-test.true at kept c.loop-n.invariant.nodes c.loop-n.invariant.images;
     }
 
 pub returns-clause-nodes : goal.returns-clause-nodes
