@@ -9,13 +9,13 @@ ghost use Rattle.dwarf_types.specs.WellRoots.{closing_pair};
 use clone_values::{attrs_of, copy_of_spans};
 use ds_base::dwarf::{DW_AT_low_pc, DW_AT_ranges};
 use ds_base::{List, NoMemory};
-use dwarf_types::{Entry, Node, Origin, OutAttr, OutValue, Span, Target};
+use dwarf_types::{Entries, EntryRef, Node, Origin, OutAttr, OutValue, Span, Target};
 use std::alloc::Global;
 
 /// The nodes that stand for some entries of an object.
 pub(crate) fn nodes_of(
     alloc: Global,
-    entries: &[Entry],
+    entries: &Entries,
     images: &[Option<Target>],
     spans: &[Span],
     origins: &[Origin],
@@ -33,7 +33,7 @@ pub(crate) fn nodes_of(
 /// The node that stands for an entry.
 fn node_of(
     alloc: Global,
-    entries: &[Entry],
+    entries: &Entries,
     images: &[Option<Target>],
     spans: &[Span],
     origin: Origin,
@@ -43,11 +43,11 @@ fn node_of(
     let Some(entry) = entries.get(origin.entry as usize) else {
         return Err(NoMemory);
     };
-    let mut attrs = attrs_of(alloc, images, entry)?;
-    add_closing(alloc, entry, spans, &mut attrs)?;
+    let mut attrs = attrs_of(alloc, images, &entry)?;
+    add_closing(alloc, &entry, spans, &mut attrs)?;
     Ok(Node {
         parent: origin.parent,
-        tag: entry.tag,
+        tag: entry.tag(),
         attrs,
     })
 }
@@ -55,13 +55,13 @@ fn node_of(
 /// Ends the attributes of a root whose unit has code.
 fn add_closing(
     alloc: Global,
-    entry: &Entry,
+    entry: &EntryRef,
     spans: &[Span],
     attrs: &mut List<OutAttr>,
 ) -> Result<(), NoMemory>
     ensures { OnOk result (attrs.new ≡ attrs.old ++ closing entry.now spans.now) }
 {
-    if entry.parent.is_none() && !spans.is_empty() {
+    if entry.parent().is_none() && !spans.is_empty() {
         add_closing_pair(alloc, spans, attrs)?;
     }
     Ok(())

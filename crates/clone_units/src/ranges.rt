@@ -74,7 +74,7 @@ fn pair_in(
     ensures { result ≡ pair_in (object_in seen.now images.now) u piece.now }
 {
     let entry = seen.entries.get(piece.entry as usize)?;
-    if entry.unit != u || image_at(images, piece.entry).is_none() {
+    if entry.unit() != u || image_at(images, piece.entry).is_none() {
         return None;
     }
     Some((piece.span.low, piece.span.high))

@@ -102,10 +102,10 @@ fn unit_of_entry(
     let Some(entry) = seen.entries.get(k as usize) else {
         return Err(NoMemory);
     };
-    let Some(unit) = seen.units.get(entry.unit as usize) else {
+    let Some(unit) = seen.units.get(entry.unit() as usize) else {
         return Err(NoMemory);
     };
-    let made = unit_of(alloc, seen, images, entry.unit, unit, origins)?;
+    let made = unit_of(alloc, seen, images, entry.unit(), unit, origins)?;
     Ok(made)
 }
 
@@ -123,13 +123,7 @@ fn unit_of(
     ensures { IfOk result (λ it. it ≡ unit_with seen.now images.now u unit.now origins.now) }
 {
     let ranges = ranges_of(alloc, seen, images, u, unit)?;
-    let nodes = nodes_of(
-        alloc,
-        seen.entries.as_slice(),
-        images,
-        ranges.as_slice(),
-        origins,
-    )?;
+    let nodes = nodes_of(alloc, &seen.entries, images, ranges.as_slice(), origins)?;
     Ok(OutUnit {
         version: unit.version,
         nodes,
