@@ -4,6 +4,7 @@ use Rattle.std.specs.List.{filter, position}
 use Rattle.std.specs.Option.{option_and_then, option_map, option_map_or}
 use Rattle.std.proofs.lemmas.List.{take-take, map-append, length-map, get_or-append-add, get_or-map}
 use Rattle.std.proofs.lemmas.List.Elements.{filter-append}
+use Rattle.std.proofs.lemmas.List.Sums.{count_by-le-length, length-filter}
 use Rattle.std.proofs.lemmas.Option.{get_or_from_slice_get, same_Some, slice_get-get_or, slice_get_cases}
 use Rattle.dwarf_types.specs.declared.entry.Entry.{Entry}
 use Rattle.dwarf_types.specs.declared.entry.InUnit.{InUnit}
@@ -18,6 +19,10 @@ use Rattle.link_graph.specs.Passes.{entries_of, image_with, images_in_unit, is_k
 use Rattle.link_graph.proofs.Positions.{position_kept}
 use Rattle.link_graph.proofs.Stretches.{entries_are, kept_stretch, stretch_at, stretch_length, stretch_more, stretch_numbered}
 use Rattle.link_graph.proofs.Units.{unit_of, unit_spans}
+
+-- an entry has one node at most
+pub nodes_few : (object : ℕ) (o : Object) (u : ℕ) (es : List (ℕ × Entry)) → length (nodes_in object o u es) ≤ length es
+nodes_few object o u es = rw (length-map (filter (is_kept_one o) es) (origin_of object o u), length-filter (is_kept_one o) es) (count_by-le-length (is_kept_one o) es)
 
 -- the marks as they are read
 pub kept_read : (o : Object) (k : ℕ) → k < length o.kept → is_kept o k ≡ get_or o.kept k false

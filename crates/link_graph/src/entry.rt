@@ -1,6 +1,6 @@
 //! One entry: its node, and where it went.
 
-ghost use Rattle.std.specs.Prelude.{◌≡◌, ◌++◌, [], ◌∷◌, length, IfOk, OnOk};
+ghost use Rattle.std.specs.Prelude.{◌≡◌, ◌<◌, ◌^◌, ◌++◌, [], ◌∷◌, length, OnOk};
 ghost use Rattle.link_graph.specs.Passes.{image_with, nodes_with, parent_in};
 
 use ds_base::{List, NoMemory};
@@ -18,6 +18,7 @@ pub(crate) fn add_entry(
     nodes: &mut List<Origin>,
     images: &mut List<Option<Target>>,
 ) -> Result<(), NoMemory>
+    requires { length nodes.old < 2 ^ 32 }
     ensures nodes { OnOk result (nodes.new ≡ nodes.old ++ nodes_with kept object k entry.now images.old) }
     ensures images { OnOk result (images.new ≡ images.old ++ image_with kept unit (length nodes.old) ∷ []) }
 {
@@ -25,7 +26,7 @@ pub(crate) fn add_entry(
         images.push(None)?;
         return Ok(());
     }
-    let node = number_of(nodes.len())?;
+    let node = nodes.len() as u32;
     nodes.push(Origin {
         object,
         entry: k,
@@ -41,14 +42,4 @@ fn parent_in(images: &List<Option<Target>>, parent: Option<u32>) -> Option<u32>
 {
     let target = (*images.get(parent? as usize)?)?;
     Some(target.node)
-}
-
-/// A count as a number, which 32 bits hold where memory holds what is counted.
-pub(crate) fn number_of(count: usize) -> Result<u32, NoMemory>
-    ensures { IfOk result (λ number. number ≡ count) }
-{
-    match u32::try_from(count) {
-        Ok(number) => Ok(number),
-        Err(_) => Err(NoMemory),
-    }
 }

@@ -5,7 +5,7 @@ ghost use Rattle.std.specs.Option.{option_to_list};
 ghost use Rattle.dwarf_types.specs.Sound.{IsSound};
 ghost use Rattle.link_graph.specs.Passes.{entries_of, images_in_unit, marked, nodes_in, unit_at};
 
-use crate::entry::{add_entry, number_of};
+use crate::entry::add_entry;
 use ds_base::{BitRow, List, NoMemory};
 use dwarf_types::{Analysis, Origin, ShapeUnit, Target};
 use std::alloc::Global;
@@ -75,4 +75,14 @@ fn nodes_in(
         )?;
     }
     Ok(nodes)
+}
+
+/// A count as a number, which 32 bits hold where memory holds what is counted.
+fn number_of(count: usize) -> Result<u32, NoMemory>
+    ensures { IfOk result (λ number. number ≡ count) }
+{
+    match u32::try_from(count) {
+        Ok(number) => Ok(number),
+        Err(_) => Err(NoMemory),
+    }
 }

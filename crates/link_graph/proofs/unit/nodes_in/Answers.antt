@@ -4,8 +4,8 @@ use Rattle.dwarf_types.specs.declared.entry.InUnit.{InUnit}
 use Rattle.dwarf_types.specs.Live.{Stands}
 use Rattle.dwarf_types.specs.LinkedUnits.{Object, is_kept}
 use Rattle.link_graph.specs.Passes.{images_in_unit, marked, nodes_in, stretch}
-use Rattle.link_graph.proofs.Nodes.{images_step, kept_read, nodes_step}
-use Rattle.link_graph.proofs.Stretches.{entries_are}
+use Rattle.link_graph.proofs.Nodes.{images_step, kept_read, nodes_few, nodes_step}
+use Rattle.link_graph.proofs.Stretches.{entries_are, stretch_length}
 use Rattle.link_graph.proofs.Units.{unit_read, unit_spans}
 use Rattle.link_graph.proofs.unit.nodes_in.Goals as goal
 
@@ -29,6 +29,15 @@ get-requires c =
     let is = unit_read seen.units c.as_slice.result.now c.args.u c.index-as_slice-u.result c.as_slice.ensures c.requires.unit c.index-as_slice-u.is in
     let span = unit_spans 0 seen.units (length seen.entries) c.args.u c.index-as_slice-u.result c.requires.sound.units is in
     omega (arith, span.ends, c.requires.marked)
+
+pub add_entry-requires : goal.add_entry-requires
+add_entry-requires c =
+    let o : Object = marked c.args.seen.now c.args.live.now in
+    let unit = c.index-as_slice-u.result in
+    let is = unit_read o.seen.units c.as_slice.result.now c.args.u unit c.as_slice.ensures c.requires.unit c.index-as_slice-u.is in
+    let span = unit_spans 0 o.seen.units (length o.seen.entries) c.args.u unit c.requires.sound.units is in
+    let so_far = stretch o unit.first c.loop-n.n in
+    omega (arith, ap length c.loop-n.invariant.nodes, nodes_few c.args.object o c.args.u so_far, stretch_length o unit.first c.loop-n.n (omega (arith, span.ends)), span.ends, c.requires.sound.few)
 
 pub loop-n-preserved : goal.loop-n-preserved
 loop-n-preserved c =
