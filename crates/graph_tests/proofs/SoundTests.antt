@@ -1,5 +1,5 @@
 -- Tests at run time show that an analysis whose expressions name no base type is sound.
-use Rattle.std.proofs.Common.{map, Bool, ◌&&◌, Option, None, is_none, ◌≡◌, ℕ, ◌+◌, ◌<◌, ◌≤◌, length, drop, get_or, true, List, [], ◌∷◌, ◌++◌, Some, refl, sym, ap, subst, ◌∙◌, arith}
+use Rattle.std.proofs.Common.{map, ◌&&◌, Option, None, is_none, ◌≡◌, ℕ, ◌+◌, ◌<◌, ◌≤◌, length, drop, get_or, true, List, [], ◌∷◌, ◌++◌, Some, refl, sym, ap, subst, ◌∙◌, arith}
 use Rattle.std.specs.List.{Contains, filter_map, flat_map, list_all}
 use Rattle.std.proofs.lemmas.List.Concat.{flat_map-append}
 use Rattle.dwarf_types.specs.declared.expr.Base.{Base}

@@ -46,11 +46,11 @@ fn assert_live(rt: &impl Abort, alloc: Global, label: &str, rows: &[Row], want: 
 
 const NONE: Says = Says::Nothing;
 
-fn bare(parent: u32, tag: u16) -> Row {
+fn bare(parent: u16, tag: u16) -> Row {
     under(parent, tag, [NONE, NONE, NONE, NONE])
 }
 
-fn one(parent: u32, tag: u16, first: Says) -> Row {
+fn one(parent: u16, tag: u16, first: Says) -> Row {
     under(parent, tag, [first, NONE, NONE, NONE])
 }
 

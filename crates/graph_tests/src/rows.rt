@@ -1,14 +1,17 @@
 //! Small analyses: a row is an entry, in the order of their numbers, the root of a unit or an entry under another.
 
-ghost use Rattle.std.specs.Prelude.{◌≡◌, length, IfOk};
+ghost use Rattle.std.specs.Prelude.{◌≡◌, ◌<◌, ◌-◌, ◌^◌, length, slice_get, Some, IfOk, IfSome};
+ghost use Rattle.std.specs.Bool.{OnTrue};
+ghost use Rattle.dwarf_types.specs.declared.entry.Entry.{Entry as EntrySpec};
 
 use ds_base::dwarf::{
-    DW_AT_location, DW_AT_ranges, DW_AT_stmt_list, DW_OP_addr, DW_TAG_compile_unit,
+    DW_AT_location, DW_AT_ranges, DW_AT_stmt_list, DW_FORM_addr, DW_FORM_exprloc, DW_FORM_ref4,
+    DW_FORM_sec_offset, DW_FORM_string, DW_OP_addr, DW_TAG_compile_unit,
 };
 use ds_base::{BitRow, Bytes, List, NoMemory};
 use dwarf_types::{
-    Addr, Analysis, Attr, Boxed, CodeRange, Entry, FileName, InUnit, Location, Op, OutLines, Place,
-    Sequence, Span, Value,
+    Addr, Analysis, Builder, CodeRange, Entries, FileName, InUnit, Location, NewValue, Op,
+    OutLines, Place, RawValue, Sequence, Span,
 };
 use std::alloc::Global;
 
@@ -40,7 +43,7 @@ pub(crate) enum Says {
 /// An entry: its parent, its tag, and what it says.
 #[derive(Clone, Copy)]
 pub(crate) struct Row {
-    parent: Option<u32>,
+    parent: Option<u16>,
     tag: u16,
     says: [Says; 4],
 }
@@ -55,7 +58,7 @@ pub(crate) fn unit(says: [Says; 4]) -> Row {
 }
 
 /// An entry under another.
-pub(crate) fn under(parent: u32, tag: u16, says: [Says; 4]) -> Row {
+pub(crate) fn under(parent: u16, tag: u16, says: [Says; 4]) -> Row {
     Row {
         parent: Some(parent),
         tag,
@@ -73,22 +76,18 @@ pub(crate) fn piece(entry: u32, low: u64, high: u64) -> CodeRange {
 
 // ---- analyses
 
-fn address(alloc: Global, linked: Option<u64>, linked_end: Option<u64>) -> Result<Value, NoMemory> {
-    let place = Place {
+/// An address, and where it went as a start and as an end.
+fn place(linked: Option<u64>, linked_end: Option<u64>) -> Place {
+    Place {
         at: Addr::Placed(0x10),
         linked,
         linked_end,
-    };
-    Ok(Value::Address(Boxed::new(alloc, place)?))
+    }
 }
 
 /// An address field, which moved or not.
 fn field(moved: bool) -> Place {
-    Place {
-        at: Addr::Placed(0x10),
-        linked: if moved { Some(0x1000) } else { None },
-        linked_end: None,
-    }
+    place(if moved { Some(0x1000) } else { None }, None)
 }
 
 /// An expression of one operation without a base type.
@@ -122,49 +121,120 @@ fn pieces(alloc: Global, count: u8) -> Result<List<Span>, NoMemory> {
     Ok(spans)
 }
 
-fn attr(name: u16, value: Value) -> Option<Attr> {
-    Some(Attr {
-        name,
-        end: 0,
-        value,
-    })
-}
-
-fn said(alloc: Global, says: Says) -> Result<Option<Attr>, NoMemory> {
+/// Puts what an entry says behind its other attributes, as a reader finds it.
+fn push_said(built: &mut Builder, says: Says) -> Result<(), NoMemory> {
     match says {
-        Says::Nothing => Ok(None),
-        Says::Moved(name, to) => Ok(attr(name, address(alloc, Some(to), None)?)),
-        Says::Ended(name, to) => Ok(attr(name, address(alloc, None, Some(to))?)),
-        Says::Stayed(name) => Ok(attr(name, address(alloc, None, None)?)),
-        Says::Text(name, byte) => Ok(attr(name, Value::Text(Bytes::from_slice(alloc, &[byte])?))),
-        Says::Number(name, form, bits) => Ok(attr(name, Value::Number { form, bits })),
-        Says::Refers(name, k) => Ok(attr(name, Value::Ref(k))),
-        Says::Ranges(count) => Ok(attr(DW_AT_ranges, Value::Ranges(pieces(alloc, count)?))),
-        Says::At(moved) => Ok(attr(
-            DW_AT_location,
-            Value::Expr(one_operation(alloc, Some(field(moved)))?),
-        )),
-        Says::Computed => Ok(attr(DW_AT_location, Value::Expr(one_operation(alloc, None)?))),
-        Says::List => Ok(attr(DW_AT_location, Value::Locations(one_location(alloc)?))),
-        Says::Lines => Ok(attr(DW_AT_stmt_list, Value::Lines)),
-        Says::Offset(name) => Ok(attr(name, Value::Offset(9))),
+        Says::Nothing => Ok(()),
+        Says::Moved(name, _) | Says::Ended(name, _) | Says::Stayed(name) => {
+            built.push(name, DW_FORM_addr, 0, RawValue::Address(0x10))
+        }
+        Says::Text(name, byte) => push_text(built, name, &[byte]),
+        Says::Number(name, form, bits) => built.push(name, form % 256, 0, RawValue::Number(bits)),
+        Says::Refers(name, _) => built.push(name, DW_FORM_ref4, 0, RawValue::Ref(0)),
+        Says::Ranges(_) => push_offset(built, DW_AT_ranges),
+        Says::At(_) | Says::Computed => {
+            built.push(DW_AT_location, DW_FORM_exprloc, 0, RawValue::Block(&[]))
+        }
+        Says::List => push_offset(built, DW_AT_location),
+        Says::Lines => push_offset(built, DW_AT_stmt_list),
+        Says::Offset(name) => push_offset(built, name),
     }
 }
 
-fn entry(alloc: Global, row: &Row, unit: u32) -> Result<Entry, NoMemory> {
-    let mut attrs = List::new(alloc);
+fn push_text(built: &mut Builder, name: u16, bytes: &[u8]) -> Result<(), NoMemory> {
+    built.push(
+        name,
+        DW_FORM_string,
+        0,
+        RawValue::Text { bytes, place: None },
+    )
+}
+
+fn push_offset(built: &mut Builder, name: u16) -> Result<(), NoMemory> {
+    built.push(name, DW_FORM_sec_offset, 0, RawValue::Offset(9))
+}
+
+/// Makes an entry of a row, as a reader finds it.
+fn push_row(built: &mut Builder, row: &Row, unit: u32) -> Result<(), NoMemory> {
     for says in &row.says {
-        if let Some(attr) = said(alloc, *says)? {
-            attrs.push(attr)?;
+        push_said(built, *says)?;
+    }
+    built.close(number_of(row.parent), unit, 0, row.tag)
+}
+
+/// The number of a parent among the entries.
+fn number_of(parent: Option<u16>) -> Option<u32>
+    ensures { IfSome result (λ p. p < 2 ^ 32 - 1) }
+{
+    match parent {
+        Some(p) => Some(u32::from(p)),
+        None => None,
+    }
+}
+
+/// Puts what the values of rows mean in the place of what was read.
+fn understand(alloc: Global, entries: &mut Entries, rows: &[Row]) -> Result<(), NoMemory> {
+    for (i, row) in rows.iter().enumerate() {
+        let mut j: usize = 0;
+        for says in &row.says {
+            set_said(alloc, entries, i, j, *says)?;
+            if !matches!(says, Says::Nothing) {
+                j = j.wrapping_add(1);
+            }
         }
     }
-    Ok(Entry {
-        parent: row.parent,
-        unit,
-        place: 0,
-        tag: row.tag,
-        attrs,
-    })
+    Ok(())
+}
+
+/// The same for attribute `j` of entry `i`.
+fn set_said(
+    alloc: Global,
+    entries: &mut Entries,
+    i: usize,
+    j: usize,
+    says: Says,
+) -> Result<(), NoMemory> {
+    match says {
+        Says::Moved(_, to) => set(entries, i, j, NewValue::Address(place(Some(to), None))),
+        Says::Ended(_, to) => set(entries, i, j, NewValue::Address(place(None, Some(to)))),
+        Says::Stayed(_) => set(entries, i, j, NewValue::Address(place(None, None))),
+        Says::Refers(_, k) => set(entries, i, j, NewValue::Ref(k)),
+        Says::Ranges(count) => {
+            let spans = pieces(alloc, count)?;
+            set(entries, i, j, NewValue::Ranges(spans.as_slice()))
+        }
+        Says::At(moved) => {
+            let ops = one_operation(alloc, Some(field(moved)))?;
+            set(entries, i, j, NewValue::Expr(ops.as_slice()))
+        }
+        Says::Computed => {
+            let ops = one_operation(alloc, None)?;
+            set(entries, i, j, NewValue::Expr(ops.as_slice()))
+        }
+        Says::List => {
+            let items = one_location(alloc)?;
+            set(entries, i, j, NewValue::Locations(items.as_slice()))
+        }
+        Says::Lines => set(entries, i, j, NewValue::Lines),
+        _ => Ok(()),
+    }
+}
+
+/// Puts a value into attribute `j` of entry `i`, where there is one.
+fn set(entries: &mut Entries, i: usize, j: usize, value: NewValue) -> Result<(), NoMemory> {
+    if has_attr(entries, i, j) {
+        entries.set(i, j, value)?;
+    }
+    Ok(())
+}
+
+fn has_attr(entries: &Entries, i: usize, j: usize) -> bool
+    ensures { OnTrue result ((e : EntrySpec) × (slice_get entries.now i ≡ Some e) × (j < length e.attrs)) }
+{
+    match entries.get(i) {
+        Some(entry) => j < entry.len(),
+        None => false,
+    }
 }
 
 /// A line table with one directory, one file and one sequence without rows.
@@ -198,7 +268,7 @@ pub(crate) fn analysis(
     code: &[CodeRange],
 ) -> Result<Analysis, NoMemory> {
     let mut units: Vec<InUnit> = Vec::new(alloc);
-    let mut entries = Vec::new(alloc);
+    let mut built = Builder::new(alloc, &[])?;
     let mut number: u32 = 0;
     let mut in_unit: u32 = u32::MAX;
     for row in rows {
@@ -219,12 +289,14 @@ pub(crate) fn analysis(
         if let Some(unit) = units.last_mut() {
             unit.count = unit.count.wrapping_add(1);
         }
-        entries.push(entry(alloc, row, in_unit)?)?;
+        push_row(&mut built, row, in_unit)?;
         number = number.wrapping_add(1);
     }
+    let mut entries = built.finish().into_entries()?;
+    understand(alloc, &mut entries, rows)?;
     Ok(Analysis {
         units: List::from_vec(units),
-        entries: List::from_vec(entries),
+        entries,
         code: List::from_vec(Vec::from_slice(alloc, code)?),
         frames: List::new(alloc),
     })

@@ -5,11 +5,15 @@ ghost use Rattle.std.specs.Bool.{OnTrue};
 ghost use Rattle.std.specs.List.{list_all};
 ghost use Rattle.dwarf_types.specs.declared.entry.Entry.{Entry as EntrySpec};
 ghost use Rattle.dwarf_types.specs.Live.{Stands};
+ghost use Rattle.dwarf_types.specs.Seen.{inner_seen, location_seen, op_seen, value_seen};
 ghost use Rattle.dwarf_types.specs.Sound.{AreCodeRanges, AreUnits, IsIn, IsParent, IsSound, IsSoundEntry};
 ghost use Rattle.graph_tests.specs.SoundTests.{has_no_base, is_within};
 
 use ds_base::dwarf::DW_TAG_subprogram;
-use dwarf_types::{Analysis, Attr, CodeRange, Entry, InUnit, Location, Op, PlainOp, Value};
+use dwarf_types::{
+    Analysis, CodeRange, Entries, EntryRef, InUnit, InnerOpsRef, LocationsRef, OpRef, OpsRef,
+    ValueRef,
+};
 
 /// The most entries that an analysis may have.
 const MOST_ENTRIES: usize = 1 << 24;
@@ -24,7 +28,7 @@ pub(crate) fn is_sound(seen: &Analysis) -> bool
     if !are_units(seen.units.as_slice(), seen.entries.len()) {
         return false;
     }
-    if !are_code_ranges(seen.entries.as_slice(), seen.code.as_slice()) {
+    if !are_code_ranges(&seen.entries, seen.code.as_slice()) {
         return false;
     }
     are_sound_entries(seen)
@@ -46,7 +50,7 @@ fn are_units(units: &[InUnit], end: usize) -> bool
 }
 
 /// Whether pieces of code are in the order of the subprograms that they name.
-fn are_code_ranges(entries: &[Entry], code: &[CodeRange]) -> bool
+fn are_code_ranges(entries: &Entries, code: &[CodeRange]) -> bool
     ensures { OnTrue result (AreCodeRanges entries.now 0 code.now) }
 {
     let mut from = 0;
@@ -54,7 +58,7 @@ fn are_code_ranges(entries: &[Entry], code: &[CodeRange]) -> bool
         let Some(entry) = entries.get(piece.entry as usize) else {
             return false;
         };
-        if piece.entry < from || entry.tag != DW_TAG_subprogram {
+        if piece.entry < from || entry.tag() != DW_TAG_subprogram {
             return false;
         }
         from = piece.entry;
@@ -66,9 +70,8 @@ fn are_code_ranges(entries: &[Entry], code: &[CodeRange]) -> bool
 fn are_sound_entries(seen: &Analysis) -> bool
     ensures { OnTrue result ((k : ℕ) (e : EntrySpec) → Stands seen.now.entries k e → IsSoundEntry seen.now k e) }
 {
-    let entries = seen.entries.as_slice();
-    for (k, entry) in entries.iter().enumerate() {
-        if !is_sound_entry(seen, k as u64, entry) {
+    for k in 0..seen.entries.len() {
+        if !is_sound_entry(seen, k as u64, &seen.entries.entry(k)) {
             return false;
         }
     }
@@ -76,16 +79,16 @@ fn are_sound_entries(seen: &Analysis) -> bool
 }
 
 /// Whether entry `k` is sound, and names no base type.
-fn is_sound_entry(seen: &Analysis, k: u64, entry: &Entry) -> bool
+fn is_sound_entry(seen: &Analysis, k: u64, entry: &EntryRef) -> bool
     ensures { OnTrue result (IsSoundEntry seen.now k entry.now) }
 {
-    let Some(unit) = seen.units.get(entry.unit as usize) else {
+    let Some(unit) = seen.units.get(entry.unit() as usize) else {
         return false;
     };
-    if !lies_in(unit, k) || !is_parent(unit, k, entry.parent) {
+    if !lies_in(unit, k) || !is_parent(unit, k, entry.parent()) {
         return false;
     }
-    are_within(entry.attrs.as_slice(), seen.entries.len())
+    are_within(entry, seen.entries.len())
 }
 
 /// Whether entry `k` lies in a unit.
@@ -106,63 +109,71 @@ fn is_parent(unit: &InUnit, k: u64, parent: Option<u32>) -> bool
     }
 }
 
-/// Whether attributes refer to the first `count` entries alone, and name no base type.
-fn are_within(attrs: &[Attr], count: usize) -> bool
-    ensures { result ≡ list_all (λ a. is_within count a.value) attrs.now }
+/// Whether an entry's attributes refer to the first `count` entries alone, and name no base type.
+fn are_within(entry: &EntryRef, count: usize) -> bool
+    ensures { result ≡ list_all (λ a. is_within count a.value) entry.now.attrs }
 {
-    attrs.iter().all(|attr| is_within(&attr.value, count))
+    for j in 0..entry.len() {
+        if !is_within(&entry.attr(j).value, count) {
+            return false;
+        }
+    }
+    true
 }
 
 /// Whether a value leads to one of the first `count` entries, where it is a reference, and names no base type.
-fn is_within(value: &Value, count: usize) -> bool
-    ensures { result ≡ is_within count value.now }
+fn is_within(value: &ValueRef, count: usize) -> bool
+    ensures { result ≡ is_within count (value_seen value.now) }
 {
     match value {
-        Value::Ref(target) => (*target as usize) < count,
-        Value::Expr(ops) => have_no_base(ops.as_slice()),
-        Value::Locations(items) => list_has_no_base(items.as_slice()),
+        ValueRef::Ref(target) => (*target as usize) < count,
+        ValueRef::Expr(ops) => have_no_base(ops),
+        ValueRef::Locations(items) => list_has_no_base(items),
         _ => true,
     }
 }
 
 /// Whether no expression of a location list names a base type.
-fn list_has_no_base(items: &[Location]) -> bool
+fn list_has_no_base(items: &LocationsRef) -> bool
     ensures { result ≡ list_all (λ item. list_all has_no_base item.ops) items.now }
 {
-    items.iter().all(location_has_no_base)
-}
-
-fn location_has_no_base(item: &Location) -> bool
-    ensures { result ≡ list_all has_no_base item.now.ops }
-{
-    have_no_base(item.ops.as_slice())
+    for k in 0..items.len() {
+        if !have_no_base(&items.item(k).ops) {
+            return false;
+        }
+    }
+    true
 }
 
 /// Whether no operation names a base type, nor one inside another.
-fn have_no_base(ops: &[Op]) -> bool
+fn have_no_base(ops: &OpsRef) -> bool
     ensures { result ≡ list_all has_no_base ops.now }
 {
-    ops.iter().all(has_no_base)
+    for k in 0..ops.len() {
+        if !has_no_base(&ops.op(k)) {
+            return false;
+        }
+    }
+    true
 }
 
 /// Whether an operation names no base type, nor one inside it.
-fn has_no_base(op: &Op) -> bool
-    ensures { result ≡ has_no_base op.now }
+fn has_no_base(op: &OpRef) -> bool
+    ensures { result ≡ has_no_base (op_seen op.now) }
 {
     if op.base.is_some() {
         return false;
     }
-    are_bare(op.inner.as_slice())
+    are_bare(&op.inner)
 }
 
-fn are_bare(inner: &[PlainOp]) -> bool
+fn are_bare(inner: &InnerOpsRef) -> bool
     ensures { result ≡ list_all (λ i. is_none i.base) inner.now }
 {
-    inner.iter().all(is_bare)
-}
-
-fn is_bare(inner: &PlainOp) -> bool
-    ensures { result ≡ is_none inner.now.base }
-{
-    inner.base.is_none()
+    for k in 0..inner.len() {
+        if inner.op(k).base.is_some() {
+            return false;
+        }
+    }
+    true
 }
