@@ -1,14 +1,16 @@
 -- Address fields of some operations, told operation by operation.
-use Rattle.std.proofs.Common.{◌≡◌, suc, ◌||◌, ◌&&◌, not, eqb, Bool, true, false, List, [], ◌∷◌, ◌++◌, length, slice_get, Option, Some, None, is_some, refl, sym, ap, ◌∙◌, arith}
-use Rattle.std.specs.List.{cons_option, filter_map, flat_map, list_any, list_all}
-use Rattle.std.specs.Option.{option_map_or, option_to_list}
+use Rattle.std.proofs.Common.{◌≡◌, suc, ◌||◌, ◌&&◌, not, eqb, Bool, cond, true, false, List, [], ◌∷◌, ◌++◌, length, slice_get, Option, Some, None, is_some, refl, sym, ap, ◌∙◌, arith}
+use Rattle.std.specs.List.{cons_option, filter_map, find, flat_map, list_any, list_all}
+use Rattle.std.specs.Option.{option_map, option_map_or, option_to_list}
 use Rattle.std.proofs.lemmas.Bool.{ne_eqb}
 use Rattle.std.proofs.lemmas.List.Folds.{list_all-append}
+use Rattle.ds_base.specs.declared.dwarf.TheConstants.{DW_AT_location}
 use Rattle.dwarf_types.specs.declared.address.Place.{Place}
 use Rattle.dwarf_types.specs.declared.expr.Op.{Op}
 use Rattle.dwarf_types.specs.declared.expr.PlainOp.{PlainOp}
+use Rattle.dwarf_types.specs.declared.entry.Attr.{Attr}
 use Rattle.dwarf_types.specs.declared.entry.Entry.{Entry}
-use Rattle.dwarf_types.specs.Moves.{has_location, location_fields, location_in, location_moves, op_fields}
+use Rattle.dwarf_types.specs.Moves.{has_location, location_fields, location_in, location_moves, op_fields, operations_in}
 
 abbrev is_linked : Place → Bool
 is_linked place = is_some place.linked
@@ -70,3 +72,19 @@ has_location_at e ops is = some_fields ops ∙ ap (λ (fields : List Place). not
 
 pub location_moves_at : (e : Entry) (ops : List Op) → Some ops ≡ slice_get (filter_map location_in e.attrs) 0 → (list_any (λ op. not (eqb (length (op_fields op)) 0)) ops && list_all (λ op. list_all (λ place. is_some place.linked) (op_fields op)) ops) ≡ location_moves e
 location_moves_at e ops is = rw (has_location_at e ops is, all_fields ops, fields_of e ops is) refl
+
+-- ---- entries without a location
+
+unnamed_first : (b : Bool) (a : Attr) (others : Option Attr) (ops : Option (List Op)) → cond b (Some a) others ≡ None → (others ≡ None) × (cond b ops None ≡ None)
+unnamed_first true a others ops e = absurd cc
+unnamed_first false a others ops e = (e, refl)
+
+none_located : (attrs : List Attr) → find (λ a. eqb a.name DW_AT_location) attrs ≡ None → filter_map location_in attrs ≡ []
+none_located [] e = refl
+none_located (a ∷ attrs) e =
+    let it = unnamed_first (eqb a.name DW_AT_location) a (find (λ b. eqb b.name DW_AT_location) attrs) (operations_in a.value) e in
+    ap (λ (o : Option (List Op)). cons_option o (filter_map location_in attrs)) it.1 ∙ none_located attrs it.0
+
+pub no_location : {A : Type 0} (seen : A → Attr) (found : Option A) (attrs : List Attr) → is_some found ≡ false → option_map seen found ≡ find (λ a. eqb a.name DW_AT_location) attrs → None ≡ slice_get (filter_map location_in attrs) 0
+no_location seen None attrs t e = ap (λ (locations : List (List Op)). slice_get locations 0) (sym (none_located attrs (sym e)))
+no_location seen (Some x) attrs t e = absurd cc

@@ -140,6 +140,9 @@ fn has_location(entry: &EntryRef) -> bool
 fn location_of<'a>(entry: &EntryRef<'a>) -> Option<OpsRef<'a>>
     ensures { result ≡ slice_get (filter_map location_in entry.now.attrs) 0 }
 {
+    if entry.find(DW_AT_location).is_none() {
+        return None;
+    }
     for j in 0..entry.len() {
         if let Some(ops) = location_in(entry.attr(j)) {
             return Some(ops);
