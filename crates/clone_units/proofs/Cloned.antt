@@ -3,7 +3,7 @@ use Rattle.std.proofs.Common.{◌≡◌, ℕ, ◌+◌, ◌-◌, ◌<◌, Bool, t
 use Rattle.std.proofs.Math.Path.{fun_ext}
 use Rattle.std.specs.List.{All, cons_option, enumerate_from, filter_map, position}
 use Rattle.std.specs.Option.{option_and_then, option_map}
-use Rattle.std.proofs.lemmas.Bool.{and_parts, eqb-false, eqb-true}
+use Rattle.std.proofs.lemmas.Bool.{and_parts, eqb-false, eqb-true, ne_eqb}
 use Rattle.std.proofs.lemmas.List.Elements.{All-filter, All-head, All-tail, filter_passes}
 use Rattle.std.proofs.lemmas.Option.{get_or_from_slice_get, same_Some, slice_get-get_or, slice_get-map, slice_get_cases, slice_get_past, slice_get_within}
 use Rattle.std.proofs.lemmas.List.FromFn.{length-enumerate_from}
@@ -186,3 +186,37 @@ cloned_of a shape n unit root object images it at first number its_images of see
   where
     named : object_of shape n ≡ Some object
     named = ap (option_and_then (λ (u : ShapeUnit). option_and_then number_of_object (slice_get u.nodes 0))) at ∙ ap (option_and_then number_of_object) first ∙ number
+
+-- ---- the object of a unit of a shape
+
+-- it has a number, which is that of an analysis
+pub record IsNamed (seen : List Analysis) (shape : Shape) (n : ℕ) : Type 0 where
+  pub object : ℕ
+  pub analysis : Analysis
+  pub named : object_of shape n ≡ Some object
+  pub stands : slice_get seen object ≡ Some analysis
+
+first_named : (i : ℕ) (o : Object) (u : ℕ) (kept : List (ℕ × Entry)) → eqb (length kept) 0 ≡ false → option_and_then number_of_object (slice_get (map (origin_of i o u) kept) 0) ≡ Some i
+first_named i o u [] some = absurd cc
+first_named i o u (e ∷ kept) some = rw (ne_eqb (i + 1) 0 (omega arith)) (ap (λ (n : ℕ). Some n) (omega arith))
+
+named_unit : (seen : List Analysis) (shape : Shape) (n : ℕ) (unit : ShapeUnit) → IsShape seen shape → slice_get shape.units n ≡ Some unit → IsNamed seen shape n
+named_unit seen shape n unit is at =
+    let objects = objects_in seen shape in
+    let from = unit_from objects n unit (sym (ap (λ (x : Shape). slice_get x.units n) is.is) ∙ at) in
+    let s = from.source in
+    let o = from.is.object in
+    let origins : unit.nodes ≡ map (origin_of s.object o s.unit) (kept_entries o s.unit) = ap (λ (x : ShapeUnit). x.nodes) from.shape_is in
+    record {
+      object = s.object;
+      analysis = o.seen;
+      named = ap (option_and_then (λ (x : ShapeUnit). option_and_then number_of_object (slice_get x.nodes 0))) at ∙ ap (λ (os : List Origin). option_and_then number_of_object (slice_get os 0)) origins
+          ∙ first_named s.object o s.unit (kept_entries o s.unit) from.is.some;
+      stands = (object_parts seen (marks_in shape) s.object o is.marked.each from.is.at).analysis;
+    }
+
+pub is_named : (seen : List Analysis) (shape : Shape) (n : ℕ) → IsShape seen shape → n < length shape.units → IsNamed seen shape n
+is_named seen shape n is lt = elim (slice_get_cases shape.units n).1 [
+  | inl w ↦ named_unit seen shape n w.0 is w.2
+  | inr w ↦ absurd (omega (arith, w.0, lt))
+]

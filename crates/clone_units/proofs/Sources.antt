@@ -31,6 +31,11 @@ pub record IsSource (objects : List Object) (s : Source) : Type 0 where
   pub at : slice_get objects s.object ≡ Some object
   pub unit : InUnit
   pub is : slice_get object.seen.units s.unit ≡ Some unit
+  pub some : eqb (length (kept_entries object s.unit)) 0 ≡ false
+
+unless_none : {A : Type 0} (b : Bool) (x y : A) → cond b None (Some x) ≡ Some y → b ≡ false
+unless_none true x y e = absurd cc
+unless_none false x y e = refl
 
 unless_some : {A : Type 0} (b : Bool) (x y : A) → cond b None (Some x) ≡ Some y → x ≡ y
 unless_some true x y e = absurd cc
@@ -44,7 +49,7 @@ all_sources objects = All-flat_map (IsSource objects) sources_in (enumerate_from
     (All-weaker (λ (x : ℕ × Object). slice_get objects x.0 ≡ Some x.1) (λ x. All (IsSource objects) (sources_in x))
     (λ x at. All-filter_map (IsSource objects) (source_of x.0 x.1) (enumerate_from 0 x.1.seen.units)
     (All-weaker (λ (u : ℕ × InUnit). slice_get x.1.seen.units u.0 ≡ Some u.1) (λ (u : ℕ × InUnit). (y : Source) → source_of x.0 x.1 u ≡ Some y → IsSource objects y)
-    (λ u is y e. subst (IsSource objects) (unless_some _ (record { object = x.0; unit = u.0 }) y e) (record { object = x.1; at = at; unit = u.1; is = is })) (enumerate_from 0 x.1.seen.units) (All-enumerate x.1.seen.units)))
+    (λ u is y e. subst (IsSource objects) (unless_some _ (record { object = x.0; unit = u.0 }) y e) (record { object = x.1; at = at; unit = u.1; is = is; some = unless_none _ (record { object = x.0; unit = u.0 }) y e })) (enumerate_from 0 x.1.seen.units) (All-enumerate x.1.seen.units)))
     (enumerate_from 0 objects) (All-enumerate objects))
 
 -- those of an object name it

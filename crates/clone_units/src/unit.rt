@@ -29,10 +29,10 @@ pub fn clone_unit(
     ensures { IfOk result (λ it. slice_get (linked (objects_in seen.now shape.now)).units unit ≡ Some it) }
 {
     let Some(object) = object_of(shape, unit) else {
-        return Err(NoMemory);
+        unreachable!();
     };
     let Some(seen) = seen.get(object as usize) else {
-        return Err(NoMemory);
+        unreachable!();
     };
     let made = clone_unit_of(alloc, seen, shape, unit)?;
     Ok(made)
