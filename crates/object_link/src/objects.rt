@@ -15,7 +15,7 @@ ghost use Rattle.object_link.specs.Passes.{Analyses, Numbered};
 use crate::refusal::Refusal;
 use ar_read::{Members, read_members};
 use ds_base::{Bytes, Fault, List, NoMemory, ReadError};
-use dwarf_types::Analysis;
+use dwarf_types::{Analysis, Entries};
 use object_view::analyse;
 use stab_map::MapObject;
 use std::alloc::Global;
@@ -112,7 +112,7 @@ pub(crate) fn no_entries(alloc: Global) -> Analysis
 {
     Analysis {
         units: List::new(alloc),
-        entries: List::new(alloc),
+        entries: Entries::new(alloc),
         code: List::new(alloc),
         frames: List::new(alloc),
     }
