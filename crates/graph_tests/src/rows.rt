@@ -292,7 +292,7 @@ pub(crate) fn analysis(
         push_row(&mut built, row, in_unit)?;
         number = number.wrapping_add(1);
     }
-    let mut entries = built.finish().into_entries()?;
+    let mut entries = built.finish().into_entries(alloc)?;
     understand(alloc, &mut entries, rows)?;
     Ok(Analysis {
         units: List::from_vec(units),

@@ -136,7 +136,7 @@ fn understand_info(
         places: tables.places,
     };
     understand_entries(alloc, &values, &mut raw)?;
-    Ok(raw.into_entries()?)
+    Ok(raw.into_entries(alloc)?)
 }
 
 /// Reads the range lists and then the location lists that entries name.
