@@ -51,7 +51,8 @@ pub use parts::{ExprPart, PlainPart};
 pub use put::{NewValue, RawValue};
 pub use sections::Sections;
 pub use seen::{
-    AttrRef, InnerOpRef, InnerOpsRef, LocationRef, LocationsRef, OpRef, OpsRef, RawAttrRef, ValueRef,
+    AttrRef, InnerOpRef, InnerOpsRef, LocationRef, LocationsRef, OpRef, OpsRef, RawAttrRef,
+    ValueRef,
 };
 pub use shape::{Origin, Shape, ShapeUnit};
 pub use value::Value;

@@ -11,10 +11,7 @@ pub enum RawValue<'a> {
     Address(u64),
     /// Class string, without the zero byte that ends it, and its place in `__debug_str` if it is there. The place helps
     /// to keep it without a copy, and means nothing more.
-    Text {
-        bytes: &'a [u8],
-        place: Option<u32>,
-    },
+    Text { bytes: &'a [u8], place: Option<u32> },
     /// Classes constant and flag, up to 64 bits.
     Number(u64),
     /// A constant of 16 bytes, the lowest first.

@@ -53,5 +53,5 @@ returns-clause-ok c e a read this =
     let value : Attr → Attr → Attr = λ x y. record x { value = y.value } in
     let new : attr_of sides to ≡ record a { value = held_value sides to.kind cell.form to.payload } = ap (λ (x : Attr). record x { value = held_value sides to.kind cell.form to.payload }) written.2 in
     let entry : entry_with c.index.result.now (set e.attrs c.args.j (attr_of sides to)) ≡ record e { attrs = set e.attrs c.args.j (record a { value = held_value sides to.kind cell.form to.payload }) } =
-        ap₂ (λ (x : Entry) (y : Attr). record x { attrs = set e.attrs c.args.j y }) written.1 new in
+    ap₂ (λ (x : Entry) (y : Attr). record x { attrs = set e.attrs c.args.j y }) written.1 new in
     rw (c.with_value.ensures, ← same, ← c.in_ok-held.ensures.value cell.form) (written.0 ∙ ap (set (entries_of sides heads cells) c.args.i) entry)

@@ -53,5 +53,5 @@ returns-clause-ok c e a read this =
     let value : RawAttr → RawAttr → RawAttr = λ x y. record x { value = y.value } in
     let new : raw_attr_of sides to ≡ record a { value = held_value sides to.cell.kind cell.cell.form to.cell.payload } = ap (λ (x : RawAttr). record x { value = held_value sides to.cell.kind cell.cell.form to.cell.payload }) written.2 in
     let entry : raw_entry_with c.index.result.now (set e.attrs c.args.j (raw_attr_of sides to)) ≡ record e { attrs = set e.attrs c.args.j (record a { value = held_value sides to.cell.kind cell.cell.form to.cell.payload }) } =
-        ap₂ (λ (x : RawEntry) (y : RawAttr). record x { attrs = set e.attrs c.args.j y }) written.1 new in
+    ap₂ (λ (x : RawEntry) (y : RawAttr). record x { attrs = set e.attrs c.args.j y }) written.1 new in
     rw (c.with_value.ensures, ← same, ← c.in_ok-held.ensures.value cell.cell.form) (written.0 ∙ ap (set (raw_entries_of sides heads cells) c.args.i) entry)
