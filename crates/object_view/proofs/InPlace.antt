@@ -37,7 +37,7 @@ set_same [] i x e = refl
 set_same {X} (y ∷ xs) zero x e = let same : y ≡ x = cc in ap (λ (z : X). z ∷ xs) (sym same)
 set_same (y ∷ xs) (suc i) x e = ap (λ ys. y ∷ ys) (set_same xs i x e)
 
-got : {X : Type 0} (xs : List X) (k : ℕ) (d : X) → k < length xs → slice_get xs k ≡ Some (get_or xs k d)
+pub got : {X : Type 0} (xs : List X) (k : ℕ) (d : X) → k < length xs → slice_get xs k ≡ Some (get_or xs k d)
 got [] k d lt = absurd (omega (arith, lt))
 got (x ∷ xs) zero d lt = refl
 got (x ∷ xs) (suc k) d lt = got xs k d (omega (arith, lt))

@@ -1,5 +1,5 @@
 -- An analysis has the entries, attributes and references that its object's sections spell.
-use Rattle.std.proofs.Common.{◌≡◌, ℕ, zero, suc, ◌<◌, ◌==◌, Bool, true, false, List, [], ◌∷◌, length, map, get_or, slice_get, Option, Some, None, Result, Ok, refl, sym, ap, subst, ◌∙◌, arith}
+use Rattle.std.proofs.Common.{◌≡◌, ℕ, suc, ◌==◌, Bool, true, false, List, [], ◌∷◌, map, get_or, slice_get, Option, Some, None, Result, Ok, refl, sym, ap, subst, ◌∙◌, arith}
 use Rattle.std.specs.Prelude.{IsSome, is_none, if◌then◌else◌}
 use Rattle.std.specs.List.{All}
 use Rattle.std.specs.Option.{option_and_then, option_map}
@@ -46,6 +46,7 @@ use Rattle.object_view.specs.Ready.{IsReadValue}
 use Rattle.object_view.specs.Spelled.{ByItem, IsAttr, IsEntry, IsUnit, LeadsAs}
 use Rattle.object_view.specs.Units.{places_of, unit_start}
 use Rattle.object_view.proofs.Fitting.{all_read}
+use Rattle.object_view.proofs.InPlace.{got}
 use Rattle.object_view.proofs.Kept.{bare, each_seen, raw_bare}
 use Rattle.object_view.proofs.Understood.{as_attr, as_entry, attr_given, entries_given, entry_given, given_is}
 use Rattle.std.specs.List.{flat_map}
@@ -215,11 +216,6 @@ some_of (Some k) h = (k, refl)
 mapped_some : {X V : Type 0} (f : X → V) (o : Option X) (v : V) → option_map f o ≡ Some v → (x : X) × (o ≡ Some x) × (f x ≡ v)
 mapped_some f None v e = absurd cc
 mapped_some f (Some x) v e = (x, refl, cc)
-
-got : {X : Type 0} (xs : List X) (k : ℕ) (d : X) → k < length xs → slice_get xs k ≡ Some (get_or xs k d)
-got [] k d lt = absurd (omega (arith, lt))
-got (x ∷ xs) zero d lt = refl
-got (x ∷ xs) (suc k) d lt = got xs k d (omega (arith, lt))
 
 -- the places of entries of an analysis
 abbrev places_now : List Entry → List ℕ

@@ -85,12 +85,12 @@ IsRooted entries unit = IfSome (slice_get entries unit.first) (λ e. e.parent �
 
 -- ---- line tables
 
--- the place of the first stmt_list among attributes, or that there is none
+-- marking changes the attribute at a place, the first stmt_list, or no attribute at all
 abbrev pub IsFirstList : List Attr → Option ℕ → Type 0
 IsFirstList attrs None = lines_marked attrs ≡ attrs
 IsFirstList attrs (Some j) = (a : Attr) × (slice_get attrs j ≡ Some a) × (lines_marked attrs ≡ slice_set attrs j (with_value a (lines_value a.value)))
 
--- the place of the attribute by which an entry names a line table, or that it names none
+-- marking makes a line table of the attribute of an entry at a place, or of none
 abbrev pub IsMarkedAt : Entry → Option ℕ → Type 0
 IsMarkedAt e None = entry_marked e ≡ e
 IsMarkedAt e (Some j) = (a : Attr) × (slice_get e.attrs j ≡ Some a) × (entry_marked e ≡ record e { attrs = slice_set e.attrs j (with_value a values.Lines) })
