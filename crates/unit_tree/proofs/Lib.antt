@@ -6,6 +6,7 @@ pub mod Onward
 pub mod Placed
 pub mod Places
 pub mod References
+pub mod Resolving
 pub mod Rising
 pub mod Soundness
 pub mod Steps
