@@ -13,3 +13,4 @@ pub mod Passing
 pub mod Refusals
 pub mod Rooms
 pub mod Walking
+pub mod Zeros

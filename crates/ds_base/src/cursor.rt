@@ -7,6 +7,7 @@ ghost use Rattle.ds_base.specs.Reading.{Moves, bytes_at, number_at, text_at, ule
 use crate::fault::{Fault, Kind, Part};
 use crate::leb::{signed_value_of, value_of};
 use byteorder::{ByteOrder, LittleEndian};
+use memchr::memchr;
 use std::marker::Model;
 
 /// A place in the bytes of a part of a file, from which items are read.
@@ -42,6 +43,14 @@ fn first_below(limit: u8, bytes: &[u8]) -> Option<usize>
         }
     }
     None
+}
+
+/// The first zero byte of some bytes.
+fn first_zero(bytes: &[u8]) -> Option<usize>
+    ensures is { result ≡ index_below 1 bytes.now }
+    ensures within { IfSome result (λ i. i < length bytes.now) }
+{
+    memchr(0, bytes)
 }
 
 impl<'a> Cursor<'a> {
@@ -209,7 +218,7 @@ impl<'a> Cursor<'a> {
         ensures { Moves (λ text. text.now) result self.old self.new (text_at self.old) }
     {
         let rest = &self.bytes[self.place as usize..self.end as usize];
-        let Some(len) = first_below(1, rest) else {
+        let Some(len) = first_zero(rest) else {
             return Err(self.fault(Kind::Truncated));
         };
         let text = &rest[..len];

@@ -7,6 +7,7 @@ pub mod Plain
 pub mod Lengths
 pub mod Readers
 pub mod Setting
+pub mod Texts
 pub mod WorkedGraph
 pub mod WorkedLinked
 pub mod WorkedParts

@@ -14,6 +14,11 @@ use ds_base::NoMemory;
 use std::alloc::Global;
 use std::marker::Model;
 
+/// So many bytes has an entry of C++ as compilers write it, with its attributes, and so many an attribute.
+const BYTES_AN_ENTRY: usize = 10;
+
+const BYTES_AN_ATTRIBUTE: usize = 3;
+
 /// Entries, and the attributes of the next one.
 #[derive(Drop)]
 pub struct Builder {
@@ -37,13 +42,14 @@ impl Model for Builder {
 }
 
 impl Builder {
-    /// No entries. `strings` is the section in which places of texts are.
-    pub fn new(alloc: Global, strings: &[u8]) -> Result<Builder, NoMemory>
+    /// No entries. `strings` is the section in which places of texts are. `size` is that of the section of the entries
+    /// in bytes, and memory is set aside for as many as such a section mostly has.
+    pub fn new(alloc: Global, strings: &[u8], size: usize) -> Result<Builder, NoMemory>
         ensures { IfOk result (λ built. built ≡ record { entries = []; attrs = [] }) }
     {
         Ok(Builder {
-            heads: Vec::new(alloc),
-            cells: Vec::new(alloc),
+            heads: Vec::with_capacity(alloc, size / BYTES_AN_ENTRY)?,
+            cells: Vec::with_capacity(alloc, size / BYTES_AN_ATTRIBUTE)?,
             sides: Sides::with_texts(alloc, strings)?,
             open_from: 0,
         })

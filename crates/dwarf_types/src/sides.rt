@@ -15,6 +15,7 @@ use crate::expr::{Base, Op, PlainOp};
 use crate::lists::Location;
 use crate::put::{NewValue, RawValue};
 use ds_base::NoMemory;
+use memchr::memchr;
 use std::alloc::Global;
 
 /// What the payload of a cell is.
@@ -492,7 +493,7 @@ fn first_zero(bytes: &[u8]) -> Option<usize>
     ensures is { result ≡ position (λ b. b == 0) bytes.now }
     ensures within { IfSome result (λ n. n < length bytes.now) }
 {
-    bytes.iter().position(|b| *b == 0)
+    memchr(0, bytes)
 }
 
 /// Puts an item last, and answers its place.

@@ -268,7 +268,7 @@ pub(crate) fn analysis(
     code: &[CodeRange],
 ) -> Result<Analysis, NoMemory> {
     let mut units: Vec<InUnit> = Vec::new(alloc);
-    let mut built = Builder::new(alloc, &[])?;
+    let mut built = Builder::new(alloc, &[], 0)?;
     let mut number: u32 = 0;
     let mut in_unit: u32 = u32::MAX;
     for row in rows {

@@ -45,7 +45,7 @@ pub fn read_units(alloc: Global, sections: &Sections) -> Result<RawUnits, ReadEr
     ensures inside { AreBytes sections.now.info.now → AreBytes sections.now.abbrev.now → IfOk result (λ raw. AreInside (bytes_in sections.now) raw.entries) }
 {
     let mut parsed = Parsed {
-        built: Builder::new(alloc, sections.strings)?,
+        built: Builder::new(alloc, sections.strings, sections.info.len())?,
         references: List::new(alloc),
     };
     let units = read_each(alloc, sections, &mut parsed)?;
