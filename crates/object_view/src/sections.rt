@@ -103,15 +103,12 @@ pub(crate) fn check_sections(
     bytes: &[u8],
     sections: &[Section],
 ) -> Result<(), ReadError>
+    requires { length sections.now < 2 ^ 32 }
     ensures { Gives (λ _. tt) result (spec.all_tried bytes.now [] sections.now) }
 {
     let mut seen = List::new(alloc);
     for (index, section) in sections.iter().enumerate() {
-        // An image has fewer sections than a file has bytes.
-        let Ok(index) = u32::try_from(index) else {
-            return Err(ReadError::NoMemory);
-        };
-        try_section(&mut seen, bytes, section, index)?;
+        try_section(&mut seen, bytes, section, index as u32)?;
     }
     Ok(())
 }
