@@ -3,6 +3,7 @@ pub mod Building
 pub mod Growing
 pub mod Heads
 pub mod Kept
+pub mod Placing
 pub mod Plain
 pub mod Lengths
 pub mod Readers

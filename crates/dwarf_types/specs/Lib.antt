@@ -20,6 +20,7 @@ pub mod Lists
 pub mod Live
 pub mod Moves
 pub mod Operations
+pub mod PlaceSteps
 pub mod Places
 pub mod Put
 pub mod Raw

@@ -25,6 +25,7 @@ mod lines;
 mod lists;
 mod operands;
 mod parts;
+mod place_table;
 mod put;
 mod sections;
 mod seen;
@@ -48,6 +49,7 @@ pub use lines::{FileName, OutLines, RawLines, RawRow, RawSequence, Row, Sequence
 pub use lists::{Location, RawLocation, RawSpan};
 pub use operands::{Named, Operands, operands_after};
 pub use parts::{ExprPart, PlainPart};
+pub use place_table::PlaceTable;
 pub use put::{NewValue, RawValue};
 pub use sections::Sections;
 pub use seen::{

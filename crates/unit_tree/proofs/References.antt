@@ -1,11 +1,9 @@
 -- Where a reference leads among entries in rising order, and the loop that tries references.
-use Rattle.std.proofs.Common.{◌≡◌, ℕ, zero, suc, ◌+◌, ◌<◌, ◌≤◌, ◌||◌, Bool, true, false, not, cond, List, [], ◌∷◌, length, map, get_or, drop, Option, Some, None, Ok, Err, refl, sym, ap, ◌∙◌, drop-cons, inl, inr, arith}
-use Rattle.std.specs.List.{find, list_any}
-use Rattle.std.specs.List.Sorted.{IsBinarySearchResult}
-use Rattle.std.specs.Ordering.{nat_cmp}
+use Rattle.std.proofs.Common.{◌==◌, ◌≡◌, ℕ, zero, suc, ◌+◌, ◌<◌, ◌≤◌, ◌||◌, Bool, true, false, not, cond, List, [], ◌∷◌, length, map, get_or, drop, Option, Some, None, refl, sym, ap, ◌∙◌, drop-cons, inl, inr, arith}
+use Rattle.std.specs.List.{find, list_any, position, position_or_len}
 use Rattle.std.proofs.lemmas.List.{drop_all, get_or-map, length-map}
-use Rattle.std.proofs.lemmas.List.Sorted.{searched}
-use Rattle.std.proofs.lemmas.Bool.{cases_lt, eq-eqb, ne_eqb}
+use Rattle.std.proofs.lemmas.List.Quantifiers.{position-Some}
+use Rattle.std.proofs.lemmas.Bool.{cases_lt, eq-eqb, eqb-true, ltb-false, ne_eqb}
 use Rattle.dwarf_types.specs.declared.entry.RawEntry.{RawEntry}
 use Rattle.unit_tree.specs.declared.reference.Reference.{Reference}
 use Rattle.unit_tree.specs.Reference.{reaches, leads_to, leads, IsRising}
@@ -34,26 +32,18 @@ places_in entries = map (λ (e : RawEntry). e.place) entries
 place_at : (entries : List RawEntry) (i : ℕ) (d : RawEntry) → i < length entries → get_or (places_in entries) i 0 ≡ (get_or entries i d).place
 place_at entries i d lt = get_or-map (λ (e : RawEntry). e.place) entries i d 0 lt
 
-places_rise : (entries : List RawEntry) → IsRising entries → (i j : ℕ) → i ≤ j → j < length (places_in entries) → get_or (places_in entries) i 0 ≤ get_or (places_in entries) j 0
-places_rise entries rising i j le within =
-    let len : length (places_in entries) ≡ length entries = length-map entries (λ (e : RawEntry). e.place) in
-    let here = place_at entries i none (omega (arith, le, within, len)) in
-    let there = place_at entries j none (omega (arith, within, len)) in
-    elim (cases_lt i j) [
-      | inl before ↦ omega (arith, here, there, rising i j none before (omega (arith, within, len)))
-      | inr same ↦ let is : i ≡ j = omega (arith, le, same) in omega (arith, ap (λ (k : ℕ). get_or (places_in entries) k 0) is)
-    ]
-
 -- an entry that begins elsewhere is none to which a reference leads
 elsewhere : (r : Reference) (e : RawEntry) → (e.place ≡ r.target → ⊥) → leads_to r e ≡ false
 elsewhere r e ne = rw (ne_eqb e.place r.target ne) refl
 
-pub leads_there : (entries : List RawEntry) (r : Reference) (i : ℕ) (d : RawEntry) → IsRising entries → IsBinarySearchResult (λ (p : ℕ). nat_cmp p r.target) (places_in entries) (Ok i)
-    → leads entries r ≡ reaches r.unit (get_or entries i d).unit
+abbrev is_there : Reference → ℕ → Bool
+is_there r p = p == r.target
+
+pub leads_there : (entries : List RawEntry) (r : Reference) (i : ℕ) (d : RawEntry) → IsRising entries → position (is_there r) (places_in entries) ≡ Some i → leads entries r ≡ reaches r.unit (get_or entries i d).unit
 leads_there entries r i d rising found =
-    let at = searched (places_in entries) r.target (Ok i) found (places_rise entries rising) in
+    let at = position-Some (is_there r) (places_in entries) i 0 found in
     let within : i < length entries = omega (arith, at.0, length-map entries (λ (e : RawEntry). e.place)) in
-    let here : (get_or entries i d).place ≡ r.target = sym (place_at entries i d within) ∙ at.1 in
+    let here : (get_or entries i d).place ≡ r.target = sym (place_at entries i d within) ∙ eqb-true _ _ at.1 in
     let others : (j : ℕ) → j < length entries → (j ≡ i → ⊥) → leads_to r (get_or entries j d) ≡ false = λ j lt ne. elsewhere r (get_or entries j d) (λ e.
     elim (cases_lt j i) [
       | inl before ↦ omega (arith, rising j i d before within, e, here)
@@ -61,15 +51,31 @@ leads_there entries r i d rising found =
     ]) in
     any_one (leads_to r) entries i d within others ∙ rw (eq-eqb _ _ here) refl
 
-pub leads_nowhere : (entries : List RawEntry) (r : Reference) (i : ℕ) → IsRising entries → IsBinarySearchResult (λ (p : ℕ). nat_cmp p r.target) (places_in entries) (Err i) → leads entries r ≡ false
-leads_nowhere entries r i rising parted =
-    let parts = searched (places_in entries) r.target (Err i) parted (places_rise entries rising) in
+-- where none is the first to pass, none passes
+none_step : (p : ℕ → Bool) (x : ℕ) (xs : List ℕ) (b : Bool) → p x ≡ b → (length xs ≤ position_or_len p xs → (j : ℕ) → j < length xs → p (get_or xs j 0) ≡ false)
+    → suc (length xs) ≤ cond (not b) (1 + position_or_len p xs) 0 → (j : ℕ) → j < suc (length xs) → p (get_or (x ∷ xs) j 0) ≡ false
+none_step p x xs true is later le j lt = absurd (omega arith)
+none_step p x xs false is later le zero lt = is
+none_step p x xs false is later le (suc j) lt = later (omega arith) j (omega arith)
+
+none_passes : (p : ℕ → Bool) (xs : List ℕ) → length xs ≤ position_or_len p xs → (j : ℕ) → j < length xs → p (get_or xs j 0) ≡ false
+none_passes p [] le j lt = absurd (omega arith)
+none_passes p (x ∷ xs) le j lt = none_step p x xs (p x) refl (none_passes p xs) le j lt
+
+none_found : (b : Bool) (n : ℕ) → cond b (Some n) None ≡ None → b ≡ false
+none_found true n e = absurd (let no : ⊥ = cc in no)
+none_found false n e = refl
+
+position-None : (p : ℕ → Bool) (xs : List ℕ) → position p xs ≡ None → (j : ℕ) → j < length xs → p (get_or xs j 0) ≡ false
+position-None p xs none = none_passes p xs (ltb-false _ _ (none_found _ (position_or_len p xs) none))
+
+pub leads_nowhere : (entries : List RawEntry) (r : Reference) → position (is_there r) (places_in entries) ≡ None → leads entries r ≡ false
+leads_nowhere entries r none_there =
     any_none (leads_to r) entries none (λ j lt. elsewhere r (get_or entries j none) (λ e.
-    let at = place_at entries j none lt in
-    elim (cases_lt j i) [
-      | inl before ↦ omega (arith, parts.1 j before, at, e)
-      | inr le ↦ omega (arith, parts.2 j le (omega (arith, lt, length-map entries (λ (x : RawEntry). x.place))), at, e)
-    ]))
+    let passed = position-None (is_there r) (places_in entries) none_there j (omega (arith, lt, length-map entries (λ (x : RawEntry). x.place))) in
+    let here : is_there r (get_or (places_in entries) j 0) ≡ true = eq-eqb _ _ (place_at entries j none lt ∙ e) in
+    let no : ⊥ = cc in
+    no))
 
 -- the references from one on are still to be tried
 abbrev pub dangling : List RawEntry → List Reference → Option Reference

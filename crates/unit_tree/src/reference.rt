@@ -1,11 +1,11 @@
 //! References between entries.
 
-ghost use Rattle.std.specs.Prelude.{◌≡◌, map, IfOk};
+ghost use Rattle.std.specs.Prelude.{◌≡◌, map};
 ghost use Rattle.ds_base.specs.Reading.{Gives};
 ghost use Rattle.unit_tree.specs.Reference.{reaches, leads, resolved, IsRising};
 
-use ds_base::{Fault, Kind, List, NoMemory, Part, ReadError};
-use dwarf_types::RawEntries;
+use ds_base::{Fault, Kind, Part, ReadError};
+use dwarf_types::{PlaceTable, RawEntries};
 use std::alloc::Global;
 
 /// A reference to an entry, which is tried once all entries are known.
@@ -28,9 +28,9 @@ pub(crate) fn try_references(
     requires rising { IsRising entries.now }
     ensures exact { Gives (λ _. entries.now) result (resolved entries.now references.now) }
 {
-    let places = places_of(alloc, entries)?;
+    let places = PlaceTable::of(alloc, entries)?;
     for reference in references {
-        if !leads_somewhere(places.as_slice(), entries, reference) {
+        if !leads_somewhere(&places, entries, reference) {
             return Err(ReadError::Faulty(Fault {
                 kind: Kind::BadReference,
                 section: Part::Info,
@@ -41,27 +41,16 @@ pub(crate) fn try_references(
     Ok(())
 }
 
-/// The places of the entries in `__debug_info`.
-fn places_of(alloc: Global, entries: &RawEntries) -> Result<List<u32>, NoMemory>
-    ensures { IfOk result (λ places. places ≡ map (λ e. e.place) entries.now) }
-{
-    let mut places = List::with_capacity(alloc, entries.len())?;
-    for i in 0..entries.len() {
-        places.push(entries.entry(i).place())?;
-    }
-    Ok(places)
-}
-
 /// Whether a reference leads to the first byte of an entry that it may lead to. `places` are those of the
 /// entries.
-fn leads_somewhere(places: &[u32], entries: &RawEntries, reference: &Reference) -> bool
+fn leads_somewhere(places: &PlaceTable, entries: &RawEntries, reference: &Reference) -> bool
     requires rising { IsRising entries.now }
     requires places { places.now ≡ map (λ e. e.place) entries.now }
     ensures { result ≡ leads entries.now reference.now }
 {
-    match places.binary_search(&reference.target) {
-        Ok(i) => reaches_unit(reference.unit, entries.entry(i).unit()),
-        Err(_) => false,
+    match places.find(reference.target) {
+        Some(i) => reaches_unit(reference.unit, entries.entry(i).unit()),
+        None => false,
     }
 }
 
