@@ -2,4 +2,5 @@ pub mod Gathering
 pub mod ImageReadBack
 pub mod ReadBack
 pub mod Refused
+pub mod Rows
 pub mod Soundness

@@ -1,6 +1,8 @@
 pub mod Fields
 pub mod Header
 pub mod Records
+pub mod Rows
+pub mod Seen
 pub mod Commands
 pub mod Symbols
 pub mod Image

@@ -7,6 +7,7 @@ ghost use Rattle.macho_read.specs.Sound.{IsSound};
 
 use crate::commands::read_commands;
 use crate::header::read_header;
+use crate::symbol_list::Symbols;
 use crate::symbols::read_symbols;
 use ds_base::{Bytes, List, ReadError};
 use std::alloc::Global;
@@ -24,7 +25,7 @@ pub struct Image {
     /// which counts from 1.
     pub sections: List<Section>,
     /// Those of the first symbol table command.
-    pub symbols: List<Symbol>,
+    pub symbols: Symbols,
 }
 
 /// A segment (mach-o/loader.h, `segment_command_64`). Its name is what stands before the first zero byte.
@@ -59,7 +60,7 @@ pub struct Section {
     pub reserved3: u32,
 }
 
-/// A symbol or a stab (mach-o/nlist.h, `nlist_64`). Its name is empty where `n_strx` is 0.
+/// A symbol or a stab (mach-o/nlist.h, `nlist_64`), as contracts speak of it. Its name is empty where `n_strx` is 0.
 #[derive(Drop)]
 pub struct Symbol {
     pub name: Bytes,

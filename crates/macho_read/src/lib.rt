@@ -18,6 +18,7 @@ mod kind;
 mod law;
 mod records;
 mod standing;
+mod symbol_list;
 mod symbols;
 
 pub use debug::{debug_part, is_debug, section_bytes};
@@ -28,3 +29,4 @@ pub use law::{
     kinds_of_section_faults, records_read_back, segments_have_all_sections,
 };
 pub use standing::{Standing, is_defined, is_stab, standing_of};
+pub use symbol_list::{SymbolRef, Symbols};

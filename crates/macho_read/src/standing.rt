@@ -1,9 +1,11 @@
 //! What a symbol stands for.
 
 ghost use Rattle.std.specs.Prelude.{◌≡◌};
+ghost use Rattle.macho_read.specs.Seen.{symbol_seen};
 ghost use Rattle.macho_read.specs.Standings;
 
-use crate::image::{Image, Symbol};
+use crate::image::Image;
+use crate::symbol_list::SymbolRef;
 use ds_base::macho::{N_EXT, N_SECT, N_STAB, N_TYPE, N_UNDF};
 
 /// What a symbol of an image stands for (mach-o/nlist.h).
@@ -23,8 +25,8 @@ pub enum Standing {
 ///
 /// A stab is absolute, and so is a symbol whose type is none of the others, or whose section isn't there.
 #[tactic(auto, unfolding(crate::specs::Standings::standing_of))]
-pub fn standing_of(image: &Image, symbol: &Symbol) -> Standing
-    ensures { result ≡ Standings.standing_of image.now symbol.now }
+pub fn standing_of(image: &Image, symbol: SymbolRef<'_>) -> Standing
+    ensures { result ≡ Standings.standing_of image.now (symbol_seen symbol.entry) }
 {
     if is_stab(symbol) {
         return Standing::Absolute;
@@ -46,22 +48,22 @@ pub fn standing_of(image: &Image, symbol: &Symbol) -> Standing
 }
 
 /// Whether a symbol of an image is defined in one of its sections (mach-o/nlist.h, `n_type` and `n_sect`).
-pub fn is_defined(image: &Image, symbol: &Symbol) -> bool
-    ensures { result ≡ Standings.is_defined image.now symbol.now }
+pub fn is_defined(image: &Image, symbol: SymbolRef<'_>) -> bool
+    ensures { result ≡ Standings.is_defined image.now (symbol_seen symbol.entry) }
 {
     matches!(standing_of(image, symbol), Standing::Defined { .. })
 }
 
 /// Whether a symbol is a stab, which is the debugger's (mach-o/stab.h).
-pub fn is_stab(symbol: &Symbol) -> bool
-    ensures { result ≡ Standings.is_stab symbol.now }
+pub fn is_stab(symbol: SymbolRef<'_>) -> bool
+    ensures { result ≡ Standings.is_stab (symbol_seen symbol.entry) }
 {
     symbol.kind & N_STAB != 0
 }
 
 /// Whether an undefined symbol asks for room: it is external, and its value is the size.
-fn is_common(symbol: &Symbol) -> bool
-    ensures { result ≡ Standings.is_common symbol.now }
+fn is_common(symbol: SymbolRef<'_>) -> bool
+    ensures { result ≡ Standings.is_common (symbol_seen symbol.entry) }
 {
     symbol.kind & N_EXT != 0 && symbol.value != 0
 }

@@ -1,20 +1,16 @@
 //! The symbol table and its strings (mach-o/nlist.h).
 
-ghost use Rattle.std.specs.Prelude.{◌≡◌, ◌*◌, ◌^◌, ◌<◌, ◌≤◌, length, drop, IfOk};
+ghost use Rattle.std.specs.Prelude.{◌≡◌, ◌+◌, ◌*◌, ◌^◌, ◌<◌, ◌≤◌, ◌++◌, [], ◌∷◌, All, length, map, take, drop, IfOk, OnOk};
 ghost use Rattle.ds_base.specs.Reading.{Finds, Gives};
+ghost use Rattle.macho_read.specs.Rows.{IsWithin, symbol_of_row};
 ghost use Rattle.macho_read.specs.Symbols.{each, name_in, symbol_of, symbols_in, symbols_of};
 
 use crate::fields::{count_text, u16_at, u32_at, u64_at};
-use crate::image::Symbol;
 use crate::records::Symtab;
+use crate::symbol_list::{Row, Symbols};
 use ds_base::macho::NLIST_64_SIZE;
-use ds_base::{Bytes, Fault, Kind, List, NoMemory, Part, ReadError, bytes_from, cut};
+use ds_base::{Fault, Kind, NoMemory, Part, ReadError, bytes_from, cut};
 use std::alloc::Global;
-
-/// How many bytes of names are copied for each byte of the tables, at most. Names of real files share
-/// their bytes a few times over. Without a bound, names that overlap one another would take time and
-/// memory by the square of the file.
-const MOST_COPIES: u64 = 64;
 
 /// All symbols of a file, none where it has no table. Faults are placed at the symbol's index, counted from
 /// 0; that of tables that pass the file at 0.
@@ -22,19 +18,19 @@ pub(crate) fn read_symbols(
     alloc: Global,
     bytes: &[u8],
     symtab: Option<Symtab>,
-) -> Result<List<Symbol>, ReadError>
+) -> Result<Symbols, ReadError>
     ensures read { Gives (λ symbols. symbols) result (symbols_of symtab bytes.now) }
     ensures few { IfOk result (λ symbols. length symbols < 2 ^ 32) }
 {
     match symtab {
         Some(symtab) => read_table(alloc, bytes, symtab),
-        None => Ok(List::new(alloc)),
+        None => Ok(Symbols::new(alloc)),
     }
 }
 
 /// All symbols of a table.
 #[tactic(auto, unfolding(crate::specs::Symbols::symbols_in))]
-fn read_table(alloc: Global, bytes: &[u8], symtab: Symtab) -> Result<List<Symbol>, ReadError>
+fn read_table(alloc: Global, bytes: &[u8], symtab: Symtab) -> Result<Symbols, ReadError>
     ensures read { Gives (λ symbols. symbols) result (symbols_in symtab bytes.now) }
     ensures few { IfOk result (λ symbols. length symbols < 2 ^ 32) }
 {
@@ -50,68 +46,78 @@ fn read_table(alloc: Global, bytes: &[u8], symtab: Symtab) -> Result<List<Symbol
     read_entries(alloc, table, strings, symtab.nsyms)
 }
 
-/// So many symbols of a table, with their names. Where the names' copies would pass their bound, there
-/// is no memory for them.
+/// So many symbols of a table, with their names, which stand in a copy of the strings.
 fn read_entries(
     alloc: Global,
     table: &[u8],
     strings: &[u8],
     count: u32,
-) -> Result<List<Symbol>, ReadError>
-    requires { 16 * count ≤ length table.now }
+) -> Result<Symbols, ReadError>
+    requires all { 16 * count ≤ length table.now }
+    requires short { length strings.now < 2 ^ 32 }
     ensures { Gives (λ symbols. symbols) result (each (λ i. symbol_of strings.now i (drop (16 * i) table.now)) count 0) }
 {
-    let mut symbols = List::new(alloc);
-    let mut room = names_room(count, strings);
+    let rows = read_rows(alloc, table, strings, count)?;
+    let bytes = Vec::from_slice(alloc, strings)?;
+    Ok(Symbols::from_rows(rows, bytes))
+}
+
+/// The rows of so many symbols of a table.
+fn read_rows(alloc: Global, table: &[u8], strings: &[u8], count: u32) -> Result<Vec<Row>, ReadError>
+    requires all { 16 * count ≤ length table.now }
+    requires short { length strings.now < 2 ^ 32 }
+    ensures read { Gives (λ rows. map (symbol_of_row strings.now) rows.items) result (each (λ i. symbol_of strings.now i (drop (16 * i) table.now)) count 0) }
+    ensures within { IfOk result (λ rows. All (IsWithin strings.now) rows.items) }
+{
+    let mut rows = Vec::with_capacity(alloc, count as usize)?;
     for i in 0..count {
         let entry = bytes_from(table, NLIST_64_SIZE as usize * i as usize);
-        let symbol = read_symbol(alloc, entry, strings, i)?;
-        room = room.checked_sub(symbol.name.len() as u64).ok_or(NoMemory)?;
-        symbols.push(symbol)?;
+        let row = read_row(entry, strings, i)?;
+        rows.push(row)?;
     }
-    Ok(symbols)
+    Ok(rows)
 }
 
-/// How many bytes the names of so many symbols may have together.
-fn names_room(count: u32, strings: &[u8]) -> u64 {
-    let tables = u64::from(NLIST_64_SIZE) * u64::from(count);
-    MOST_COPIES.saturating_mul(tables.saturating_add(strings.len() as u64))
-}
-
-/// The symbol of this index, whose entry the bytes begin with.
+/// The row of the symbol of this index, whose entry the bytes begin with.
 #[tactic(auto, unfolding(crate::specs::Symbols::symbol_of))]
-fn read_symbol(alloc: Global, entry: &[u8], strings: &[u8], index: u32) -> Result<Symbol, ReadError>
-    requires { 16 ≤ length entry.now }
-    ensures { Gives (λ symbol. symbol) result (symbol_of strings.now index entry.now) }
+fn read_row(entry: &[u8], strings: &[u8], index: u32) -> Result<Row, Fault>
+    requires all { 16 ≤ length entry.now }
+    requires short { length strings.now < 2 ^ 32 }
+    ensures read { Finds (λ row. symbol_of_row strings.now row) result (symbol_of strings.now index entry.now) }
+    ensures within { IfOk result (IsWithin strings.now) }
 {
-    let name = find_name(strings, u32_at(entry, 0), index)?;
-    Ok(Symbol {
-        name: Bytes::from_slice(alloc, name)?,
+    let strx = u32_at(entry, 0);
+    let len = name_len(strings, strx, index)?;
+    Ok(Row {
+        value: u64_at(entry, 8),
+        place: strx as usize,
+        len,
+        desc: u16_at(entry, 6),
         kind: entry[4],
         sect: entry[5],
-        desc: u16_at(entry, 6),
-        value: u64_at(entry, 8),
     })
 }
 
-/// The name at an offset in the strings, which is empty at 0. `index` is the symbol's.
+/// How many bytes the name at an offset in the strings has; at 0 it is empty. `index` is the symbol's.
 #[tactic(auto, unfolding(crate::specs::Symbols::name_in))]
-fn find_name(strings: &[u8], strx: u32, index: u32) -> Result<&[u8], Fault>
-    ensures { Finds (λ name. name.now) result (name_in strings.now index strx) }
+fn name_len(strings: &[u8], strx: u32, index: u32) -> Result<u32, Fault>
+    requires { length strings.now < 2 ^ 32 }
+    ensures read { Finds (λ len. take len (drop strx strings.now)) result (name_in strings.now index strx) }
+    ensures within { IfOk result (λ len. strx + len ≤ length strings.now) }
 {
     let strx = strx as usize;
     if strx == 0 {
-        return Ok(&[]);
+        return Ok(0);
     }
     if strx >= strings.len() {
         return Err(bad_symbols(index));
     }
-    let rest = &strings[strx..];
+    let rest = bytes_from(strings, strx);
     let len = count_text(rest);
     if len == rest.len() {
         return Err(bad_symbols(index));
     }
-    Ok(&rest[..len])
+    Ok(len as u32)
 }
 
 /// The fault of the symbol of this index.
