@@ -1,10 +1,10 @@
 //! Where the symbols of a program lie that are defined in one of its sections (mach-o/nlist.h).
 
 ghost use Rattle.std.specs.Prelude.{◌≡◌, ℕ, List as Listed, IfOk};
-ghost use Rattle.stab_map.specs.Addresses.{address_among, address_in};
+ghost use Rattle.stab_map.specs.Addresses.{address_in};
 
 use ds_base::NoMemory;
-use macho_read::{Image, Symbol, is_defined};
+use macho_read::{Image, is_defined};
 use std::alloc::Global;
 use std::collections::HashMap;
 
@@ -15,23 +15,13 @@ pub(crate) fn addresses_by_name<'a>(
 ) -> Result<HashMap<&'a [u8], u64>, NoMemory>
     ensures { IfOk result (λ addresses. (name : Listed ℕ) → address_in addresses name ≡ Rattle.stab_map.specs.Addresses.address_of image.now name) }
 {
-    addresses_among(alloc, image, image.symbols.as_slice())
-}
-
-/// The same, of some symbols of the image.
-fn addresses_among<'a>(
-    alloc: Global,
-    image: &Image,
-    symbols: &'a [Symbol],
-) -> Result<HashMap<&'a [u8], u64>, NoMemory>
-    ensures { IfOk result (λ addresses. (name : Listed ℕ) → address_in addresses name ≡ address_among image.now symbols.now name) }
-{
+    let symbols = &image.symbols;
     let mut addresses = HashMap::new(alloc);
     // The table keeps the last address of a name, and so the first symbol comes last.
-    for symbol in symbols.iter().rev() {
+    for i in (0..symbols.len()).rev() {
+        let symbol = symbols.symbol(i);
         if is_defined(image, symbol) {
-            let name = symbol.name.as_slice();
-            addresses.insert(name, symbol.value)?;
+            addresses.insert(symbol.name, symbol.value)?;
         }
     }
     Ok(addresses)

@@ -50,10 +50,10 @@ fn read_objects(alloc: Global, image: &Image) -> Result<List<MapObject>, ReadErr
     ensures { Gives (λ objects. objects) result (Rattle.stab_map.specs.DebugMap.objects_of image.now) }
 {
     let addresses = addresses_by_name(alloc, image)?;
-    let symbols = image.symbols.as_slice();
     let mut objects = List::new(alloc);
     let mut state = State::Outside;
-    for (index, symbol) in symbols.iter().enumerate() {
+    for index in 0..image.symbols.len() {
+        let symbol = image.symbols.symbol(index);
         state = step(alloc, &addresses, &mut objects, state, index, symbol)?;
     }
     finish(alloc, &mut objects, state)?;

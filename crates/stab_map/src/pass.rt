@@ -3,6 +3,7 @@
 ghost use Rattle.std.specs.Prelude.{◌≡◌, ◌++◌, ℕ, [], ◌∷◌, IfOk};
 ghost use Rattle.std.specs.Str.{is_utf8};
 ghost use Rattle.ds_base.specs.Reading.{Finds, Gives};
+ghost use Rattle.macho_read.specs.Seen.{symbol_seen};
 ghost use Rattle.stab_map.specs.Addresses.{address_in};
 ghost use Rattle.stab_map.specs.DebugMap.{object_of};
 ghost use Rattle.stab_map.specs.Pass.{Steps, StepsAlone, opened, whole_map};
@@ -13,7 +14,7 @@ use crate::object::{MapEntry, MapObject};
 use crate::origin::find_origin;
 use crate::stab::{Stab, read_stab};
 use ds_base::{Bytes, Fault, Kind, List, NoMemory, Part, ReadError};
-use macho_read::Symbol;
+use macho_read::SymbolRef;
 use std::alloc::Global;
 use std::collections::HashMap;
 
@@ -52,9 +53,9 @@ pub(crate) fn step<'a>(
     objects: &mut List<MapObject>,
     state: State<'a>,
     index: usize,
-    symbol: &'a Symbol,
+    symbol: SymbolRef<'a>,
 ) -> Result<State<'a>, ReadError>
-    ensures { Steps (address_in addresses.now) result objects.new objects.old state.entry index symbol.now }
+    ensures { Steps (address_in addresses.now) result objects.new objects.old state.entry index (symbol_seen symbol.entry) }
 {
     let stab = read_stab(symbol);
     match state {
@@ -71,10 +72,10 @@ fn step_outside<'a>(
     alloc: Global,
     stab: Stab,
     index: usize,
-    symbol: &'a Symbol,
+    symbol: SymbolRef<'a>,
 ) -> Result<State<'a>, ReadError>
-    requires { stab ≡ stab_of symbol.now }
-    ensures { StepsAlone result states.Outside index symbol.now }
+    requires { stab ≡ stab_of (symbol_seen symbol) }
+    ensures { StepsAlone result states.Outside index (symbol_seen symbol.entry) }
 {
     match stab {
         Stab::Object => Ok(State::Inside(open_object(alloc, index, symbol)?)),
@@ -90,12 +91,12 @@ fn step_inside<'a>(
     current: Open<'a>,
     stab: Stab,
     index: usize,
-    symbol: &'a Symbol,
+    symbol: SymbolRef<'a>,
 ) -> Result<State<'a>, ReadError>
-    requires { stab ≡ stab_of symbol.now }
-    ensures { Steps (address_in addresses.now) result objects.new objects.old (states.Inside current.entry) index symbol.now }
+    requires { stab ≡ stab_of (symbol_seen symbol) }
+    ensures { Steps (address_in addresses.now) result objects.new objects.old (states.Inside current.entry) index (symbol_seen symbol.entry) }
 {
-    let name = symbol.name.as_slice();
+    let name = symbol.name;
     match stab {
         Stab::Object => {
             let object = closed(alloc, current)?;
@@ -136,10 +137,10 @@ fn step_named<'a>(
     current: Open<'a>,
     start: Start<'a>,
     stab: Stab,
-    symbol: &Symbol,
+    symbol: SymbolRef<'_>,
 ) -> Result<State<'a>, ReadError>
-    requires { stab ≡ stab_of symbol.now }
-    ensures { (index : ℕ) → StepsAlone result (states.Named current.entry start.entry) index symbol.now }
+    requires { stab ≡ stab_of (symbol_seen symbol) }
+    ensures { (index : ℕ) → StepsAlone result (states.Named current.entry start.entry) index (symbol_seen symbol.entry) }
 {
     match stab {
         Stab::Size => {
@@ -175,10 +176,10 @@ pub(crate) fn finish(
 
 /// The object that a symbol opens by its name, the path.
 #[tactic(auto, unfolding(crate::specs::Pass::opened))]
-fn open_object<'a>(alloc: Global, index: usize, symbol: &'a Symbol) -> Result<Open<'a>, Fault>
-    ensures { Finds (λ current. (current.path.now, current.entries)) result (opened index symbol.now) }
+fn open_object<'a>(alloc: Global, index: usize, symbol: SymbolRef<'a>) -> Result<Open<'a>, Fault>
+    ensures { Finds (λ current. (current.path.now, current.entries)) result (opened index (symbol_seen symbol.entry)) }
 {
-    let path = symbol.name.as_slice();
+    let path = symbol.name;
     if !is_text(path) {
         return Err(map_fault(Kind::BadPath, index));
     }

@@ -1,10 +1,11 @@
 //! What a symbol says to the debug map (mach-o/stab.h).
 
 ghost use Rattle.std.specs.Prelude.{◌≡◌};
+ghost use Rattle.macho_read.specs.Seen.{symbol_seen};
 ghost use Rattle.stab_map.specs.Stab.{stab_of};
 
 use ds_base::macho::{N_FUN, N_GSYM, N_LCSYM, N_OSO, N_SO, N_STSYM};
-use macho_read::Symbol;
+use macho_read::SymbolRef;
 
 /// What a symbol says to the debug map.
 #[derive(Clone, Copy, Debug, PartialEq, Eq)]
@@ -29,8 +30,8 @@ pub(crate) enum Stab {
 
 /// What a symbol says, by its kind and by whether it has a name.
 #[tactic(auto, unfolding(crate::specs::Stab::stab_of))]
-pub(crate) fn read_stab(symbol: &Symbol) -> Stab
-    ensures { result ≡ stab_of symbol.now }
+pub(crate) fn read_stab(symbol: SymbolRef<'_>) -> Stab
+    ensures { result ≡ stab_of (symbol_seen symbol.entry) }
 {
     let named = !symbol.name.is_empty();
     match symbol.kind {

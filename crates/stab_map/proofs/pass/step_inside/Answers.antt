@@ -23,19 +23,19 @@ returns-in_ok-push-in-End c =
     (λ rest. sym (inside_ends _ _ _ _ _ rest _ (rw e refl) ∙ outside_passed _ _ _ _ rest stabs.End e refl))
 
 pub returns-in-Function : goal.returns-in-Function
-returns-in-Function c = rw c.as_slice-name.ensures (λ rest. sym (inside_function _ _ _ _ _ rest _ (sym c.requires ∙ c.in-Function.is)))
+returns-in-Function c = λ rest. sym (inside_function _ _ _ _ _ rest _ (sym c.requires ∙ c.in-Function.is))
 
 pub returns-in_ok-with_entry-in-Static : goal.returns-in_ok-with_entry-in-Static
 returns-in_ok-with_entry-in-Static c =
-    rw (c.in_ok-with_entry-in-Static.ensures, c.in_ok-entry-in-Static.ensures, c.as_slice-name.ensures) (λ rest. sym (inside_static _ _ _ _ _ rest _ (sym c.requires ∙ c.in-Static.is)))
+    rw (c.in_ok-with_entry-in-Static.ensures, c.in_ok-entry-in-Static.ensures) (λ rest. sym (inside_static _ _ _ _ _ rest _ (sym c.requires ∙ c.in-Static.is)))
 
 pub returns-in_ok-with_entry-in-Some : goal.returns-in_ok-with_entry-in-Some
 returns-in_ok-with_entry-in-Some c =
-    rw (c.in_ok-with_entry-in-Some.ensures, c.in_ok-entry-in-Some.ensures, c.as_slice-name.ensures)
-    (λ rest. sym (inside_global _ _ _ _ _ rest _ _ (sym c.requires ∙ c.in-Global.is) (rw (← c.as_slice-name.ensures) (sym c.in-Some.ensures.value))))
+    rw (c.in_ok-with_entry-in-Some.ensures, c.in_ok-entry-in-Some.ensures)
+    (λ rest. sym (inside_global _ _ _ _ _ rest _ _ (sym c.requires ∙ c.in-Global.is) (sym c.in-Some.ensures.value)))
 
 pub returns-in-None : goal.returns-in-None
-returns-in-None c = λ rest. sym (inside_unknown _ _ _ _ _ rest _ (sym c.requires ∙ c.in-Global.is) (rw (← c.as_slice-name.ensures) (sym c.in-None.ensures.value)))
+returns-in-None c = λ rest. sym (inside_unknown _ _ _ _ _ rest _ (sym c.requires ∙ c.in-Global.is) (sym c.in-None.ensures.value))
 
 pub returns-in-Size : goal.returns-in-Size
 returns-in-Size c = λ rest. sym (inside_silent _ _ _ _ _ rest _ c.args.stab (sym c.requires) c.in-Size.is)
