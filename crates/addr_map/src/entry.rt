@@ -3,12 +3,13 @@
 ghost use Rattle.std.specs.Prelude.{◌≡◌, ℕ, List as Listed};
 ghost use Rattle.std.specs.List.Sorted.{IsPermutation, IsSorted};
 ghost use Rattle.std.specs.Option.{option_and_then, option_map};
+ghost use Rattle.macho_read.specs.Seen.{symbol_seen};
 ghost use Rattle.addr_map.specs.Entries.{end_of, given_of, named, places as places_of, range_from, section_end};
 ghost use Rattle.addr_map.specs.Tables.{index_in, place_cmp};
 
 use crate::map::{MapName, MapRange};
 use crate::places::next_address;
-use macho_read::{Image, Standing, Symbol, standing_of};
+use macho_read::{Image, Standing, SymbolRef, standing_of};
 use stab_map::MapEntry;
 use std::collections::HashMap;
 
@@ -50,9 +51,9 @@ fn find_named<'a>(
     image: &'a Image,
     symbols: &HashMap<&[u8], u32>,
     name: &[u8],
-) -> Option<(u32, &'a Symbol)>
+) -> Option<(u32, SymbolRef<'a>)>
     requires { (name : Listed ℕ) → index_in symbols.now name ≡ option_map (λ s. s.0) (named image.now name) }
-    ensures { option_map (λ s. (s.0, s.1.now)) result ≡ named image.now name.now }
+    ensures { option_map (λ s. (s.0, symbol_seen s.1)) result ≡ named image.now name.now }
 {
     let index = *symbols.get(name)?;
     let symbol = image.symbols.get(index as usize)?;

@@ -3,12 +3,13 @@
 ghost use Rattle.std.specs.Prelude.{◌≡◌, ◌≤◌, true, false, length, IfOk};
 ghost use Rattle.std.specs.List.Sorted.{IsPartitionPoint, IsPermutation, IsSorted};
 ghost use Rattle.std.specs.Ordering.{is_le};
+ghost use Rattle.macho_read.specs.Seen.{symbol_seen};
 ghost use Rattle.macho_read.specs.Standings.{standing_of};
 ghost use Rattle.addr_map.specs.Entries.{places, place_of};
 ghost use Rattle.addr_map.specs.Tables.{place_cmp, IsNext};
 
 use ds_base::NoMemory;
-use macho_read::{Image, Standing, Symbol, standing_of};
+use macho_read::{Image, Standing, SymbolRef, standing_of};
 use std::alloc::Global;
 
 /// The ordinals of the sections, from 1, and the addresses of the symbols that are defined, in order.
@@ -26,8 +27,8 @@ fn all_places(alloc: Global, image: &Image) -> Result<Vec<(u8, u64)>, NoMemory>
     ensures { IfOk result (λ all. all.items ≡ places image.now) }
 {
     let mut all = Vec::new(alloc);
-    for symbol in image.symbols.as_slice() {
-        if let Some(place) = find_place(image, symbol) {
+    for i in 0..image.symbols.len() {
+        if let Some(place) = find_place(image, image.symbols.symbol(i)) {
             all.push(place)?;
         }
     }
@@ -35,8 +36,8 @@ fn all_places(alloc: Global, image: &Image) -> Result<Vec<(u8, u64)>, NoMemory>
 }
 
 /// The section and the address of a symbol, where it is defined in one.
-fn find_place(image: &Image, symbol: &Symbol) -> Option<(u8, u64)>
-    ensures { result ≡ place_of (standing_of image.now symbol.now) symbol.now.value }
+fn find_place(image: &Image, symbol: SymbolRef<'_>) -> Option<(u8, u64)>
+    ensures { result ≡ place_of (standing_of image.now (symbol_seen symbol.entry)) symbol.entry.value }
 {
     match standing_of(image, symbol) {
         Standing::Defined { section } => Some((section, symbol.value)),

@@ -34,7 +34,7 @@ pub fn build(alloc: Global, object: &MapObject, image: &Image) -> Result<AddrMap
     ensures exact { IfOk result (λ map. map ≡ map_of object.now image.now) }
     ensures sound { IfOk result IsSound }
 {
-    let symbols = symbols_by_name(alloc, image.symbols.as_slice())?;
+    let symbols = symbols_by_name(alloc, &image.symbols)?;
     let places = places_in_order(alloc, image)?;
     let given = all_given(alloc, object.entries.as_slice(), image, &symbols, &places)?;
     make_map(alloc, &given)

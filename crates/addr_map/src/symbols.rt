@@ -7,14 +7,14 @@ ghost use Rattle.addr_map.specs.Entries.{has_name};
 ghost use Rattle.addr_map.specs.Tables.{index_in};
 
 use ds_base::NoMemory;
-use macho_read::{Symbol, is_stab};
+use macho_read::{Symbols, is_stab};
 use std::alloc::Global;
 use std::collections::HashMap;
 
 /// The index of each name: that of the first symbol with the name that isn't a stab, counted from 0.
 pub(crate) fn symbols_by_name<'a>(
     alloc: Global,
-    symbols: &'a [Symbol],
+    symbols: &'a Symbols,
 ) -> Result<HashMap<&'a [u8], u32>, NoMemory>
     requires { length symbols.now < 2 ^ 32 }
     ensures { IfOk result (λ table. (name : Listed ℕ) → index_in table name ≡ option_map (λ s. s.0) (find (has_name name) (enumerate_from 0 symbols.now))) }
@@ -22,9 +22,9 @@ pub(crate) fn symbols_by_name<'a>(
     let mut table = HashMap::with_capacity(alloc, symbols.len())?;
     // The table keeps the last index of a name, and so the first symbol comes last.
     for i in (0..symbols.len()).rev() {
-        let symbol = &symbols[i];
+        let symbol = symbols.symbol(i);
         if !is_stab(symbol) {
-            table.insert(symbol.name.as_slice(), i as u32)?;
+            table.insert(symbol.name, i as u32)?;
         }
     }
     Ok(table)

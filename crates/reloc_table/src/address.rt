@@ -47,7 +47,7 @@ fn count_from(image: &Image, index: u32, stored: u64) -> Addr
     requires { index < length image.now.symbols }
     ensures { result ≡ behind_symbol image.now index (slice_get image.now.symbols index) stored }
 {
-    let symbol = &image.symbols.as_slice()[index as usize];
+    let symbol = image.symbols.symbol(index as usize);
     let sum = symbol.value.wrapping_add(stored);
     match standing_of(image, symbol) {
         Standing::Defined { .. } => Addr::Placed(sum),

@@ -5,6 +5,6 @@ use Rattle.addr_map.specs.Entries.{place_of}
 use Rattle.addr_map.proofs.places.all_places.Given as goal
 
 -- the places so far and those of the other symbols are the places of all
-abbrev pub invariant-loop-symbol : goal.invariant-loop-symbol
-invariant-loop-symbol l =
-    l.all.items ++ filter_map (λ s. place_of (standing_of l.image s) s.value) (drop l.symbol-index l.symbol-items) ≡ filter_map (λ s. place_of (standing_of l.image s) s.value) l.symbol-items
+abbrev pub invariant-loop-i : goal.invariant-loop-i
+invariant-loop-i l =
+    l.all.items ++ filter_map (λ s. place_of (standing_of l.image s) s.value) (drop l.i l.image.symbols) ≡ filter_map (λ s. place_of (standing_of l.image s) s.value) l.image.symbols
