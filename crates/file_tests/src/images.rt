@@ -1,7 +1,9 @@
 //! Files, and their images or the first fault.
 
 use ds_base::{Bytes, Fault, Kind, List, NoMemory, Part, ReadError};
-use macho_read::{Image, Role, check_kind, is_debug, read_image, section_bytes};
+use macho_read::{
+    Image, Role, SymbolRef, Symbols, check_kind, is_debug, read_image, section_bytes,
+};
 use std::alloc::Global;
 use std::process::Abort;
 
@@ -75,12 +77,49 @@ fn a_program_is_read(rt: HostRuntime) {
             assert_eq!(rt; (image.cpu, image.filetype, image.segments.len(), image.sections.len(), image.symbols.len()), (0x0100_000c, 2, 1, 1, 2));
             assert_eq!(rt; image.uuid, Some(*b"\0\x11\x22\x33\x44\x55\x66\x77\x88\x99\xaa\xbb\xcc\xdd\xee\xff"));
             if let Some(function) = image.symbols.get(0) {
-                assert_eq!(rt; function.name.as_slice(), b"_main".as_slice());
+                assert_eq!(rt; function.name, b"_main".as_slice());
                 assert_eq!(rt; (function.kind, function.sect, function.value), (0x24, 1, 0x1_0000_3f50));
             }
         }
         Err(error) => panic!(rt; "{error:?}"),
     }
+}
+
+/// The name of a symbol is this.
+fn assert_name(rt: &impl Abort, symbols: &Symbols, index: usize, want: &[u8]) {
+    match symbols.get(index) {
+        Some(symbol) => assert_eq!(rt; symbol.name, want, "{index}"),
+        None => panic!(rt; "no symbol {index}"),
+    }
+}
+
+#[test]
+fn names_may_share_their_bytes(rt: HostRuntime) {
+    match image_with(rt.alloc(), 248, b"\x07") {
+        Ok(image) => {
+            assert_name(&rt, &image.symbols, 0, b"_main");
+            assert_name(&rt, &image.symbols, 1, b"ain");
+        }
+        Err(error) => panic!(rt; "{error:?}"),
+    }
+}
+
+#[test]
+fn symbols_are_put_with_their_names(rt: HostRuntime) {
+    let mut symbols = Symbols::new(rt.alloc());
+    assert!(rt; symbols.push(b"_a", 0x0f, 1, 0, 0x20).is_ok());
+    assert!(rt; symbols.push(b"", 0x64, 0, 1, 7).is_ok());
+    assert_eq!(rt; symbols.len(), 2);
+    let first = SymbolRef {
+        name: b"_a",
+        kind: 0x0f,
+        sect: 1,
+        desc: 0,
+        value: 0x20,
+    };
+    assert_eq!(rt; symbols.get(0), Some(first));
+    assert_name(&rt, &symbols, 1, b"");
+    assert!(rt; symbols.get(2).is_none());
 }
 
 /// An image of this CPU type and file type can play a role, or is refused so.
@@ -99,7 +138,7 @@ fn assert_role(
         uuid: None,
         segments: List::new(alloc),
         sections: List::new(alloc),
-        symbols: List::new(alloc),
+        symbols: Symbols::new(alloc),
     };
     assert_eq!(rt;
         check_kind(&image, role).err(),

@@ -7,7 +7,7 @@ ghost use Rattle.reloc_table.specs.Sound.{IsSound};
 
 use ds_base::{Fault, Kind, List, NoMemory, Part, ReadError};
 use dwarf_types::Sections;
-use macho_read::Image;
+use macho_read::{Image, Symbols};
 use reloc_table::{Reloc, Relocs};
 use std::alloc::Global;
 use std::process::Abort;
@@ -23,7 +23,7 @@ pub(crate) fn no_symbols(alloc: Global) -> Image
         uuid: None,
         segments: List::new(alloc),
         sections: List::new(alloc),
-        symbols: List::new(alloc),
+        symbols: Symbols::new(alloc),
     }
 }
 
