@@ -41,8 +41,8 @@ pub(crate) fn emit_front(program: &Image, layout: &Layout, places: Places, room:
         at,
     );
     let at = emit_dwarf(layout, places, room, at);
-    let at = emit_symbols(program.symbols.as_slice(), room, at);
-    emit_strings(program.symbols.as_slice(), room, at)
+    let at = emit_symbols(&program.symbols, room, at);
+    emit_strings(&program.symbols, room, at)
 }
 
 /// The fields of the header (`mach_header_64`).

@@ -48,9 +48,9 @@ pub(crate) fn places_of(program: &Image, layout: &Layout) -> Result<Places, NoMe
     let contents = written_size(&WRITTEN_PARTS, layout)?;
     let commands = size_of_commands(program, sections)?;
     let symoff = plus(u64::from(MACH_HEADER_64_SIZE), commands)?;
-    let nsyms = count_kept(program.symbols.as_slice())?;
+    let nsyms = count_kept(&program.symbols)?;
     let stroff = plus(symoff, times(u64::from(NLIST_64_SIZE), nsyms)?)?;
-    let strsize = plus(1, texts_size(program.symbols.as_slice())?)?;
+    let strsize = plus(1, texts_size(&program.symbols)?)?;
     let offset = page_end(plus(stroff, strsize)?)?;
     let vmaddr = page_end(last_address(program.segments.as_slice())?)?;
     // The addresses of the sections.

@@ -5,19 +5,21 @@ ghost use Rattle.std.specs.List.{flat_map};
 ghost use Rattle.ds_base.specs.Room.{Adds};
 ghost use Rattle.dsym_write.specs.Pieces.{entries_from, entry_of, text_of};
 ghost use Rattle.macho_read.specs.ImageSpelling.{nlist_bytes};
+ghost use Rattle.macho_read.specs.Seen.{symbol_seen};
 ghost use Rattle.macho_read.specs.Standings;
 
 use crate::fields::emit_byte;
 use crate::sums::plus;
 use ds_base::{NoMemory, emit_bytes, emit_u8, emit_u16, emit_u32, emit_u64};
-use macho_read::{Symbol, is_stab};
+use macho_read::{SymbolRef, Symbols, is_stab};
 
 /// How many symbols are not stabs.
-pub(crate) fn count_kept(symbols: &[Symbol]) -> Result<u64, NoMemory>
+pub(crate) fn count_kept(symbols: &Symbols) -> Result<u64, NoMemory>
     ensures { IfOk result (λ count. count ≡ length (filter (λ s. not (Standings.is_stab s)) symbols.now)) }
 {
     let mut count = 0;
-    for symbol in symbols {
+    for i in 0..symbols.len() {
+        let symbol = symbols.symbol(i);
         if !is_stab(symbol) {
             count = plus(count, 1)?;
         }
@@ -26,19 +28,20 @@ pub(crate) fn count_kept(symbols: &[Symbol]) -> Result<u64, NoMemory>
 }
 
 /// The size of all names in the strings.
-pub(crate) fn texts_size(symbols: &[Symbol]) -> Result<u64, NoMemory>
+pub(crate) fn texts_size(symbols: &Symbols) -> Result<u64, NoMemory>
     ensures { IfOk result (λ size. size ≡ length (flat_map text_of symbols.now)) }
 {
     let mut size = 0;
-    for symbol in symbols {
+    for i in 0..symbols.len() {
+        let symbol = symbols.symbol(i);
         size = plus(size, text_size(symbol)?)?;
     }
     Ok(size)
 }
 
 /// The size of a symbol's name in the strings, with its end; 0 where it has no name there.
-fn text_size(symbol: &Symbol) -> Result<u64, NoMemory>
-    ensures { IfOk result (λ size. size ≡ length (text_of symbol.now)) }
+fn text_size(symbol: SymbolRef<'_>) -> Result<u64, NoMemory>
+    ensures { IfOk result (λ size. size ≡ length (text_of (symbol_seen symbol.entry))) }
 {
     if has_no_text(symbol) {
         return Ok(0);
@@ -47,21 +50,22 @@ fn text_size(symbol: &Symbol) -> Result<u64, NoMemory>
 }
 
 /// Whether a symbol has no name in the strings.
-fn has_no_text(symbol: &Symbol) -> bool
-    ensures { result ≡ Rattle.dsym_write.specs.Pieces.has_no_text symbol.now }
+fn has_no_text(symbol: SymbolRef<'_>) -> bool
+    ensures { result ≡ Rattle.dsym_write.specs.Pieces.has_no_text (symbol_seen symbol.entry) }
 {
     is_stab(symbol) || symbol.name.is_empty()
 }
 
 /// Writes the table of the symbols that are not stabs.
-pub(crate) fn emit_symbols(symbols: &[Symbol], room: &mut [u8], start: usize) -> usize
+pub(crate) fn emit_symbols(symbols: &Symbols, room: &mut [u8], start: usize) -> usize
     requires small { 1 + length (flat_map text_of symbols.now) < 2 ^ 32 }
     requires fits { start + length (entries_from 1 symbols.now) ≤ length room.old }
     ensures { Adds room.old start (entries_from 1 symbols.now) room.new result }
 {
     let mut at = start;
     let mut place = 1;
-    for symbol in symbols {
+    for i in 0..symbols.len() {
+        let symbol = symbols.symbol(i);
         at = emit_symbol(symbol, place, room, at);
         place = behind_text(symbol, place);
     }
@@ -69,9 +73,9 @@ pub(crate) fn emit_symbols(symbols: &[Symbol], room: &mut [u8], start: usize) ->
 }
 
 /// The place behind a symbol's name in the strings, if it has one there.
-fn behind_text(symbol: &Symbol, place: u32) -> u32
-    requires { place + length (text_of symbol.now) < 2 ^ 32 }
-    ensures { result ≡ place + length (text_of symbol.now) }
+fn behind_text(symbol: SymbolRef<'_>, place: u32) -> u32
+    requires { place + length (text_of (symbol_seen symbol)) < 2 ^ 32 }
+    ensures { result ≡ place + length (text_of (symbol_seen symbol.entry)) }
 {
     if has_no_text(symbol) {
         return place;
@@ -80,9 +84,9 @@ fn behind_text(symbol: &Symbol, place: u32) -> u32
 }
 
 /// Writes a symbol whose name stands at a place of the strings, unless it is a stab (mach-o/nlist.h, `nlist_64`).
-fn emit_symbol(symbol: &Symbol, place: u32, room: &mut [u8], at: usize) -> usize
-    requires fits { at + length (entry_of place symbol.now) ≤ length room.old }
-    ensures { Adds room.old at (entry_of place symbol.now) room.new result }
+fn emit_symbol(symbol: SymbolRef<'_>, place: u32, room: &mut [u8], at: usize) -> usize
+    requires fits { at + length (entry_of place (symbol_seen symbol)) ≤ length room.old }
+    ensures { Adds room.old at (entry_of place (symbol_seen symbol.entry)) room.new result }
 {
     if is_stab(symbol) {
         return at;
@@ -95,9 +99,9 @@ fn emit_symbol(symbol: &Symbol, place: u32, room: &mut [u8], at: usize) -> usize
 }
 
 /// Writes a symbol.
-fn emit_entry(symbol: &Symbol, place: u32, room: &mut [u8], at: usize) -> usize
+fn emit_entry(symbol: SymbolRef<'_>, place: u32, room: &mut [u8], at: usize) -> usize
     requires fits { at + 16 ≤ length room.old }
-    ensures { Adds room.old at (nlist_bytes (place, symbol.now)) room.new result }
+    ensures { Adds room.old at (nlist_bytes (place, symbol_seen symbol.entry)) room.new result }
 {
     let at = emit_u32(room, at, place);
     let at = emit_byte(room, at, symbol.kind);
@@ -107,7 +111,7 @@ fn emit_entry(symbol: &Symbol, place: u32, room: &mut [u8], at: usize) -> usize
 }
 
 /// Writes the strings: a zero byte, and the names.
-pub(crate) fn emit_strings(symbols: &[Symbol], room: &mut [u8], at: usize) -> usize
+pub(crate) fn emit_strings(symbols: &Symbols, room: &mut [u8], at: usize) -> usize
     requires fits { at + (1 + length (flat_map text_of symbols.now)) ≤ length room.old }
     ensures { Adds room.old at (0 ∷ flat_map text_of symbols.now) room.new result }
 {
@@ -115,25 +119,26 @@ pub(crate) fn emit_strings(symbols: &[Symbol], room: &mut [u8], at: usize) -> us
     emit_texts(symbols, room, at)
 }
 
-fn emit_texts(symbols: &[Symbol], room: &mut [u8], start: usize) -> usize
+fn emit_texts(symbols: &Symbols, room: &mut [u8], start: usize) -> usize
     requires fits { start + length (flat_map text_of symbols.now) ≤ length room.old }
     ensures { Adds room.old start (flat_map text_of symbols.now) room.new result }
 {
     let mut at = start;
-    for symbol in symbols {
+    for i in 0..symbols.len() {
+        let symbol = symbols.symbol(i);
         at = emit_text(symbol, room, at);
     }
     at
 }
 
 /// Writes a symbol's name and a zero byte, if it has a name in the strings.
-fn emit_text(symbol: &Symbol, room: &mut [u8], at: usize) -> usize
-    requires fits { at + length (text_of symbol.now) ≤ length room.old }
-    ensures { Adds room.old at (text_of symbol.now) room.new result }
+fn emit_text(symbol: SymbolRef<'_>, room: &mut [u8], at: usize) -> usize
+    requires fits { at + length (text_of (symbol_seen symbol)) ≤ length room.old }
+    ensures { Adds room.old at (text_of (symbol_seen symbol.entry)) room.new result }
 {
     if has_no_text(symbol) {
         return at;
     }
-    let at = emit_bytes(room, at, symbol.name.as_slice());
+    let at = emit_bytes(room, at, symbol.name);
     emit_u8(room, at, 0)
 }

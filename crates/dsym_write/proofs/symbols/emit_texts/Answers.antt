@@ -1,5 +1,6 @@
 use Rattle.std.proofs.Common.{arith, ap, length}
 use Rattle.ds_base.proofs.Adding.{item_fits}
+use Rattle.macho_read.specs.Seen.{symbol_seen}
 use Rattle.dsym_write.specs.Pieces.{text_of}
 use Rattle.dsym_write.proofs.symbols.emit_texts.Goals as goal
 
@@ -8,10 +9,10 @@ emit_text-at-requires c =
     record {
       fits = omega (
         arith,
-        item_fits text_of c.args.symbols.now c.loop-symbol.symbol-index c.symbol-item.result c.loop-symbol-test.true,
-        ap (λ s. length (text_of s)) c.symbol-item.is,
-        c.loop-symbol.invariant.size,
-        c.loop-symbol.invariant.behind,
+        item_fits text_of c.args.symbols.now c.loop-i.i (symbol_seen c.symbol-symbol.result) (omega (arith, c.loop-i-test.true, c.len-i-end.ensures)),
+        ap (λ s. length (text_of s)) c.symbol-symbol.ensures.item,
+        c.loop-i.invariant.size,
+        c.loop-i.invariant.behind,
         c.requires.fits,
       );
     }

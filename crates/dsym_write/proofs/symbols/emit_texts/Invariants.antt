@@ -4,5 +4,5 @@ use Rattle.ds_base.specs.Room.{Adds}
 use Rattle.dsym_write.specs.Pieces.{text_of}
 use Rattle.dsym_write.proofs.symbols.emit_texts.Given as goal
 
-abbrev pub invariant-loop-symbol : goal.invariant-loop-symbol
-invariant-loop-symbol l = Adds l.fn.room l.start (flat_map text_of (take l.symbol-index l.symbols)) l.room l.at
+abbrev pub invariant-loop-i : goal.invariant-loop-i
+invariant-loop-i l = Adds l.fn.room l.start (flat_map text_of (take l.i l.symbols)) l.room l.at

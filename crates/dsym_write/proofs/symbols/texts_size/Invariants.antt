@@ -3,5 +3,5 @@ use Rattle.std.specs.List.{flat_map}
 use Rattle.dsym_write.specs.Pieces.{text_of}
 use Rattle.dsym_write.proofs.symbols.texts_size.Given as goal
 
-abbrev pub invariant-loop-symbol : goal.invariant-loop-symbol
-invariant-loop-symbol l = l.size + length (flat_map text_of (drop l.symbol-index l.symbols)) ≡ length (flat_map text_of l.symbols)
+abbrev pub invariant-loop-i : goal.invariant-loop-i
+invariant-loop-i l = l.size + length (flat_map text_of (drop l.i l.symbols)) ≡ length (flat_map text_of l.symbols)
