@@ -1,3 +1,4 @@
+pub mod TextEnds
 pub mod Gathering
 pub mod ImageReadBack
 pub mod ReadBack

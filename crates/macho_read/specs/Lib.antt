@@ -1,6 +1,7 @@
 pub mod Fields
 pub mod Header
 pub mod Records
+pub mod Ends
 pub mod Rows
 pub mod Seen
 pub mod Commands

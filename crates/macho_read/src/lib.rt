@@ -11,6 +11,7 @@
 
 mod commands;
 mod debug;
+mod ends;
 mod fields;
 mod header;
 mod image;

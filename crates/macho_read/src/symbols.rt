@@ -2,10 +2,12 @@
 
 ghost use Rattle.std.specs.Prelude.{◌≡◌, ◌+◌, ◌*◌, ◌^◌, ◌<◌, ◌≤◌, ◌++◌, [], ◌∷◌, All, length, map, take, drop, IfOk, OnOk};
 ghost use Rattle.ds_base.specs.Reading.{Finds, Gives};
+ghost use Rattle.macho_read.specs.Ends.{zeros_from};
 ghost use Rattle.macho_read.specs.Rows.{IsWithin, symbol_of_row};
 ghost use Rattle.macho_read.specs.Symbols.{each, name_in, symbol_of, symbols_in, symbols_of};
 
-use crate::fields::{count_text, u16_at, u32_at, u64_at};
+use crate::ends::{zero_from, zeros_in};
+use crate::fields::{u16_at, u32_at, u64_at};
 use crate::records::Symtab;
 use crate::symbol_list::{Row, Symbols};
 use ds_base::macho::NLIST_64_SIZE;
@@ -57,37 +59,46 @@ fn read_entries(
     requires short { length strings.now < 2 ^ 32 }
     ensures { Gives (λ symbols. symbols) result (each (λ i. symbol_of strings.now i (drop (16 * i) table.now)) count 0) }
 {
-    let rows = read_rows(alloc, table, strings, count)?;
+    let zeros = zeros_in(alloc, strings)?;
+    let rows = read_rows(alloc, table, strings, &zeros, count)?;
     let bytes = Vec::from_slice(alloc, strings)?;
     Ok(Symbols::from_rows(rows, bytes))
 }
 
-/// The rows of so many symbols of a table.
-fn read_rows(alloc: Global, table: &[u8], strings: &[u8], count: u32) -> Result<Vec<Row>, ReadError>
+/// The rows of so many symbols of a table. `zeros` are the places of the strings' zero bytes, so that the end of a
+/// name is found without a walk over it.
+fn read_rows(
+    alloc: Global,
+    table: &[u8],
+    strings: &[u8],
+    zeros: &[u32],
+    count: u32,
+) -> Result<Vec<Row>, ReadError>
     requires all { 16 * count ≤ length table.now }
-    requires short { length strings.now < 2 ^ 32 }
+    requires zeros { zeros.now ≡ zeros_from 0 strings.now }
     ensures read { Gives (λ rows. map (symbol_of_row strings.now) rows.items) result (each (λ i. symbol_of strings.now i (drop (16 * i) table.now)) count 0) }
     ensures within { IfOk result (λ rows. All (IsWithin strings.now) rows.items) }
 {
     let mut rows = Vec::with_capacity(alloc, count as usize)?;
     for i in 0..count {
         let entry = bytes_from(table, NLIST_64_SIZE as usize * i as usize);
-        let row = read_row(entry, strings, i)?;
+        let row = read_row(entry, strings, zeros, i)?;
         rows.push(row)?;
     }
     Ok(rows)
 }
 
-/// The row of the symbol of this index, whose entry the bytes begin with.
+/// The row of the symbol of this index, whose entry the bytes begin with. `zeros` are the places of the strings'
+/// zero bytes.
 #[tactic(auto, unfolding(crate::specs::Symbols::symbol_of))]
-fn read_row(entry: &[u8], strings: &[u8], index: u32) -> Result<Row, Fault>
+fn read_row(entry: &[u8], strings: &[u8], zeros: &[u32], index: u32) -> Result<Row, Fault>
     requires all { 16 ≤ length entry.now }
-    requires short { length strings.now < 2 ^ 32 }
+    requires zeros { zeros.now ≡ zeros_from 0 strings.now }
     ensures read { Finds (λ row. symbol_of_row strings.now row) result (symbol_of strings.now index entry.now) }
     ensures within { IfOk result (IsWithin strings.now) }
 {
     let strx = u32_at(entry, 0);
-    let len = name_len(strings, strx, index)?;
+    let len = name_len(strings, zeros, strx, index)?;
     Ok(Row {
         value: u64_at(entry, 8),
         place: strx as usize,
@@ -98,26 +109,24 @@ fn read_row(entry: &[u8], strings: &[u8], index: u32) -> Result<Row, Fault>
     })
 }
 
-/// How many bytes the name at an offset in the strings has; at 0 it is empty. `index` is the symbol's.
+/// How many bytes the name at an offset in the strings has; at 0 it is empty. `zeros` are the places of the
+/// strings' zero bytes, `index` is the symbol's.
 #[tactic(auto, unfolding(crate::specs::Symbols::name_in))]
-fn name_len(strings: &[u8], strx: u32, index: u32) -> Result<u32, Fault>
-    requires { length strings.now < 2 ^ 32 }
+fn name_len(strings: &[u8], zeros: &[u32], strx: u32, index: u32) -> Result<u32, Fault>
+    requires { zeros.now ≡ zeros_from 0 strings.now }
     ensures read { Finds (λ len. take len (drop strx strings.now)) result (name_in strings.now index strx) }
     ensures within { IfOk result (λ len. strx + len ≤ length strings.now) }
 {
-    let strx = strx as usize;
     if strx == 0 {
         return Ok(0);
     }
-    if strx >= strings.len() {
+    if strx as usize >= strings.len() {
         return Err(bad_symbols(index));
     }
-    let rest = bytes_from(strings, strx);
-    let len = count_text(rest);
-    if len == rest.len() {
-        return Err(bad_symbols(index));
+    match zero_from(zeros, strx) {
+        Some(end) => Ok(end - strx),
+        None => Err(bad_symbols(index)),
     }
-    Ok(len as u32)
 }
 
 /// The fault of the symbol of this index.

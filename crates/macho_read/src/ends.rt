@@ -1,0 +1,43 @@
+//! Where the texts of a string table end.
+
+ghost use Rattle.std.specs.Prelude.{◌≡◌, ◌^◌, ◌<◌, ◌≤◌, length, nat_lt, true, false, IfOk};
+ghost use Rattle.std.specs.List.Sorted.{IsPartitionPoint, IsPartitionedBy};
+ghost use Rattle.macho_read.specs.Ends.{first_from, zeros_from};
+
+use ds_base::NoMemory;
+use std::alloc::Global;
+
+/// The places of the zero bytes, in order.
+pub(crate) fn zeros_in(alloc: Global, strings: &[u8]) -> Result<Vec<u32>, NoMemory>
+    requires { length strings.now < 2 ^ 32 }
+    ensures { IfOk result (λ zeros. zeros.items ≡ zeros_from 0 strings.now) }
+{
+    let mut zeros = Vec::new(alloc);
+    for (i, b) in strings.iter().enumerate() {
+        if *b == 0 {
+            zeros.push(i as u32)?;
+        }
+    }
+    Ok(zeros)
+}
+
+/// The first zero byte that is not before a place, by the places of all of them.
+pub(crate) fn zero_from(zeros: &[u32], place: u32) -> Option<u32>
+    requires { IsPartitionedBy (λ z. nat_lt z place) zeros.now }
+    ensures { result ≡ first_from zeros.now place }
+{
+    let i = count_before(zeros, place);
+    if i == zeros.len() {
+        return None;
+    }
+    Some(zeros[i])
+}
+
+/// How many of the places, which rise, are before another.
+fn count_before(zeros: &[u32], place: u32) -> usize
+    requires { IsPartitionedBy (λ z. nat_lt z place) zeros.now }
+    ensures within { result ≤ length zeros.now }
+    ensures before { IsPartitionPoint (λ z. nat_lt z place ≡ true) (λ z. nat_lt z place ≡ false) zeros.now result }
+{
+    zeros.partition_point(|zero| *zero < place)
+}
