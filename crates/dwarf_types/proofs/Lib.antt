@@ -1,5 +1,6 @@
 pub mod Ancestors
 pub mod Building
+pub mod Gathering
 pub mod Growing
 pub mod Heads
 pub mod Kept

@@ -8,6 +8,7 @@ pub mod Entries
 pub mod Expressions
 pub mod Forms
 pub mod Frames
+pub mod Gathered
 pub mod Layout
 pub mod LineProgram
 pub mod LineTable

@@ -26,8 +26,8 @@ value_read form (raws.Offset n) = values.Offset n
 -- a value as it is understood
 abbrev pub value_put : NewValue → Value
 value_put (news.Address place) = values.Address place
-value_put (news.Expr ops) = values.Expr ops.now
+value_put (news.Expr ops) = values.Expr ops
 value_put (news.Ref k) = values.Ref k
 value_put (news.Ranges spans) = values.Ranges spans.now
-value_put (news.Locations items) = values.Locations items.now
+value_put (news.Locations items) = values.Locations items
 value_put news.Lines = values.Lines

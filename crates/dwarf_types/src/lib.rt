@@ -24,6 +24,7 @@ mod graph;
 mod lines;
 mod lists;
 mod operands;
+mod ops;
 mod parts;
 mod place_table;
 mod put;
@@ -48,6 +49,7 @@ pub use graph::{Graph, Node, OutAttr, OutLocation, OutUnit, OutValue, Target, Wr
 pub use lines::{FileName, OutLines, RawLines, RawRow, RawSequence, Row, Sequence};
 pub use lists::{Location, RawLocation, RawSpan};
 pub use operands::{Named, Operands, operands_after};
+pub use ops::{LocationList, Ops};
 pub use parts::{ExprPart, PlainPart};
 pub use place_table::PlaceTable;
 pub use put::{NewValue, RawValue};

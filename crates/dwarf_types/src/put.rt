@@ -1,8 +1,7 @@
 //! Values that are put into entries: as a reader finds them, and as they are understood.
 
 use crate::address::{Place, Span};
-use crate::expr::Op;
-use crate::lists::Location;
+use crate::seen::{LocationsRef, OpsRef};
 
 /// A value as a reader finds it, by the class of its form.
 #[derive(Clone, Copy)]
@@ -25,18 +24,18 @@ pub enum RawValue<'a> {
 }
 
 /// A value that is understood.
-#[derive(Clone, Copy)]
+#[derive(Drop)]
 pub enum NewValue<'a> {
     /// Class address.
     Address(Place),
     /// Class exprloc: the operations.
-    Expr(&'a [Op]),
+    Expr(OpsRef<'a>),
     /// Class reference: the number of the entry to which it leads.
     Ref(u32),
     /// Class rnglist: the addresses in the linked program.
     Ranges(&'a [Span]),
     /// Class loclist: the locations, item by item.
-    Locations(&'a [Location]),
+    Locations(LocationsRef<'a>),
     /// Class lineptr, at a unit's root: the unit has a line table.
     Lines,
 }

@@ -1,19 +1,20 @@
 //! What a cell holds, and the columns beside the cells.
 
-ghost use Rattle.std.specs.Prelude.{◌≡◌, ◌==◌, ◌+◌, ◌++◌, ◌<◌, ℕ, [], ◌∷◌, All, length, map, Some, IfOk, IfSome, OnOk, OnErr, true};
+ghost use Rattle.std.specs.Prelude.{◌≡◌, ◌==◌, ◌+◌, ◌++◌, ◌<◌, ℕ, [], ◌∷◌, All, length, map, slice_get, Some, IfOk, IfSome, OnOk, OnErr, true};
 ghost use Rattle.std.specs.List.{position};
 ghost use Rattle.std.specs.Option.{option_copied};
 ghost use Rattle.dwarf_types.specs.declared.sides.InnerRow.{InnerRow as AnInner};
 ghost use Rattle.dwarf_types.specs.declared.sides.ItemRow.{ItemRow as AnItem};
 ghost use Rattle.dwarf_types.specs.declared.sides.OpRow.{OpRow as ARow};
-ghost use Rattle.dwarf_types.specs.Cells.{Grows, InColumn, InnerWithin, IsWithin, ItemWithin, OpWithin, held_value, address_at, first_text, inner_of, item_of, op_of, stored_place, stretch_of, text_from};
+ghost use Rattle.dwarf_types.specs.Cells.{Grows, InColumn, InnerWithin, IsAddress, IsWithin, ItemWithin, OpWithin, held_value, address_at, first_text, inner_of, item_of, op_of, stored_place, stretch_of, text_from};
 ghost use Rattle.dwarf_types.specs.Put.{number_form, value_put, value_read};
+ghost use Rattle.dwarf_types.specs.Seen.{inner_seen, location_seen, op_seen};
 ghost use Rattle.dwarf_types.specs.declared.value.Value.TheVariants as values;
 
 use crate::address::{Addr, Place, Span};
-use crate::expr::{Base, Op, PlainOp};
-use crate::lists::Location;
+use crate::expr::Base;
 use crate::put::{NewValue, RawValue};
+use crate::seen::{InnerOpRef, InnerOpsRef, LocationRef, LocationsRef, OpRef, OpsRef};
 use ds_base::NoMemory;
 use memchr::memchr;
 use std::alloc::Global;
@@ -113,7 +114,9 @@ pub(crate) struct Sides {
 
 impl Sides {
     /// Empty columns.
-    pub(crate) fn new(alloc: Global) -> Sides {
+    pub(crate) fn new(alloc: Global) -> Sides
+        ensures { result.inner.items ≡ [] }
+    {
         Sides {
             large: Vec::new(alloc),
             bytes: Vec::new(alloc),
@@ -183,7 +186,7 @@ impl Sides {
                     payload,
                 })
             }
-            NewValue::Expr(ops) => self.store_expr(ops),
+            NewValue::Expr(ops) => self.store_expr(&ops),
             NewValue::Ref(number) => Ok(Held {
                 kind: Kind::Ref,
                 payload: number,
@@ -196,7 +199,7 @@ impl Sides {
                     payload,
                 })
             }
-            NewValue::Locations(items) => self.store_locations(items),
+            NewValue::Locations(items) => self.store_locations(&items),
             NewValue::Lines => Ok(Held {
                 kind: Kind::Lines,
                 payload: 0,
@@ -326,7 +329,7 @@ impl Sides {
     }
 
     /// An expression.
-    fn store_expr(&mut self, ops: &[Op]) -> Result<Held, NoMemory>
+    fn store_expr(&mut self, ops: &OpsRef<'_>) -> Result<Held, NoMemory>
         ensures value { IfOk result (λ h. (form : ℕ) → held_value self.new h.kind form h.payload ≡ values.Expr ops.now) }
         ensures within { IfOk result (λ h. IsWithin self.new h.kind h.payload) }
         ensures grows { Grows self.old self.new }
@@ -340,7 +343,7 @@ impl Sides {
     }
 
     /// A location list.
-    fn store_locations(&mut self, items: &[Location]) -> Result<Held, NoMemory>
+    fn store_locations(&mut self, items: &LocationsRef<'_>) -> Result<Held, NoMemory>
         ensures value { IfOk result (λ h. (form : ℕ) → held_value self.new h.kind form h.payload ≡ values.Locations items.now) }
         ensures within { IfOk result (λ h. IsWithin self.new h.kind h.payload) }
         ensures grows { Grows self.old self.new }
@@ -354,28 +357,27 @@ impl Sides {
     }
 
     /// Operations, each in a row.
-    fn store_ops(&mut self, ops: &[Op]) -> Result<Stretch, NoMemory>
+    pub(crate) fn store_ops(&mut self, ops: &OpsRef<'_>) -> Result<Stretch, NoMemory>
         ensures rows { IfOk result (λ at. InColumn self.new.ops.items at × (map (op_of self.new) (stretch_of self.new.ops.items at) ≡ ops.now) × All (OpWithin self.new) (stretch_of self.new.ops.items at)) }
         ensures grows { Grows self.old self.new }
         ensures others { self.new.items.items ≡ self.old.items.items }
     {
         let from = column_place(self.ops.len())?;
-        for op in ops {
-            self.store_op(op)?;
+        for k in 0..ops.len() {
+            self.store_op(&ops.op(k))?;
         }
         let to = column_place(self.ops.len())?;
         Ok(Stretch { from, to })
     }
 
     /// The row of an operation, behind the others.
-    fn store_op(&mut self, op: &Op) -> Result<(), NoMemory>
-        ensures row { OnOk result ((r : ARow) × (self.new.ops.items ≡ self.old.ops.items ++ r ∷ []) × (op_of self.new r ≡ op.now) × OpWithin self.new r) }
+    fn store_op(&mut self, op: &OpRef<'_>) -> Result<(), NoMemory>
+        ensures row { OnOk result ((r : ARow) × (self.new.ops.items ≡ self.old.ops.items ++ r ∷ []) × (op_of self.new r ≡ op_seen op.now) × OpWithin self.new r) }
         ensures grows { Grows self.old self.new }
         ensures others { self.new.items.items ≡ self.old.items.items }
     {
-        let bytes = append(&mut self.bytes, op.bytes.as_slice())?;
-        let address = self.store_field(op.address)?;
-        let inner = self.store_inner_ops(op.inner.as_slice())?;
+        let (bytes, address) = self.store_parts(op.bytes, op.address)?;
+        let inner = self.store_inner_ops(&op.inner)?;
         self.ops.push(OpRow {
             code: op.code,
             bytes,
@@ -386,10 +388,26 @@ impl Sides {
         Ok(())
     }
 
+    /// What a row of an operation cannot hold: its bytes, and its address if it has one.
+    pub(crate) fn store_parts(
+        &mut self,
+        bytes: &[u8],
+        address: Option<Place>,
+    ) -> Result<(Stretch, Option<u32>), NoMemory>
+        ensures value { IfOk result (λ at. (stretch_of self.new.bytes.items at.0 ≡ bytes.now) × (address_at self.new at.1 ≡ address)) }
+        ensures within { IfOk result (λ at. InColumn self.new.bytes.items at.0 × IsAddress self.new at.1) }
+        ensures grows { Grows self.old self.new }
+        ensures others { (self.new.ops.items ≡ self.old.ops.items) × (self.new.inner.items ≡ self.old.inner.items) × (self.new.items.items ≡ self.old.items.items) }
+    {
+        let bytes = append(&mut self.bytes, bytes)?;
+        let address = self.store_field(address)?;
+        Ok((bytes, address))
+    }
+
     /// An address of an operation, if it has one.
-    fn store_field(&mut self, address: Option<Place>) -> Result<Option<u32>, NoMemory>
+    pub(crate) fn store_field(&mut self, address: Option<Place>) -> Result<Option<u32>, NoMemory>
         ensures value { IfOk result (λ at. address_at self.new at ≡ address) }
-        ensures within { IfOk result (λ at. IfSome at (λ i. i < length self.new.places.items)) }
+        ensures within { IfOk result (λ at. IsAddress self.new at) }
         ensures grows { Grows self.old self.new }
         ensures others { (self.new.bytes.items ≡ self.old.bytes.items) × (self.new.ops.items ≡ self.old.ops.items) × (self.new.inner.items ≡ self.old.inner.items) × (self.new.items.items ≡ self.old.items.items) }
     {
@@ -400,27 +418,27 @@ impl Sides {
     }
 
     /// Operations inside an operation, each in a row.
-    fn store_inner_ops(&mut self, ops: &[PlainOp]) -> Result<Stretch, NoMemory>
+    fn store_inner_ops(&mut self, ops: &InnerOpsRef<'_>) -> Result<Stretch, NoMemory>
         ensures rows { IfOk result (λ at. InColumn self.new.inner.items at × (map (inner_of self.new) (stretch_of self.new.inner.items at) ≡ ops.now) × All (InnerWithin self.new) (stretch_of self.new.inner.items at)) }
         ensures grows { Grows self.old self.new }
         ensures others { (self.new.ops.items ≡ self.old.ops.items) × (self.new.items.items ≡ self.old.items.items) }
     {
         let from = column_place(self.inner.len())?;
-        for op in ops {
-            self.store_inner(op)?;
+        for k in 0..ops.len() {
+            self.store_inner(&ops.op(k))?;
         }
         let to = column_place(self.inner.len())?;
         Ok(Stretch { from, to })
     }
 
     /// The row of an operation inside another, behind the others.
-    fn store_inner(&mut self, op: &PlainOp) -> Result<(), NoMemory>
-        ensures row { OnOk result ((r : AnInner) × (self.new.inner.items ≡ self.old.inner.items ++ r ∷ []) × (inner_of self.new r ≡ op.now) × InnerWithin self.new r) }
+    pub(crate) fn store_inner(&mut self, op: &InnerOpRef<'_>) -> Result<(), NoMemory>
+        ensures row { OnOk result ((r : AnInner) × (self.new.inner.items ≡ self.old.inner.items ++ r ∷ []) × (inner_of self.new r ≡ inner_seen op.now) × InnerWithin self.new r) }
         ensures grows { Grows self.old self.new }
         ensures others { (self.new.ops.items ≡ self.old.ops.items) × (self.new.items.items ≡ self.old.items.items) }
+        ensures unchanged { OnErr result (self.new.inner.items ≡ self.old.inner.items) }
     {
-        let bytes = append(&mut self.bytes, op.bytes.as_slice())?;
-        let address = self.store_field(op.address)?;
+        let (bytes, address) = self.store_parts(op.bytes, op.address)?;
         self.inner.push(InnerRow {
             code: op.code,
             bytes,
@@ -430,25 +448,58 @@ impl Sides {
         Ok(())
     }
 
+    /// The row of an operation inside another again, behind the others and with another meaning of its operand.
+    pub(crate) fn repeat_inner(
+        &mut self,
+        at: usize,
+        address: Option<Place>,
+        base: Option<Base>,
+    ) -> Result<(), NoMemory>
+        requires { (r : AnInner) × (slice_get self.old.inner.items at ≡ Some r) × InnerWithin self.old r }
+        ensures row { (old : AnInner) → slice_get self.old.inner.items at ≡ Some old
+            → OnOk result ((r : AnInner) × (self.new.inner.items ≡ self.old.inner.items ++ r ∷ []) × (inner_of self.new r ≡ record (inner_of self.old old) { address = address; base = base }) × InnerWithin self.new r) }
+        ensures grows { Grows self.old self.new }
+        ensures unchanged { OnErr result (self.new.inner.items ≡ self.old.inner.items) }
+    {
+        let row = self.inner[at];
+        let address = self.store_field(address)?;
+        self.inner.push(InnerRow {
+            code: row.code,
+            bytes: row.bytes,
+            address,
+            base,
+        })?;
+        Ok(())
+    }
+
+    /// Takes all out of the columns by which operations are put together. Their memory is kept.
+    pub(crate) fn clear_ops(&mut self)
+        ensures { self.new.inner.items ≡ [] }
+    {
+        self.bytes.clear();
+        self.places.clear();
+        self.inner.clear();
+    }
+
     /// Items of a location list, each in a row.
-    fn store_items(&mut self, items: &[Location]) -> Result<Stretch, NoMemory>
+    fn store_items(&mut self, items: &LocationsRef<'_>) -> Result<Stretch, NoMemory>
         ensures rows { IfOk result (λ at. InColumn self.new.items.items at × (map (item_of self.new) (stretch_of self.new.items.items at) ≡ items.now) × All (ItemWithin self.new) (stretch_of self.new.items.items at)) }
         ensures grows { Grows self.old self.new }
     {
         let from = column_place(self.items.len())?;
-        for item in items {
-            self.store_item(item)?;
+        for k in 0..items.len() {
+            self.store_item(&items.item(k))?;
         }
         let to = column_place(self.items.len())?;
         Ok(Stretch { from, to })
     }
 
     /// The row of an item of a location list, behind the others.
-    fn store_item(&mut self, item: &Location) -> Result<(), NoMemory>
-        ensures row { OnOk result ((r : AnItem) × (self.new.items.items ≡ self.old.items.items ++ r ∷ []) × (item_of self.new r ≡ item.now) × ItemWithin self.new r) }
+    fn store_item(&mut self, item: &LocationRef<'_>) -> Result<(), NoMemory>
+        ensures row { OnOk result ((r : AnItem) × (self.new.items.items ≡ self.old.items.items ++ r ∷ []) × (item_of self.new r ≡ location_seen item.now) × ItemWithin self.new r) }
         ensures grows { Grows self.old self.new }
     {
-        let ops = self.store_ops(item.ops.as_slice())?;
+        let ops = self.store_ops(&item.ops)?;
         self.items.push(ItemRow {
             span: item.span,
             ops,
@@ -520,7 +571,7 @@ fn append<T: Copy>(column: &mut Vec<T>, items: &[T]) -> Result<Stretch, NoMemory
 }
 
 /// A place of a column.
-fn column_place(place: usize) -> Result<u32, NoMemory>
+pub(crate) fn column_place(place: usize) -> Result<u32, NoMemory>
     ensures { IfOk result (λ n. n ≡ place) }
 {
     u32::try_from(place).map_err(|_| NoMemory)

@@ -1,30 +1,31 @@
 use Rattle.std.proofs.Common.{◌≡◌, ◌<◌, length, arith, refl, take, ◌∙◌}
 use Rattle.std.proofs.lemmas.List.{take_all, take_more}
 use Rattle.dwarf_types.specs.Cells.{inner_of, InnerWithin}
+use Rattle.dwarf_types.specs.Seen.{inner_seen}
 use Rattle.dwarf_types.proofs.Growing.{inner_column, grows_on, rows_more, rows_none, rows_stretch}
 use Rattle.dwarf_types.proofs.Kept.{inners_kept, inners_within}
 use Rattle.dwarf_types.proofs.sides.Sides.store_inner_ops.Goals as goal
 
-pub loop-op-init : goal.loop-op-init
-loop-op-init c = (rows_none inner_column inner_of InnerWithin c.args.self.now, (refl, refl))
+pub loop-k-init : goal.loop-k-init
+loop-k-init c = (rows_none inner_column inner_of InnerWithin c.args.self.now, (refl, refl))
 
 pub returns-in_err-store_inner-clause-grows : goal.returns-in_err-store_inner-clause-grows
-returns-in_err-store_inner-clause-grows c = grows_on _ _ _ c.loop-op.invariant.0.grows c.store_inner.ensures.grows
+returns-in_err-store_inner-clause-grows c = grows_on _ _ _ c.loop-k.invariant.0.grows c.store_inner.ensures.grows
 
 pub returns-in_err-store_inner-clause-others : goal.returns-in_err-store_inner-clause-others
-returns-in_err-store_inner-clause-others c = (c.store_inner.ensures.others.0 ∙ c.loop-op.invariant.1.0, c.store_inner.ensures.others.1 ∙ c.loop-op.invariant.1.1)
+returns-in_err-store_inner-clause-others c = (c.store_inner.ensures.others.0 ∙ c.loop-k.invariant.1.0, c.store_inner.ensures.others.1 ∙ c.loop-k.invariant.1.1)
 
-pub loop-op-preserved : goal.loop-op-preserved
-loop-op-preserved c =
-    let lt : c.loop-op.op-index < length c.args.ops.now = omega arith in
+pub loop-k-preserved : goal.loop-k-preserved
+loop-k-preserved c =
+    let lt : c.loop-k.k < length c.args.ops.now = omega arith in
     let row = c.in_ok-store_inner.ensures.row in
-    let more = rows_more inner_column inner_of InnerWithin inners_kept inners_within c.args.self.now c.loop-op.self c.store_inner.new.self (take c.loop-op.op-index c.args.ops.now) c.op-item.result row.0 c.loop-op.invariant.0 c.store_inner.ensures.grows row.1 row.2 row.3 in
-    (rw (take_more c.args.ops.now c.loop-op.op-index c.op-item.result lt, ← c.op-item.is) more, (c.store_inner.ensures.others.0 ∙ c.loop-op.invariant.1.0, c.store_inner.ensures.others.1 ∙ c.loop-op.invariant.1.1))
+    let more = rows_more inner_column inner_of InnerWithin inners_kept inners_within c.args.self.now c.loop-k.self c.store_inner.new.self (take c.loop-k.k c.args.ops.now) (inner_seen c.op.result) row.0 c.loop-k.invariant.0 c.store_inner.ensures.grows row.1 row.2 row.3 in
+    (rw (take_more c.args.ops.now c.loop-k.k (inner_seen c.op.result) lt, ← c.op.ensures) more, (c.store_inner.ensures.others.0 ∙ c.loop-k.invariant.1.0, c.store_inner.ensures.others.1 ∙ c.loop-k.invariant.1.1))
 
 pub returns-clause-rows : goal.returns-clause-rows
 returns-clause-rows c =
     let from : c.in_ok-from.from ≡ length c.args.self.now.inner.items = omega (arith, c.in_ok-from.ensures) in
-    let to : c.in_ok-to.to ≡ length c.loop-op.self.inner.items = omega (arith, c.in_ok-to.ensures) in
-    let whole : take c.loop-op.op-index c.args.ops.now ≡ c.args.ops.now = take_all c.loop-op.op-index c.args.ops.now (omega arith) in
-    let all = rows_stretch inner_column inner_of InnerWithin c.args.self.now c.loop-op.self (take c.loop-op.op-index c.args.ops.now) (record { from = c.in_ok-from.from; to = c.in_ok-to.to }) c.loop-op.invariant.0 from to in
+    let to : c.in_ok-to.to ≡ length c.loop-k.self.inner.items = omega (arith, c.in_ok-to.ensures) in
+    let whole : take c.loop-k.k c.args.ops.now ≡ c.args.ops.now = take_all c.loop-k.k c.args.ops.now (omega arith) in
+    let all = rows_stretch inner_column inner_of InnerWithin c.args.self.now c.loop-k.self (take c.loop-k.k c.args.ops.now) (record { from = c.in_ok-from.from; to = c.in_ok-to.to }) c.loop-k.invariant.0 from to in
     (all.0, all.1 ∙ whole, all.2)

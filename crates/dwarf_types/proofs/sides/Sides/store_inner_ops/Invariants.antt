@@ -3,5 +3,5 @@ use Rattle.dwarf_types.specs.Cells.{inner_of, InnerWithin}
 use Rattle.dwarf_types.proofs.Growing.{Rows, inner_column}
 use Rattle.dwarf_types.proofs.sides.Sides.store_inner_ops.Given as goal
 
-abbrev pub invariant-loop-op : goal.invariant-loop-op
-invariant-loop-op l = Rows inner_column inner_of InnerWithin l.fn.self l.self (take l.op-index l.ops) × ((l.self.ops.items ≡ l.fn.self.ops.items) × (l.self.items.items ≡ l.fn.self.items.items))
+abbrev pub invariant-loop-k : goal.invariant-loop-k
+invariant-loop-k l = Rows inner_column inner_of InnerWithin l.fn.self l.self (take l.k l.ops) × ((l.self.ops.items ≡ l.fn.self.ops.items) × (l.self.items.items ≡ l.fn.self.items.items))

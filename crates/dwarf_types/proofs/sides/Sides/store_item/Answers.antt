@@ -9,4 +9,4 @@ returns-clause-row c =
     let row : ItemRow = record { span = c.args.item.now.span; ops = c.in_ok-ops.ops } in
     let rows = c.in_ok-ops.ensures.rows in
     let with_ops : List Op → Location = λ ops. record { span = c.args.item.now.span; ops = ops } in
-    (row, c.in_ok-push.ensures.items ∙ ap (λ (rows : List ItemRow). rows ++ row ∷ []) c.store_ops.ensures.others, ap with_ops (rows.1 ∙ c.as_slice.ensures), (rows.0, rows.2))
+    (row, c.in_ok-push.ensures.items ∙ ap (λ (rows : List ItemRow). rows ++ row ∷ []) c.store_ops.ensures.others, ap with_ops rows.1, (rows.0, rows.2))

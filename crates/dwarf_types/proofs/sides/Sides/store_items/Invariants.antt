@@ -3,5 +3,5 @@ use Rattle.dwarf_types.specs.Cells.{item_of, ItemWithin}
 use Rattle.dwarf_types.proofs.Growing.{Rows, item_column}
 use Rattle.dwarf_types.proofs.sides.Sides.store_items.Given as goal
 
-abbrev pub invariant-loop-item : goal.invariant-loop-item
-invariant-loop-item l = Rows item_column item_of ItemWithin l.fn.self l.self (take l.item-index l.items)
+abbrev pub invariant-loop-k : goal.invariant-loop-k
+invariant-loop-k l = Rows item_column item_of ItemWithin l.fn.self l.self (take l.k l.items)
