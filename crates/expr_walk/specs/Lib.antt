@@ -1,3 +1,4 @@
 pub mod Reading
 pub mod Length
 pub mod Spelling
+pub mod Steps

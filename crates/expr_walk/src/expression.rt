@@ -1,17 +1,17 @@
 //! All operations of an expression.
 
-ghost use Rattle.std.specs.Prelude.{◌≡◌, ◌+◌, ◌-◌, ◌*◌, ◌^◌, ◌≤◌, length, IfOk};
+ghost use Rattle.std.specs.Prelude.{◌≡◌, ◌+◌, ◌-◌, ◌*◌, ◌^◌, ◌≤◌, [], length, OnOk};
 ghost use Rattle.std.specs.List.{flat_map};
 ghost use Rattle.ds_base.specs.Reading.{Gives};
 ghost use Rattle.expr_walk.specs.Length.{ops_len};
 ghost use Rattle.expr_walk.specs.Reading.{plain_at, op_at, expression_of, inner_of, walk_of, error_from, is_placed_below};
 
 use crate::op::{read_op, read_plain_op};
-use ds_base::{Cursor, Fault, List, Part, ReadError};
-use dwarf_types::{Op, PlainOp};
-use std::alloc::Global;
+use ds_base::{Cursor, Fault, Part, ReadError};
+use dwarf_types::Ops;
 
-/// The operations of an expression (DWARF 4, section 7.7.1), one after the other up to its end.
+/// Reads the operations of an expression (DWARF 4, section 7.7.1), one after the other up to its end, in place of those
+/// that are in `ops`.
 ///
 /// `first` is the place of the expression's first byte in the part, in bytes from the part's start,
 /// and faults are placed from there too. An operation holds all its bytes, those of the expression
@@ -19,35 +19,42 @@ use std::alloc::Global;
 /// has gone nowhere yet. A base type is told by its place in the unit; a number past 32 bits is told
 /// as 2^32 - 1, where no entry can stand.
 #[tactic(auto, unfolding(crate::specs::Reading::walk_of))]
-pub fn walk(alloc: Global, bytes: &[u8], part: Part, first: u64) -> Result<List<Op>, ReadError>
+pub fn walk(bytes: &[u8], part: Part, first: u64, ops: &mut Ops) -> Result<(), ReadError>
     requires { first + length bytes.now ≤ 2 ^ 64 - 1 }
-    ensures exact { Gives (λ ops. ops) result (walk_of bytes.now part first) }
+    ensures exact { Gives (λ _. ops.new.ops) result (walk_of bytes.now part first) }
+
+    // None waits to stand inside the next one.
+    ensures none { OnOk result (ops.new.inner ≡ []) }
 
     // No byte is left out, and none is told twice.
-    ensures whole { IfOk result (λ ops. flat_map (λ op. op.bytes) ops ≡ bytes.now) }
+    ensures whole { OnOk result (flat_map (λ op. op.bytes) ops.new.ops ≡ bytes.now) }
 
     // The length in the output has a bound, so that `new_length` may be called.
-    ensures short { IfOk result (λ ops. ops_len ops ≤ 16 * length bytes.now) }
+    ensures short { OnOk result (ops_len ops.new.ops ≤ 16 * length bytes.now) }
 {
-    match read_ops(alloc, bytes, part) {
-        Ok(ops) => Ok(ops),
+    ops.clear();
+    match read_ops(bytes, part, ops) {
+        Ok(()) => Ok(()),
         Err(error) => Err(placed_from(first, error)),
     }
 }
 
-/// The operations of the expression inside an entry value. `first` is the place of its first byte.
+/// Reads the operations of the expression inside an entry value, which will stand inside the next operation. `first` is
+/// the place of its first byte.
 #[tactic(auto, unfolding(crate::specs::Reading::inner_of))]
 pub(crate) fn read_inner(
-    alloc: Global,
     bytes: &[u8],
     part: Part,
     first: u64,
-) -> Result<List<PlainOp>, ReadError>
-    requires { first + length bytes.now ≤ 2 ^ 64 - 1 }
-    ensures { Gives (λ ops. ops) result (inner_of bytes.now part first) }
+    ops: &mut Ops,
+) -> Result<(), ReadError>
+    requires none { ops.old.inner ≡ [] }
+    requires place { first + length bytes.now ≤ 2 ^ 64 - 1 }
+    ensures inner { Gives (λ _. ops.new.inner) result (inner_of bytes.now part first) }
+    ensures others { OnOk result (ops.new.ops ≡ ops.old.ops) }
 {
-    match read_plain_ops(alloc, bytes, part) {
-        Ok(ops) => Ok(ops),
+    match read_plain_ops(bytes, part, ops) {
+        Ok(()) => Ok(()),
         Err(error) => Err(placed_from(first, error)),
     }
 }
@@ -67,32 +74,36 @@ fn placed_from(first: u64, error: ReadError) -> ReadError
     }
 }
 
-/// The operations of an outermost expression. Places of faults are counted from its first byte.
-fn read_ops(alloc: Global, bytes: &[u8], part: Part) -> Result<List<Op>, ReadError>
-    ensures { Gives (λ ops. ops) result (expression_of (op_at part) part bytes.now) }
+/// Reads the operations of an outermost expression. Places of faults are counted from its first byte.
+fn read_ops(bytes: &[u8], part: Part, ops: &mut Ops) -> Result<(), ReadError>
+    requires { ops.old ≡ record { ops = []; inner = [] } }
+    ensures ops { Gives (λ _. ops.new.ops) result (expression_of (op_at part) part bytes.now) }
+    ensures none { OnOk result (ops.new.inner ≡ []) }
 {
     let mut cursor = Cursor::new(bytes, part, 0, bytes.len() as u64);
-    let mut ops = List::with_capacity(alloc, 1)?;
     for _ in 0..bytes.len() {
         if cursor.left() == 0 {
-            return Ok(ops);
+            return Ok(());
         }
-        ops.push(read_op(alloc, &mut cursor, part)?)?;
+        read_op(&mut cursor, part, ops)?;
     }
-    Ok(ops)
+    Ok(())
 }
 
-/// The operations of an expression inside an entry value. Places of faults are counted from its first byte.
-fn read_plain_ops(alloc: Global, bytes: &[u8], part: Part) -> Result<List<PlainOp>, ReadError>
-    ensures { Gives (λ ops. ops) result (expression_of plain_at part bytes.now) }
+/// Reads the operations of an expression inside an entry value, which will stand inside the next operation. Places of
+/// faults are counted from its first byte.
+fn read_plain_ops(bytes: &[u8], part: Part, ops: &mut Ops) -> Result<(), ReadError>
+    requires { ops.old.inner ≡ [] }
+    ensures inner { Gives (λ _. ops.new.inner) result (expression_of plain_at part bytes.now) }
+    ensures others { OnOk result (ops.new.ops ≡ ops.old.ops) }
 {
     let mut cursor = Cursor::new(bytes, part, 0, bytes.len() as u64);
-    let mut ops = List::with_capacity(alloc, 1)?;
     for _ in 0..bytes.len() {
         if cursor.left() == 0 {
-            return Ok(ops);
+            return Ok(());
         }
-        ops.push(read_plain_op(alloc, &mut cursor)?)?;
+        let op = read_plain_op(&mut cursor)?;
+        ops.push_inner(&op)?;
     }
-    Ok(ops)
+    Ok(())
 }

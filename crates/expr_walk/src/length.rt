@@ -2,57 +2,58 @@
 
 ghost use Rattle.std.specs.Prelude.{◌≡◌, ◌<◌, ◌≤◌, ◌^◌, length, drop};
 ghost use Rattle.dwarf_types.specs.Operations.{operands_of};
+ghost use Rattle.dwarf_types.specs.Seen.{op_seen};
 ghost use Rattle.expr_walk.specs.Length.{front_leb_len, respelled_len, plain_len, inner_len, op_len, ops_len};
 
-use ds_base::{List, bytes_from, uleb_len};
-use dwarf_types::{Op, Operands, PlainOp, operands_after};
+use ds_base::{bytes_from, uleb_len};
+use dwarf_types::{InnerOpRef, InnerOpsRef, OpRef, Operands, OpsRef, operands_after};
 
 /// The length of an expression in the output, in bytes.
 ///
 /// There each base type is spelled in four bytes, whatever they were before, and the length of the
 /// expression inside an entry value in as few as it takes. All else keeps its length, addresses too.
-pub fn new_length(ops: &List<Op>) -> u64
+pub fn new_length(ops: &OpsRef<'_>) -> u64
     requires { ops_len ops.now < 2 ^ 64 }
     ensures { result ≡ ops_len ops.now }
 {
     let mut len: u64 = 0;
-    for op in ops.as_slice() {
-        len += new_op_length(op);
+    for k in 0..ops.len() {
+        len += new_op_length(&ops.op(k));
     }
     len
 }
 
 /// The length of an operation in the output, in bytes.
-pub fn new_op_length(op: &Op) -> u64
-    requires { op_len (operands_of op.now.code) op.now < 2 ^ 64 }
-    ensures { result ≡ op_len (operands_of op.now.code) op.now }
+pub fn new_op_length(op: &OpRef<'_>) -> u64
+    requires { op_len (operands_of op.now.code) (op_seen op.now) < 2 ^ 64 }
+    ensures { result ≡ op_len (operands_of op.now.code) (op_seen op.now) }
 {
     match operands_after(op.code) {
         Some(Operands::Expression) => {
-            let inner = inner_length(op.inner.as_slice());
+            let inner = inner_length(&op.inner);
             1 + uleb_len(inner) + inner
         }
-        other => plain_length(other, op.bytes.as_slice()),
+        other => plain_length(other, op.bytes),
     }
 }
 
 /// The length of the expression inside an entry value.
-fn inner_length(ops: &[PlainOp]) -> u64
+fn inner_length(ops: &InnerOpsRef<'_>) -> u64
     requires { inner_len ops.now < 2 ^ 64 }
     ensures { result ≡ inner_len ops.now }
 {
     let mut len: u64 = 0;
-    for op in ops {
-        len += new_plain_length(op);
+    for k in 0..ops.len() {
+        len += new_plain_length(&ops.op(k));
     }
     len
 }
 
 /// The length in the output of an operation that stands inside an entry value, in bytes.
-pub fn new_plain_length(op: &PlainOp) -> u64
-    ensures { result ≡ plain_len (operands_of op.now.code) op.now.bytes }
+pub fn new_plain_length(op: &InnerOpRef<'_>) -> u64
+    ensures { result ≡ plain_len (operands_of op.now.code) op.now.bytes.now }
 {
-    plain_length(operands_after(op.code), op.bytes.as_slice())
+    plain_length(operands_after(op.code), op.bytes)
 }
 
 /// The length of an operation that is no entry value, by its operands.

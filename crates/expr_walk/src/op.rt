@@ -1,92 +1,84 @@
 //! One operation of an expression.
 
-ghost use Rattle.std.specs.Prelude.{◌≡◌};
-ghost use Rattle.ds_base.specs.Reading.{Gives, Reads, ReadsUnlessFull};
-ghost use Rattle.expr_walk.specs.Reading.{bytes_up_to, block_at, base_block_at, operands_at, address_in, base_of, base_in, code_at, plain_from, plain_at, alone, entry_value_from, op_from, op_at};
+ghost use Rattle.std.specs.Prelude.{◌≡◌, []};
+ghost use Rattle.ds_base.specs.Reading.{Finds, Reads, ReadsUnlessFull};
+ghost use Rattle.dwarf_types.specs.Seen.{inner_seen};
+ghost use Rattle.expr_walk.specs.Reading.{bytes_up_to, block_at, base_block_at, operands_at, address_in, base_of, base_in, code_at, plain_from, plain_at, entry_value_from, op_from, op_at};
+ghost use Rattle.expr_walk.specs.Steps.{behind};
 
 use crate::expression::read_inner;
-use ds_base::{Bytes, Cursor, Fault, Kind, List, Part, ReadError};
-use dwarf_types::{Addr, Base, Named, Op, Operands, Place, PlainOp, operands_after};
-use std::alloc::Global;
+use ds_base::{Cursor, Fault, Kind, Part, ReadError};
+use dwarf_types::{Addr, Base, InnerOpRef, Named, Operands, Ops, Place, operands_after};
 
-/// The next operation of an outermost expression.
+/// Reads the next operation of an outermost expression, and puts it behind the others.
 #[tactic(auto, unfolding(crate::specs::Reading::op_at))]
-pub(crate) fn read_op(alloc: Global, cursor: &mut Cursor, part: Part) -> Result<Op, ReadError>
-    ensures { ReadsUnlessFull (λ op. op) result cursor.new (op_at part cursor.old) }
+pub(crate) fn read_op(cursor: &mut Cursor, part: Part, ops: &mut Ops) -> Result<(), ReadError>
+    requires { ops.old.inner ≡ [] }
+    ensures { ReadsUnlessFull (λ _. ops.new) result cursor.new (behind ops.old.ops (op_at part cursor.old)) }
 {
     let first = cursor.fork();
     let (code, operands) = read_code(cursor)?;
-    read_op_behind(alloc, cursor, part, &first, code, operands)
+    read_op_behind(cursor, part, &first, code, operands, ops)
 }
 
-/// The operation that begins at `first`, behind its code.
+/// Reads the operation that begins at `first`, behind its code.
 #[tactic(auto, unfolding(crate::specs::Reading::op_from))]
-fn read_op_behind(
-    alloc: Global,
-    cursor: &mut Cursor,
+fn read_op_behind<'a>(
+    cursor: &mut Cursor<'a>,
     part: Part,
-    first: &Cursor,
+    first: &Cursor<'a>,
     code: u8,
     operands: Operands,
-) -> Result<Op, ReadError>
-    ensures { ReadsUnlessFull (λ op. op) result cursor.new (op_from part first.now code operands cursor.old) }
+    ops: &mut Ops,
+) -> Result<(), ReadError>
+    requires { ops.old.inner ≡ [] }
+    ensures { ReadsUnlessFull (λ _. ops.new) result cursor.new (behind ops.old.ops (op_from part first.now code operands cursor.old)) }
 {
     match operands {
-        Operands::Expression => read_entry_value(alloc, cursor, part, first, code),
+        Operands::Expression => read_entry_value(cursor, part, first, code, ops),
         other => {
-            let plain = read_plain_behind(alloc, cursor, first, code, other)?;
-            Ok(with_none_inside(alloc, plain))
+            let op = read_plain_behind(cursor, first, code, other)?;
+            ops.push(&op)?;
+            Ok(())
         }
     }
 }
 
-/// The entry value that begins at `first`, behind its code (DWARF 5, section 2.5.1.7).
+/// Reads the entry value that begins at `first`, behind its code (DWARF 5, section 2.5.1.7).
 #[tactic(auto, unfolding(crate::specs::Reading::entry_value_from))]
-fn read_entry_value(
-    alloc: Global,
-    cursor: &mut Cursor,
+fn read_entry_value<'a>(
+    cursor: &mut Cursor<'a>,
     part: Part,
-    first: &Cursor,
+    first: &Cursor<'a>,
     code: u8,
-) -> Result<Op, ReadError>
-    ensures { ReadsUnlessFull (λ op. op) result cursor.new (entry_value_from part first.now code cursor.old) }
+    ops: &mut Ops,
+) -> Result<(), ReadError>
+    requires { ops.old.inner ≡ [] }
+    ensures { ReadsUnlessFull (λ _. ops.new) result cursor.new (behind ops.old.ops (entry_value_from part first.now code cursor.old)) }
 {
     let len = cursor.uleb()?;
     let place = cursor.place();
     let inside = cursor.skip(len)?;
     let end = cursor.place();
-    let inner = read_inner(alloc, inside, part, place)?;
-    let bytes = read_up_to(alloc, end, first)?;
-    Ok(Op {
+    read_inner(inside, part, place, ops)?;
+    let bytes = read_up_to(end, first)?;
+    ops.push(&InnerOpRef {
         code,
         bytes,
         address: None,
         base: None,
-        inner,
-    })
-}
-
-/// The operation, with no expression inside.
-fn with_none_inside(alloc: Global, plain: PlainOp) -> Op
-    ensures { result ≡ alone plain }
-{
-    Op {
-        code: plain.code,
-        bytes: plain.bytes,
-        address: plain.address,
-        base: plain.base,
-        inner: List::new(alloc),
-    }
+    })?;
+    Ok(())
 }
 
 /// The next operation of an expression inside an entry value.
 #[tactic(auto, unfolding(crate::specs::Reading::plain_at))]
-pub(crate) fn read_plain_op(alloc: Global, cursor: &mut Cursor) -> Result<PlainOp, ReadError>
-    ensures { ReadsUnlessFull (λ op. op) result cursor.new (plain_at cursor.old) }
+pub(crate) fn read_plain_op<'a>(cursor: &mut Cursor<'a>) -> Result<InnerOpRef<'a>, Fault>
+    ensures { Reads inner_seen result cursor.new (plain_at cursor.old) }
 {
     let first = cursor.fork();
     let (code, operands) = read_code(cursor)?;
-    read_plain_behind(alloc, cursor, &first, code, operands)
+    read_plain_behind(cursor, &first, code, operands)
 }
 
 /// The next operation's code and what stands behind it.
@@ -104,18 +96,17 @@ fn read_code(cursor: &mut Cursor) -> Result<(u8, Operands), Fault>
 
 /// The operation that begins at `first`, behind its code, where it is no entry value.
 #[tactic(auto, unfolding(crate::specs::Reading::plain_from))]
-fn read_plain_behind(
-    alloc: Global,
-    cursor: &mut Cursor,
-    first: &Cursor,
+fn read_plain_behind<'a>(
+    cursor: &mut Cursor<'a>,
+    first: &Cursor<'a>,
     code: u8,
     operands: Operands,
-) -> Result<PlainOp, ReadError>
-    ensures { ReadsUnlessFull (λ op. op) result cursor.new (plain_from first.now code operands cursor.old) }
+) -> Result<InnerOpRef<'a>, Fault>
+    ensures { Reads inner_seen result cursor.new (plain_from first.now code operands cursor.old) }
 {
     let named = read_operands(cursor, operands, first)?;
-    let bytes = read_up_to(alloc, cursor.place(), first)?;
-    Ok(PlainOp {
+    let bytes = read_up_to(cursor.place(), first)?;
+    Ok(InnerOpRef {
         code,
         bytes,
         address: address_named(named),
@@ -123,14 +114,13 @@ fn read_plain_behind(
     })
 }
 
-/// A copy of the bytes up to a place.
+/// The bytes up to a place.
 #[tactic(auto, unfolding(crate::specs::Reading::bytes_up_to))]
-fn read_up_to(alloc: Global, end: u64, first: &Cursor) -> Result<Bytes, ReadError>
-    ensures { Gives (λ bytes. bytes) result (bytes_up_to end first.now) }
+fn read_up_to<'a>(end: u64, first: &Cursor<'a>) -> Result<&'a [u8], Fault>
+    ensures { Finds (λ bytes. bytes.now) result (bytes_up_to end first.now) }
 {
     let mut from = first.fork();
-    let bytes = from.skip(end.saturating_sub(first.place()))?;
-    Ok(Bytes::from_slice(alloc, bytes)?)
+    from.skip(end.saturating_sub(first.place()))
 }
 
 /// The operands of the operation that begins at `first`, and what they name.

@@ -6,4 +6,5 @@ use Rattle.expr_walk.proofs.expression.read_plain_ops.Goals as goal
 
 pub loop-preserved : goal.loop-preserved
 loop-preserved c =
-    rw c.in_ok-push.ensures.ok (one_more plain_at (length c.args.bytes.now) c.loop.counter c.loop.ops c.loop.cursor _ _ _ (omega arith) (rw (← c.left.ensures) (ne_eqb _ _ c.if-left-eq0.false)) c.in_ok-read_plain_op.ensures c.loop.invariant)
+    let so_far = one_more plain_at (length c.args.bytes.now) c.loop.counter c.loop.ops.inner c.loop.cursor _ _ _ (omega arith) (rw (← c.left.ensures) (ne_eqb _ _ c.if-left-eq0.false)) c.in_ok-op.ensures c.loop.invariant.0 in
+    rw c.in_ok-push_inner.ensures.ok (so_far, c.loop.invariant.1)
