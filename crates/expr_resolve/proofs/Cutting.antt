@@ -1,6 +1,6 @@
 -- What the operations keep to that an expression is cut into: they hold their operands, and those inside.
 use Rattle.std.proofs.Common.{◌≡◌, ℕ, ◌≤◌, ◌∙◌, ◌||◌, Bool, true, false, List, [], ◌∷◌, length, Some, Result, Ok, Err, refl, sym, ap, subst, arith, inl, inr}
-use Rattle.std.specs.Prelude.{◌==◌, ◌⊎◌, IfOk}
+use Rattle.std.specs.Prelude.{◌==◌, ◌⊎◌, OnOk}
 use Rattle.std.specs.List.{All, flat_map, sum_by}
 use Rattle.std.proofs.lemmas.Bool.{eqb-true}
 use Rattle.std.proofs.lemmas.List.{length-append}
@@ -91,10 +91,10 @@ ops_cut bytes part first ops sound e = let w = expression_spelled bytes part fir
 
 -- ---- what a call gave
 
-pub given_cut : (bytes : List ℕ) (part : Part) (first : ℕ) (r : Result (List Op) ReadError) → AreBytes bytes → Gives (λ (ops : List Op). ops) r (walk_of bytes part first) → IfOk r (All IsCut)
-given_cut bytes part first (Ok ops) sound e = ops_cut bytes part first ops sound e
-given_cut bytes part first (Err error) sound e = tt
+pub given_cut : (bytes : List ℕ) (part : Part) (first : ℕ) (r : Result (Unit {0}) ReadError) (ops : List Op) → AreBytes bytes → Gives (λ (_ : Unit {0}). ops) r (walk_of bytes part first) → OnOk r (All IsCut ops)
+given_cut bytes part first (Ok done) ops sound e = ops_cut bytes part first ops sound e
+given_cut bytes part first (Err error) ops sound e = tt
 
-pub given_size : (bytes : List ℕ) (r : Result (List Op) ReadError) → IfOk r (λ ops. flat_map (λ op. op.bytes) ops ≡ bytes) → IfOk r (λ ops. sum_by op_size ops ≡ length bytes)
-given_size bytes (Ok ops) whole = sym (length-flat_map (λ (op : Op). op.bytes) ops) ∙ ap length whole
-given_size bytes (Err error) whole = tt
+pub given_size : (bytes : List ℕ) (r : Result (Unit {0}) ReadError) (ops : List Op) → OnOk r (flat_map (λ op. op.bytes) ops ≡ bytes) → OnOk r (sum_by op_size ops ≡ length bytes)
+given_size bytes (Ok done) ops whole = sym (length-flat_map (λ (op : Op). op.bytes) ops) ∙ ap length whole
+given_size bytes (Err error) ops whole = tt

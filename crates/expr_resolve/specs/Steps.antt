@@ -1,5 +1,5 @@
 -- What the calls of this crate ask of each other, a sound object and operations that hold all their bytes, and what they tell each other.
-use Rattle.std.specs.Prelude.{◌≡◌, ◌≤◌, ◌==◌, ◌||◌, ℕ, true, List, length, None, Result, Ok, Err}
+use Rattle.std.specs.Prelude.{◌≡◌, ◌≤◌, ◌==◌, ◌||◌, ℕ, true, List, [], length, slice_set, None, Result, Ok}
 use Rattle.std.specs.List.{All, sum_by}
 use Rattle.ds_base.specs.declared.dwarf.TheConstants.{DW_OP_addr, DW_OP_const8u}
 use Rattle.ds_base.specs.declared.fault.Fault.{Fault}
@@ -7,6 +7,8 @@ use Rattle.ds_base.specs.declared.fault.Kind.TheVariants.{BranchOverRewrite}
 use Rattle.ds_base.specs.Reading.{◌>>=◌, refuse_if}
 use Rattle.dwarf_types.specs.declared.expr.Op.{Op}
 use Rattle.dwarf_types.specs.declared.expr.PlainOp.{PlainOp}
+use Rattle.dwarf_types.specs.Gathered.{Gathered}
+use Rattle.expr_resolve.specs.declared.operand.Meaning.{Meaning}
 use Rattle.macho_read.specs.Sound.{IsSound as IsSoundImage}
 use Rattle.reloc_table.specs.Sound.{IsSound as AreSoundRelocs}
 use Rattle.addr_map.specs.Sound.{IsSound as IsSoundMap}
@@ -37,10 +39,13 @@ pub record IsCut (op : Op) : Type 0 where
   pub inner : All IsPlainCut op.inner
   pub inside : sum_by plain_size op.inner ≤ length op.bytes
 
--- what a call left in place of what was there is what reading that gives, or the call told its fault
-abbrev pub Leaves : {X : Type 0} → Result (Unit {0}) Fault → X → Result X Fault → Type 0
-Leaves (Ok done) new read = read ≡ Ok new
-Leaves (Err f) new read = read ≡ Err f
+-- an operation that no entry value holds, with what its operands mean
+abbrev pub with_meaning : PlainOp → Meaning → PlainOp
+with_meaning op m = record op { address = m.address; base = m.base }
+
+-- operations of which the one at a place becomes what is read
+abbrev pub put_at : List Op → ℕ → Result Op Fault → Result Gathered Fault
+put_at ops k read = read >>= λ op. Ok (record { ops = slice_set ops k op; inner = [] })
 
 -- the two parts of trying branches: the outermost expression, and then those inside its operations
 abbrev pub outermost_tried : Context → ℕ → List Op → Result (Unit {0}) Fault

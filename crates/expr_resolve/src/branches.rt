@@ -3,6 +3,7 @@
 ghost use Rattle.std.specs.Prelude.{◌≡◌, ◌+◌, ◌^◌, ◌<◌, ◌≤◌, length};
 ghost use Rattle.std.specs.List.{All, list_any, sum_by};
 ghost use Rattle.ds_base.specs.Reading.{Finds};
+ghost use Rattle.dwarf_types.specs.Seen.{op_seen};
 ghost use Rattle.expr_walk.specs.Length.{ops_len};
 ghost use Rattle.expr_resolve.specs.Context.{context_in};
 ghost use Rattle.expr_resolve.specs.Steps.{all_inside_tried, IsCut, outermost_tried};
@@ -14,12 +15,12 @@ use crate::operand::fault_at;
 use crate::operations::inner_first;
 use ds_base::dwarf::{DW_OP_bra, DW_OP_skip};
 use ds_base::{Fault, Kind};
-use dwarf_types::{Op, PlainOp};
+use dwarf_types::{InnerOpsRef, OpRef, OpsRef};
 
 /// Tests that no expression branches over an operation that changes its length: first the outermost expression, whose
 /// first byte stands at `first`, then those inside its operations, in order. The fault is `BranchOverRewrite`, placed at
 /// the first byte of its expression.
-pub(crate) fn try_branches(context: &ExprContext, first: u64, ops: &[Op]) -> Result<(), Fault>
+pub(crate) fn try_branches(context: &ExprContext, first: u64, ops: &OpsRef<'_>) -> Result<(), Fault>
     requires cut { All IsCut ops.now }
     requires short { ops_len ops.now < 2 ^ 64 }
     requires inside { first + sum_by op_size ops.now < 2 ^ 32 }
@@ -30,7 +31,7 @@ pub(crate) fn try_branches(context: &ExprContext, first: u64, ops: &[Op]) -> Res
 }
 
 /// Tests an outermost expression.
-fn try_outermost(context: &ExprContext, first: u64, ops: &[Op]) -> Result<(), Fault>
+fn try_outermost(context: &ExprContext, first: u64, ops: &OpsRef<'_>) -> Result<(), Fault>
     requires { ops_len ops.now < 2 ^ 64 }
     ensures { Finds (λ _. tt) result (outermost_tried (context_in context.now) first ops.now) }
 {
@@ -41,27 +42,27 @@ fn try_outermost(context: &ExprContext, first: u64, ops: &[Op]) -> Result<(), Fa
 }
 
 /// Tests the expressions inside operations, the first of which begins at `first`.
-fn try_all_inside(context: &ExprContext, first: u64, ops: &[Op]) -> Result<(), Fault>
+fn try_all_inside(context: &ExprContext, first: u64, ops: &OpsRef<'_>) -> Result<(), Fault>
     requires cut { All IsCut ops.now }
     requires inside { first + sum_by op_size ops.now < 2 ^ 32 }
     ensures { Finds (λ _. tt) result (all_inside_tried (context_in context.now) first ops.now) }
 {
     let mut place = first;
-    for op in ops {
-        try_inside(context, place, op)?;
+    for k in 0..ops.len() {
+        let op = ops.op(k);
+        try_inside(context, place, &op)?;
         place += op.bytes.len() as u64;
     }
     Ok(())
 }
 
 /// Tests the expression inside an operation that begins at `place`.
-fn try_inside(context: &ExprContext, place: u64, op: &Op) -> Result<(), Fault>
-    requires inner { sum_by plain_size op.now.inner ≤ length op.now.bytes }
-    requires inside { place + length op.now.bytes < 2 ^ 32 }
-    ensures { Finds (λ _. tt) result (inner_tried (context_in context.now) place op.now) }
+fn try_inside(context: &ExprContext, place: u64, op: &OpRef<'_>) -> Result<(), Fault>
+    requires inner { sum_by plain_size op.now.inner ≤ length op.now.bytes.now }
+    requires inside { place + length op.now.bytes.now < 2 ^ 32 }
+    ensures { Finds (λ _. tt) result (inner_tried (context_in context.now) place (op_seen op.now)) }
 {
-    let inner = op.inner.as_slice();
-    if has_plain_branch(inner) && has_plain_changed(inner) {
+    if has_plain_branch(&op.inner) && has_plain_changed(&op.inner) {
         let first = inner_first(place, op);
         return Err(fault_at(context, Kind::BranchOverRewrite, first));
     }
@@ -69,19 +70,24 @@ fn try_inside(context: &ExprContext, place: u64, op: &Op) -> Result<(), Fault>
 }
 
 /// Whether an operation of an expression branches.
-fn has_branch(ops: &[Op]) -> bool
+fn has_branch(ops: &OpsRef<'_>) -> bool
     ensures { result ≡ list_any (λ op. is_branch op.code) ops.now }
 {
-    ops.iter().any(|op| branches(op.code))
+    for k in 0..ops.len() {
+        if branches(ops.op(k).code) {
+            return true;
+        }
+    }
+    false
 }
 
 /// Whether an operation of an expression has another length in the output.
-fn has_changed(ops: &[Op]) -> bool
+fn has_changed(ops: &OpsRef<'_>) -> bool
     requires { ops_len ops.now < 2 ^ 64 }
     ensures { result ≡ list_any op_changes ops.now }
 {
-    for op in ops {
-        if changes_length(op) {
+    for k in 0..ops.len() {
+        if changes_length(&ops.op(k)) {
             return true;
         }
     }
@@ -89,17 +95,27 @@ fn has_changed(ops: &[Op]) -> bool
 }
 
 /// Whether an operation of the expression inside an entry value branches.
-fn has_plain_branch(ops: &[PlainOp]) -> bool
+fn has_plain_branch(ops: &InnerOpsRef<'_>) -> bool
     ensures { result ≡ list_any (λ op. is_branch op.code) ops.now }
 {
-    ops.iter().any(|op| branches(op.code))
+    for k in 0..ops.len() {
+        if branches(ops.op(k).code) {
+            return true;
+        }
+    }
+    false
 }
 
 /// Whether an operation of the expression inside an entry value has another length in the output.
-fn has_plain_changed(ops: &[PlainOp]) -> bool
+fn has_plain_changed(ops: &InnerOpsRef<'_>) -> bool
     ensures { result ≡ list_any plain_changes ops.now }
 {
-    ops.iter().any(|op| changes_plain_length(op))
+    for k in 0..ops.len() {
+        if changes_plain_length(&ops.op(k)) {
+            return true;
+        }
+    }
+    false
 }
 
 /// Whether an operation of this code branches.

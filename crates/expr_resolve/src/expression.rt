@@ -1,6 +1,6 @@
 //! An expression: its operations, understood.
 
-ghost use Rattle.std.specs.Prelude.{◌≡◌, ◌+◌, ◌*◌, ◌^◌, ◌≤◌, ◌<◌, length, IfOk};
+ghost use Rattle.std.specs.Prelude.{◌≡◌, ◌+◌, ◌*◌, ◌^◌, ◌≤◌, ◌<◌, [], length, OnOk};
 ghost use Rattle.std.specs.List.{All, sum_by};
 ghost use Rattle.ds_base.specs.Reading.{Gives};
 ghost use Rattle.macho_read.specs.Sound.{IsSound as IsSoundImage};
@@ -16,12 +16,12 @@ ghost use Rattle.expr_resolve.specs.Sound.{NameKnown};
 use crate::branches::try_branches;
 use crate::context::ExprContext;
 use crate::operations::resolve_ops;
-use ds_base::{List, ReadError};
-use dwarf_types::Op;
+use ds_base::ReadError;
+use dwarf_types::Ops;
 use expr_walk::walk;
-use std::alloc::Global;
 
-/// The operations of an expression, with what their operands mean (DWARF 4, section 7.7.1).
+/// Reads the operations of an expression, with what their operands mean (DWARF 4, section 7.7.1), in place of those that
+/// are in `ops`.
 ///
 /// `first` is the place of its first byte, in bytes from the start of its part of the file, and faults are placed from
 /// there too. The operand of `DW_OP_addr` is an address, and so is that of `DW_OP_const8u` where a relocation stands at
@@ -32,44 +32,40 @@ use std::alloc::Global;
 /// in the output, the outermost expression before those inside.
 #[tactic(auto, unfolding(crate::specs::Expressions::expression_of))]
 pub fn read_expression(
-    alloc: Global,
     context: &ExprContext,
     bytes: &[u8],
     first: u64,
-) -> Result<List<Op>, ReadError>
+    ops: &mut Ops,
+) -> Result<(), ReadError>
     requires image { IsSoundImage context.now.image.now }
     requires relocs { AreSoundRelocs context.now.image.now context.now.relocs.now }
     requires map { IsSoundMap context.now.map.now }
     requires order { AreInOrder context.now.bases.now }
     requires inside { first + length bytes.now < 2 ^ 32 }
-    ensures exact { Gives (λ ops. ops) result (expression_of (context_in context.now) bytes.now first) }
+    ensures exact { Gives (λ _. ops.new.ops) result (expression_of (context_in context.now) bytes.now first) }
 
     // Each base type that the operations name is one of the expression's unit.
-    ensures known { IfOk result (NameKnown (context_in context.now)) }
+    ensures known { OnOk result (NameKnown (context_in context.now) ops.new.ops) }
 
     // The length in the output has a bound, so that `new_length` may be called.
-    ensures short { IfOk result (λ ops. ops_len ops ≤ 16 * length bytes.now) }
+    ensures short { OnOk result (ops_len ops.new.ops ≤ 16 * length bytes.now) }
 {
-    let mut ops = cut(alloc, context, bytes, first)?;
+    cut(context, bytes, first, ops)?;
     // Told last: what is wrong with an operand comes before it.
-    let branches = try_branches(context, first, ops.as_slice());
-    resolve_ops(context, first, ops.as_mut_slice())?;
+    let branches = try_branches(context, first, &ops.as_ref());
+    resolve_ops(context, first, ops)?;
     branches?;
-    Ok(ops)
+    Ok(())
 }
 
 /// The operations of an expression as they are stored.
-fn cut(
-    alloc: Global,
-    context: &ExprContext,
-    bytes: &[u8],
-    first: u64,
-) -> Result<List<Op>, ReadError>
+fn cut(context: &ExprContext, bytes: &[u8], first: u64, ops: &mut Ops) -> Result<(), ReadError>
     requires { first + length bytes.now < 2 ^ 32 }
-    ensures exact { Gives (λ ops. ops) result (walk_of bytes.now context.now.part first) }
-    ensures cut { IfOk result (All IsCut) }
-    ensures size { IfOk result (λ ops. sum_by op_size ops ≡ length bytes.now) }
-    ensures short { IfOk result (λ ops. ops_len ops ≤ 16 * length bytes.now) }
+    ensures exact { Gives (λ _. ops.new.ops) result (walk_of bytes.now context.now.part first) }
+    ensures none { OnOk result (ops.new.inner ≡ []) }
+    ensures cut { OnOk result (All IsCut ops.new.ops) }
+    ensures size { OnOk result (sum_by op_size ops.new.ops ≡ length bytes.now) }
+    ensures short { OnOk result (ops_len ops.new.ops ≤ 16 * length bytes.now) }
 {
-    walk(alloc, bytes, context.part, first)
+    walk(bytes, context.part, first, ops)
 }

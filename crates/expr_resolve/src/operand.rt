@@ -2,8 +2,9 @@
 
 ghost use Rattle.std.specs.Prelude.{◌≡◌, ◌+◌, ◌^◌, ◌<◌, ◌≤◌, [], length};
 ghost use Rattle.ds_base.specs.Reading.{Finds};
+ghost use Rattle.dwarf_types.specs.Seen.{inner_seen};
 ghost use Rattle.expr_resolve.specs.Context.{context_in, AreInOrder};
-ghost use Rattle.expr_resolve.specs.Steps.{bare, HoldsOperand, IsSoundContext, Leaves};
+ghost use Rattle.expr_resolve.specs.Steps.{bare, HoldsOperand, IsSoundContext, with_meaning};
 ghost use Rattle.expr_resolve.specs.Expressions.{address_meant, base_meant, base_named, fault_in, holds_address, is_conversion, operand_place, plain_meant};
 
 use crate::context::ExprContext;
@@ -11,7 +12,7 @@ use crate::lookup::{find_base, is_relocated};
 use byteorder::{ByteOrder, LittleEndian};
 use ds_base::dwarf::{DW_OP_addr, DW_OP_const8u, DW_OP_convert, DW_OP_reinterpret};
 use ds_base::{Fault, Kind};
-use dwarf_types::{Base, Place, PlainOp};
+use dwarf_types::{Base, InnerOpRef, Place};
 use moved_parts::place as place_of;
 use reloc_table::resolve;
 
@@ -26,24 +27,31 @@ pub(crate) fn fault_at(context: &ExprContext, kind: Kind, place: u64) -> Fault
     }
 }
 
-/// Puts in place what the operands of an operation mean that is no entry value. `place` is that of its first byte.
-pub(crate) fn resolve_plain(
+/// What the operands of an operation mean.
+#[derive(Clone, Copy)]
+pub(crate) struct Meaning {
+    pub(crate) address: Option<Place>,
+    pub(crate) base: Option<Base>,
+}
+
+/// What the operands of an operation mean, whatever stands inside it. `place` is that of its first byte.
+pub(crate) fn meaning_of(
     context: &ExprContext,
     place: u64,
-    op: &mut PlainOp,
-) -> Result<(), Fault>
+    op: &InnerOpRef<'_>,
+) -> Result<Meaning, Fault>
     requires sound { IsSoundContext (context_in context.now) }
-    requires operand { HoldsOperand op.old.code op.old.bytes }
-    requires inside { place + length op.old.bytes < 2 ^ 32 }
-    ensures { Leaves result op.new (plain_meant (context_in context.now) place op.old) }
+    requires operand { HoldsOperand op.now.code op.now.bytes.now }
+    requires inside { place + length op.now.bytes.now < 2 ^ 32 }
+    ensures { Finds (with_meaning (inner_seen op.now)) result (plain_meant (context_in context.now) place (inner_seen op.now)) }
 {
-    op.base = resolve_base(context, place, op.code, op.base)?;
-    op.address = address_in(context, place, op.code, op.bytes.as_slice());
-    Ok(())
+    let base = resolve_base(context, place, op.code, op.base)?;
+    let address = address_in(context, place, op.code, op.bytes);
+    Ok(Meaning { address, base })
 }
 
 /// The entry of the base type that an operation names, where it names one. `place` is that of its first byte.
-pub(crate) fn resolve_base(
+fn resolve_base(
     context: &ExprContext,
     place: u64,
     code: u8,
@@ -87,7 +95,7 @@ fn takes_generic(code: u8) -> bool
 }
 
 /// The address that an operation has, where it has one. `place` is that of its first byte.
-pub(crate) fn address_in(context: &ExprContext, place: u64, code: u8, bytes: &[u8]) -> Option<Place>
+fn address_in(context: &ExprContext, place: u64, code: u8, bytes: &[u8]) -> Option<Place>
     requires sound { IsSoundContext (context_in context.now) }
     requires operand { HoldsOperand code bytes.now }
     requires inside { place + length bytes.now < 2 ^ 32 }

@@ -5,7 +5,7 @@ use Rattle.expr_resolve.specs.Context.{context_in}
 use Rattle.expr_resolve.specs.Expressions.{each_from, inner_tried, op_size}
 use Rattle.expr_resolve.proofs.branches.try_all_inside.Given as goal
 
-abbrev pub invariant-loop-op : goal.invariant-loop-op
-invariant-loop-op l =
-    ((each_from op_size (inner_tried (context_in l.context)) l.place (drop l.op-index l.ops) >>= λ _. Ok (tt {0})) ≡ (each_from op_size (inner_tried (context_in l.context)) l.first l.ops >>= λ _. Ok (tt {0})))
-    × (l.place ≡ l.first + sum_by op_size (take l.op-index l.ops))
+abbrev pub invariant-loop-k : goal.invariant-loop-k
+invariant-loop-k l =
+    ((each_from op_size (inner_tried (context_in l.context)) l.place (drop l.k l.ops) >>= λ _. Ok (tt {0})) ≡ (each_from op_size (inner_tried (context_in l.context)) l.first l.ops >>= λ _. Ok (tt {0})))
+    × (l.place ≡ l.first + sum_by op_size (take l.k l.ops))
