@@ -1,7 +1,8 @@
 -- Stations between the code and the definitions: a value after what a step makes of it.
-use Rattle.std.specs.Prelude.{Result, Ok}
+use Rattle.std.specs.Prelude.{List, Result, Ok}
 use Rattle.ds_base.specs.declared.fault.Fault.{Fault}
 use Rattle.ds_base.specs.Reading.{◌>>=◌}
+use Rattle.dwarf_types.specs.declared.expr.Op.{Op}
 use Rattle.dwarf_types.specs.declared.value.Value.{Value}
 use Rattle.dwarf_types.specs.declared.value.Value.TheVariants as values
 use Rattle.object_view.specs.declared.attributes.Understood.{Understood}
@@ -13,12 +14,12 @@ use Rattle.object_view.specs.declared.steps.Changed.TheVariants as changes
 abbrev pub making : {X Y : Type 0} → Result X Fault → (X → Y) → Result Y Fault
 making given make = given >>= λ x. Ok (make x)
 
--- a value that was read, as it is understood
-abbrev pub understood_as : Value → Understood → Value
-understood_as value understoods.Same = value
-understood_as value (understoods.Address place) = values.Address place
-understood_as value (understoods.Ref k) = values.Ref k
-understood_as value (understoods.Expr ops) = values.Expr ops
+-- a value that was read, as it is understood, where the operations of an expression were put aside
+abbrev pub understood_as : List Op → Value → Understood → Value
+understood_as ops value understoods.Same = value
+understood_as ops value (understoods.Address place) = values.Address place
+understood_as ops value (understoods.Ref k) = values.Ref k
+understood_as ops value understoods.Expr = values.Expr ops
 
 -- a value behind a step
 abbrev pub after : Value → Changed → Value

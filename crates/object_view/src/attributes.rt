@@ -11,13 +11,12 @@ ghost use Rattle.object_view.specs.Infos.{FitsInfo, IsReadyInfo, info_value};
 ghost use Rattle.object_view.specs.Ready.{IsReady, Rise};
 
 use crate::expressions::{Expressions, context};
+use ds_base::ReadError;
 use ds_base::dwarf::DW_FORM_exprloc;
-use ds_base::{List, ReadError};
-use dwarf_types::{Addr, Op, Place, RawAttrRef, ValueRef};
+use dwarf_types::{Addr, Ops, Place, RawAttrRef, ValueRef};
 use expr_resolve::{ExprContext, read_expression};
 use moved_parts::place;
 use reloc_table::resolve;
-use std::alloc::Global;
 
 /// So many bytes has an address.
 const ADDRESS_SIZE: u32 = 8;
@@ -32,26 +31,27 @@ pub(crate) struct InfoValues<'a> {
 }
 
 /// What becomes of a value that was read.
-#[derive(Drop)]
+#[derive(Clone, Copy)]
 pub(crate) enum Understood {
     Same,
     Address(Place),
     /// The number of an entry.
     Ref(u32),
-    /// The operations of an expression.
-    Expr(List<Op>),
+    /// The operations of an expression, which were put aside.
+    Expr,
 }
 
-/// An attribute as it was read, understood. Its entry is of the unit of this number.
+/// An attribute as it was read, understood. Its entry is of the unit of this number. The operations of an expression are
+/// put into `ops`.
 pub(crate) fn understand(
-    alloc: Global,
     values: &InfoValues,
     unit: u32,
     attr: &RawAttrRef<'_>,
+    ops: &mut Ops,
 ) -> Result<Understood, ReadError>
     requires ready { IsReadyInfo values.now }
     requires fits { FitsInfo values.now (raw_attr_seen attr.now) }
-    ensures { Gives (understood_as (raw_attr_seen attr.now).value) result (info_value values.now unit (raw_attr_seen attr.now)) }
+    ensures { Gives (understood_as ops.new.ops (raw_attr_seen attr.now).value) result (info_value values.now unit (raw_attr_seen attr.now)) }
 {
     match &attr.value {
         ValueRef::Address(stored) => {
@@ -63,7 +63,8 @@ pub(crate) fn understand(
         ValueRef::Block { form, bytes } if *form == DW_FORM_exprloc => {
             let context = context(&values.expressions, unit);
             let first = u64::from(attr.end) - bytes.len() as u64;
-            Ok(Understood::Expr(read_expression(alloc, &context, bytes, first)?))
+            read_expression(&context, bytes, first, ops)?;
+            Ok(Understood::Expr)
         }
         _ => Ok(Understood::Same),
     }

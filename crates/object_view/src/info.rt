@@ -12,7 +12,7 @@ ghost use Rattle.object_view.specs.Ready.{AllRawAttrs};
 
 use crate::attributes::{InfoValues, Understood, understand};
 use ds_base::{NoMemory, ReadError};
-use dwarf_types::{NewValue, RawEntries};
+use dwarf_types::{NewValue, Ops, RawEntries};
 use std::alloc::Global;
 
 /// Understands all entries, in place.
@@ -25,18 +25,19 @@ pub(crate) fn understand_entries(
     requires fits { AllRawAttrs (FitsInfo values.now) entries.old }
     ensures { Gives (λ _. entries.new) result (raw_entries_by (info_value values.now) entries.old) }
 {
+    let mut ops = Ops::new(alloc);
     for i in 0..entries.len() {
-        understand_entry(alloc, values, entries, i)?;
+        understand_entry(values, entries, i, &mut ops)?;
     }
     Ok(())
 }
 
 /// Understands the attributes of an entry.
 fn understand_entry(
-    alloc: Global,
     values: &InfoValues,
     entries: &mut RawEntries,
     i: usize,
+    ops: &mut Ops,
 ) -> Result<(), ReadError>
     requires ready { IsReadyInfo values.now }
     requires within { i < length entries.old }
@@ -46,18 +47,18 @@ fn understand_entry(
 {
     let count = entries.entry(i).len();
     for j in 0..count {
-        understand_attr(alloc, values, entries, i, j)?;
+        understand_attr(values, entries, i, j, ops)?;
     }
     Ok(())
 }
 
 /// Understands an attribute.
 fn understand_attr(
-    alloc: Global,
     values: &InfoValues,
     entries: &mut RawEntries,
     i: usize,
     j: usize,
+    ops: &mut Ops,
 ) -> Result<(), ReadError>
     requires ready { IsReadyInfo values.now }
     requires within { (e : ARawEntry) × (slice_get entries.old i ≡ Some e) × (j < length e.attrs) }
@@ -65,44 +66,45 @@ fn understand_attr(
     ensures { (e : ARawEntry) (a : ARawAttr) → slice_get entries.old i ≡ Some e → slice_get e.attrs j ≡ Some a
         → Gives (λ _. entries.new) result (making (raw_attr_by (info_value values.now e.unit) a) (λ b. slice_set entries.old i (record e { attrs = slice_set e.attrs j b }))) }
 {
-    let understood = understood_at(alloc, values, entries, i, j)?;
-    put(entries, i, j, &understood)?;
+    let understood = understood_at(values, entries, i, j, ops)?;
+    put(entries, i, j, understood, ops)?;
     Ok(())
 }
 
-/// What becomes of the value at a place.
+/// What becomes of the value at a place. The operations of an expression are put into `ops`.
 fn understood_at(
-    alloc: Global,
     values: &InfoValues,
     entries: &RawEntries,
     i: usize,
     j: usize,
+    ops: &mut Ops,
 ) -> Result<Understood, ReadError>
     requires ready { IsReadyInfo values.now }
     requires within { (e : ARawEntry) × (slice_get entries.now i ≡ Some e) × (j < length e.attrs) }
     requires fits { (e : ARawEntry) (a : ARawAttr) → slice_get entries.now i ≡ Some e → slice_get e.attrs j ≡ Some a → FitsInfo values.now a }
     ensures { (e : ARawEntry) (a : ARawAttr) → slice_get entries.now i ≡ Some e → slice_get e.attrs j ≡ Some a
-        → Gives (understood_as a.value) result (info_value values.now e.unit a) }
+        → Gives (understood_as ops.new.ops a.value) result (info_value values.now e.unit a) }
 {
     let entry = entries.entry(i);
-    understand(alloc, values, entry.unit(), &entry.attr(j))
+    understand(values, entry.unit(), &entry.attr(j), ops)
 }
 
-/// Another value for an attribute.
+/// Another value for an attribute, where the operations of an expression are those of `ops`.
 fn put(
     entries: &mut RawEntries,
     i: usize,
     j: usize,
-    understood: &Understood,
+    understood: Understood,
+    ops: &Ops,
 ) -> Result<(), NoMemory>
     requires { (e : ARawEntry) × (slice_get entries.old i ≡ Some e) × (j < length e.attrs) }
     ensures { (e : ARawEntry) (a : ARawAttr) → slice_get entries.old i ≡ Some e → slice_get e.attrs j ≡ Some a
-        → OnOk result (entries.new ≡ slice_set entries.old i (record e { attrs = slice_set e.attrs j (record a { value = understood_as a.value understood.now }) })) }
+        → OnOk result (entries.new ≡ slice_set entries.old i (record e { attrs = slice_set e.attrs j (record a { value = understood_as ops.now.ops a.value understood }) })) }
 {
     match understood {
         Understood::Same => Ok(()),
-        Understood::Address(place) => entries.set(i, j, NewValue::Address(*place)),
-        Understood::Ref(number) => entries.set(i, j, NewValue::Ref(*number)),
-        Understood::Expr(ops) => entries.set(i, j, NewValue::Expr(ops.as_slice())),
+        Understood::Address(place) => entries.set(i, j, NewValue::Address(place)),
+        Understood::Ref(number) => entries.set(i, j, NewValue::Ref(number)),
+        Understood::Expr => entries.set(i, j, NewValue::Expr(ops.as_ref())),
     }
 }

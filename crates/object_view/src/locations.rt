@@ -1,6 +1,6 @@
 //! Location lists (DWARF 4, section 2.6.2).
 
-ghost use Rattle.std.specs.Prelude.{◌≡◌, ◌<◌, ◌++◌, length, map, OnOk, IfOk};
+ghost use Rattle.std.specs.Prelude.{◌≡◌, ◌<◌, ◌++◌, length, map, OnOk};
 ghost use Rattle.std.specs.List.{All};
 ghost use Rattle.ds_base.specs.Reading.{Gives};
 ghost use Rattle.dwarf_types.specs.declared.value.Value.TheVariants as values;
@@ -13,8 +13,8 @@ use crate::expressions::{Expressions, context};
 use crate::open::OpenObject;
 use crate::ranges::{LIST_VERSION, base_of_unit};
 use crate::steps::{Changed, Step};
-use ds_base::{Fault, Kind, List, NoMemory, Part, ReadError};
-use dwarf_types::{Addr, AttrRef, Location, Op, PlainOp, RawLocation, Span, ValueRef};
+use ds_base::{Fault, Kind, NoMemory, Part, ReadError};
+use dwarf_types::{Addr, AttrRef, LocationList, Ops, OpsRef, RawLocation, Span, ValueRef};
 use expr_resolve::{ExprContext, read_expression};
 use expr_walk::new_length;
 use loc_lists::read_locations;
@@ -48,7 +48,13 @@ impl<'a> Step for LocationLists<'a> {
 
     ghost meant = { λ s unit a. locations_meant (opened_seen s.object.now) (context_of s.expressions unit) (base_at s.bases.now unit) a a.value };
 
-    fn change(&self, alloc: Global, unit: u32, attr: &AttrRef<'_>) -> Result<Changed, ReadError> {
+    fn change(
+        &self,
+        alloc: Global,
+        unit: u32,
+        attr: &AttrRef<'_>,
+        ops: &mut Ops,
+    ) -> Result<Changed, ReadError> {
         let ValueRef::Offset(place) = &attr.value else {
             return Ok(Changed::Same);
         };
@@ -57,7 +63,7 @@ impl<'a> Step for LocationLists<'a> {
         };
         let context = context(&self.expressions, unit);
         let base = base_of_unit(self.bases, unit);
-        let locations = locations_at(alloc, self.object, &context, &base, *place)?;
+        let locations = locations_at(alloc, self.object, &context, &base, *place, ops)?;
         Ok(Changed::Locations(locations))
     }
 }
@@ -69,7 +75,8 @@ fn locations_at(
     context: &ExprContext,
     base: &Addr,
     place: u64,
-) -> Result<List<Location>, ReadError>
+    ops: &mut Ops,
+) -> Result<LocationList, ReadError>
     requires open { IsOpen (opened_seen object.now) context.now.map.now }
     requires ready { IsReady (context_in context.now) }
     requires inside { place < length object.now.sections.loc.now }
@@ -84,7 +91,7 @@ fn locations_at(
         LIST_VERSION,
         base,
     )?;
-    locations_of(alloc, context, items.as_slice())
+    locations_of(alloc, context, items.as_slice(), ops)
 }
 
 /// The pieces of the items of a list, each with its operations.
@@ -92,14 +99,15 @@ fn locations_of(
     alloc: Global,
     context: &ExprContext,
     items: &[RawLocation],
-) -> Result<List<Location>, ReadError>
+    ops: &mut Ops,
+) -> Result<LocationList, ReadError>
     requires ready { IsReady (context_in context.now) }
     requires items { All IsItem items.now }
     ensures { Gives (λ locations. locations) result (items_given (context_in context.now) items.now) }
 {
-    let mut locations = List::with_capacity(alloc, items.len())?;
+    let mut locations = LocationList::new(alloc);
     for item in items {
-        add_item(alloc, context, item, &mut locations)?;
+        add_item(alloc, context, item, ops, &mut locations)?;
     }
     Ok(locations)
 }
@@ -109,13 +117,15 @@ fn add_item(
     alloc: Global,
     context: &ExprContext,
     item: &RawLocation,
-    locations: &mut List<Location>,
+    ops: &mut Ops,
+    locations: &mut LocationList,
 ) -> Result<(), ReadError>
     requires ready { IsReady (context_in context.now) }
     requires item { IsItem item.now }
     ensures { Gives (λ _. locations.new) result (item_given (context_in context.now) locations.old item.now) }
 {
-    let ops = read_expression(alloc, context, item.bytes.as_slice(), item.first)?;
+    read_expression(context, item.bytes.as_slice(), item.first, ops)?;
+    let ops = ops.as_ref();
     if new_length(&ops) >= EXPRESSION_LIMIT {
         return Err(ReadError::Faulty(Fault {
             kind: Kind::LongExpression,
@@ -124,74 +134,20 @@ fn add_item(
         }));
     }
     let pieces = span_pieces(alloc, context.map, &item.span)?;
-    add_pieces(alloc, pieces.as_slice(), ops, locations)?;
+    add_pieces(pieces.as_slice(), &ops, locations)?;
     Ok(())
 }
 
 /// Puts the pieces of a span last, each with these operations.
 fn add_pieces(
-    alloc: Global,
     pieces: &[Span],
-    ops: List<Op>,
-    locations: &mut List<Location>,
-) -> Result<(), NoMemory>
-    ensures { OnOk result (locations.new ≡ locations.old ++ map (λ span. record { span = span; ops = ops }) pieces.now) }
-{
-    let Some((last, others)) = pieces.split_last() else {
-        return Ok(());
-    };
-    add_copies(alloc, others, &ops, locations)?;
-    locations.push(Location { span: *last, ops })?;
-    Ok(())
-}
-
-/// Puts pieces last, each with a copy of these operations.
-fn add_copies(
-    alloc: Global,
-    pieces: &[Span],
-    ops: &List<Op>,
-    locations: &mut List<Location>,
+    ops: &OpsRef<'_>,
+    locations: &mut LocationList,
 ) -> Result<(), NoMemory>
     ensures { OnOk result (locations.new ≡ locations.old ++ map (λ span. record { span = span; ops = ops.now }) pieces.now) }
 {
     for span in pieces {
-        locations.push(Location {
-            span: *span,
-            ops: copy_ops(alloc, ops)?,
-        })?;
+        locations.push(*span, ops)?;
     }
     Ok(())
-}
-
-/// A copy of operations.
-fn copy_ops(alloc: Global, ops: &List<Op>) -> Result<List<Op>, NoMemory>
-    ensures { IfOk result (λ copy. copy ≡ ops.now) }
-{
-    let mut copy = List::with_capacity(alloc, ops.len())?;
-    for op in ops.as_slice() {
-        copy.push(Op {
-            code: op.code,
-            bytes: op.bytes.copy(alloc)?,
-            address: op.address,
-            base: op.base,
-            inner: copy_inner(alloc, &op.inner)?,
-        })?;
-    }
-    Ok(copy)
-}
-
-/// A copy of the operations inside an operation.
-fn copy_inner(alloc: Global, ops: &List<PlainOp>) -> Result<List<PlainOp>, NoMemory>
-    ensures { IfOk result (λ copy. copy ≡ ops.now) }
-{
-    let mut copy = List::new(alloc);
-    for op in ops.as_slice() {
-        copy.push(PlainOp {
-            code: op.code,
-            bytes: op.bytes.copy(alloc)?,
-            address: op.address,
-            base: op.base,
-        })?;
-    }
-    Ok(copy)
 }

@@ -16,7 +16,7 @@ use crate::steps::{Changed, Step};
 use addr_map::AddrMap;
 use ds_base::dwarf::DW_AT_low_pc;
 use ds_base::{List, NoMemory, ReadError};
-use dwarf_types::{Addr, AttrRef, Entries, EntryRef, InUnit, Span, ValueRef};
+use dwarf_types::{Addr, AttrRef, Entries, EntryRef, InUnit, Ops, Span, ValueRef};
 use moved_parts::move_spans;
 use range_lists::read_ranges;
 use std::alloc::Global;
@@ -46,7 +46,13 @@ impl<'a> Step for RangeLists<'a> {
 
     ghost meant = { λ s unit a. ranges_meant (opened_seen s.object.now) s.map.now (base_at s.bases.now unit) a a.value };
 
-    fn change(&self, alloc: Global, unit: u32, attr: &AttrRef<'_>) -> Result<Changed, ReadError> {
+    fn change(
+        &self,
+        alloc: Global,
+        unit: u32,
+        attr: &AttrRef<'_>,
+        _ops: &mut Ops,
+    ) -> Result<Changed, ReadError> {
         let ValueRef::Offset(place) = &attr.value else {
             return Ok(Changed::Same);
         };

@@ -10,7 +10,7 @@ ghost use Rattle.object_view.specs.Changes.{after, making};
 ghost use Rattle.object_view.specs.Ready.{AllAttrs};
 
 use ds_base::{List, NoMemory, ReadError};
-use dwarf_types::{AttrRef, Entries, Location, NewValue, Span};
+use dwarf_types::{AttrRef, Entries, LocationList, NewValue, Ops, Span};
 use std::alloc::Global;
 
 /// What becomes of a value.
@@ -20,7 +20,7 @@ pub(crate) enum Changed {
     /// A range list.
     Ranges(List<Span>),
     /// A location list.
-    Locations(List<Location>),
+    Locations(LocationList),
 }
 
 /// What a step makes of the attributes of an object.
@@ -41,8 +41,14 @@ pub(crate) trait Step {
     /// What the value of an attribute means, by its entry's unit.
     ghost meant: { Self → ℕ → AnAttr → Result Value AFault };
 
-    /// What becomes of the value of an attribute, whose entry is of the unit of this number.
-    fn change(&self, alloc: Global, unit: u32, attr: &AttrRef<'_>) -> Result<Changed, ReadError>
+    /// What becomes of the value of an attribute, whose entry is of the unit of this number. `ops` helps to read expressions.
+    fn change(
+        &self,
+        alloc: Global,
+        unit: u32,
+        attr: &AttrRef<'_>,
+        ops: &mut Ops,
+    ) -> Result<Changed, ReadError>
         requires ready { ready self.now }
         requires fits { fits self.now (attr_seen attr.now) }
         ensures { Gives (after (attr_seen attr.now).value) result (meant self.now unit (attr_seen attr.now)) };
@@ -58,8 +64,9 @@ pub(crate) fn change_entries<S: Step>(
     requires fits { AllAttrs (S.fits step.now) entries.old }
     ensures { Gives (λ _. entries.new) result (entries_by (S.meant step.now) entries.old) }
 {
+    let mut ops = Ops::new(alloc);
     for i in 0..entries.len() {
-        change_entry(alloc, step, entries, i)?;
+        change_entry(alloc, step, entries, i, &mut ops)?;
     }
     Ok(())
 }
@@ -70,6 +77,7 @@ fn change_entry<S: Step>(
     step: &S,
     entries: &mut Entries,
     i: usize,
+    ops: &mut Ops,
 ) -> Result<(), ReadError>
     requires ready { S.ready step.now }
     requires within { i < length entries.old }
@@ -79,7 +87,7 @@ fn change_entry<S: Step>(
 {
     let count = entries.entry(i).len();
     for j in 0..count {
-        change_attr(alloc, step, entries, i, j)?;
+        change_attr(alloc, step, entries, i, j, ops)?;
     }
     Ok(())
 }
@@ -91,6 +99,7 @@ fn change_attr<S: Step>(
     entries: &mut Entries,
     i: usize,
     j: usize,
+    ops: &mut Ops,
 ) -> Result<(), ReadError>
     requires ready { S.ready step.now }
     requires within { (e : AnEntry) × (slice_get entries.old i ≡ Some e) × (j < length e.attrs) }
@@ -98,7 +107,7 @@ fn change_attr<S: Step>(
     ensures { (e : AnEntry) (a : AnAttr) → slice_get entries.old i ≡ Some e → slice_get e.attrs j ≡ Some a
         → Gives (λ _. entries.new) result (making (attr_by (S.meant step.now e.unit) a) (λ b. slice_set entries.old i (record e { attrs = slice_set e.attrs j b }))) }
 {
-    let changed = changed_at(alloc, step, entries, i, j)?;
+    let changed = changed_at(alloc, step, entries, i, j, ops)?;
     put(entries, i, j, &changed)?;
     Ok(())
 }
@@ -110,6 +119,7 @@ fn changed_at<S: Step>(
     entries: &Entries,
     i: usize,
     j: usize,
+    ops: &mut Ops,
 ) -> Result<Changed, ReadError>
     requires ready { S.ready step.now }
     requires within { (e : AnEntry) × (slice_get entries.now i ≡ Some e) × (j < length e.attrs) }
@@ -118,7 +128,7 @@ fn changed_at<S: Step>(
         → Gives (after a.value) result (S.meant step.now e.unit a) }
 {
     let entry = entries.entry(i);
-    step.change(alloc, entry.unit(), &entry.attr(j))
+    step.change(alloc, entry.unit(), &entry.attr(j), ops)
 }
 
 /// Another value for an attribute.
@@ -130,6 +140,6 @@ fn put(entries: &mut Entries, i: usize, j: usize, changed: &Changed) -> Result<(
     match changed {
         Changed::Same => Ok(()),
         Changed::Ranges(spans) => entries.set(i, j, NewValue::Ranges(spans.as_slice())),
-        Changed::Locations(items) => entries.set(i, j, NewValue::Locations(items.as_slice())),
+        Changed::Locations(items) => entries.set(i, j, NewValue::Locations(items.as_ref())),
     }
 }

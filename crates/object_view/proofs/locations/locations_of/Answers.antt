@@ -7,7 +7,7 @@ use Rattle.object_view.proofs.locations.locations_of.Goals as goal
 
 pub returns-in_err-add_item : goal.returns-in_err-add_item
 returns-in_err-add_item c =
-    let p = err_from_is_err_and c.from_residual-in_err-add_item.result c.from_residual-in_err-add_item.ensures.1 in
+    let p = err_from_is_err_and c.from_residual.result c.from_residual.ensures.1 in
     let r = refused_from_gives (λ (_ : Unit {0}). c.add_item.new.locations) _ _ c.in_err-add_item.ensures in
     let h = given_err (context_in c.args.context.now) c.args.items.now c.loop-item.locations c.loop-item.item-index c.item-item.result (omega arith) c.item-item.is c.loop-item.invariant _ r in
     rw (p.1, p.2) (search (refused_gives, h))
