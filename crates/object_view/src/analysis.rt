@@ -23,10 +23,10 @@ use crate::locations::LocationLists;
 use crate::open::{OpenObject, open_object};
 use crate::ranges::{RangeLists, unit_bases};
 use crate::steps::change_entries;
-use crate::units::{Tables, base_types, places_of, unit_starts};
+use crate::units::{Tables, base_types, unit_starts};
 use addr_map::{AddrMap, build};
 use ds_base::{List, Part, ReadError};
-use dwarf_types::{Addr, Analysis, Entries, InUnit, RawEntries, RawUnits};
+use dwarf_types::{Addr, Analysis, Entries, InUnit, PlaceTable, RawEntries, RawUnits};
 use frame_table::read_frames;
 use moved_parts::move_frames;
 use stab_map::MapObject;
@@ -78,11 +78,11 @@ fn analyse_units(
 {
     let RawUnits { units, entries } = raw;
     let types = base_types(alloc, &entries)?;
-    let places = places_of(alloc, &entries)?;
+    let places = PlaceTable::of(alloc, &entries)?;
     let starts = unit_starts(alloc, units.as_slice(), &entries)?;
     let tables = Tables {
         types: types.as_slice(),
-        places: places.as_slice(),
+        places: &places,
         starts: starts.as_slice(),
     };
     analyse_entries(alloc, object, map, &tables, units, entries)

@@ -8,12 +8,12 @@ ghost use Rattle.expr_resolve.specs.Context.{context_in};
 ghost use Rattle.object_view.specs.Attributes;
 ghost use Rattle.object_view.specs.Changes.{understood_as};
 ghost use Rattle.object_view.specs.Infos.{FitsInfo, IsReadyInfo, info_value};
-ghost use Rattle.object_view.specs.Ready.{IsReady, Rise};
+ghost use Rattle.object_view.specs.Ready.{IsReady};
 
 use crate::expressions::{Expressions, context};
 use ds_base::ReadError;
 use ds_base::dwarf::DW_FORM_exprloc;
-use dwarf_types::{Addr, Ops, Place, RawAttrRef, ValueRef};
+use dwarf_types::{Addr, Ops, Place, PlaceTable, RawAttrRef, ValueRef};
 use expr_resolve::{ExprContext, read_expression};
 use moved_parts::place;
 use reloc_table::resolve;
@@ -27,7 +27,7 @@ const ADDRESS_SIZE: u32 = 8;
 pub(crate) struct InfoValues<'a> {
     pub(crate) expressions: Expressions<'a>,
     /// The places of all entries.
-    pub(crate) places: &'a [u32],
+    pub(crate) places: &'a PlaceTable,
 }
 
 /// What becomes of a value that was read.
@@ -92,14 +92,13 @@ fn number_of(stored: &Addr) -> u64
 }
 
 /// The number of the entry that stands at a place, by the places of all.
-fn number_at(places: &[u32], place: u32) -> u32
-    requires rise { Rise places.now }
+fn number_at(places: &PlaceTable, place: u32) -> u32
     requires few { length places.now < 2 ^ 32 }
     requires there { IsSome (Attributes.number_at places.now place) }
     ensures { Attributes.number_at places.now place ≡ Some result }
 {
-    match places.binary_search(&place) {
-        Ok(i) => i as u32,
-        Err(_) => unreachable!(),
+    match places.find(place) {
+        Some(i) => i as u32,
+        None => unreachable!(),
     }
 }

@@ -5,7 +5,7 @@ ghost use Rattle.object_view.specs.Units;
 
 use ds_base::dwarf::DW_TAG_base_type;
 use ds_base::{List, NoMemory};
-use dwarf_types::{InUnit, RawEntries};
+use dwarf_types::{InUnit, PlaceTable, RawEntries};
 use expr_resolve::BaseType;
 use std::alloc::Global;
 
@@ -18,7 +18,7 @@ pub(crate) struct Tables<'a> {
     /// The base types of the object, in the order of their places.
     pub(crate) types: &'a [BaseType],
     /// The places of all entries.
-    pub(crate) places: &'a [u32],
+    pub(crate) places: &'a PlaceTable,
     /// Of each unit, the place of its first byte in `__debug_info`.
     pub(crate) starts: &'a [u32],
 }
@@ -40,17 +40,6 @@ pub(crate) fn base_types(alloc: Global, entries: &RawEntries) -> Result<List<Bas
         }
     }
     Ok(bases)
-}
-
-/// The places of all entries.
-pub(crate) fn places_of(alloc: Global, entries: &RawEntries) -> Result<List<u32>, NoMemory>
-    ensures { IfOk result (λ places. places ≡ Units.places_of entries.now) }
-{
-    let mut places = List::new(alloc);
-    for i in 0..entries.len() {
-        places.push(entries.entry(i).place())?;
-    }
-    Ok(places)
 }
 
 /// Of each unit, the place of its first byte in `__debug_info`.
