@@ -7,7 +7,7 @@ ghost use Rattle.addr_map.specs.Sound.{IsSound};
 use crate::parts::{assert_refused, no_symbols};
 use addr_map::{AddrMap, MapRange};
 use ds_base::{Bytes, Kind, List, NoMemory, Part, ReadError};
-use dwarf_types::{Addr, Op, RawFrame, RawLines, RawSpan, Span};
+use dwarf_types::{Addr, Base, Ops, RawFrame, RawLines, RawSpan, Span};
 use expr_resolve::{BaseType, ExprContext, read_expression};
 use expr_walk::{new_length, walk};
 use moved_parts::{move_frames, move_lines, move_spans, place, span_pieces};
@@ -18,8 +18,9 @@ use std::process::Abort;
 /// The first operations of an expression that begins at 0x100, and the length of all in the output.
 fn walked(rt: &impl Abort, alloc: Global, bytes: &[u8]) -> Result<(usize, u64), ReadError> {
     assert!(rt; bytes.len() < 100);
-    let ops = walk(alloc, bytes, Part::Info, 0x100)?;
-    Ok((ops.len(), new_length(&ops)))
+    let mut ops = Ops::new(alloc);
+    walk(bytes, Part::Info, 0x100, &mut ops)?;
+    Ok((ops.len(), new_length(&ops.as_ref())))
 }
 
 /// An expression has so many operations, and so many bytes in the output.
@@ -85,7 +86,7 @@ fn one_range(alloc: Global) -> Result<AddrMap, NoMemory>
 
 /// An expression that begins at 0x100 in unit 1, whose first byte stands at 0xd0, in an object without relocations of
 /// which entry 7 is a base type at 0xfa.
-fn understood(rt: &impl Abort, alloc: Global, bytes: &[u8]) -> Result<List<Op>, ReadError> {
+fn understood(rt: &impl Abort, alloc: Global, bytes: &[u8]) -> Result<Ops, ReadError> {
     assert!(rt; bytes.len() < 100);
     let image = no_symbols(alloc);
     let map = one_range(alloc)?;
@@ -106,7 +107,22 @@ fn understood(rt: &impl Abort, alloc: Global, bytes: &[u8]) -> Result<List<Op>, 
         unit: 1,
         start: 0xd0,
     };
-    read_expression(alloc, &context, bytes, 0x100)
+    let mut ops = Ops::new(alloc);
+    read_expression(&context, bytes, 0x100, &mut ops)?;
+    Ok(ops)
+}
+
+/// How many operations inside others name the base type of entry 7.
+fn named_inside(ops: &Ops) -> usize {
+    let mut count: usize = 0;
+    for k in 0..ops.len() {
+        let inner = ops.op(k).inner;
+        for j in 0..inner.len() {
+            let names = matches!(inner.op(j).base, Some(Base::Entry(7)));
+            count = count.wrapping_add(usize::from(names));
+        }
+    }
+    count
 }
 
 #[test]
@@ -116,10 +132,15 @@ fn operands_of_an_expression_are_understood(rt: HostRuntime) {
     match understood(&rt, alloc, b"\x03\x20\0\0\0\0\0\0\0\xa8\x2a") {
         Ok(ops) => {
             assert_eq!(rt; ops.len(), 2);
-            for op in ops.as_slice() {
+            for k in 0..ops.len() {
+                let op = ops.op(k);
                 assert_eq!(rt; (op.address.is_some(), op.base.is_some()), (op.code == 0x03, op.code == 0xa8));
             }
         }
+        Err(error) => panic!(rt; "{error:?}"),
+    }
+    match understood(&rt, alloc, b"\x9f\xa3\x03\x96\xa8\x2a\x9f") {
+        Ok(ops) => assert_eq!(rt; (ops.len(), named_inside(&ops)), (3, 1)),
         Err(error) => panic!(rt; "{error:?}"),
     }
     assert_refused(&rt, "no base type", understood(&rt, alloc, b"\x96\xa8\x2b").err(), Part::Info, Kind::BadOperandType, 0x101);
