@@ -10,8 +10,8 @@ use ds_base::dwarf::{
 };
 use ds_base::{BitRow, Bytes, List, NoMemory};
 use dwarf_types::{
-    Addr, Analysis, Builder, CodeRange, Entries, FileName, InUnit, Location, NewValue, Op,
-    OutLines, Place, RawValue, Sequence, Span,
+    Addr, Analysis, Builder, CodeRange, Entries, FileName, InUnit, InnerOpRef, LocationList,
+    NewValue, Ops, OutLines, Place, RawValue, Sequence, Span,
 };
 use std::alloc::Global;
 
@@ -91,25 +91,22 @@ fn field(moved: bool) -> Place {
 }
 
 /// An expression of one operation without a base type.
-fn one_operation(alloc: Global, address: Option<Place>) -> Result<List<Op>, NoMemory> {
-    let mut ops = List::new(alloc);
-    ops.push(Op {
+fn one_operation(alloc: Global, address: Option<Place>) -> Result<Ops, NoMemory> {
+    let mut ops = Ops::new(alloc);
+    ops.push(&InnerOpRef {
         code: DW_OP_addr,
-        bytes: Bytes::new(alloc),
+        bytes: &[],
         address,
         base: None,
-        inner: List::new(alloc),
     })?;
     Ok(ops)
 }
 
 /// A location list of one item, whose address field moved.
-fn one_location(alloc: Global) -> Result<List<Location>, NoMemory> {
-    let mut items = List::new(alloc);
-    items.push(Location {
-        span: Span { low: 0, high: 4 },
-        ops: one_operation(alloc, Some(field(true)))?,
-    })?;
+fn one_location(alloc: Global) -> Result<LocationList, NoMemory> {
+    let ops = one_operation(alloc, Some(field(true)))?;
+    let mut items = LocationList::new(alloc);
+    items.push(Span { low: 0, high: 4 }, &ops.as_ref())?;
     Ok(items)
 }
 
@@ -205,15 +202,15 @@ fn set_said(
         }
         Says::At(moved) => {
             let ops = one_operation(alloc, Some(field(moved)))?;
-            set(entries, i, j, NewValue::Expr(ops.as_slice()))
+            set(entries, i, j, NewValue::Expr(ops.as_ref()))
         }
         Says::Computed => {
             let ops = one_operation(alloc, None)?;
-            set(entries, i, j, NewValue::Expr(ops.as_slice()))
+            set(entries, i, j, NewValue::Expr(ops.as_ref()))
         }
         Says::List => {
             let items = one_location(alloc)?;
-            set(entries, i, j, NewValue::Locations(items.as_slice()))
+            set(entries, i, j, NewValue::Locations(items.as_ref()))
         }
         Says::Lines => set(entries, i, j, NewValue::Lines),
         _ => Ok(()),
