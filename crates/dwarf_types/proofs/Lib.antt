@@ -1,12 +1,13 @@
 pub mod Ancestors
 pub mod Building
+pub mod FrameRows
 pub mod Gathering
 pub mod Growing
 pub mod Heads
 pub mod Kept
+pub mod Lengths
 pub mod Placing
 pub mod Plain
-pub mod Lengths
 pub mod Readers
 pub mod Setting
 pub mod Texts

@@ -7,6 +7,7 @@ pub mod Encode
 pub mod Entries
 pub mod Expressions
 pub mod Forms
+pub mod FrameColumns
 pub mod Frames
 pub mod Gathered
 pub mod Layout
@@ -27,6 +28,7 @@ pub mod Put
 pub mod Raw
 pub mod SectionBytes
 pub mod Seen
+pub mod SeenFrames
 pub mod Sound
 pub mod Spelled
 pub mod SpelledOperands

@@ -3,7 +3,7 @@
 use crate::address::Span;
 use crate::entries::Entries;
 use crate::entry::InUnit;
-use crate::frames::OutFrame;
+use crate::frames::OutFrames;
 use ds_base::List;
 
 /// A piece of a subprogram's code in the linked program.
@@ -22,5 +22,5 @@ pub struct Analysis {
     pub entries: Entries,
     /// The pieces of each subprogram's code, in the order of the subprograms.
     pub code: List<CodeRange>,
-    pub frames: List<OutFrame>,
+    pub frames: OutFrames,
 }

@@ -1,7 +1,7 @@
 //! What is written: units of nodes with their attributes, and frames.
 
 use crate::address::Span;
-use crate::frames::OutFrame;
+use crate::frames::OutFrames;
 use crate::lines::OutLines;
 use crate::parts::ExprPart;
 use ds_base::{Bytes, List, Part};
@@ -10,7 +10,7 @@ use ds_base::{Bytes, List, Part};
 #[derive(Drop)]
 pub struct Graph {
     pub units: List<OutUnit>,
-    pub frames: List<OutFrame>,
+    pub frames: OutFrames,
 }
 
 /// An output unit.
