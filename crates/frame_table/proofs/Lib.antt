@@ -3,3 +3,4 @@ mod Trying
 mod Missing
 mod Telling
 mod Refused
+mod Noted

@@ -3,3 +3,4 @@ pub mod Naming
 pub mod Description
 pub mod Frames
 pub mod Order
+pub mod Sharing

@@ -1,18 +1,18 @@
 //! What an FDE says.
 
-ghost use Rattle.std.specs.Prelude.{◌≡◌, ◌+◌, ◌≤◌, ◌<◌, ◌^◌, length, IfOk};
+ghost use Rattle.std.specs.Prelude.{◌≡◌, ◌+◌, ◌≤◌, ◌<◌, ◌^◌, length};
 ghost use Rattle.ds_base.specs.Reading.{Finds};
+ghost use Rattle.dwarf_types.specs.SeenFrames.{raw_frame_seen};
 ghost use Rattle.macho_read.specs.Sound.{IsSound as IsSoundImage};
 ghost use Rattle.reloc_table.specs.Sound.{IsSound};
 ghost use Rattle.frame_table.specs.Entry.{content_of};
 ghost use Rattle.frame_table.specs.Description.{description_at, framed, seen};
 
 use crate::entry::FrameEntry;
-use ds_base::{Bytes, Cursor, Fault, NoMemory, Part};
-use dwarf_types::RawFrame;
+use ds_base::{Cursor, Fault, Part};
+use dwarf_types::RawFrameRef;
 use macho_read::Image;
 use reloc_table::{Relocs, resolve};
-use std::alloc::Global;
 
 /// What an FDE says behind its id (DWARF 4, section 6.4.1).
 #[derive(Drop)]
@@ -57,24 +57,23 @@ pub(crate) fn content<'a>(bytes: &'a [u8], entry: &FrameEntry) -> &'a [u8]
 }
 
 /// The frame of an FDE, with the content of its CIE.
-pub(crate) fn frame(
-    alloc: Global,
+pub(crate) fn frame<'a>(
     relocs: &Relocs,
     image: &Image,
-    cie: &[u8],
+    cie: &'a [u8],
     entry: &FrameEntry,
-    description: &Description,
-) -> Result<RawFrame, NoMemory>
+    description: &Description<'a>,
+) -> RawFrameRef<'a>
     requires sound { IsSound image.now relocs.now }
     requires sound_image { IsSoundImage image.now }
     requires small { entry.now.place + 8 < 2 ^ 32 }
-    ensures { IfOk result (λ frame. frame ≡ framed image.now relocs.now entry.now cie.now (seen description.now)) }
+    ensures { raw_frame_seen result ≡ framed image.now relocs.now entry.now cie.now (seen description.now) }
 {
     let place = entry.place + 8;
-    Ok(RawFrame {
-        cie: Bytes::from_slice(alloc, cie)?,
+    RawFrameRef {
+        cie,
         at: resolve(relocs, image, place as u32, description.location),
         length: description.length,
-        code: Bytes::from_slice(alloc, description.code)?,
-    })
+        code: description.code,
+    }
 }

@@ -1,11 +1,11 @@
 //! Which FDEs name the start of a CIE.
 
 ghost use Rattle.std.specs.Prelude.{◌≡◌, ◌≤◌, ◌<◌, ◌==◌, length, IfSome};
-ghost use Rattle.std.specs.List.{Contains, find};
-ghost use Rattle.std.specs.Option.{option_copied};
+ghost use Rattle.std.specs.List.{find};
+ghost use Rattle.std.specs.Option.{option_map};
 ghost use Rattle.std.specs.List.Sorted.{IsPartitionPoint};
 ghost use Rattle.frame_table.specs.Naming.{cie_at};
-ghost use Rattle.frame_table.specs.Order.{StandApart, IsFirst, IsFirstMissed, earlier_of, is_due_at, is_missed};
+ghost use Rattle.frame_table.specs.Order.{StandApart, IsFirst, IsFirstMissed, earlier_of, entry_of, is_due_at, is_missed};
 
 use crate::entry::FrameEntry;
 
@@ -73,31 +73,30 @@ fn due_at(entries: &[FrameEntry], size: u64, i: usize) -> Option<usize>
     if at < entries.len() { Some(at) } else { None }
 }
 
-/// The CIE that begins at a place.
-pub(crate) fn find_cie(entries: &[FrameEntry], place: u64) -> Option<&FrameEntry>
+/// The index of the CIE that begins at a place.
+pub(crate) fn find_cie(entries: &[FrameEntry], place: u64) -> Option<usize>
     requires { StandApart entries.now }
-    ensures is { option_copied result ≡ cie_at entries.now place }
-    ensures member { IfSome result (λ entry. Contains entries.now entry.now) }
+    ensures is { option_map (entry_of entries.now) result ≡ cie_at entries.now place }
+    ensures within { IfSome result (λ n. n < length entries.now) }
 {
     match find_entry(entries, place) {
-        Some(entry) if entry.is_cie() => Some(entry),
+        Some(i) if entries[i].is_cie() => Some(i),
         _ => None,
     }
 }
 
-/// The entry that begins at a place.
-fn find_entry(entries: &[FrameEntry], place: u64) -> Option<&FrameEntry>
+/// The index of the entry that begins at a place.
+fn find_entry(entries: &[FrameEntry], place: u64) -> Option<usize>
     requires { StandApart entries.now }
-    ensures is { option_copied result ≡ find (λ e. e.place == place) entries.now }
-    ensures member { IfSome result (λ entry. Contains entries.now entry.now) }
+    ensures is { option_map (entry_of entries.now) result ≡ find (λ e. e.place == place) entries.now }
+    ensures within { IfSome result (λ n. n < length entries.now) }
 {
     let i = holder(entries, place);
     if i >= entries.len() {
         return None;
     }
-    let entry = &entries[i];
-    if entry.place == place {
-        Some(entry)
+    if entries[i].place == place {
+        Some(i)
     } else {
         None
     }
