@@ -2,3 +2,4 @@ pub mod Orders
 pub mod Linked
 pub mod Held
 pub mod Runs
+mod Kept
