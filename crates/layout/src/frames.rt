@@ -6,18 +6,19 @@ ghost use Rattle.dwarf_types.specs.Frames.{frames_len};
 
 use crate::sums::plus;
 use ds_base::NoMemory;
-use dwarf_types::OutFrame;
+use dwarf_types::OutFrames;
 use std::alloc::Global;
 use text_pool::{TextPool, add, new_pool, offset_of};
 
 /// The size of the frame descriptions in bytes, each common information entry once.
-pub(crate) fn frames_size(alloc: Global, frames: &[OutFrame]) -> Result<u64, NoMemory>
+pub(crate) fn frames_size(alloc: Global, frames: &OutFrames) -> Result<u64, NoMemory>
     ensures { IfOk result (λ size. size ≡ frames_len frames.now) }
 {
     let mut seen = new_pool(alloc);
     let mut size: u64 = 0;
-    for frame in frames {
-        let common = common_size(&mut seen, frame.cie.as_slice())?;
+    for k in 0..frames.len() {
+        let frame = frames.frame(k);
+        let common = common_size(&mut seen, frame.cie)?;
         let own = plus(frame.code.len() as u64, 24)?;
         size = plus(size, plus(common, own)?)?;
     }

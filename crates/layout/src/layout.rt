@@ -61,7 +61,7 @@ pub fn measure(alloc: Global, graph: &Graph) -> Result<Layout, LayoutError>
         ranges: measured.ends.ranges,
         loc: measured.ends.loc,
         aranges: measured.ends.aranges,
-        frames: frames_size(alloc, graph.frames.as_slice())?,
+        frames: frames_size(alloc, &graph.frames)?,
     };
     if let Some(part) = first_long(&sizes) {
         return Err(LayoutError::Section { part });

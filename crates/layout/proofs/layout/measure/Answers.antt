@@ -1,7 +1,6 @@
 use Rattle.std.proofs.Common.{◌<◌, ◌-◌, ◌^◌, ◌∙◌, ap, length, sym, arith}
 use Rattle.ds_base.specs.Texts.{section_of}
 use Rattle.dwarf_types.specs.Entries.{unit_len}
-use Rattle.dwarf_types.specs.Frames.{frames_len}
 use Rattle.dwarf_types.specs.Layout.{before_unit}
 use Rattle.layout.specs.declared.sizes.Sizes.{Sizes}
 use Rattle.layout.specs.declared.unit.Starts.{Starts}
@@ -14,7 +13,7 @@ pub returns-in-Some : goal.returns-in-Some
 returns-in-Some c =
     let graph = c.args.graph.now in
     let sizes = sizes_are graph c.in_ok-measured.measured.ends c.pool_size.result c.in_ok-frames_size.field-0 c.in_ok-measured.ensures.1
-    (c.pool_size.ensures.size ∙ ap (λ texts. length (section_of texts)) c.in-Ok.ensures.ok) (c.in_ok-frames_size.ensures ∙ ap frames_len c.as_slice.ensures) in
+    (c.pool_size.ensures.size ∙ ap (λ texts. length (section_of texts)) c.in-Ok.ensures.ok) c.in_ok-frames_size.ensures in
     (c.in_ok-measured.ensures.2, long_is graph _ _ sizes c.first_long.ensures ∙ c.in-Some.is)
 
 pub invariant_of-result : goal.invariant_of-result
@@ -31,5 +30,5 @@ pub returns : goal.returns
 returns c =
     let graph = c.args.graph.now in
     let sizes = sizes_are graph c.in_ok-measured.measured.ends c.pool_size.result c.in_ok-frames_size.field-0 c.in_ok-measured.ensures.1
-    (c.pool_size.ensures.size ∙ ap (λ texts. length (section_of texts)) c.in-Ok.ensures.ok) (c.in_ok-frames_size.ensures ∙ ap frames_len c.as_slice.ensures) in
+    (c.pool_size.ensures.size ∙ ap (λ texts. length (section_of texts)) c.in-Ok.ensures.ok) c.in_ok-frames_size.ensures in
     (whole_same _ _ _ _ _ _ c.in_ok-measured.ensures.0 c.in-Ok.ensures.ok sizes, c.in_ok-measured.ensures.2, long_is graph _ _ sizes c.first_long.ensures ∙ c.in_default.is)
