@@ -18,7 +18,7 @@ const VERSION: u16 = 4;
 pub fn is_well(graph: &Graph) -> bool
     ensures { OnTrue result (IsWell graph.now) }
 {
-    are_frames(graph.frames.as_slice());
+    are_frames(&graph.frames);
     are_units(graph, graph.units.as_slice())
 }
 

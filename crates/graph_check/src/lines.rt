@@ -3,12 +3,13 @@
 ghost use Rattle.std.specs.Bool.{OnTrue};
 ghost use Rattle.std.specs.List.{All};
 ghost use Rattle.std.specs.Prelude.{IfSome};
+ghost use Rattle.dwarf_types.specs.SeenFrames.{frame_seen};
 ghost use Rattle.dwarf_types.specs.WellLines.{IsFile, IsFrame, IsLineTable, IsPath, IsRow, IsSequence, NeverFall};
 
 use crate::numbers::is_number;
 use crate::texts::{are_bytes, are_text_bytes};
 use ds_base::Bytes;
-use dwarf_types::{FileName, OutFrame, OutLines, Row, Sequence};
+use dwarf_types::{FileName, FrameRef, OutFrames, OutLines, Row, Sequence};
 
 /// Whether this is the line table of a unit, or there is none.
 pub(crate) fn are_lines(lines: &Option<OutLines>) -> bool
@@ -120,20 +121,20 @@ fn never_fall(rows: &[Row], end: u64) -> bool
 }
 
 /// What frames keep to, their types tell.
-pub(crate) fn are_frames(frames: &[OutFrame])
+pub(crate) fn are_frames(frames: &OutFrames)
     ensures { All IsFrame frames.now }
 {
-    for frame in frames {
-        is_frame(frame);
+    for k in 0..frames.len() {
+        is_frame(&frames.frame(k));
     }
 }
 
 /// What a frame keeps to, its type tells.
-fn is_frame(frame: &OutFrame)
-    ensures { IsFrame frame.now }
+fn is_frame(frame: &FrameRef<'_>)
+    ensures { IsFrame (frame_seen frame.now) }
 {
-    are_bytes(frame.cie.as_slice());
+    are_bytes(frame.cie);
     is_number(frame.address);
     is_number(frame.length);
-    are_bytes(frame.code.as_slice());
+    are_bytes(frame.code);
 }
