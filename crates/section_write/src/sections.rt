@@ -13,7 +13,7 @@ use crate::lists::{ListKind, emit_lists};
 use crate::parts::add_texts;
 use crate::units::{emit_abbrev, emit_line, emit_sets};
 use ds_base::{NoMemory, Part, emit_bytes};
-use dwarf_types::{Graph, OutFrame};
+use dwarf_types::{Graph, OutFrames};
 use frame_write::emit_frames;
 use layout::{Layout, section_size, texts};
 use std::alloc::Global;
@@ -40,7 +40,7 @@ pub fn emit_sections(
     let at = emit_lists(ListKind::Locations, graph, layout, room, at);
     let at = emit_sets(graph, layout, room, at);
     let size = section_size(layout, Part::Frame) as usize;
-    add_frames(alloc, graph.frames.as_slice(), size, room, at)?;
+    add_frames(alloc, &graph.frames, size, room, at)?;
     Ok(())
 }
 
@@ -61,7 +61,7 @@ fn emit_front(graph: &Graph, layout: &Layout, info: &[u8], room: &mut [u8]) -> u
 /// Writes the frames, whose section has this size.
 fn add_frames(
     alloc: Global,
-    frames: &[OutFrame],
+    frames: &OutFrames,
     size: usize,
     room: &mut [u8],
     at: usize,

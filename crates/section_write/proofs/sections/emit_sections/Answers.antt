@@ -2,7 +2,6 @@ use Rattle.std.proofs.Common.{◌≡◌, ap, sym, ◌∙◌, arith, length}
 use Rattle.ds_base.specs.declared.fault.Part.TheVariants as parts
 use Rattle.ds_base.proofs.Adding.{adds_more, adds_same, adds_whole}
 use Rattle.dwarf_types.specs.Encode.{frame_section}
-use Rattle.dwarf_types.specs.Frames.{frames_bytes}
 use Rattle.layout.specs.Laid.{size_in}
 use Rattle.section_write.proofs.InTurn.{sections_are, sections_len}
 use Rattle.section_write.proofs.sections.emit_sections.Goals as goal
@@ -56,8 +55,7 @@ add_frames-requires-clause-fits c =
 
 pub returns : goal.returns
 returns c =
-    let frames = ap frames_bytes c.as_slice.ensures in
     let rest =
     adds_more _ _ _ _ _ _ _ _ c.emit_lists-at.ensures
-    (adds_more _ _ _ _ _ _ _ _ c.emit_lists-at-2.ensures (adds_more _ _ _ _ _ _ _ _ c.emit_sets-at.ensures (adds_same _ _ _ _ _ _ frames c.in_ok-add_frames.ensures))) in
+    (adds_more _ _ _ _ _ _ _ _ c.emit_lists-at-2.ensures (adds_more _ _ _ _ _ _ _ _ c.emit_sets-at.ensures c.in_ok-add_frames.ensures)) in
     adds_whole _ _ _ _ c.requires.size (adds_same _ _ _ _ _ _ (sym (sections_are c.args.graph.now)) (adds_more _ _ _ _ _ _ _ _ c.emit_front-at.ensures rest))
