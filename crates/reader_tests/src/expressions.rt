@@ -6,8 +6,8 @@ ghost use Rattle.addr_map.specs.Sound.{IsSound};
 
 use crate::parts::{assert_refused, no_symbols};
 use addr_map::{AddrMap, MapRange};
-use ds_base::{Bytes, Kind, List, NoMemory, Part, ReadError};
-use dwarf_types::{Addr, Base, Ops, RawFrame, RawLines, RawSpan, Span};
+use ds_base::{Kind, List, NoMemory, Part, ReadError};
+use dwarf_types::{Addr, Base, Ops, RawFrames, RawLines, RawSpan, Span};
 use expr_resolve::{BaseType, ExprContext, read_expression};
 use expr_walk::{new_length, walk};
 use moved_parts::{move_frames, move_lines, move_spans, place, span_pieces};
@@ -173,14 +173,11 @@ fn moved(rt: &impl Abort, alloc: Global) -> Result<(), NoMemory> {
         move_spans(alloc, &map, &[span])?.as_slice(),
         want.as_slice()
     );
-    let mut frames = List::new(alloc);
-    frames.push(RawFrame {
-        at: Addr::Placed(0x20),
-        cie: Bytes::from_slice(alloc, &[4, 5])?,
-        length: 8,
-        code: Bytes::new(alloc),
-    })?;
-    for frame in move_frames(alloc, &map, frames)?.as_slice() {
+    let mut frames = RawFrames::new(alloc);
+    frames.push(&[4, 5], Addr::Placed(0x20), 8, &[])?;
+    let frames = move_frames(alloc, &map, frames)?;
+    for k in 0..frames.len() {
+        let frame = frames.frame(k);
         assert_eq!(rt; (frame.address, frame.length), (0x1_0000_2000, 8));
     }
     let lines = RawLines {

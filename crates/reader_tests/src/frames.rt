@@ -1,14 +1,14 @@
 //! Sections of frames, and their frames or the first fault.
 
 use crate::parts::{assert_refused, no_symbols, sections, two_relocs};
-use ds_base::{Kind, List, Part, ReadError};
-use dwarf_types::{Addr, RawFrame};
+use ds_base::{Kind, Part, ReadError};
+use dwarf_types::{Addr, RawFrames};
 use frame_table::read_frames;
 use std::alloc::Global;
 use std::process::Abort;
 
 /// The frames of a section in which the number at 0x18 is relocated.
-fn read(rt: &impl Abort, alloc: Global, bytes: &[u8]) -> Result<List<RawFrame>, ReadError> {
+fn read(rt: &impl Abort, alloc: Global, bytes: &[u8]) -> Result<RawFrames, ReadError> {
     assert!(rt; bytes.len() < 1000);
     let relocs = two_relocs(alloc, 0x18, 0x1000)?;
     let image = no_symbols(alloc);
@@ -36,10 +36,32 @@ fn a_frame_has_the_content_of_its_cie(rt: HostRuntime) {
         \x14\0\0\0\0\0\0\0\0\0\0\0\0\0\0\0\x2a\0\0\0\0\0\0\0") {
         Ok(frames) => {
             assert_eq!(rt; frames.len(), 1);
-            for frame in frames.as_slice() {
-                assert_eq!(rt; frame.cie.as_slice(), b"\x04\0\x08\0\x01\x78\x1e\0".as_slice());
+            for k in 0..frames.len() {
+                let frame = frames.frame(k);
+                assert_eq!(rt; frame.cie, b"\x04\0\x08\0\x01\x78\x1e\0".as_slice());
                 assert_eq!(rt; (frame.at, frame.length), (Addr::Placed(0), 0x2a));
                 assert_eq!(rt; frame.code.len(), 0);
+            }
+        }
+        Err(error) => panic!(rt; "{error:?}"),
+    }
+}
+
+#[test]
+#[rattlefmt::skip]
+fn frames_of_two_cies_alternate(rt: HostRuntime) {
+    // Two CIEs of 12 bytes, and three FDEs of 24, of which the second names the second CIE.
+    match read(&rt, rt.alloc(), b"\x08\0\0\0\xff\xff\xff\xff\x04\0\x08\0\x08\0\0\0\xff\xff\xff\xff\x04\0\x08\x01\
+        \x14\0\0\0\0\0\0\0\x01\0\0\0\0\0\0\0\x0a\0\0\0\0\0\0\0\
+        \x14\0\0\0\x0c\0\0\0\x02\0\0\0\0\0\0\0\x0b\0\0\0\0\0\0\0\
+        \x14\0\0\0\0\0\0\0\x03\0\0\0\0\0\0\0\x0c\0\0\0\0\0\0\0") {
+        Ok(frames) => {
+            assert_eq!(rt; frames.len(), 3);
+            for k in 0..frames.len() {
+                let frame = frames.frame(k);
+                let last = if k == 1 { 1 } else { 0 };
+                assert_eq!(rt; frame.cie, [4, 0, 8, last].as_slice());
+                assert_eq!(rt; (frame.at, frame.length), (Addr::Fixed(k as u64 + 1), k as u64 + 10));
             }
         }
         Err(error) => panic!(rt; "{error:?}"),
