@@ -11,7 +11,7 @@ use ds_base::dwarf::{
 use ds_base::{BitRow, Bytes, List, NoMemory};
 use dwarf_types::{
     Addr, Analysis, Builder, CodeRange, Entries, FileName, InUnit, InnerOpRef, LocationList,
-    NewValue, Ops, OutLines, Place, RawValue, Sequence, Span,
+    NewValue, Ops, OutFrames, OutLines, Place, RawValue, Sequence, Span,
 };
 use std::alloc::Global;
 
@@ -295,7 +295,7 @@ pub(crate) fn analysis(
         units: List::from_vec(units),
         entries,
         code: List::from_vec(Vec::from_slice(alloc, code)?),
-        frames: List::new(alloc),
+        frames: OutFrames::new(alloc),
     })
 }
 

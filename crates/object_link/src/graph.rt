@@ -1,6 +1,6 @@
 //! The graph that is linked of all objects.
 
-ghost use Rattle.std.specs.Prelude.{◌≡◌, ◌++◌, ◌<◌, ◌≤◌, ◌^◌, ◌-◌, ◌+◌, List as Listed, length, slice_get, Some, IfOk, OnOk};
+ghost use Rattle.std.specs.Prelude.{◌≡◌, ◌<◌, ◌≤◌, ◌^◌, ◌-◌, ◌+◌, List as Listed, length, slice_get, Some, IfOk};
 ghost use Rattle.std.specs.List.{All, flat_map};
 ghost use Rattle.clone_units.specs.Units.{object_of as its_object};
 ghost use Rattle.dwarf_types.specs.declared.analysis.Analysis.{Analysis as Seen};
@@ -13,7 +13,7 @@ use crate::objects::no_entries;
 use crate::refusal::{LimitKind, Refusal};
 use clone_units::{clone_unit_of, object_of};
 use ds_base::{BitRow, List, NoMemory};
-use dwarf_types::{Analysis, Graph, OutFrame, OutUnit, Shape};
+use dwarf_types::{Analysis, Graph, OutFrames, OutUnit, Shape};
 use link_graph::build;
 use std::alloc::Global;
 
@@ -106,39 +106,12 @@ fn unit_of(
 }
 
 /// The frames of all objects.
-fn frames_of(alloc: Global, seen: &[Analysis]) -> Result<List<OutFrame>, NoMemory>
+fn frames_of(alloc: Global, seen: &[Analysis]) -> Result<OutFrames, NoMemory>
     ensures { IfOk result (λ frames. frames ≡ flat_map (λ object. object.frames) seen.now) }
 {
-    let mut frames = List::new(alloc);
+    let mut frames = OutFrames::new(alloc);
     for object in seen {
-        push_frames(alloc, &mut frames, object.frames.as_slice())?;
+        frames.append(&object.frames)?;
     }
     Ok(frames)
-}
-
-/// Puts copies of the frames of an object behind those before them.
-fn push_frames(
-    alloc: Global,
-    frames: &mut List<OutFrame>,
-    more: &[OutFrame],
-) -> Result<(), NoMemory>
-    ensures { OnOk result (frames.new ≡ frames.old ++ more.now) }
-{
-    for frame in more {
-        let copy = copy_of(alloc, frame)?;
-        frames.push(copy)?;
-    }
-    Ok(())
-}
-
-/// A copy of a frame.
-fn copy_of(alloc: Global, frame: &OutFrame) -> Result<OutFrame, NoMemory>
-    ensures { IfOk result (λ copy. copy ≡ frame.now) }
-{
-    Ok(OutFrame {
-        cie: frame.cie.copy(alloc)?,
-        address: frame.address,
-        length: frame.length,
-        code: frame.code.copy(alloc)?,
-    })
 }

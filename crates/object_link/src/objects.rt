@@ -15,7 +15,7 @@ ghost use Rattle.object_link.specs.Passes.{Analyses, Numbered};
 use crate::refusal::Refusal;
 use ar_read::{Members, read_members};
 use ds_base::{Bytes, Fault, List, NoMemory, ReadError};
-use dwarf_types::{Analysis, Entries};
+use dwarf_types::{Analysis, Entries, OutFrames};
 use object_view::analyse;
 use stab_map::MapObject;
 use std::alloc::Global;
@@ -114,7 +114,7 @@ pub(crate) fn no_entries(alloc: Global) -> Analysis
         units: List::new(alloc),
         entries: Entries::new(alloc),
         code: List::new(alloc),
-        frames: List::new(alloc),
+        frames: OutFrames::new(alloc),
     }
 }
 

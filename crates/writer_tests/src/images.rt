@@ -14,7 +14,7 @@ use ds_base::dwarf::{
 use ds_base::{Bytes, List, Part};
 use dsym_write::{image_bytes, plist_text};
 use dwarf_types::{
-    ExprPart, Graph, Node, OutAttr, OutFrame, OutLines, OutLocation, OutUnit, OutValue, Span,
+    ExprPart, Graph, Node, OutAttr, OutFrames, OutLines, OutLocation, OutUnit, OutValue, Span,
 };
 use emit_info::emit_unit;
 use graph_check::is_well;
@@ -253,7 +253,7 @@ fn an_image_has_the_commands_of_its_program_and_the_sections_of_its_graph(rt: Ho
     ];
     let graph = Graph {
         units: one(&rt, alloc, unit(&rt, alloc)),
-        frames: List::new(alloc),
+        frames: OutFrames::new(alloc),
     };
     let image = image_of(&rt, alloc, &program, &graph, &mut [0; 48]);
     begins_with(&rt, image.as_slice(), &front);
@@ -313,13 +313,11 @@ fn full_unit(rt: &impl Abort, alloc: Global) -> OutUnit {
     }
 }
 
-fn frame(rt: &impl Abort, alloc: Global) -> OutFrame {
-    OutFrame {
-        cie: bytes(rt, alloc, &[4, 0, 8, 0, 1, 0x78, 0x1e, 0]),
-        address: 0x1000,
-        length: 0x10,
-        code: Bytes::new(alloc),
-    }
+fn frames(rt: &impl Abort, alloc: Global) -> OutFrames {
+    let mut frames = OutFrames::new(alloc);
+    let put = frames.push(&[4, 0, 8, 0, 1, 0x78, 0x1e, 0], 0x1000, 0x10, &[]);
+    assert!(rt; put.is_ok());
+    frames
 }
 
 // The program has neither segments nor symbols.
@@ -332,7 +330,7 @@ fn eight_sections_stand_one_behind_the_other(rt: HostRuntime) {
     ];
     let graph = Graph {
         units: one(&rt, alloc, full_unit(&rt, alloc)),
-        frames: one(&rt, alloc, frame(&rt, alloc)),
+        frames: frames(&rt, alloc),
     };
     let sections = [
         // __debug_abbrev
