@@ -1,4 +1,4 @@
-//! Units and their entries, as contracts see them.
+//! Units, and what contracts see of their entries: these stand in flat columns (`Entries`, `RawEntries`).
 
 use crate::entries::RawEntries;
 use crate::lines::OutLines;

@@ -1,7 +1,9 @@
 //! Debugging information as values: what is read of an object, the output graph, and its one encoding.
 //!
 //! Layer: ground. The types hold plain data, and contracts see each `Bytes` and `List` in them as a
-//! list, so that a value of a type here is the value that definitions speak of. The encoding of a
+//! list, so that a value of a type here is the value that definitions speak of. What is held by the
+//! million, entries with their values, operations and frames, stands in flat columns that contracts see
+//! as lists of the records here (`specs/Columns.antt`, `specs/Cells.antt`). The encoding of a
 //! graph is a definition alone (`specs/Encode.antt`): sections of DWARF 4, section 7, with this
 //! project's choices (docs/PROFILE.md, "Bytes written"). What every linked graph keeps to is
 //! `specs/Well.antt`. The one table here is that of the operations of expressions
@@ -11,7 +13,6 @@
 mod abbrev;
 mod address;
 mod analysis;
-mod boxed;
 mod builder;
 mod columns;
 mod entries;
@@ -38,7 +39,6 @@ mod value;
 pub use abbrev::{Abbrev, Declaration, Field};
 pub use address::{Addr, Place, Span};
 pub use analysis::{Analysis, CodeRange};
-pub use boxed::Boxed;
 pub use builder::Builder;
 pub use entries::{Entries, RawEntries};
 pub use entry::{Attr, Entry, InUnit, RawAttr, RawEntry, RawUnits};

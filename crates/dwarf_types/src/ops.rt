@@ -106,6 +106,7 @@ impl Ops {
         self.open_from = self.sides.inner.len();
         Ok(())
     }
+
     /// Puts in place what the operand of operation `k` means. Those that were put with `repeat_inner` stand inside it, in
     /// place of those that did.
     pub fn set_operand(

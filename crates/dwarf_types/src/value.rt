@@ -1,18 +1,17 @@
 //! Values of attributes.
 
 use crate::address::{Place, Span};
-use crate::boxed::Boxed;
 use crate::expr::Op;
 use crate::lists::Location;
 use ds_base::{Bytes, List};
 
 /// The value of an attribute, by the class of its form (DWARF 5, section 7.5.5).
 ///
-/// Millions are held at once: a value takes 32 bytes, and an address is boxed for it.
+/// This is what contracts speak of. Values stand in flat columns, and are seen there as `ValueRef`.
 #[derive(Drop)]
 pub enum Value {
     /// Class address.
-    Address(Boxed<Place>),
+    Address(Place),
     /// Class string, without the zero byte that ends it.
     Text(Bytes),
     /// Classes constant and flag, up to 64 bits: the bits, and the form in which they stood. A

@@ -12,7 +12,6 @@ pub mod Names
 pub mod Opening
 pub mod Outlines
 pub mod Ordered
-pub mod Places
 pub mod RawValues
 pub mod SoundAnalysis
 pub mod Refused
