@@ -1,9 +1,29 @@
-use Rattle.std.proofs.Common.{◌≡◌, ◌+◌, ◌<◌, ◌++◌, [], ◌∷◌, ℕ, Option, Some, List, cond, sym, subst}
+use Rattle.std.proofs.Common.{◌≡◌, ◌+◌, ◌<◌, ◌++◌, [], ◌∷◌, ℕ, Option, Some, None, List, cond, get_or, length, sym, subst, ◌∙◌, arith}
 use Rattle.std.specs.Option.{option_map_or}
+use Rattle.std.proofs.lemmas.List.{get_or_default}
+use Rattle.std.proofs.lemmas.Option.{slice_get_within}
 use Rattle.dwarf_types.specs.Live.{keeps_children}
-use Rattle.liveness.specs.ChildTable.{is_wanted}
-use Rattle.liveness.proofs.ChildChains.{HasWalked, next_is_last, walk_ends, walk_falls, walk_goes_on}
+use Rattle.liveness.specs.ChildTable.{IsLastChild, is_wanted}
+use Rattle.liveness.proofs.ChildChains.{HasWalked, next_is_last, walk_begins, walk_ends, walk_falls, walk_goes_on}
 use Rattle.liveness.proofs.needs.push_children.Goals as goal
+
+pub loop-next-init : goal.loop-next-init
+loop-next-init c =
+    let entries = c.args.entries.now in
+    let last = c.args.children.now.last.items in
+    let within : c.args.k < length last = omega (arith, c.requires.place, c.requires.table.last_len) in
+    let is : c.index-next.result.now ≡ get_or last c.args.k None = c.index-next.ensures ∙ get_or_default last c.args.k c.index-next.result.now None within in
+    walk_begins entries c.args.k c.args.out.now.items c.index-next.result.now (subst (IsLastChild entries c.args.k (length entries)) (sym is) (c.requires.table.lasts c.args.k c.requires.place))
+
+pub entry-requires-in-Some : goal.entry-requires-in-Some
+entry-requires-in-Some c =
+    let walked : HasWalked c.args.entries.now c.args.k c.args.out.now.items c.loop-next.out.items (Some c.in-Some.child) = subst (HasWalked c.args.entries.now c.args.k c.args.out.now.items c.loop-next.out.items) c.in-Some.is c.loop-next.invariant in
+    slice_get_within c.args.entries.now c.in-Some.child walked.1.1.0 walked.1.1.1
+
+pub index-next-requires-in-Some : goal.index-next-requires-in-Some
+index-next-requires-in-Some c =
+    let walked : HasWalked c.args.entries.now c.args.k c.args.out.now.items c.loop-next.out.items (Some c.in-Some.child) = subst (HasWalked c.args.entries.now c.args.k c.args.out.now.items c.loop-next.out.items) c.in-Some.is c.loop-next.invariant in
+    omega (arith, slice_get_within c.args.entries.now c.in-Some.child walked.1.1.0 walked.1.1.1, c.requires.table.before_len)
 
 pub loop-next-smaller : goal.loop-next-smaller
 loop-next-smaller c =
