@@ -1,5 +1,5 @@
 -- The pieces of a unit stand together in an object's code.
-use Rattle.std.proofs.Common.{◌≡◌, ℕ, zero, suc, ◌+◌, ◌<◌, ◌≤◌, inl, inr, true, false, cond, ltb, eqb, ◌&&◌, List, [], ◌∷◌, ◌++◌, length, take, drop, map, get_or, slice_get, Option, Some, None, refl, sym, ap, ◌∙◌, arith, append-nil}
+use Rattle.std.proofs.Common.{Bool, if◌then◌else◌, ◌==◌, ◌≡◌, ℕ, zero, suc, ◌+◌, ◌<◌, ◌≤◌, inl, inr, true, false, cond, ltb, eqb, ◌&&◌, List, [], ◌∷◌, ◌++◌, length, take, drop, map, get_or, slice_get, Option, Some, None, refl, sym, ap, ◌∙◌, arith, append-nil}
 use Rattle.std.specs.List.{All, cons_option, filter_map}
 use Rattle.std.specs.List.Sorted.{IsNonDecreasingBy, IsPartitionPoint}
 use Rattle.std.specs.Option.{option_and_then, option_map}
@@ -41,6 +41,19 @@ not_of : (o : Object) (u : ℕ) (unit : InUnit) (piece : CodeRange) → IsSound 
     → (e : Entry) → Stands o.seen.entries piece.entry e → eqb e.unit u ≡ false
 not_of o u unit piece sound is out e at =
     ne_eqb e.unit u (λ same. let lies = unit_has o.seen u unit piece.entry e sound is at same in elim out [ inl lt ↦ omega (arith, lt, lies.from_first) | inr ge ↦ omega (arith, ge, lies.before_end) ])
+
+pair_either : (b : Bool) (piece : CodeRange) → option_map pair_of (if b then Some piece.span else None) ≡ (if b then Some (pair_of piece.span) else None)
+pair_either true piece = refl
+pair_either false piece = refl
+
+pair_found : (o : Object) (u : ℕ) (piece : CodeRange) (found : Option Entry)
+    → option_map pair_of (option_and_then (λ (e : Entry). if e.unit == u && is_kept o piece.entry then Some piece.span else None) found) ≡ option_and_then (λ (unit : ℕ). if unit == u && is_kept o piece.entry then Some (pair_of piece.span) else None) (option_map (λ (e : Entry). e.unit) found)
+pair_found o u piece None = refl
+pair_found o u piece (Some e) = pair_either (e.unit == u && is_kept o piece.entry) piece
+
+-- a piece by the unit of its subprogram alone
+pub pair_by : (o : Object) (u : ℕ) (piece : CodeRange) → pair_in o u piece ≡ option_and_then (λ (unit : ℕ). if unit == u && is_kept o piece.entry then Some (pair_of piece.span) else None) (option_map (λ (e : Entry). e.unit) (slice_get o.seen.entries piece.entry))
+pair_by o u piece = pair_found o u piece (slice_get o.seen.entries piece.entry)
 
 pub none_outside : (o : Object) (u : ℕ) (unit : InUnit) → IsSound o.seen → slice_get o.seen.units u ≡ Some unit → (piece : CodeRange) → IsOutside unit.first (unit.first + unit.count) piece → pair_in o u piece ≡ None
 none_outside o u unit sound is piece out = by (slice_get o.seen.entries piece.entry) (λ e at. not_of o u unit piece sound is out e at)

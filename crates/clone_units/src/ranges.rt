@@ -3,7 +3,7 @@
 ghost use Rattle.std.specs.Prelude.{◌≡◌, ◌≤◌, ℕ, true, false, nat_lt, None, Option, Some, length, slice_get, IfOk};
 ghost use Rattle.std.specs.List.{filter_map};
 ghost use Rattle.std.specs.List.Sorted.{IsNonDecreasingBy, IsPartitionPoint, IsPermutation, IsSorted};
-ghost use Rattle.std.specs.Option.{option_map_or};
+ghost use Rattle.std.specs.Option.{option_map, option_map_or};
 ghost use Rattle.clone_units.specs.Pieces.{IsOutside, object_in, once_behind, pair_cmp, pair_in, same_pair};
 ghost use Rattle.dwarf_types.specs.declared.analysis.CodeRange.{CodeRange as Piece};
 ghost use Rattle.dwarf_types.specs.LinkedGraph.{code_of_unit};
@@ -65,6 +65,7 @@ fn pairs_of(
 }
 
 /// A piece, where its subprogram is one of unit `u` and is written.
+#[tactic(auto, using(crate::proofs::Pieces::pair_by))]
 fn pair_in(
     seen: &Analysis,
     images: &[Option<Target>],
@@ -73,11 +74,19 @@ fn pair_in(
 ) -> Option<(u64, u64)>
     ensures { result ≡ pair_in (object_in seen.now images.now) u piece.now }
 {
-    let entry = seen.entries.get(piece.entry as usize)?;
-    if entry.unit() != u || image_at(images, piece.entry).is_none() {
+    let unit = unit_of(seen, piece.entry)?;
+    if unit != u || image_at(images, piece.entry).is_none() {
         return None;
     }
     Some((piece.span.low, piece.span.high))
+}
+
+/// The number of the unit of an entry, if there is that entry.
+fn unit_of(seen: &Analysis, entry: u32) -> Option<u32>
+    ensures { result ≡ option_map (λ e. e.unit) (slice_get seen.now.entries entry) }
+{
+    let entry = seen.entries.get(entry as usize)?;
+    Some(entry.unit())
 }
 
 /// The pieces of subprograms whose numbers are `first` or more, and below `end`.
