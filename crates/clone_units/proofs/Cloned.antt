@@ -6,6 +6,7 @@ use Rattle.std.specs.Option.{option_and_then, option_map}
 use Rattle.std.proofs.lemmas.Bool.{and_parts, eqb-false, eqb-true, ne_eqb}
 use Rattle.std.proofs.lemmas.List.Elements.{All-filter, All-head, All-tail, filter_passes}
 use Rattle.std.proofs.lemmas.Option.{get_or_from_slice_get, same_Some, slice_get-get_or, slice_get-map, slice_get_cases, slice_get_past, slice_get_within}
+use Rattle.std.proofs.lemmas.List.{length-map}
 use Rattle.std.proofs.lemmas.List.FromFn.{length-enumerate_from}
 use Rattle.clone_values.specs.Images.{image_at}
 use Rattle.dwarf_types.specs.declared.address.Span.{Span}
@@ -19,16 +20,17 @@ use Rattle.dwarf_types.specs.declared.shape.Origin.{Origin}
 use Rattle.dwarf_types.specs.declared.shape.Shape.{Shape}
 use Rattle.dwarf_types.specs.declared.shape.ShapeUnit.{ShapeUnit}
 use Rattle.dwarf_types.specs.LinkedGraph.{closing, code_of_unit, linked, node_of, unit_written}
-use Rattle.dwarf_types.specs.LinkedShape.{IsShape, images_in, marks_in, objects_in, origin_of}
-use Rattle.dwarf_types.specs.LinkedUnits.{Object, Source, image_of, kept_entries, node_number, numbered, parent_node, same_source, sources}
+use Rattle.dwarf_types.specs.LinkedShape.{IsShape, images_in, marks_in, objects_in, origin_of, plain_in}
+use Rattle.dwarf_types.specs.LinkedUnits.{Object, Source, plain_target, kept_entries, node_number, numbered, parent_node, same_source, sources}
 use Rattle.dwarf_types.specs.LinkedValues.{attrs_written}
 use Rattle.dwarf_types.specs.Live.{Stands}
 use Rattle.link_graph.proofs.Gathered.{All-enumerate, enumerate_at}
 use Rattle.link_graph.proofs.Shapes.{Parts, object_parts}
 use Rattle.link_graph.proofs.Stretches.{numbered_at, numbered_length}
-use Rattle.clone_units.specs.Nodes.{node_at, node_with}
+use Rattle.clone_units.specs.Nodes.{IsNamed, node_at, number_of_object}
 use Rattle.clone_units.specs.Pieces.{object_in}
-use Rattle.clone_units.specs.Units.{IsUnitIn, IsUnitOf, number_of_object, object_of, unit_with}
+use Rattle.clone_units.specs.Units.{AreThere, IsUnitOf, Names, unit_with}
+use Rattle.clone_units.proofs.Named.{node_made}
 use Rattle.clone_units.proofs.Sources.{IsFrom, unit_from}
 
 -- ---- where the entries went
@@ -39,15 +41,15 @@ numbers_at o k e at =
     slice_get-get_or (numbered o) k (k, e) (omega (arith, numbered_length o)) ∙ ap (λ (x : ℕ × Entry). Some x) (numbered_at o k (k, e) within ∙ ap (λ (x : Entry). (k, x)) (get_or_from_slice_get o.seen.entries k e e at))
 
 -- the images of an object tell where its entries went
-images_tell : (objects : List Object) (i : ℕ) (o : Object) (images : List (Option Target)) → slice_get objects i ≡ Some o → images ≡ images_in objects (i, o) → image_at images ≡ image_of 0 objects i
+images_tell : (objects : List Object) (i : ℕ) (o : Object) (images : List (Option Target)) → slice_get objects i ≡ Some o → images ≡ images_in objects (i, o) → image_at images ≡ plain_target 0 objects i
 images_tell objects i o images at are = fun_ext (λ k.
-    ap (λ (xs : List (Option Target)). image_at xs k) are ∙ ap (option_and_then (λ (image : Option Target). image)) (slice_get-map (λ (e : ℕ × Entry). image_of 0 objects i e.0) (numbered o) k) ∙ elim (slice_get_cases o.seen.entries k).1 [
-      | inl w ↦ ap (λ (x : Option (ℕ × Entry)). option_and_then (λ (image : Option Target). image) (option_map (λ (e : ℕ × Entry). image_of 0 objects i e.0) x)) (numbers_at o k w.0 w.2)
-      | inr w ↦ ap (λ (x : Option (ℕ × Entry)). option_and_then (λ (image : Option Target). image) (option_map (λ (e : ℕ × Entry). image_of 0 objects i e.0) x)) (slice_get_past (numbered o) k (omega (arith, w.0, numbered_length o)))
+    ap (λ (xs : List (Option Target)). image_at xs k) are ∙ ap (option_and_then (λ (image : Option Target). image)) (slice_get-map (λ (e : ℕ × Entry). plain_target 0 objects i e.0) (numbered o) k) ∙ elim (slice_get_cases o.seen.entries k).1 [
+      | inl w ↦ ap (λ (x : Option (ℕ × Entry)). option_and_then (λ (image : Option Target). image) (option_map (λ (e : ℕ × Entry). plain_target 0 objects i e.0) x)) (numbers_at o k w.0 w.2)
+      | inr w ↦ ap (λ (x : Option (ℕ × Entry)). option_and_then (λ (image : Option Target). image) (option_map (λ (e : ℕ × Entry). plain_target 0 objects i e.0) x)) (slice_get_past (numbered o) k (omega (arith, w.0, numbered_length o)))
           ∙ sym (nowhere k w.1)
     ])
   where
-    nowhere : (k : ℕ) → slice_get o.seen.entries k ≡ None → image_of 0 objects i k ≡ None
+    nowhere : (k : ℕ) → slice_get o.seen.entries k ≡ None → plain_target 0 objects i k ≡ None
     nowhere k none =
         ap (option_and_then (λ (o : Object). option_and_then (λ (e : Entry). option_and_then (λ unit. option_map (λ node. record { unit = 0 + unit; node = node }) (node_number o e.unit k))
         (position (same_source (record { object = i; unit = e.unit })) (sources objects))) (slice_get o.seen.entries k))) at
@@ -55,6 +57,10 @@ images_tell objects i o images at are = fun_ext (λ k.
         (position (same_source (record { object = i; unit = e.unit })) (sources objects)))) none
 
 -- ---- nodes
+
+-- an origin tells its object again
+pub number_back : (i : ℕ) → cond (eqb (i + 1) 0) None (Some (i + 1 - 1)) ≡ Some i
+number_back i = rw (ne_eqb (i + 1) 0 (omega arith)) (ap (λ (n : ℕ). Some n) (omega arith))
 
 pub kept_stand : (o : Object) (u : ℕ) → All (λ e. slice_get o.seen.entries e.0 ≡ Some e.1) (kept_entries o u)
 kept_stand o u = All-filter _ (λ (e : ℕ × Entry). slice_get o.seen.entries e.0 ≡ Some e.1) (numbered o) (All-enumerate o.seen.entries)
@@ -65,19 +71,20 @@ gather_each f origin made (x ∷ xs) each =
     let here : f (origin x) ≡ Some (made x) = All-head (λ y. f (origin y) ≡ Some (made y)) x xs each in
     ap (λ o. cons_option o (filter_map f (map origin xs))) here ∙ ap (λ ys. made x ∷ ys) (gather_each f origin made xs (All-tail (λ y. f (origin y) ≡ Some (made y)) x xs each))
 
-nodes_are : (objects : List Object) (i : ℕ) (o : Object) (u : ℕ) (images : List (Option Target)) → image_at images ≡ image_of 0 objects i
-    → filter_map (node_at o.seen.entries images (code_of_unit o u)) (map (origin_of i o u) (kept_entries o u)) ≡ map (node_of 0 objects i o u) (kept_entries o u)
-nodes_are objects i o u images tell =
-    gather_each (node_at o.seen.entries images spans) (origin_of i o u) (node_of 0 objects i o u) (kept_entries o u) (λ k d lt. each (get_or (kept_entries o u) k d) (kept_stand o u k d lt))
+nodes_are : (objects : List Object) (seen : List Analysis) (images : List (List (Option Target))) (i : ℕ) (o : Object) (u : ℕ) (row : List (Option Target)) → slice_get seen i ≡ Some o.seen → slice_get images i ≡ Some row
+    → image_at row ≡ plain_target 0 objects i
+    → filter_map (node_at seen images (code_of_unit o u)) (map (origin_of i o u) (kept_entries o u)) ≡ map (node_of (plain_target 0 objects i) o u) (kept_entries o u)
+nodes_are objects seen images i o u row there its tell =
+    gather_each (node_at seen images spans) (origin_of i o u) (node_of (plain_target 0 objects i) o u) (kept_entries o u) (λ k d lt. each (get_or (kept_entries o u) k d) (kept_stand o u k d lt))
   where
     spans : List Span
     spans = code_of_unit o u
 
     made : ℕ × Entry → (ℕ → Option Target) → Node
-    made e image = record { parent = parent_node o u e.1; tag = e.1.tag; attrs = attrs_written image e.1 ++ closing e.1 spans }
+    made e image = record { parent = parent_node o u e.1; tag = e.1.tag; attrs = attrs_written image None e.1 ++ closing e.1 spans }
 
-    each : (e : ℕ × Entry) → slice_get o.seen.entries e.0 ≡ Some e.1 → node_at o.seen.entries images spans (origin_of i o u e) ≡ Some (node_of 0 objects i o u e)
-    each e at = ap (option_map (node_with images spans (origin_of i o u e))) at ∙ ap (λ (image : ℕ → Option Target). Some (made e image)) tell
+    each : (e : ℕ × Entry) → slice_get o.seen.entries e.0 ≡ Some e.1 → node_at seen images spans (origin_of i o u e) ≡ Some (node_of (plain_target 0 objects i) o u e)
+    each e at = node_made seen images spans (origin_of i o u e) i o.seen row e.1 (number_back i) there its at ∙ ap (λ (image : ℕ → Option Target). Some (made e image)) tell
 
 -- ---- the unit
 
@@ -97,126 +104,152 @@ root_of i o u root (e ∷ kept) stand units is =
 pub kept_units : (o : Object) (u : ℕ) → All (λ e. e.1.unit ≡ u) (kept_entries o u)
 kept_units o u k d lt = eqb-true _ _ (and_parts _ _ (filter_passes _ (numbered o) k d lt)).0
 
--- an object is told by its images
-object_is : (o : Object) (seen : Analysis) (images : List (Option Target)) → o.seen ≡ seen → o.kept ≡ map is_some images → o ≡ object_in seen images
-object_is o seen images a b = ap (λ (s : Analysis). made s o.kept) a ∙ ap (made seen) b
+-- an object is told by the nodes of its entries
+object_is : (o : Object) (seen : Analysis) (plain : List (Option ℕ)) → o.seen ≡ seen → o.kept ≡ map is_some plain → o ≡ object_in seen plain
+object_is o seen plain a b = ap (λ (s : Analysis). made s o.kept) a ∙ ap (made seen) b
   where
     made : Analysis → List Bool → Object
     made s m = record { seen = s; kept = m }
 
-unit_is : (objects : List Object) (s : Source) (o : Object) (unit : InUnit) (images : List (Option Target)) (entry : Entry) (unit' : InUnit) (origins : List Origin) → o ≡ object_in o.seen images → image_at images ≡ image_of 0 objects s.object
-    → entry.unit ≡ s.unit → unit' ≡ unit → origins ≡ map (origin_of s.object o s.unit) (kept_entries o s.unit) → unit_with o.seen images entry.unit unit' origins ≡ unit_written 0 objects s o unit
-unit_is objects s o unit images entry unit' origins same tell u units are =
-    ap (λ (v : ℕ). unit_with o.seen images v unit' origins) u ∙ ap (λ (w : InUnit). unit_with o.seen images s.unit w origins) units ∙ ap (unit_with o.seen images s.unit unit) are
-    ∙ ap (λ (x : Object). made (filter_map (node_at o.seen.entries images (code_of_unit x s.unit)) (map (origin_of s.object o s.unit) (kept_entries o s.unit))) (code_of_unit x s.unit)) (sym same)
-    ∙ ap (λ (ns : List Node). made ns (code_of_unit o s.unit)) (nodes_are objects s.object o s.unit images tell)
+unit_is : (objects : List Object) (seen : List Analysis) (images : List (List (Option Target))) (s : Source) (o : Object) (unit : InUnit) (plain : List (Option ℕ)) (row : List (Option Target)) (entry : Entry) (unit' : InUnit) (origins : List Origin)
+    → o ≡ object_in o.seen plain → slice_get seen s.object ≡ Some o.seen → slice_get images s.object ≡ Some row → image_at row ≡ plain_target 0 objects s.object
+    → entry.unit ≡ s.unit → unit' ≡ unit → origins ≡ map (origin_of s.object o s.unit) (kept_entries o s.unit)
+    → unit_with seen images o.seen plain entry.unit unit' origins ≡ unit_written (plain_target 0 objects s.object) o s.unit unit
+unit_is objects seen images s o unit plain row entry unit' origins same there its tell u units are =
+    ap (λ (v : ℕ). unit_with seen images o.seen plain v unit' origins) u ∙ ap (λ (w : InUnit). unit_with seen images o.seen plain s.unit w origins) units ∙ ap (unit_with seen images o.seen plain s.unit unit) are
+    ∙ ap (λ (x : Object). made (filter_map (node_at seen images (code_of_unit x s.unit)) (map (origin_of s.object o s.unit) (kept_entries o s.unit))) (code_of_unit x s.unit)) (sym same)
+    ∙ ap (λ (ns : List Node). made ns (code_of_unit o s.unit)) (nodes_are objects seen images s.object o s.unit row there its tell)
   where
     made : List Node → List Span → OutUnit
     made nodes spans = record { version = unit.version; nodes = nodes; lines = unit.lines; ranges = spans }
 
--- the analysis, the images and the unit that the root names
-pub cloned : (seen : List Analysis) (shape : Shape) (n : ℕ) (unit : ShapeUnit) (root : Origin) (object : ℕ) (a : Analysis) (images : List (Option Target)) (it : OutUnit) → IsShape seen shape → slice_get shape.units n ≡ Some unit
-    → slice_get unit.nodes 0 ≡ Some root → root.object ≡ object + 1 → slice_get shape.images object ≡ Some images → slice_get seen object ≡ Some a → IsUnitOf a images root.entry unit.nodes it
-    → slice_get (linked (objects_in seen shape)).units n ≡ Some it
-cloned seen shape n unit root object a images it is at first counted its_images its_seen of = from.linked_is ∙ ap (λ (made : OutUnit). Some made) (sym whole)
-  where
-    objects : List Object
-    objects = objects_in seen shape
-
-    from : IsFrom objects n unit
-    from = unit_from objects n unit (sym (ap (λ (x : Shape). slice_get x.units n) is.is) ∙ at)
-
-    s : Source
-    s = from.source
-
-    o : Object
-    o = from.is.object
-
-    origins : unit.nodes ≡ map (origin_of s.object o s.unit) (kept_entries o s.unit)
-    origins = ap (λ (x : ShapeUnit). x.nodes) from.shape_is
-
-    root_is : IsRootOf s.object o s.unit root
-    root_is = root_of s.object o s.unit root (kept_entries o s.unit) (kept_stand o s.unit) (kept_units o s.unit) (sym (ap (λ (os : List Origin). slice_get os 0) origins) ∙ first)
-
-    numbers : s.object ≡ object
-    numbers = omega (arith, counted, root_is.object)
-
-    parts : Parts seen (marks_in shape) s.object o
-    parts = object_parts seen (marks_in shape) s.object o is.marked.each from.is.at
-
-    seen_is : o.seen ≡ a
-    seen_is = same_Some o.seen a (sym parts.analysis ∙ ap (slice_get seen) numbers ∙ its_seen)
-
-    kept_is : o.kept ≡ map is_some images
-    kept_is = same_Some o.kept (map is_some images) (sym parts.marked ∙ slice_get-map (map is_some) shape.images s.object ∙ ap (option_map (map is_some)) (ap (slice_get shape.images) numbers ∙ its_images))
-
-    object_at : slice_get (enumerate_from 0 objects) s.object ≡ Some (s.object, o)
-    object_at =
-        let within : s.object < length objects = slice_get_within objects s.object o from.is.at in
-        slice_get-get_or (enumerate_from 0 objects) s.object (s.object, o) (omega (arith, length-enumerate_from 0 objects))
-        ∙ ap (λ (x : ℕ × Object). Some x) (enumerate_at objects s.object (s.object, o) within ∙ ap (λ (x : Object). (s.object, x)) (get_or_from_slice_get objects s.object o o from.is.at))
-
-    images_are : images ≡ images_in objects (s.object, o)
-    images_are = same_Some images (images_in objects (s.object, o))
-        (sym its_images ∙ ap (slice_get shape.images) (sym numbers) ∙ ap (λ (x : Shape). slice_get x.images s.object) is.is ∙ slice_get-map (images_in objects) (enumerate_from 0 objects) s.object ∙ ap (option_map (images_in objects)) object_at)
-
-    entry_is : of.entry ≡ root_is.entry
-    entry_is = same_Some of.entry root_is.entry (sym of.stands ∙ ap (λ (x : Analysis). slice_get x.entries root.entry) (sym seen_is) ∙ root_is.stands)
-
-    its_number : of.entry.unit ≡ s.unit
-    its_number = ap (λ (e : Entry). e.unit) entry_is ∙ root_is.unit
-
-    its_unit : of.unit ≡ from.is.unit
-    its_unit = same_Some of.unit from.is.unit (sym of.its_unit ∙ ap (λ (x : Analysis). slice_get x.units of.entry.unit) (sym seen_is) ∙ ap (slice_get o.seen.units) its_number ∙ from.is.is)
-
-    whole : it ≡ unit_written 0 objects s o from.is.unit
-    whole = of.is ∙ ap (λ (x : Analysis). unit_with x images of.entry.unit of.unit unit.nodes) (sym seen_is)
-        ∙ unit_is objects s o from.is.unit images of.entry of.unit unit.nodes (object_is o o.seen images refl kept_is) (images_tell objects s.object o images from.is.at images_are) its_number its_unit origins
-
--- ---- the unit, whichever the other objects are
+-- ---- the object of a unit of a shape
 
 pub counted_by : (k object : ℕ) (b : Bool) → eqb k 0 ≡ b → cond b None (Some (k - 1)) ≡ Some object → k ≡ object + 1
 counted_by k object true t e = absurd cc
 counted_by k object false t e = omega (arith, same_Some (k - 1) object e, eqb-false k 0 t)
 
-pub cloned_of : (a : Analysis) (shape : Shape) (n : ℕ) (unit : ShapeUnit) (root : Origin) (object : ℕ) (images : List (Option Target)) (it : OutUnit) → slice_get shape.units n ≡ Some unit
-    → slice_get unit.nodes 0 ≡ Some root → number_of_object root ≡ Some object → slice_get shape.images object ≡ Some images → IsUnitOf a images root.entry unit.nodes it → IsUnitIn a shape n it
-cloned_of a shape n unit root object images it at first number its_images of seen is its =
-    cloned seen shape n unit root object a images it is at first (counted_by root.object object (eqb root.object 0) refl number) its_images (sym (ap (option_and_then (slice_get seen)) named) ∙ its) of
-  where
-    named : object_of shape n ≡ Some object
-    named = ap (option_and_then (λ (u : ShapeUnit). option_and_then number_of_object (slice_get u.nodes 0))) at ∙ ap (option_and_then number_of_object) first ∙ number
+-- the unit of a shape is one of an object, for whose entries all its nodes stand
+module _ (all : List Analysis) (shape : Shape) (n : ℕ) (unit : ShapeUnit) (is : IsShape all shape) (at : slice_get shape.units n ≡ Some unit) where
+  abbrev objects : List Object
+  objects = objects_in all shape
 
--- ---- the object of a unit of a shape
+  pub from : IsFrom objects n unit
+  from = unit_from objects n unit (sym (ap (λ (x : Shape). slice_get x.units n) is.is) ∙ at)
 
--- it has a number, which is that of an analysis
-pub record IsNamed (seen : List Analysis) (shape : Shape) (n : ℕ) : Type 0 where
-  pub object : ℕ
-  pub analysis : Analysis
-  pub named : object_of shape n ≡ Some object
-  pub stands : slice_get seen object ≡ Some analysis
+  abbrev i : ℕ
+  i = from.source.object
 
-first_named : (i : ℕ) (o : Object) (u : ℕ) (kept : List (ℕ × Entry)) → eqb (length kept) 0 ≡ false → option_and_then number_of_object (slice_get (map (origin_of i o u) kept) 0) ≡ Some i
-first_named i o u [] some = absurd cc
-first_named i o u (e ∷ kept) some = rw (ne_eqb (i + 1) 0 (omega arith)) (ap (λ (n : ℕ). Some n) (omega arith))
+  abbrev u : ℕ
+  u = from.source.unit
 
-named_unit : (seen : List Analysis) (shape : Shape) (n : ℕ) (unit : ShapeUnit) → IsShape seen shape → slice_get shape.units n ≡ Some unit → IsNamed seen shape n
-named_unit seen shape n unit is at =
-    let objects = objects_in seen shape in
-    let from = unit_from objects n unit (sym (ap (λ (x : Shape). slice_get x.units n) is.is) ∙ at) in
-    let s = from.source in
-    let o = from.is.object in
-    let origins : unit.nodes ≡ map (origin_of s.object o s.unit) (kept_entries o s.unit) = ap (λ (x : ShapeUnit). x.nodes) from.shape_is in
-    record {
-      object = s.object;
-      analysis = o.seen;
-      named = ap (option_and_then (λ (x : ShapeUnit). option_and_then number_of_object (slice_get x.nodes 0))) at ∙ ap (λ (os : List Origin). option_and_then number_of_object (slice_get os 0)) origins
-          ∙ first_named s.object o s.unit (kept_entries o s.unit) from.is.some;
-      stands = (object_parts seen (marks_in shape) s.object o is.marked.each from.is.at).analysis;
-    }
+  abbrev pub o : Object
+  o = from.is.object
 
-pub is_named : (seen : List Analysis) (shape : Shape) (n : ℕ) → IsShape seen shape → n < length shape.units → IsNamed seen shape n
-is_named seen shape n is lt = elim (slice_get_cases shape.units n).1 [
-  | inl w ↦ named_unit seen shape n w.0 is w.2
-  | inr w ↦ absurd (omega (arith, w.0, lt))
-]
+  pub origins : unit.nodes ≡ map (origin_of i o u) (kept_entries o u)
+  origins = ap (λ (x : ShapeUnit). x.nodes) from.shape_is
+
+  pub parts : Parts all (marks_in shape) i o
+  parts = object_parts all (marks_in shape) i o is.marked.each from.is.at
+
+  within : i < length objects
+  within = slice_get_within objects i o from.is.at
+
+  object_at : slice_get (enumerate_from 0 objects) i ≡ Some (i, o)
+  object_at = slice_get-get_or (enumerate_from 0 objects) i (i, o) (omega (arith, within, length-enumerate_from 0 objects))
+      ∙ ap (λ (x : ℕ × Object). Some x) (enumerate_at objects i (i, o) within ∙ ap (λ (x : Object). (i, x)) (get_or_from_slice_get objects i o o from.is.at))
+
+  pub images_there : slice_get shape.images i ≡ Some (images_in objects (i, o))
+  images_there = ap (λ (x : Shape). slice_get x.images i) is.is ∙ slice_get-map (images_in objects) (enumerate_from 0 objects) i ∙ ap (option_map (images_in objects)) object_at
+
+  pub plain_there : slice_get shape.plain i ≡ Some (plain_in o)
+  plain_there = ap (λ (x : Shape). slice_get x.plain i) is.is ∙ slice_get-map plain_in objects i ∙ ap (option_map plain_in) from.is.at
+
+  kept_is : o.kept ≡ map is_some (plain_in o)
+  kept_is = same_Some o.kept (map is_some (plain_in o)) (sym parts.marked ∙ slice_get-map (map is_some) shape.plain i ∙ ap (option_map (map is_some)) plain_there)
+
+  -- each node
+  node_from : (k : ℕ) (origin : Origin) → slice_get unit.nodes k ≡ Some origin → (e : ℕ × Entry) × (slice_get (kept_entries o u) k ≡ Some e) × (origin ≡ origin_of i o u e)
+  node_from k origin there =
+      let found = sym (slice_get-map (origin_of i o u) (kept_entries o u) k) ∙ sym (ap (λ (os : List Origin). slice_get os k) origins) ∙ there in
+      mapped (slice_get (kept_entries o u) k) origin refl found
+    where
+      mapped : (x : Option (ℕ × Entry)) (origin : Origin) → slice_get (kept_entries o u) k ≡ x → option_map (origin_of i o u) x ≡ Some origin → (e : ℕ × Entry) × (slice_get (kept_entries o u) k ≡ Some e) × (origin ≡ origin_of i o u e)
+      mapped None origin is found = absurd cc
+      mapped (Some e) origin is found = (e, is, sym (same_Some _ origin found))
+
+  pub names_one : (object : ℕ) → Names shape n object → object ≡ i
+  names_one object names =
+      let same = same_Some names.unit unit (sym names.its ∙ at) in
+      let from_entry = node_from names.node names.origin (ap (λ (x : ShapeUnit). slice_get x.nodes names.node) (sym same) ∙ names.stands) in
+      same_Some object i (sym names.number ∙ ap number_of_object from_entry.2 ∙ number_back i)
+
+  -- a node names it
+  pub names_it : (k : ℕ) (origin : Origin) → slice_get unit.nodes k ≡ Some origin → Names shape n i
+  names_it k origin there =
+      let from_entry = node_from k origin there in
+      record { unit = unit; its = at; node = k; origin = origin; stands = there; number = ap number_of_object from_entry.2 ∙ number_back i }
+
+  module _ (seen : List Analysis) (there : AreThere shape n all seen) where
+    its_seen : (k : ℕ) (origin : Origin) → slice_get unit.nodes k ≡ Some origin → slice_get seen i ≡ Some o.seen
+    its_seen k origin stands = there i (names_it k origin stands) ∙ parts.analysis
+
+    pub named_at : (k : ℕ) (origin : Origin) → slice_get unit.nodes k ≡ Some origin → IsNamed seen shape.images origin
+    named_at k origin stands =
+        let e = node_from k origin stands in
+        let entry = kept_stand o u k e.0 (slice_get_within (kept_entries o u) k e.0 e.1) in
+        let entry_is = subst (λ (x : ℕ × Entry). slice_get o.seen.entries x.0 ≡ Some x.1) (get_or_from_slice_get (kept_entries o u) k e.0 e.0 e.1) entry in
+        record {
+          object = i;
+          number = ap number_of_object e.2 ∙ number_back i;
+          analysis = o.seen;
+          stands = its_seen k origin stands;
+          inside = subst (λ (x : Origin). x.entry < length o.seen.entries) (sym e.2) (slice_get_within o.seen.entries e.0.0 e.0.1 entry_is);
+          row = slice_get_within shape.images i (images_in objects (i, o)) images_there;
+        }
+
+    pub all_named : All (IsNamed seen shape.images) unit.nodes
+    all_named k d lt = named_at k (get_or unit.nodes k d) (slice_get-get_or unit.nodes k d lt)
+
+    -- the root's object, and what it has
+    pub record IsRooted (root : Origin) (object : ℕ) : Type 0 where
+      pub own : slice_get seen object ≡ Some o.seen
+      pub own_of_all : slice_get all object ≡ Some o.seen
+      pub inside : root.entry < length o.seen.entries
+      pub plain : slice_get shape.plain object ≡ Some (plain_in o)
+
+    pub rooted : (root : Origin) (object : ℕ) → slice_get unit.nodes 0 ≡ Some root → number_of_object root ≡ Some object → IsRooted root object
+    rooted root object first number =
+        let e = node_from 0 root first in
+        let same : i ≡ object = same_Some i object (sym (ap number_of_object e.2 ∙ number_back i) ∙ number) in
+        let entry = kept_stand o u 0 e.0 (slice_get_within (kept_entries o u) 0 e.0 e.1) in
+        let entry_is = subst (λ (x : ℕ × Entry). slice_get o.seen.entries x.0 ≡ Some x.1) (get_or_from_slice_get (kept_entries o u) 0 e.0 e.0 e.1) entry in
+        record {
+          own = ap (slice_get seen) (sym same) ∙ its_seen 0 root first;
+          own_of_all = ap (slice_get all) (sym same) ∙ parts.analysis;
+          inside = subst (λ (x : Origin). x.entry < length o.seen.entries) (sym e.2) (slice_get_within o.seen.entries e.0.0 e.0.1 entry_is);
+          plain = ap (slice_get shape.plain) (sym same) ∙ plain_there;
+        }
+
+    pub has_root : 0 < length unit.nodes
+    has_root = omega (arith, ap length origins, length-map (kept_entries o u) (origin_of i o u), eqb-false (length (kept_entries o u)) 0 from.is.some)
+
+    pub cloned : (root : Origin) (it : OutUnit) → slice_get unit.nodes 0 ≡ Some root → IsUnitOf seen shape.images o.seen (plain_in o) root.entry unit.nodes it → slice_get (linked objects).units n ≡ Some it
+    cloned root it first of = from.linked_is ∙ ap (λ (made : OutUnit). Some made) (sym whole)
+      where
+        root_is : IsRootOf i o u root
+        root_is = root_of i o u root (kept_entries o u) (kept_stand o u) (kept_units o u) (sym (ap (λ (os : List Origin). slice_get os 0) origins) ∙ first)
+
+        entry_is : of.entry ≡ root_is.entry
+        entry_is = same_Some of.entry root_is.entry (sym of.stands ∙ root_is.stands)
+
+        its_number : of.entry.unit ≡ u
+        its_number = ap (λ (e : Entry). e.unit) entry_is ∙ root_is.unit
+
+        its_unit : of.unit ≡ from.is.unit
+        its_unit = same_Some of.unit from.is.unit (sym of.its_unit ∙ ap (slice_get o.seen.units) its_number ∙ from.is.is)
+
+        whole : it ≡ unit_written (plain_target 0 objects i) o u from.is.unit
+        whole = of.is
+            ∙ unit_is objects seen shape.images from.source o from.is.unit (plain_in o) (images_in objects (i, o)) of.entry of.unit unit.nodes (object_is o o.seen (plain_in o) refl kept_is) (its_seen 0 root first) images_there
+            (images_tell objects i o (images_in objects (i, o)) from.is.at refl) its_number its_unit origins

@@ -9,8 +9,9 @@ use Rattle.dwarf_types.specs.declared.shape.Shape.{Shape}
 use Rattle.dwarf_types.specs.declared.shape.ShapeUnit.{ShapeUnit}
 use Rattle.dwarf_types.specs.LinkedShape.{IsShape, objects_in}
 use Rattle.dwarf_types.specs.LinkedUnits.{Object, Source, kept_entries, sources, sources_in}
-use Rattle.clone_units.specs.Units.{number_of_object, object_of}
-use Rattle.clone_units.proofs.Cloned.{counted_by, kept_stand, kept_units, root_of}
+use Rattle.clone_units.specs.Nodes.{number_of_object}
+use Rattle.clone_units.specs.Units.{Names, object_of}
+use Rattle.clone_units.proofs.Cloned.{counted_by, kept_stand, kept_units, names_one, root_of}
 use Rattle.clone_units.proofs.Sources.{all_same, unit_from}
 
 -- ---- sources
@@ -66,3 +67,11 @@ objects_rise seen shape u a b is e f =
     let s = source_at seen shape u a is e in
     let t = source_at seen shape (u + 1) b is f in
     omega (arith, rises_on 0 u (u + 1) (sources (objects_in seen shape)) s.0 t.0 refl (sources_rise 0 (objects_in seen shape)) s.1 t.1, s.2, t.2)
+
+-- all nodes of a unit stand for entries of one object, which its root names
+pub one_object : (seen : List Analysis) (shape : Shape) (u a b : ℕ) → IsShape seen shape → object_of shape u ≡ Some a → Names shape u b → b ≡ a
+one_object seen shape u a b is e names =
+    let unit = some_of (λ (it : ShapeUnit). option_and_then number_of_object (slice_get it.nodes 0)) (slice_get shape.units u) a e in
+    let root = some_of number_of_object (slice_get unit.0.nodes 0) a unit.2 in
+    let first : Names shape u a = record { unit = unit.0; its = unit.1; node = 0; origin = root.0; stands = root.1; number = root.2 } in
+    names_one seen shape u names.unit is names.its b names ∙ sym (names_one seen shape u names.unit is names.its a first)

@@ -8,7 +8,7 @@ use Rattle.dwarf_types.specs.declared.entry.InUnit.{InUnit}
 use Rattle.dwarf_types.specs.declared.shape.ShapeUnit.{ShapeUnit}
 use Rattle.dwarf_types.specs.LinkedGraph.{linked, unit_written, written}
 use Rattle.dwarf_types.specs.LinkedShape.{shape_in, unit_shape}
-use Rattle.dwarf_types.specs.LinkedUnits.{Object, Source, kept_entries, sources, sources_in}
+use Rattle.dwarf_types.specs.LinkedUnits.{Object, Source, kept_entries, plain_target, sources, sources_in}
 use Rattle.link_graph.proofs.Gathered.{All-enumerate, All-filter_map, All-flat_map}
 
 -- ---- gathered from a list that gives something at each element
@@ -61,8 +61,8 @@ all_same n o =
 shape_of_source : (objects : List Object) (s : Source) (h : IsSource objects s) → shape_in objects s ≡ Some (unit_shape s h.object h.unit)
 shape_of_source objects s h = ap (option_and_then (λ (x : Object). option_map (unit_shape s x) (slice_get x.seen.units s.unit))) h.at ∙ ap (option_map (unit_shape s h.object)) h.is
 
-written_of_source : (objects : List Object) (s : Source) (h : IsSource objects s) → written 0 objects s ≡ Some (unit_written 0 objects s h.object h.unit)
-written_of_source objects s h = ap (option_and_then (λ (x : Object). option_map (unit_written 0 objects s x) (slice_get x.seen.units s.unit))) h.at ∙ ap (option_map (unit_written 0 objects s h.object)) h.is
+written_of_source : (objects : List Object) (s : Source) (h : IsSource objects s) → written (plain_target 0 objects) objects s ≡ Some (unit_written (plain_target 0 objects s.object) h.object s.unit h.unit)
+written_of_source objects s h = ap (option_and_then (λ (x : Object). option_map (unit_written (plain_target 0 objects s.object) x s.unit) (slice_get x.seen.units s.unit))) h.at ∙ ap (option_map (unit_written (plain_target 0 objects s.object) h.object s.unit)) h.is
 
 -- ---- one unit
 
@@ -72,7 +72,7 @@ pub record IsFrom (objects : List Object) (n : ℕ) (shape : ShapeUnit) : Type 0
   pub at : slice_get (sources objects) n ≡ Some source
   pub is : IsSource objects source
   pub shape_is : shape ≡ unit_shape source is.object is.unit
-  pub linked_is : slice_get (linked objects).units n ≡ Some (unit_written 0 objects source is.object is.unit)
+  pub linked_is : slice_get (linked objects).units n ≡ Some (unit_written (plain_target 0 objects source.object) is.object source.unit is.unit)
 
 pub unit_from : (objects : List Object) (n : ℕ) (shape : ShapeUnit) → slice_get (filter_map (shape_in objects) (sources objects)) n ≡ Some shape → IsFrom objects n shape
 unit_from objects n shape at = elim (slice_get_cases (sources objects) n).1 [
@@ -84,7 +84,7 @@ unit_from objects n shape at = elim (slice_get_cases (sources objects) n).1 [
         at = w.2;
         is = h;
         shape_is = same_Some shape (unit_shape s h.object h.unit) found;
-        linked_is = units ∙ ap (option_and_then (written 0 objects)) w.2 ∙ written_of_source objects s h;
+        linked_is = units ∙ ap (option_and_then (written (plain_target 0 objects) objects)) w.2 ∙ written_of_source objects s h;
       })
   | inr w ↦ absurd (let none : None ≡ Some shape = sym (shapes ∙ ap (option_and_then (shape_in objects)) w.1) ∙ at in cc)
 ]
@@ -92,5 +92,5 @@ unit_from objects n shape at = elim (slice_get_cases (sources objects) n).1 [
     shapes : slice_get (filter_map (shape_in objects) (sources objects)) n ≡ option_and_then (shape_in objects) (slice_get (sources objects) n)
     shapes = filter_map_at (shape_in objects) (sources objects) (All-weaker (IsSource objects) (λ s. is_some (shape_in objects s) ≡ true) (λ s h. ap is_some (shape_of_source objects s h)) (sources objects) (all_sources objects)) n
 
-    units : slice_get (filter_map (written 0 objects) (sources objects)) n ≡ option_and_then (written 0 objects) (slice_get (sources objects) n)
-    units = filter_map_at (written 0 objects) (sources objects) (All-weaker (IsSource objects) (λ s. is_some (written 0 objects s) ≡ true) (λ s h. ap is_some (written_of_source objects s h)) (sources objects) (all_sources objects)) n
+    units : slice_get (filter_map (written (plain_target 0 objects) objects) (sources objects)) n ≡ option_and_then (written (plain_target 0 objects) objects) (slice_get (sources objects) n)
+    units = filter_map_at (written (plain_target 0 objects) objects) (sources objects) (All-weaker (IsSource objects) (λ s. is_some (written (plain_target 0 objects) objects s) ≡ true) (λ s h. ap is_some (written_of_source objects s h)) (sources objects) (all_sources objects)) n

@@ -6,13 +6,12 @@ use Rattle.std.specs.declared.cmp.Ordering.{Ordering}
 use Rattle.dwarf_types.specs.declared.address.Span.{Span}
 use Rattle.dwarf_types.specs.declared.analysis.Analysis.{Analysis}
 use Rattle.dwarf_types.specs.declared.analysis.CodeRange.{CodeRange}
-use Rattle.dwarf_types.specs.declared.graph.Target.{Target}
 use Rattle.dwarf_types.specs.LinkedGraph.{piece_in}
 use Rattle.dwarf_types.specs.LinkedUnits.{Object}
 
--- an object by its analysis and the images of its entries
-abbrev pub object_in : Analysis → List (Option Target) → Object
-object_in seen images = record { seen = seen; kept = map is_some images }
+-- an object by its analysis and the nodes of its entries
+abbrev pub object_in : Analysis → List (Option ℕ) → Object
+object_in seen plain = record { seen = seen; kept = map is_some plain }
 
 abbrev pub pair_of : Span → ℕ × ℕ
 pair_of span = (span.low, span.high)

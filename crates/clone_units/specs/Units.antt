@@ -1,8 +1,8 @@
--- A unit by its object and by the entries for which its nodes stand.
-use Rattle.std.specs.Prelude.{◌≡◌, ℕ, ◌-◌, ◌==◌, List, slice_get, Option, Some, None, if◌then◌else◌}
-use Rattle.std.specs.List.{filter_map}
+-- A unit by the entries for which its nodes stand.
+use Rattle.std.specs.Prelude.{◌≡◌, ℕ, List, slice_get, Option, Some}
+use Rattle.std.specs.List.{All, filter_map}
 use Rattle.std.specs.Option.{option_and_then}
-use Rattle.clone_units.specs.Nodes.{node_at}
+use Rattle.clone_units.specs.Nodes.{node_at, number_of_object}
 use Rattle.clone_units.specs.Pieces.{object_in}
 use Rattle.dwarf_types.specs.declared.analysis.Analysis.{Analysis}
 use Rattle.dwarf_types.specs.declared.entry.Entry.{Entry}
@@ -11,36 +11,54 @@ use Rattle.dwarf_types.specs.declared.graph.OutUnit.{OutUnit}
 use Rattle.dwarf_types.specs.declared.graph.Target.{Target}
 use Rattle.dwarf_types.specs.declared.shape.Origin.{Origin}
 use Rattle.dwarf_types.specs.declared.shape.Shape.{Shape}
+use Rattle.dwarf_types.specs.declared.shape.ShapeUnit.{ShapeUnit}
 use Rattle.dwarf_types.specs.LinkedGraph.{code_of_unit, linked}
 use Rattle.dwarf_types.specs.LinkedShape.{IsShape, objects_in}
 use Rattle.dwarf_types.specs.Live.{Stands}
+use Rattle.dwarf_types.specs.Sound.{IsSound}
 
--- unit u of an object
-abbrev pub unit_with : Analysis → List (Option Target) → ℕ → InUnit → List Origin → OutUnit
-unit_with seen images u unit origins =
+-- unit u of an object, the nodes of whose entries are known
+abbrev pub unit_with : List Analysis → List (List (Option Target)) → Analysis → List (Option ℕ) → ℕ → InUnit → List Origin → OutUnit
+unit_with seen images own plain u unit origins =
     record {
       version = unit.version;
-      nodes = filter_map (node_at seen.entries images (code_of_unit (object_in seen images) u)) origins;
+      nodes = filter_map (node_at seen images (code_of_unit (object_in own plain) u)) origins;
       lines = unit.lines;
-      ranges = code_of_unit (object_in seen images) u;
+      ranges = code_of_unit (object_in own plain) u;
     }
 
--- the unit in which an entry stands
-pub record IsUnitOf (seen : Analysis) (images : List (Option Target)) (k : ℕ) (origins : List Origin) (it : OutUnit) : Type 0 where
+-- the unit in which entry k of an object stands
+pub record IsUnitOf (seen : List Analysis) (images : List (List (Option Target))) (own : Analysis) (plain : List (Option ℕ)) (k : ℕ) (origins : List Origin) (it : OutUnit) : Type 0 where
   pub entry : Entry
-  pub stands : Stands seen.entries k entry
+  pub stands : Stands own.entries k entry
   pub unit : InUnit
-  pub its_unit : slice_get seen.units entry.unit ≡ Some unit
-  pub is : it ≡ unit_with seen images entry.unit unit origins
+  pub its_unit : slice_get own.units entry.unit ≡ Some unit
+  pub is : it ≡ unit_with seen images own plain entry.unit unit origins
 
--- the object of a unit of a shape, which its root names: origins count objects from 1
-abbrev pub number_of_object : Origin → Option ℕ
-number_of_object node = if node.object == 0 then None else Some (node.object - 1)
-
+-- the object of a unit of a shape, which its root names
 abbrev pub object_of : Shape → ℕ → Option ℕ
 object_of shape u = option_and_then (λ unit. option_and_then number_of_object (slice_get unit.nodes 0)) (slice_get shape.units u)
 
--- unit u of what is linked of all objects, whichever they are, as long as this is its own
-abbrev pub IsUnitIn : Analysis → Shape → ℕ → OutUnit → Type 0
-IsUnitIn object shape u it =
-    (seen : List Analysis) → IsShape seen shape → option_and_then (slice_get seen) (object_of shape u) ≡ Some object → slice_get (linked (objects_in seen shape)).units u ≡ Some it
+-- a node of unit u stands for an entry of an object
+pub record Names (shape : Shape) (u object : ℕ) : Type 0 where
+  pub unit : ShapeUnit
+  pub its : slice_get shape.units u ≡ Some unit
+  pub node : ℕ
+  pub origin : Origin
+  pub stands : slice_get unit.nodes node ≡ Some origin
+  pub number : number_of_object origin ≡ Some object
+
+-- of all analyses those that unit u needs are there
+abbrev pub AreThere : Shape → ℕ → List Analysis → List Analysis → Type 0
+AreThere shape u all seen = (object : ℕ) → Names shape u object → slice_get seen object ≡ slice_get all object
+
+-- the shape is one of sound analyses, of which those are there
+pub record Holds (seen : List Analysis) (shape : Shape) (u : ℕ) : Type 0 where
+  pub all : List Analysis
+  pub is_shape : IsShape all shape
+  pub sound : All IsSound all
+  pub there : AreThere shape u all seen
+
+-- unit u of what is linked of all analyses, whichever the others are
+abbrev pub IsUnitIn : List Analysis → Shape → ℕ → OutUnit → Type 0
+IsUnitIn seen shape u it = (all : List Analysis) → IsShape all shape → AreThere shape u all seen → slice_get (linked (objects_in all shape)).units u ≡ Some it

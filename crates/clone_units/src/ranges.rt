@@ -1,6 +1,6 @@
 //! The addresses of a unit's code.
 
-ghost use Rattle.std.specs.Prelude.{◌≡◌, ◌≤◌, ℕ, true, false, nat_lt, None, Option, Some, length, slice_get, IfOk};
+ghost use Rattle.std.specs.Prelude.{◌≡◌, ◌≤◌, ℕ, true, false, nat_lt, None, Option, Some, is_some, length, map, slice_get, IfOk};
 ghost use Rattle.std.specs.List.{filter_map};
 ghost use Rattle.std.specs.List.Sorted.{IsNonDecreasingBy, IsPartitionPoint, IsPermutation, IsSorted};
 ghost use Rattle.std.specs.Option.{option_map, option_map_or};
@@ -9,24 +9,23 @@ ghost use Rattle.dwarf_types.specs.declared.analysis.CodeRange.{CodeRange as Pie
 ghost use Rattle.dwarf_types.specs.LinkedGraph.{code_of_unit};
 ghost use Rattle.dwarf_types.specs.Sound.{IsSound};
 
-use clone_values::image_at;
 use ds_base::{List, NoMemory};
-use dwarf_types::{Analysis, CodeRange, InUnit, Span, Target};
+use dwarf_types::{Analysis, CodeRange, InUnit, Span};
 use std::alloc::Global;
 
 /// The pieces of the code of unit `u`'s subprograms that are written, in order and each once.
 pub(crate) fn ranges_of(
     alloc: Global,
     seen: &Analysis,
-    images: &[Option<Target>],
+    plain: &[Option<u32>],
     u: u32,
     unit: &InUnit,
 ) -> Result<List<Span>, NoMemory>
     requires sound { IsSound seen.now }
     requires unit { slice_get seen.now.units u ≡ Some unit.now }
-    ensures { IfOk result (λ spans. spans ≡ code_of_unit (object_in seen.now images.now) u) }
+    ensures { IfOk result (λ spans. spans ≡ code_of_unit (object_in seen.now plain.now) u) }
 {
-    let mut pairs = pairs_of(alloc, seen, images, u, unit)?;
+    let mut pairs = pairs_of(alloc, seen, plain, u, unit)?;
     sort_pairs(&mut pairs);
     let spans = once(alloc, &pairs)?;
     Ok(spans)
@@ -44,20 +43,20 @@ fn sort_pairs(pairs: &mut Vec<(u64, u64)>)
 fn pairs_of(
     alloc: Global,
     seen: &Analysis,
-    images: &[Option<Target>],
+    plain: &[Option<u32>],
     u: u32,
     unit: &InUnit,
 ) -> Result<Vec<(u64, u64)>, NoMemory>
     requires sound { IsSound seen.now }
     requires unit { slice_get seen.now.units u ≡ Some unit.now }
-    ensures { IfOk result (λ pairs. pairs.items ≡ filter_map (pair_in (object_in seen.now images.now) u) seen.now.code) }
+    ensures { IfOk result (λ pairs. pairs.items ≡ filter_map (pair_in (object_in seen.now plain.now) u) seen.now.code) }
 {
     let first = u64::from(unit.first);
     let end = first + u64::from(unit.count);
     let pieces = pieces_within(seen.code.as_slice(), first, end);
     let mut pairs = Vec::new(alloc);
     for piece in pieces {
-        if let Some(pair) = pair_in(seen, images, u, piece) {
+        if let Some(pair) = pair_in(seen, plain, u, piece) {
             pairs.push(pair)?;
         }
     }
@@ -66,19 +65,24 @@ fn pairs_of(
 
 /// A piece, where its subprogram is one of unit `u` and is written.
 #[tactic(auto, using(crate::proofs::Pieces::pair_by))]
-fn pair_in(
-    seen: &Analysis,
-    images: &[Option<Target>],
-    u: u32,
-    piece: &CodeRange,
-) -> Option<(u64, u64)>
-    ensures { result ≡ pair_in (object_in seen.now images.now) u piece.now }
+fn pair_in(seen: &Analysis, plain: &[Option<u32>], u: u32, piece: &CodeRange) -> Option<(u64, u64)>
+    ensures { result ≡ pair_in (object_in seen.now plain.now) u piece.now }
 {
     let unit = unit_of(seen, piece.entry)?;
-    if unit != u || image_at(images, piece.entry).is_none() {
+    if unit != u || !is_written(plain, piece.entry) {
         return None;
     }
     Some((piece.span.low, piece.span.high))
+}
+
+/// Whether an entry has a node.
+fn is_written(plain: &[Option<u32>], entry: u32) -> bool
+    ensures { result ≡ option_map_or (λ b. b) (slice_get (map is_some plain.now) entry) false }
+{
+    match plain.get(entry as usize) {
+        Some(node) => node.is_some(),
+        None => false,
+    }
 }
 
 /// The number of the unit of an entry, if there is that entry.

@@ -1,2 +1,3 @@
-pub mod Images
 pub mod Cut
+pub mod Files
+pub mod Images

@@ -1,36 +1,42 @@
 //! The attributes of an entry.
 
-ghost use Rattle.std.specs.Prelude.{◌≡◌, ◌||◌, ◌&&◌, is_none, IfOk};
+ghost use Rattle.std.specs.Prelude.{◌≡◌, ◌==◌, ◌||◌, ◌&&◌, ℕ, Option, Some, if◌then◌else◌, is_none, IfOk};
+ghost use Rattle.clone_values.specs.Files.{number_in, numbers_of};
 ghost use Rattle.clone_values.specs.Images.{image_at};
-ghost use Rattle.dwarf_types.specs.LinkedValues.{attr_written, attrs_written};
+ghost use Rattle.dwarf_types.specs.declared.entry.Entry.{Entry};
+ghost use Rattle.dwarf_types.specs.declared.graph.Target.{Target as Node};
+ghost use Rattle.dwarf_types.specs.LinkedValues.{attr_written, attrs_written, file_written, value_written};
 ghost use Rattle.dwarf_types.specs.Seen.{attr_seen};
 ghost use Rattle.dwarf_types.specs.WellNodes.{is_dropped};
 ghost use Rattle.dwarf_types.specs.WellRoots.{is_code_range};
 
+use crate::files::{Files, renumbered};
 use crate::value::value_written;
 use ds_base::dwarf::{
-    DW_AT_addr_base, DW_AT_high_pc, DW_AT_loclists_base, DW_AT_low_pc, DW_AT_ranges,
-    DW_AT_rnglists_base, DW_AT_sibling, DW_AT_str_offsets_base,
+    DW_AT_addr_base, DW_AT_decl_file, DW_AT_high_pc, DW_AT_loclists_base, DW_AT_low_pc,
+    DW_AT_ranges, DW_AT_rnglists_base, DW_AT_sibling, DW_AT_str_offsets_base,
 };
 use ds_base::{List, NoMemory};
-use dwarf_types::{AttrRef, EntryRef, OutAttr, Target};
+use dwarf_types::{AttrRef, EntryRef, OutAttr, OutValue, Target, ValueRef};
 use std::alloc::Global;
 
 /// What an entry says where it is written: its attributes in order, moved to the linked program, or dropped.
 ///
-/// `images` tells where each entry of the object went. A dropped attribute speaks of how the input was laid out, has an
-/// address that did not move, a list with nothing left or a reference to an entry that is not written, or is the length
-/// of code whose low_pc did not move. A root's own addresses are dropped, since its unit's ranges stand for them.
+/// `images` tells where references to each entry of the object lead, and `files` how the output unit numbers source
+/// files. A dropped attribute speaks of how the input was laid out, has an address that did not move, a list with
+/// nothing left, a reference to an entry that is not written or a file that the output unit lacks, or is the length of
+/// code whose low_pc did not move. A root's own addresses are dropped, since its unit's ranges stand for them.
 pub fn attrs_of(
     alloc: Global,
     images: &[Option<Target>],
+    files: &Files,
     entry: &EntryRef,
 ) -> Result<List<OutAttr>, NoMemory>
-    ensures { IfOk result (λ attrs. attrs ≡ attrs_written (image_at images.now) entry.now) }
+    ensures { IfOk result (λ attrs. attrs ≡ attrs_written (image_at images.now) (numbers_of files.now) entry.now) }
 {
     let mut attrs = List::with_capacity(alloc, entry.len())?;
     for j in 0..entry.len() {
-        if let Some(written) = attr_written(alloc, images, entry, &entry.attr(j))? {
+        if let Some(written) = attr_written(alloc, images, files, entry, &entry.attr(j))? {
             attrs.push(written)?;
         }
     }
@@ -41,20 +47,64 @@ pub fn attrs_of(
 fn attr_written(
     alloc: Global,
     images: &[Option<Target>],
+    files: &Files,
     entry: &EntryRef,
     attr: &AttrRef,
 ) -> Result<Option<OutAttr>, NoMemory>
-    ensures { IfOk result (λ it. it ≡ attr_written (image_at images.now) entry.now (attr_seen attr.now)) }
+    ensures { IfOk result (λ it. it ≡ attr_written (image_at images.now) (numbers_of files.now) entry.now (attr_seen attr.now)) }
 {
     if is_left_out(entry, attr.name) {
         return Ok(None);
     }
-    match value_written(alloc, images, entry, attr)? {
+    match said(alloc, images, files, entry, attr)? {
         Some(value) => Ok(Some(OutAttr {
             name: attr.name,
             value,
         })),
         None => Ok(None),
+    }
+}
+
+/// What an attribute of an entry says, where it is written.
+fn said(
+    alloc: Global,
+    images: &[Option<Target>],
+    files: &Files,
+    entry: &EntryRef,
+    attr: &AttrRef,
+) -> Result<Option<OutValue>, NoMemory>
+    ensures { IfOk result (λ it. it ≡ (if attr.now.name == DW_AT_decl_file then file_written (image_at images.now) (numbers_of files.now) entry.now (attr_seen attr.now) (attr_seen attr.now).value else value_written (image_at images.now) entry.now (attr_seen attr.now) (attr_seen attr.now).value)) }
+{
+    if attr.name == DW_AT_decl_file {
+        file_said(alloc, images, files, entry, attr)
+    } else {
+        value_written(alloc, images, entry, attr)
+    }
+}
+
+/// What the number of a source file is in the output.
+fn file_said(
+    alloc: Global,
+    images: &[Option<Target>],
+    files: &Files,
+    entry: &EntryRef,
+    attr: &AttrRef,
+) -> Result<Option<OutValue>, NoMemory>
+    ensures { IfOk result (λ it. it ≡ file_written (image_at images.now) (numbers_of files.now) entry.now (attr_seen attr.now) (attr_seen attr.now).value) }
+{
+    match files {
+        Files::Own => value_written(alloc, images, entry, attr),
+        Files::Others(numbers) => Ok(file_written(numbers, attr)),
+    }
+}
+
+/// The number of a source file, where the output unit's line table has the file.
+fn file_written(numbers: &[Option<u32>], attr: &AttrRef) -> Option<OutValue>
+    ensures { (image : ℕ → Option Node) (e : Entry) → result ≡ file_written image (Some (number_in numbers.now)) e (attr_seen attr.now) (attr_seen attr.now).value }
+{
+    match attr.value {
+        ValueRef::Number { bits, .. } => renumbered(numbers, bits),
+        _ => None,
     }
 }
 

@@ -9,6 +9,7 @@
 
 mod attributes;
 mod expression;
+mod files;
 mod images;
 mod inside;
 mod operands;
@@ -17,5 +18,6 @@ mod typed;
 mod value;
 
 pub use attributes::attrs_of;
+pub use files::Files;
 pub use images::image_at;
 pub use value::copy_of_spans;

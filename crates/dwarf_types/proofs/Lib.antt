@@ -15,3 +15,4 @@ pub mod WorkedGraph
 pub mod WorkedLinked
 pub mod WorkedParts
 pub mod WorkedUnits
+pub mod Marks

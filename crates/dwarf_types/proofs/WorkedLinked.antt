@@ -1,6 +1,6 @@
 -- Objects and what is linked of them.
-use Rattle.std.proofs.Common.{◌≡◌, ℕ, true, false, List, [], ◌∷◌, Option, Some, None, refl}
-use Rattle.ds_base.specs.declared.dwarf.TheConstants.{DW_TAG_base_type, DW_TAG_compile_unit, DW_TAG_GNU_call_site, DW_TAG_structure_type, DW_TAG_subprogram, DW_TAG_variable, DW_AT_byte_size, DW_AT_const_value, DW_AT_external, DW_AT_frame_base, DW_AT_high_pc, DW_AT_language, DW_AT_location, DW_AT_low_pc, DW_AT_macro_info, DW_AT_name, DW_AT_ranges, DW_AT_sibling, DW_AT_type, DW_FORM_data1, DW_FORM_data2, DW_FORM_data4, DW_FORM_flag_present}
+use Rattle.std.proofs.Common.{◌≡◌, ◌==◌, if◌then◌else◌, ℕ, true, false, List, [], ◌∷◌, Option, Some, None, refl}
+use Rattle.ds_base.specs.declared.dwarf.TheConstants.{DW_TAG_base_type, DW_TAG_compile_unit, DW_TAG_GNU_call_site, DW_TAG_namespace, DW_TAG_structure_type, DW_TAG_subprogram, DW_TAG_variable, DW_AT_byte_size, DW_AT_const_value, DW_AT_decl_file, DW_AT_external, DW_AT_frame_base, DW_AT_high_pc, DW_AT_language, DW_AT_location, DW_AT_low_pc, DW_AT_macro_info, DW_AT_name, DW_AT_ranges, DW_AT_sibling, DW_AT_type, DW_FORM_data1, DW_FORM_data2, DW_FORM_data4, DW_FORM_flag_present, DW_FORM_udata}
 use Rattle.dwarf_types.specs.declared.address.Addr.TheVariants as addrs
 use Rattle.dwarf_types.specs.declared.address.Span.{Span}
 use Rattle.dwarf_types.specs.declared.entry.Attr.{Attr}
@@ -12,15 +12,19 @@ use Rattle.dwarf_types.specs.declared.graph.Node.{Node}
 use Rattle.dwarf_types.specs.declared.graph.OutAttr.{OutAttr}
 use Rattle.dwarf_types.specs.declared.graph.OutValue.{OutValue}
 use Rattle.dwarf_types.specs.declared.graph.OutValue.TheVariants as out
+use Rattle.dwarf_types.specs.declared.graph.Target.{Target}
 use Rattle.dwarf_types.specs.declared.parts.ExprPart.TheVariants as parts
 use Rattle.dwarf_types.specs.declared.parts.PlainPart.TheVariants as plain
 use Rattle.dwarf_types.specs.declared.shape.Shape.{Shape}
 use Rattle.dwarf_types.specs.declared.value.Value.{Value}
 use Rattle.dwarf_types.specs.declared.value.Value.TheVariants as values
+use Rattle.dwarf_types.specs.Kept.{kept_of}
 use Rattle.dwarf_types.specs.LinkedGraph.{linked}
 use Rattle.dwarf_types.specs.LinkedShape.{shaped}
 use Rattle.dwarf_types.specs.LinkedUnits.{Object}
+use Rattle.dwarf_types.specs.LinkedValues.{attrs_written}
 use Rattle.dwarf_types.specs.Operations.{has_no_operands, operands_of}
+use Rattle.dwarf_types.specs.Tree.{lineage}
 use Rattle.dwarf_types.proofs.WorkedGraph.{code, function, graph, m_c, main, unit}
 
 attr : ℕ → Value → Attr
@@ -159,6 +163,7 @@ shape = record {
             ∷ record { object = 1; entry = 4; parent = Some 1 } ∷ record { object = 1; entry = 5; parent = Some 0 } ∷ [];
       }
       ∷ record { version = 4; nodes = record { object = 2; entry = 0; parent = None } ∷ record { object = 2; entry = 1; parent = Some 0 } ∷ [] } ∷ [];
+  plain = (Some 0 ∷ None ∷ Some 1 ∷ Some 2 ∷ Some 3 ∷ Some 4 ∷ None ∷ []) ∷ (Some 0 ∷ Some 1 ∷ []) ∷ [];
   images =
       (Some (record { unit = 0; node = 0 }) ∷ None ∷ Some (record { unit = 0; node = 1 }) ∷ Some (record { unit = 0; node = 2 }) ∷ Some (record { unit = 0; node = 3 }) ∷ Some (record { unit = 0; node = 4 }) ∷ None ∷ [])
       ∷ (Some (record { unit = 1; node = 0 }) ∷ Some (record { unit = 1; node = 1 }) ∷ []) ∷ [];
@@ -167,3 +172,29 @@ shape = record {
 shaped_both : shaped (two_units ∷ one_function ∷ []) ≡ shape
 unfolding attr address root entry text m_c main code one_function op at convert entry_value span two_units shape
 shaped_both = refl
+
+-- ---- two namespaces with a merged structure each, and a function in the second
+
+spaces : List Entry
+spaces =
+    root 0 [] ∷ entry 0 0 DW_TAG_namespace [] ∷ entry 0 1 DW_TAG_structure_type []
+    ∷ entry 0 0 DW_TAG_namespace [] ∷ entry 0 3 DW_TAG_structure_type [] ∷ entry 0 3 DW_TAG_subprogram [] ∷ entry 0 3 DW_TAG_subprogram [] ∷ []
+
+kept_spaces : kept_of spaces (true ∷ true ∷ true ∷ true ∷ true ∷ true ∷ false ∷ []) (false ∷ true ∷ true ∷ true ∷ true ∷ false ∷ false ∷ []) ≡ true ∷ false ∷ false ∷ true ∷ false ∷ true ∷ false ∷ []
+unfolding root entry spaces lineage
+kept_spaces = refl
+
+-- a reference may lead to a unit before those of the objects, whose line table has its own numbers
+of_another : ℕ → Option Target
+of_another k = Some (record { unit = 0; node = k })
+
+a_member : Entry
+a_member = entry 0 0 DW_TAG_structure_type (attr DW_AT_type (values.Ref 5) ∷ attr DW_AT_decl_file (values.Number DW_FORM_data1 3) ∷ attr DW_AT_decl_file (values.Number DW_FORM_data1 4) ∷ [])
+
+written_elsewhere : attrs_written of_another (Some (λ n. if n == 3 then Some 1 else None)) a_member ≡ says DW_AT_type (out.Ref (record { unit = 0; node = 5 })) ∷ says DW_AT_decl_file (out.Number DW_FORM_udata 1) ∷ []
+unfolding attr root entry of_another a_member says
+written_elsewhere = refl
+
+written_here : attrs_written of_another None a_member ≡ says DW_AT_type (out.Ref (record { unit = 0; node = 5 })) ∷ says DW_AT_decl_file (out.Number DW_FORM_data1 3) ∷ says DW_AT_decl_file (out.Number DW_FORM_data1 4) ∷ []
+unfolding attr root entry of_another a_member says
+written_here = refl

@@ -10,6 +10,7 @@ pub mod Forms
 pub mod FrameColumns
 pub mod Frames
 pub mod Gathered
+pub mod Kept
 pub mod Layout
 pub mod LineProgram
 pub mod LineTable
@@ -22,8 +23,8 @@ pub mod Lists
 pub mod Live
 pub mod Moves
 pub mod Operations
-pub mod PlaceSteps
 pub mod Places
+pub mod PlaceSteps
 pub mod Put
 pub mod Raw
 pub mod SectionBytes
@@ -32,6 +33,7 @@ pub mod SeenFrames
 pub mod Sound
 pub mod Spelled
 pub mod SpelledOperands
+pub mod Tree
 pub mod Values
 pub mod Well
 pub mod WellLines

@@ -10,7 +10,8 @@ use Rattle.dwarf_types.specs.declared.graph.Graph.{Graph}
 use Rattle.dwarf_types.specs.declared.graph.Node.{Node}
 use Rattle.dwarf_types.specs.declared.graph.OutAttr.{OutAttr}
 use Rattle.dwarf_types.specs.declared.graph.OutUnit.{OutUnit}
-use Rattle.dwarf_types.specs.LinkedUnits.{Object, Source, image_of, is_kept, kept_entries, parent_node, sources}
+use Rattle.dwarf_types.specs.declared.graph.Target.{Target}
+use Rattle.dwarf_types.specs.LinkedUnits.{Object, Source, is_kept, kept_entries, parent_node, plain_target, sources}
 use Rattle.dwarf_types.specs.LinkedValues.{attrs_written}
 use Rattle.dwarf_types.specs.WellRoots.{closing_pair}
 
@@ -44,29 +45,35 @@ code_of_unit o u = in_order (filter_map (piece_in o u) o.seen.code)
 abbrev pub closing : Entry → List Span → List OutAttr
 closing e spans = if is_none e.parent then (if length spans == 0 then [] else closing_pair spans) else []
 
-abbrev pub node_of : ℕ → List Object → ℕ → Object → ℕ → ℕ × Entry → Node
-node_of first objects object o u e =
+-- the node of an entry in its own unit, by the image of each entry of its object
+abbrev pub node_of : (ℕ → Option Target) → Object → ℕ → ℕ × Entry → Node
+node_of image o u e =
     record {
       parent = parent_node o u e.1;
       tag = e.1.tag;
-      attrs = attrs_written (image_of first objects object) e.1 ++ closing e.1 (code_of_unit o u);
+      attrs = attrs_written image None e.1 ++ closing e.1 (code_of_unit o u);
     }
 
 -- ---- units
 
-abbrev pub unit_written : ℕ → List Object → Source → Object → InUnit → OutUnit
-unit_written first objects source o unit =
+abbrev pub unit_written : (ℕ → Option Target) → Object → ℕ → InUnit → OutUnit
+unit_written image o u unit =
     record {
       version = unit.version;
-      nodes = map (node_of first objects source.object o source.unit) (kept_entries o source.unit);
+      nodes = map (node_of image o u) (kept_entries o u);
       lines = unit.lines;
-      ranges = code_of_unit o source.unit;
+      ranges = code_of_unit o u;
     }
 
-abbrev pub written : ℕ → List Object → Source → Option OutUnit
-written first objects source =
-    option_and_then (λ o. option_map (unit_written first objects source o) (slice_get o.seen.units source.unit)) (slice_get objects source.object)
+-- by the image of each entry of each object
+abbrev pub written : (ℕ → ℕ → Option Target) → List Object → Source → Option OutUnit
+written image objects source =
+    option_and_then (λ o. option_map (unit_written (image source.object) o source.unit) (slice_get o.seen.units source.unit)) (slice_get objects source.object)
 
--- the units of all objects, the first of which has number 0, and the frames that they keep
+-- The units of all objects behind some others, and the frames that the objects keep. An image tells where a reference to an entry leads: to its own node, or to one in the units before.
+abbrev pub linked_behind : List OutUnit → (ℕ → ℕ → Option Target) → List Object → Graph
+linked_behind units image objects = record { units = units ++ filter_map (written image objects) (sources objects); frames = flat_map (λ o. o.seen.frames) objects }
+
+-- where nothing is merged, a reference leads to the entry's own node
 abbrev pub linked : List Object → Graph
-linked objects = record { units = filter_map (written 0 objects) (sources objects); frames = flat_map (λ o. o.seen.frames) objects }
+linked objects = linked_behind [] (plain_target 0 objects) objects

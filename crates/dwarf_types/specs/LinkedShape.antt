@@ -1,4 +1,4 @@
--- The shape of the linked graph: its units with the entry for which each node stands, and where each entry of the objects went.
+-- The shape of the linked graph: its units with the entry for which each node stands, the node of each entry, and where references to each lead.
 use Rattle.std.specs.Prelude.{◌≡◌, ℕ, ◌+◌, Bool, List, map, length, slice_get, Option, is_some}
 use Rattle.std.specs.List.{All, enumerate_from, filter_map, zip}
 use Rattle.std.specs.Option.{option_and_then, option_map}
@@ -9,7 +9,7 @@ use Rattle.dwarf_types.specs.declared.graph.Target.{Target}
 use Rattle.dwarf_types.specs.declared.shape.Origin.{Origin}
 use Rattle.dwarf_types.specs.declared.shape.Shape.{Shape}
 use Rattle.dwarf_types.specs.declared.shape.ShapeUnit.{ShapeUnit}
-use Rattle.dwarf_types.specs.LinkedUnits.{Object, Source, image_of, kept_entries, numbered, parent_node, sources}
+use Rattle.dwarf_types.specs.LinkedUnits.{Object, Source, kept_entries, node_number, numbered, parent_node, plain_target, sources}
 
 -- ---- objects
 
@@ -32,18 +32,26 @@ unit_shape source o unit = record { version = unit.version; nodes = map (origin_
 abbrev pub shape_in : List Object → Source → Option ShapeUnit
 shape_in objects source = option_and_then (λ o. option_map (unit_shape source o) (slice_get o.seen.units source.unit)) (slice_get objects source.object)
 
--- where the entries of an object went
+-- the node of each entry of an object in its own unit, if it has one
+abbrev pub plain_in : Object → List (Option ℕ)
+plain_in o = map (λ e. node_number o e.1.unit e.0) (numbered o)
+
+-- where references to the entries of an object lead
 abbrev pub images_in : List Object → ℕ × Object → List (Option Target)
-images_in objects o = map (λ e. image_of 0 objects o.0 e.0) (numbered o.1)
+images_in objects o = map (λ e. plain_target 0 objects o.0 e.0) (numbered o.1)
 
 abbrev pub shaped : List Object → Shape
-shaped objects = record { units = filter_map (shape_in objects) (sources objects); images = map (images_in objects) (enumerate_from 0 objects) }
+shaped objects = record {
+  units = filter_map (shape_in objects) (sources objects);
+  plain = map plain_in objects;
+  images = map (images_in objects) (enumerate_from 0 objects);
+}
 
 -- ---- the objects of a shape
 
--- which entries have a node
+-- which entries have a node in their own unit
 abbrev pub marks_in : Shape → List (List Bool)
-marks_in shape = map (λ images. map is_some images) shape.images
+marks_in shape = map (λ plain. map is_some plain) shape.plain
 
 abbrev pub objects_in : List Analysis → Shape → List Object
 objects_in seen shape = objects_of seen (marks_in shape)

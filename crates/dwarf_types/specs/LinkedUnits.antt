@@ -46,8 +46,8 @@ node_number o u k = position (λ e. e.0 == k) (kept_entries o u)
 abbrev pub parent_node : Object → ℕ → Entry → Option ℕ
 parent_node o u e = option_and_then (node_number o u) e.parent
 
--- where entry k of an object went, if it has a node; the first of these units has a number in the output
-abbrev pub image_of : ℕ → List Object → ℕ → ℕ → Option Target
-image_of first objects object k =
+-- where the node of entry k of an object stands, if it has one in its own unit; the first of these units has a number in the output
+abbrev pub plain_target : ℕ → List Object → ℕ → ℕ → Option Target
+plain_target first objects object k =
     option_and_then (λ o. option_and_then (λ e. option_and_then (λ unit. option_map (λ node. record { unit = first + unit; node = node }) (node_number o e.unit k))
     (position (same_source (record { object = object; unit = e.unit })) (sources objects))) (slice_get o.seen.entries k)) (slice_get objects object)

@@ -2,7 +2,7 @@
 use Rattle.std.specs.Prelude.{ℕ, ◌==◌, ◌&&◌, ◌||◌, not, Bool, List, [], ◌∷◌, Option, Some, None, is_none, is_some, if◌then◌else◌}
 use Rattle.std.specs.List.{filter_map, list_all}
 use Rattle.std.specs.Option.{option_map}
-use Rattle.ds_base.specs.declared.dwarf.TheConstants.{DW_AT_high_pc}
+use Rattle.ds_base.specs.declared.dwarf.TheConstants.{DW_AT_decl_file, DW_AT_high_pc, DW_FORM_udata}
 use Rattle.dwarf_types.specs.declared.entry.Attr.{Attr}
 use Rattle.dwarf_types.specs.declared.entry.Entry.{Entry}
 use Rattle.dwarf_types.specs.declared.expr.Op.{Op}
@@ -34,6 +34,10 @@ unless_empty made (x ∷ xs) = Some (made (x ∷ xs))
 abbrev pub loses_low_pc : Entry → Attr → Bool
 loses_low_pc e a = a.name == DW_AT_high_pc && not (low_pc_moves e)
 
+-- what each number of a source file becomes where the output unit's line table isn't that of the entry's unit
+abbrev pub FileNumbers : Type 0
+FileNumbers = Option (ℕ → Option ℕ)
+
 -- what an entry's attribute says in the output, by the image of each entry of its object
 module _ (image : ℕ → Option Target) where
   -- an item whose expression has an address that didn't move is dropped
@@ -57,8 +61,15 @@ module _ (image : ℕ → Option Target) where
   abbrev pub is_left_out : Entry → ℕ → Bool
   is_left_out e name = is_dropped name || (is_none e.parent && is_code_range name)
 
-  abbrev pub attr_written : Entry → Attr → Option OutAttr
-  attr_written e a = if is_left_out e a.name then None else option_map (λ value. record { name = a.name; value = value }) (value_written e a a.value)
+  abbrev pub file_written : FileNumbers → Entry → Attr → Value → Option OutValue
+  file_written None e a value = value_written e a value
+  file_written (Some number) e a (values.Number form bits) = option_map (λ n. out.Number DW_FORM_udata n) (number bits)
+  file_written (Some number) e a value = None
 
-  abbrev pub attrs_written : Entry → List OutAttr
-  attrs_written e = filter_map (attr_written e) e.attrs
+  abbrev pub attr_written : FileNumbers → Entry → Attr → Option OutAttr
+  attr_written files e a =
+      if is_left_out e a.name then None
+      else option_map (λ value. record { name = a.name; value = value }) (if a.name == DW_AT_decl_file then file_written files e a a.value else value_written e a a.value)
+
+  abbrev pub attrs_written : FileNumbers → Entry → List OutAttr
+  attrs_written files e = filter_map (attr_written files e) e.attrs

@@ -1,4 +1,4 @@
-//! The shape of a linked graph: which entry each node stands for, and where each entry went.
+//! The shape of a linked graph: which entry each node stands for, which node each entry has, and where references lead.
 
 use crate::graph::Target;
 use ds_base::List;
@@ -22,11 +22,13 @@ pub struct ShapeUnit {
     pub nodes: List<Origin>,
 }
 
-/// The units of a linked graph, and the node of each entry of each object, if it has one.
+/// The units of a linked graph, the node of each entry, and where a reference to it leads.
 #[derive(Drop)]
 pub struct Shape {
     /// In the order of the output.
     pub units: List<ShapeUnit>,
-    /// Of each object, entry by entry.
+    /// Of each object, entry by entry: the number of its node in its own unit, if it has one there.
+    pub plain: List<List<Option<u32>>>,
+    /// Of each object, entry by entry: the node to which a reference to it leads, if there is one.
     pub images: List<List<Option<Target>>>,
 }

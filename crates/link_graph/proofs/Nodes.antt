@@ -1,21 +1,20 @@
--- The nodes of a unit and the images of its entries, entry by entry.
+-- The nodes of a unit and their numbers, entry by entry.
 use Rattle.std.proofs.Common.{◌≡◌, ℕ, ◌+◌, ◌<◌, ◌≤◌, ◌-◌, Bool, true, false, cond, eqb, List, [], ◌∷◌, ◌++◌, length, map, drop, get_or, slice_get, Option, Some, None, inl, inr, refl, sym, ap, subst, ◌∙◌, arith, append_assoc, length-append}
 use Rattle.std.specs.List.{filter, position}
-use Rattle.std.specs.Option.{option_and_then, option_map, option_map_or}
+use Rattle.std.specs.Option.{option_and_then, option_map_or}
 use Rattle.std.proofs.lemmas.List.{take-take, map-append, length-map, get_or-append-add, get_or-map}
 use Rattle.std.proofs.lemmas.List.Elements.{filter-append}
 use Rattle.std.proofs.lemmas.List.Sums.{count_by-le-length, length-filter}
 use Rattle.std.proofs.lemmas.Option.{get_or_from_slice_get, same_Some, slice_get-get_or, slice_get_cases}
 use Rattle.dwarf_types.specs.declared.entry.Entry.{Entry}
 use Rattle.dwarf_types.specs.declared.entry.InUnit.{InUnit}
-use Rattle.dwarf_types.specs.declared.graph.Target.{Target}
 use Rattle.dwarf_types.specs.declared.shape.Origin.{Origin}
 use Rattle.dwarf_types.specs.declared.shape.ShapeUnit.{ShapeUnit}
 use Rattle.dwarf_types.specs.Live.{Stands}
 use Rattle.dwarf_types.specs.LinkedShape.{origin_of}
 use Rattle.dwarf_types.specs.LinkedUnits.{Object, is_kept, kept_entries, node_number, numbered, parent_node}
 use Rattle.dwarf_types.specs.Sound.{IsParent, IsSound}
-use Rattle.link_graph.specs.Passes.{entries_of, image_with, images_in_unit, is_kept_one, nodes_in, nodes_with, parent_in, stretch, unit_in, unit_at}
+use Rattle.link_graph.specs.Passes.{entries_of, is_kept_one, nodes_in, nodes_with, parent_in, plain_in_unit, plain_with, stretch, unit_in, unit_at}
 use Rattle.link_graph.proofs.Positions.{position_kept}
 use Rattle.link_graph.proofs.Stretches.{entries_are, kept_stretch, stretch_at, stretch_length, stretch_more, stretch_numbered}
 use Rattle.link_graph.proofs.Units.{unit_of, unit_spans}
@@ -49,9 +48,9 @@ number_of_entry o u unit n sound is lt = elim (slice_get_cases o.seen.entries (u
         ∙ ap (λ (xs : List (ℕ × Entry)). cond (is_kept o (unit.first + n)) (Some (length (filter (is_kept_one o) xs))) None) (take-take n unit.count (drop unit.first (numbered o)) (omega arith))
 
 -- the node of an entry's parent, which stands before it in the unit
-pub parent_known : (o : Object) (number u : ℕ) (unit : InUnit) (n : ℕ) (e : Entry) (old : List (Option Target)) → IsSound o.seen → slice_get o.seen.units u ≡ Some unit → n < unit.count
-    → Stands o.seen.entries (unit.first + n) e → length old ≡ unit.first → parent_in (old ++ images_in_unit number o u (stretch o unit.first n)) e.parent ≡ parent_node o u e
-parent_known o number u unit n e old sound is lt at len = by e.parent (subst (λ (v : InUnit). IsParent v (unit.first + n) e.parent) its (sound.entries (unit.first + n) e at).parent)
+pub parent_known : (o : Object) (u : ℕ) (unit : InUnit) (n : ℕ) (e : Entry) (old : List (Option ℕ)) → IsSound o.seen → slice_get o.seen.units u ≡ Some unit → n < unit.count
+    → Stands o.seen.entries (unit.first + n) e → length old ≡ unit.first → parent_in (old ++ plain_in_unit o u (stretch o unit.first n)) e.parent ≡ parent_node o u e
+parent_known o u unit n e old sound is lt at len = by e.parent (subst (λ (v : InUnit). IsParent v (unit.first + n) e.parent) its (sound.entries (unit.first + n) e at).parent)
   where
     ends : unit.first + unit.count ≤ length o.seen.entries
     ends = (unit_spans 0 o.seen.units (length o.seen.entries) u unit sound.units is).ends
@@ -62,72 +61,68 @@ parent_known o number u unit n e old sound is lt at len = by e.parent (subst (λ
         let same : e.unit ≡ u = unit_of o.seen u unit (unit.first + n) e sound is at (record { from_first = omega arith; before_end = omega arith }) in
         same_Some s.unit unit (sym s.its_unit ∙ ap (slice_get o.seen.units) same ∙ is)
 
-    back : (found : Option ℕ) → option_map (λ (t : Target). t.node) (option_map (λ (node : ℕ). record { unit = number; node = node }) found) ≡ found
-    back None = refl
-    back (Some node) = refl
-
-    by : (parent : Option ℕ) → IsParent unit (unit.first + n) parent → parent_in (old ++ images_in_unit number o u (stretch o unit.first n)) parent ≡ option_and_then (node_number o u) parent
+    by : (parent : Option ℕ) → IsParent unit (unit.first + n) parent → parent_in (old ++ plain_in_unit o u (stretch o unit.first n)) parent ≡ option_and_then (node_number o u) parent
     by None w = refl
     by (Some p) w =
-        let images = old ++ images_in_unit number o u (stretch o unit.first n) in
-        let f : ℕ × Entry → Option Target = λ e. option_map (λ node. record { unit = number; node = node }) (node_number o u e.0) in
+        let plain = old ++ plain_in_unit o u (stretch o unit.first n) in
+        let f : ℕ × Entry → Option ℕ = λ e. node_number o u e.0 in
         let j = p - unit.first in
         let place : length old + j ≡ p = omega (arith, w.0) in
         let below : j < n = omega (arith, w.0, w.1) in
-        let within : p < length images = omega (arith, length-append old (images_in_unit number o u (stretch o unit.first n)), length-map (stretch o unit.first n) f, stretch_length o unit.first n (omega (arith, ends))) in
-        let there : get_or images p None ≡ f (p, get_or o.seen.entries (unit.first + j) e) =
-        ap (λ (k : ℕ). get_or images k None) (sym place) ∙ get_or-append-add old (images_in_unit number o u (stretch o unit.first n)) j None
+        let within : p < length plain = omega (arith, length-append old (plain_in_unit o u (stretch o unit.first n)), length-map (stretch o unit.first n) f, stretch_length o unit.first n (omega (arith, ends))) in
+        let there : get_or plain p None ≡ f (p, get_or o.seen.entries (unit.first + j) e) =
+        ap (λ (k : ℕ). get_or plain k None) (sym place) ∙ get_or-append-add old (plain_in_unit o u (stretch o unit.first n)) j None
         ∙ get_or-map f (stretch o unit.first n) j (p, e) None (omega (arith, stretch_length o unit.first n (omega (arith, ends))))
         ∙ ap f (stretch_at o unit.first n j (p, e) below (omega (arith, ends)) ∙ ap (λ (k : ℕ). (k, get_or o.seen.entries (unit.first + j) e)) (omega (arith, w.0))) in
-        let found : slice_get images p ≡ Some (f (p, e)) = slice_get-get_or images p None within ∙ ap (λ (t : Option Target). Some t) there in
-        ap (λ (t : Option (Option Target)). option_map (λ (t : Target). t.node) (option_and_then (λ image. image) t)) found ∙ back (node_number o u p)
+        let found : slice_get plain p ≡ Some (f (p, e)) = slice_get-get_or plain p None within ∙ ap (λ (t : Option ℕ). Some t) there in
+        ap (λ (t : Option (Option ℕ)). option_and_then (λ node. node) t) found
 
-pub nodes_more : (o : Object) (object number u : ℕ) (unit : InUnit) (n : ℕ) (e : Entry) (old : List (Option Target)) → IsSound o.seen → slice_get o.seen.units u ≡ Some unit → n < unit.count
+pub nodes_more : (o : Object) (object u : ℕ) (unit : InUnit) (n : ℕ) (e : Entry) (old : List (Option ℕ)) → IsSound o.seen → slice_get o.seen.units u ≡ Some unit → n < unit.count
     → Stands o.seen.entries (unit.first + n) e → length old ≡ unit.first
     → nodes_in object o u (stretch o unit.first (n + 1))
-    ≡ nodes_in object o u (stretch o unit.first n) ++ nodes_with (is_kept o (unit.first + n)) (object + 1) (unit.first + n) e (old ++ images_in_unit number o u (stretch o unit.first n))
-nodes_more o object number u unit n e old sound is lt at len =
+    ≡ nodes_in object o u (stretch o unit.first n) ++ nodes_with (is_kept o (unit.first + n)) (object + 1) (unit.first + n) e (old ++ plain_in_unit o u (stretch o unit.first n))
+nodes_more o object u unit n e old sound is lt at len =
     ap (λ (xs : List (ℕ × Entry)). map (origin_of object o u) (filter (is_kept_one o) xs)) (stretch_more o unit.first n e at)
     ∙ ap (map (origin_of object o u)) (filter-append (is_kept_one o) (stretch o unit.first n) ((unit.first + n, e) ∷ []))
     ∙ map-append (origin_of object o u) (filter (is_kept_one o) (stretch o unit.first n)) (filter (is_kept_one o) ((unit.first + n, e) ∷ []))
     ∙ ap (λ (xs : List Origin). nodes_in object o u (stretch o unit.first n) ++ xs) (last (is_kept o (unit.first + n)))
   where
-    last : (b : Bool) → map (origin_of object o u) (cond b ((unit.first + n, e) ∷ []) []) ≡ nodes_with b (object + 1) (unit.first + n) e (old ++ images_in_unit number o u (stretch o unit.first n))
-    last true = ap (λ (parent : Option ℕ). record { object = object + 1; entry = unit.first + n; parent = parent } ∷ []) (sym (parent_known o number u unit n e old sound is lt at len))
+    last : (b : Bool) → map (origin_of object o u) (cond b ((unit.first + n, e) ∷ []) []) ≡ nodes_with b (object + 1) (unit.first + n) e (old ++ plain_in_unit o u (stretch o unit.first n))
+    last true = ap (λ (parent : Option ℕ). record { object = object + 1; entry = unit.first + n; parent = parent } ∷ []) (sym (parent_known o u unit n e old sound is lt at len))
     last false = refl
 
-pub images_more : (o : Object) (object number u : ℕ) (unit : InUnit) (n : ℕ) (e : Entry) → IsSound o.seen → slice_get o.seen.units u ≡ Some unit → n < unit.count → Stands o.seen.entries (unit.first + n) e
-    → images_in_unit number o u (stretch o unit.first (n + 1))
-    ≡ images_in_unit number o u (stretch o unit.first n) ++ image_with (is_kept o (unit.first + n)) number (length (nodes_in object o u (stretch o unit.first n))) ∷ []
-images_more o object number u unit n e sound is lt at =
-    ap (images_in_unit number o u) (stretch_more o unit.first n e at)
+pub plain_more : (o : Object) (object u : ℕ) (unit : InUnit) (n : ℕ) (e : Entry) → IsSound o.seen → slice_get o.seen.units u ≡ Some unit → n < unit.count → Stands o.seen.entries (unit.first + n) e
+    → plain_in_unit o u (stretch o unit.first (n + 1))
+    ≡ plain_in_unit o u (stretch o unit.first n) ++ plain_with (is_kept o (unit.first + n)) (length (nodes_in object o u (stretch o unit.first n))) ∷ []
+plain_more o object u unit n e sound is lt at =
+    ap (plain_in_unit o u) (stretch_more o unit.first n e at)
     ∙ map-append f (stretch o unit.first n) ((unit.first + n, e) ∷ [])
-    ∙ ap (λ (t : Option Target). images_in_unit number o u (stretch o unit.first n) ++ t ∷ []) (ap (option_map (λ node. record { unit = number; node = node })) (number_of_entry o u unit n sound is lt) ∙ last (is_kept o (unit.first + n)))
+    ∙ ap (λ (t : Option ℕ). plain_in_unit o u (stretch o unit.first n) ++ t ∷ []) (number_of_entry o u unit n sound is lt ∙ last (is_kept o (unit.first + n)))
   where
-    f : ℕ × Entry → Option Target
-    f e = option_map (λ node. record { unit = number; node = node }) (node_number o u e.0)
+    f : ℕ × Entry → Option ℕ
+    f e = node_number o u e.0
 
     so_far : List (ℕ × Entry)
     so_far = filter (is_kept_one o) (stretch o unit.first n)
 
-    last : (b : Bool) → option_map (λ node. record { unit = number; node = node }) (cond b (Some (length so_far)) None) ≡ image_with b number (length (map (origin_of object o u) so_far))
-    last true = ap (λ (node : ℕ). Some (record { unit = number; node = node })) (sym (length-map so_far (origin_of object o u)))
+    last : (b : Bool) → cond b (Some (length so_far)) None ≡ plain_with b (length (map (origin_of object o u) so_far))
+    last true = ap (λ (node : ℕ). Some node) (sym (length-map so_far (origin_of object o u)))
     last false = refl
 
 -- ---- as the loop has them
 
-pub nodes_step : (o : Object) (object number u : ℕ) (unit : InUnit) (n : ℕ) (e : Entry) (old images : List (Option Target)) (nodes : List Origin) (kept : Bool) → IsSound o.seen
+pub nodes_step : (o : Object) (object u : ℕ) (unit : InUnit) (n : ℕ) (e : Entry) (old plain : List (Option ℕ)) (nodes : List Origin) (kept : Bool) → IsSound o.seen
     → slice_get o.seen.units u ≡ Some unit → n < unit.count → Stands o.seen.entries (unit.first + n) e → length old ≡ unit.first → kept ≡ is_kept o (unit.first + n)
-    → nodes ≡ nodes_in object o u (stretch o unit.first n) → images ≡ old ++ images_in_unit number o u (stretch o unit.first n)
-    → nodes ++ nodes_with kept (object + 1) (unit.first + n) e images ≡ nodes_in object o u (stretch o unit.first (n + 1))
-nodes_step o object number u unit n e old images nodes kept sound is lt at len k these those = rw (these, those, k) (sym (nodes_more o object number u unit n e old sound is lt at len))
+    → nodes ≡ nodes_in object o u (stretch o unit.first n) → plain ≡ old ++ plain_in_unit o u (stretch o unit.first n)
+    → nodes ++ nodes_with kept (object + 1) (unit.first + n) e plain ≡ nodes_in object o u (stretch o unit.first (n + 1))
+nodes_step o object u unit n e old plain nodes kept sound is lt at len k these those = rw (these, those, k) (sym (nodes_more o object u unit n e old sound is lt at len))
 
-pub images_step : (o : Object) (object number u : ℕ) (unit : InUnit) (n : ℕ) (e : Entry) (old images : List (Option Target)) (nodes : List Origin) (kept : Bool) → IsSound o.seen
+pub plain_step : (o : Object) (object u : ℕ) (unit : InUnit) (n : ℕ) (e : Entry) (old plain : List (Option ℕ)) (nodes : List Origin) (kept : Bool) → IsSound o.seen
     → slice_get o.seen.units u ≡ Some unit → n < unit.count → Stands o.seen.entries (unit.first + n) e → kept ≡ is_kept o (unit.first + n)
-    → nodes ≡ nodes_in object o u (stretch o unit.first n) → images ≡ old ++ images_in_unit number o u (stretch o unit.first n)
-    → images ++ image_with kept number (length nodes) ∷ [] ≡ old ++ images_in_unit number o u (stretch o unit.first (n + 1))
-images_step o object number u unit n e old images nodes kept sound is lt at k these those =
-    rw (those, these, k) (append_assoc old _ _ ∙ ap (λ (xs : List (Option Target)). old ++ xs) (sym (images_more o object number u unit n e sound is lt at)))
+    → nodes ≡ nodes_in object o u (stretch o unit.first n) → plain ≡ old ++ plain_in_unit o u (stretch o unit.first n)
+    → plain ++ plain_with kept (length nodes) ∷ [] ≡ old ++ plain_in_unit o u (stretch o unit.first (n + 1))
+plain_step o object u unit n e old plain nodes kept sound is lt at k these those =
+    rw (those, these, k) (append_assoc old _ _ ∙ ap (λ (xs : List (Option ℕ)). old ++ xs) (sym (plain_more o object u unit n e sound is lt at)))
 
 -- ---- a unit whose nodes are known
 

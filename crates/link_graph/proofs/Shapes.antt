@@ -7,6 +7,7 @@ use Rattle.std.proofs.lemmas.Grind.{flat_map-append}
 use Rattle.std.proofs.lemmas.List.{get_or_default, map-append, drop_more, get_or-take, length-map, length-take, take-append-drop, take_all, take_more, same_lists, get_or-map}
 use Rattle.std.proofs.lemmas.List.Elements.{All-append, All-weaker, filter_map-append}
 use Rattle.std.proofs.lemmas.List.FromFn.{length-enumerate_from}
+use Rattle.std.proofs.lemmas.Simd.{map-map}
 use Rattle.std.proofs.lemmas.Option.{get_or_from_slice_get, same_Some, slice_get_cases, slice_get_read, slice_get-get_or, slice_get-map, slice_get_within}
 use Rattle.std.proofs.lemmas.Slice.Zip.{get_or-zip, length-zip}
 use Rattle.dwarf_types.specs.declared.analysis.Analysis.{Analysis}
@@ -16,13 +17,14 @@ use Rattle.dwarf_types.specs.declared.graph.Target.{Target}
 use Rattle.dwarf_types.specs.declared.shape.Shape.{Shape}
 use Rattle.dwarf_types.specs.declared.shape.ShapeUnit.{ShapeUnit}
 use Rattle.dwarf_types.specs.Live.{Stands}
-use Rattle.dwarf_types.specs.LinkedShape.{AreMarked, IsShape, images_in, marks_in, objects_of, shape_in, shaped, unit_shape}
-use Rattle.dwarf_types.specs.LinkedUnits.{Object, Source, image_of, is_kept, kept_entries, node_number, numbered, same_source, sources, sources_in}
+use Rattle.dwarf_types.specs.LinkedShape.{AreMarked, IsShape, images_in, marks_in, objects_of, plain_in, shape_in, shaped, unit_shape}
+use Rattle.dwarf_types.specs.LinkedUnits.{Object, Source, plain_target, is_kept, kept_entries, node_number, numbered, same_source, sources, sources_in}
 use Rattle.dwarf_types.specs.Sound.{IsSound}
-use Rattle.link_graph.specs.Passes.{image_behind, images_before, images_of, unit_in, units_before, units_below, units_of}
+use Rattle.link_graph.specs.Passes.{image_behind, images_before, images_of, node_in, plain_before, unit_in, units_before, units_below, units_of}
 use Rattle.link_graph.proofs.Gathered.{All-enumerate, All-filter_map, All-flat_map, as_many, as_many_in_all, enumerate_at, filter_map_same, filter_map_then, flat_map_gives, map_same}
 use Rattle.link_graph.proofs.Nodes.{kept_read, number_of_entry}
 use Rattle.link_graph.proofs.Positions.{position_found}
+use Rattle.link_graph.proofs.Rows.{node_back}
 use Rattle.link_graph.proofs.Stretches.{numbered_at, numbered_length}
 
 -- ---- units as sources
@@ -149,7 +151,7 @@ image_found (Some n) unit number h =
     let same : 0 + number ≡ number = omega arith in
     ap (option_and_then (λ u. images_of_nodes (Some n) (0 + u))) (h n refl) ∙ ap (images_of_nodes (Some n)) same
 
-image_is : (objects : List Object) (i : ℕ) (o : Object) (k : ℕ) (e : Entry) → slice_get objects i ≡ Some o → Stands o.seen.entries k e → IsSound o.seen → image_of 0 objects i k ≡ image_behind (length (units_before objects i)) i o (k, e)
+image_is : (objects : List Object) (i : ℕ) (o : Object) (k : ℕ) (e : Entry) → slice_get objects i ≡ Some o → Stands o.seen.entries k e → IsSound o.seen → plain_target 0 objects i k ≡ image_behind (length (units_before objects i)) i o (k, e)
 image_is objects i o k e at stands sound =
     ap (option_and_then (λ (o : Object). option_and_then (λ (e : Entry). option_and_then (λ unit. option_map (λ node. record { unit = 0 + unit; node = node }) (node_number o e.unit k))
     (position (same_source (record { object = i; unit = e.unit })) (sources objects))) (slice_get o.seen.entries k))) at
@@ -165,8 +167,8 @@ images_at objects o = images_of (length (units_before objects o.0)) o.0 o.1
 images_each : (objects : List Object) → ((i : ℕ) (o : Object) → slice_get objects i ≡ Some o → IsSound o.seen) → map (images_in objects) (enumerate_from 0 objects) ≡ map (images_at objects) (enumerate_from 0 objects)
 images_each objects sound = map_same (images_in objects) (images_at objects) (enumerate_from 0 objects)
     (All-weaker (λ (x : ℕ × Object). slice_get objects x.0 ≡ Some x.1) (λ x. images_in objects x ≡ images_at objects x)
-    (λ x at. map_same (λ e. image_of 0 objects x.0 e.0) (image_behind (length (units_before objects x.0)) x.0 x.1) (numbered x.1)
-    (All-weaker (λ (e : ℕ × Entry). slice_get x.1.seen.entries e.0 ≡ Some e.1) (λ e. image_of 0 objects x.0 e.0 ≡ image_behind (length (units_before objects x.0)) x.0 x.1 e)
+    (λ x at. map_same (λ e. plain_target 0 objects x.0 e.0) (image_behind (length (units_before objects x.0)) x.0 x.1) (numbered x.1)
+    (All-weaker (λ (e : ℕ × Entry). slice_get x.1.seen.entries e.0 ≡ Some e.1) (λ e. plain_target 0 objects x.0 e.0 ≡ image_behind (length (units_before objects x.0)) x.0 x.1 e)
     (λ e stands. image_is objects x.0 x.1 e.0 e.1 at stands (sound x.0 x.1 at)) (numbered x.1) (All-enumerate x.1.seen.entries)))
     (enumerate_from 0 objects) (All-enumerate objects))
 
@@ -191,34 +193,35 @@ images_before_more objects i o at = ap (map (images_at objects)) (enumerate_more
 
 -- ---- which entries have a node
 
-some_image : (node : Option ℕ) (unit : ℕ) → is_some (images_of_nodes node unit) ≡ is_some node
-some_image None unit = refl
-some_image (Some n) unit = refl
-
 some_if : (b : Bool) (n : ℕ) → is_some (cond b (Some n) None) ≡ b
 some_if true n = refl
 some_if false n = refl
 
--- an entry has an image where it is kept
-image_where_kept : (before object : ℕ) (o : Object) (k : ℕ) (e : Entry) → Stands o.seen.entries k e → IsSound o.seen → is_some (image_behind before object o (k, e)) ≡ is_kept o k
-image_where_kept before object o k e at sound =
+-- an entry has a node where it is kept
+plain_where_kept : (o : Object) (k : ℕ) (e : Entry) → Stands o.seen.entries k e → IsSound o.seen → is_some (node_number o e.unit k) ≡ is_kept o k
+plain_where_kept o k e at sound =
     let s = sound.entries k e at in
     let place : s.unit.first + (k - s.unit.first) ≡ k = omega (arith, s.lies.from_first) in
     let node = number_of_entry o e.unit s.unit (k - s.unit.first) sound s.its_unit (omega (arith, s.lies.from_first, s.lies.before_end)) in
-    some_image (node_number o e.unit k) (before + length (units_below object o e.unit))
-    ∙ ap (λ (n : ℕ). is_some (node_number o e.unit n)) (sym place) ∙ ap is_some node ∙ some_if (is_kept o (s.unit.first + (k - s.unit.first))) _ ∙ ap (is_kept o) place
+    ap (λ (n : ℕ). is_some (node_number o e.unit n)) (sym place) ∙ ap is_some node ∙ some_if (is_kept o (s.unit.first + (k - s.unit.first))) _ ∙ ap (is_kept o) place
 
-marks_of : (before object : ℕ) (o : Object) → IsSound o.seen → length o.kept ≡ length o.seen.entries → map is_some (images_of before object o) ≡ o.kept
-marks_of before object o sound whole =
-    let f = image_behind before object o in
-    let long : length (images_of before object o) ≡ length o.seen.entries = length-map (numbered o) f ∙ numbered_length o in
-    same_lists (map is_some (images_of before object o)) o.kept (length-map (images_of before object o) is_some ∙ long ∙ sym whole) (λ k d lt.
-    let within : k < length o.seen.entries = omega (arith, lt, length-map (images_of before object o) is_some, long) in
-    let here : (e : Entry) → Stands o.seen.entries k e → get_or (map is_some (images_of before object o)) k d ≡ get_or o.kept k d = λ e at.
-    get_or-map is_some (images_of before object o) k None d (omega (arith, long))
+marks_of : (o : Object) → IsSound o.seen → length o.kept ≡ length o.seen.entries → map is_some (plain_in o) ≡ o.kept
+marks_of o sound whole =
+    let f : ℕ × Entry → Option ℕ = λ e. node_number o e.1.unit e.0 in
+    let long : length (plain_in o) ≡ length o.seen.entries = length-map (numbered o) f ∙ numbered_length o in
+    same_lists (map is_some (plain_in o)) o.kept (length-map (plain_in o) is_some ∙ long ∙ sym whole) (λ k d lt.
+    let within : k < length o.seen.entries = omega (arith, lt, length-map (plain_in o) is_some, long) in
+    let here : (e : Entry) → Stands o.seen.entries k e → get_or (map is_some (plain_in o)) k d ≡ get_or o.kept k d = λ e at.
+    get_or-map is_some (plain_in o) k None d (omega (arith, long))
     ∙ ap is_some (get_or-map f (numbered o) k (k, e) None (omega (arith, numbered_length o)) ∙ ap f (numbered_at o k (k, e) within ∙ ap (λ (x : Entry). (k, x)) (get_or_from_slice_get o.seen.entries k e e at)))
-    ∙ image_where_kept before object o k e at sound ∙ kept_read o k (omega (arith, whole)) ∙ get_or_default o.kept k false d (omega (arith, whole)) in
+    ∙ plain_where_kept o k e at sound ∙ kept_read o k (omega (arith, whole)) ∙ get_or_default o.kept k false d (omega (arith, whole)) in
     elim (slice_get_cases o.seen.entries k).1 [ inl w ↦ here w.0 w.2 | inr w ↦ absurd (omega (arith, w.0)) ])
+
+pub plain_from_images : (before object : ℕ) (o : Object) → map node_in (images_of before object o) ≡ plain_in o
+plain_from_images before object o =
+    map-map node_in (image_behind before object o) (numbered o)
+    ∙ map_same (λ (e : ℕ × Entry). node_in (image_behind before object o e)) (λ (e : ℕ × Entry). node_number o e.1.unit e.0) (numbered o)
+    (λ k d lt. node_back _ _)
 
 -- ---- analyses and their marks
 
@@ -266,8 +269,7 @@ marks_whole seen marks i s m marked lt is is' =
 
 -- the shape tells the marks again
 pub marks_shaped : (seen : List Analysis) (marks : List (List Bool)) → AreMarked seen marks → All IsSound seen → marks_in (shaped (objects_of seen marks)) ≡ marks
-marks_shaped seen marks marked sound =
-    ap (map (map is_some)) (images_each objects are_sound) ∙ same_lists (map (map is_some) images) marks (length-map images (map is_some) ∙ long ∙ sym marked.each) each
+marks_shaped seen marks marked sound = same_lists (map (map is_some) plain) marks (length-map plain (map is_some) ∙ long ∙ sym marked.each) each
   where
     objects : List Object
     objects = objects_of seen marks
@@ -275,25 +277,24 @@ marks_shaped seen marks marked sound =
     are_sound : (i : ℕ) (o : Object) → slice_get objects i ≡ Some o → IsSound o.seen
     are_sound = objects_sound seen marks marked.each sound
 
-    images : List (List (Option Target))
-    images = map (images_at objects) (enumerate_from 0 objects)
+    plain : List (List (Option ℕ))
+    plain = map plain_in objects
 
-    long : length images ≡ length seen
-    long = length-map (enumerate_from 0 objects) (images_at objects) ∙ length-enumerate_from 0 objects ∙ objects_long seen marks marked.each
+    long : length plain ≡ length seen
+    long = length-map objects plain_in ∙ objects_long seen marks marked.each
 
-    here : (k : ℕ) (d : List Bool) (o : Object) → slice_get objects k ≡ Some o → k < length seen → get_or (map (map is_some) images) k d ≡ get_or marks k d
+    here : (k : ℕ) (d : List Bool) (o : Object) → slice_get objects k ≡ Some o → k < length seen → get_or (map (map is_some) plain) k d ≡ get_or marks k d
     here k d o at within =
         let parts = object_parts seen marks k o marked.each at in
         let in_objects = slice_get_within objects k o at in
-        get_or-map (map is_some) images k [] d (omega (arith, within, long))
-        ∙ ap (map is_some) (get_or-map (images_at objects) (enumerate_from 0 objects) k (k, o) [] (omega (arith, in_objects, length-enumerate_from 0 objects))
-        ∙ ap (images_at objects) (enumerate_at objects k (k, o) in_objects ∙ ap (λ (x : Object). (k, x)) (get_or_from_slice_get objects k o o at)))
-        ∙ marks_of (length (units_before objects k)) k o (are_sound k o at) (marks_whole seen marks k o.seen o.kept marked within (sym (get_or_from_slice_get seen k o.seen o.seen parts.analysis)) (sym (get_or_from_slice_get marks k o.kept o.kept parts.marked)))
+        get_or-map (map is_some) plain k [] d (omega (arith, within, long))
+        ∙ ap (map is_some) (get_or-map plain_in objects k o [] in_objects ∙ ap plain_in (get_or_from_slice_get objects k o o at))
+        ∙ marks_of o (are_sound k o at) (marks_whole seen marks k o.seen o.kept marked within (sym (get_or_from_slice_get seen k o.seen o.seen parts.analysis)) (sym (get_or_from_slice_get marks k o.kept o.kept parts.marked)))
         ∙ sym (get_or_from_slice_get marks k o.kept d parts.marked)
 
-    each : (k : ℕ) (d : List Bool) → k < length (map (map is_some) images) → get_or (map (map is_some) images) k d ≡ get_or marks k d
+    each : (k : ℕ) (d : List Bool) → k < length (map (map is_some) plain) → get_or (map (map is_some) plain) k d ≡ get_or marks k d
     each k d lt =
-        let within : k < length seen = omega (arith, lt, length-map images (map is_some), long) in
+        let within : k < length seen = omega (arith, lt, length-map plain (map is_some), long) in
         elim (slice_get_cases objects k).1 [ inl w ↦ here k d w.0 w.2 within | inr w ↦ absurd (omega (arith, w.0, objects_long seen marks marked.each)) ]
 
 pub shape_is : (seen : List Analysis) (marks : List (List Bool)) (shape : Shape) → AreMarked seen marks → All IsSound seen → shape ≡ shaped (objects_of seen marks) → IsShape seen shape
@@ -304,14 +305,21 @@ shape_is seen marks shape marked sound is =
       is = is ∙ ap (λ (ms : List (List Bool)). shaped (objects_of seen ms)) (sym back);
     }
 
-pub shape_whole : (seen : List Analysis) (marks : List (List Bool)) (i : ℕ) (units : List ShapeUnit) (images : List (List (Option Target))) → AreMarked seen marks → All IsSound seen → length seen ≤ i → i ≤ length seen
-    → units ≡ units_before (objects_of seen marks) i → images ≡ images_before (objects_of seen marks) i → record { units = units; images = images } ≡ shaped (objects_of seen marks)
-shape_whole seen marks i units images marked sound ge le these those =
+pub plain_before_more : (objects : List Object) (i : ℕ) (o : Object) → slice_get objects i ≡ Some o → plain_before objects (i + 1) ≡ plain_before objects i ++ plain_in o ∷ []
+plain_before_more objects i o at =
+    let within : i < length objects = slice_get_within objects i o at in
+    ap (map plain_in) (take_more objects i o within ∙ ap (λ (x : Object). take i objects ++ x ∷ []) (get_or_from_slice_get objects i o o at)) ∙ map-append plain_in (take i objects) (o ∷ [])
+
+pub shape_whole : (seen : List Analysis) (marks : List (List Bool)) (i : ℕ) (units : List ShapeUnit) (plain : List (List (Option ℕ))) (images : List (List (Option Target))) → AreMarked seen marks → All IsSound seen
+    → length seen ≤ i → i ≤ length seen → units ≡ units_before (objects_of seen marks) i → plain ≡ plain_before (objects_of seen marks) i → images ≡ images_before (objects_of seen marks) i
+    → record { units = units; plain = plain; images = images } ≡ shaped (objects_of seen marks)
+shape_whole seen marks i units plain images marked sound ge le these nodes those =
     let objects = objects_of seen marks in
     let all : i ≡ length objects = omega (arith, objects_long seen marks marked.each) in
     let a : units ≡ filter_map (shape_in objects) (sources objects) = these ∙ ap (units_before objects) all ∙ sym (units_shaped objects) in
-    let b : images ≡ map (images_in objects) (enumerate_from 0 objects) = those ∙ ap (images_before objects) all ∙ sym (images_shaped objects (objects_sound seen marks marked.each sound)) in
-    ap (λ (us : List ShapeUnit). made us images) a ∙ ap (made (filter_map (shape_in objects) (sources objects))) b
+    let b : plain ≡ map plain_in objects = nodes ∙ ap (plain_before objects) all ∙ ap (map plain_in) (take_all (length objects) objects (omega arith)) in
+    let c : images ≡ map (images_in objects) (enumerate_from 0 objects) = those ∙ ap (images_before objects) all ∙ sym (images_shaped objects (objects_sound seen marks marked.each sound)) in
+    ap (λ (us : List ShapeUnit). made us plain images) a ∙ ap (λ (rows : List (List (Option ℕ))). made (filter_map (shape_in objects) (sources objects)) rows images) b ∙ ap (made (filter_map (shape_in objects) (sources objects)) (map plain_in objects)) c
   where
-    made : List ShapeUnit → List (List (Option Target)) → Shape
-    made us ims = record { units = us; images = ims }
+    made : List ShapeUnit → List (List (Option ℕ)) → List (List (Option Target)) → Shape
+    made us rows ims = record { units = us; plain = rows; images = ims }

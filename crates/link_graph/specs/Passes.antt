@@ -1,4 +1,4 @@
--- What passing over one object gives: its units that are written, and where its entries went.
+-- What passing over one object gives: its units that are written, the nodes of its entries, and where references to them lead.
 use Rattle.std.specs.Prelude.{ℕ, ◌+◌, ◌==◌, Bool, List, [], ◌∷◌, map, take, drop, length, slice_get, Option, Some, None, if◌then◌else◌}
 use Rattle.std.specs.List.{enumerate_from, filter, filter_map, flat_map}
 use Rattle.std.specs.Option.{option_and_then, option_map, option_map_or}
@@ -8,7 +8,7 @@ use Rattle.dwarf_types.specs.declared.entry.InUnit.{InUnit}
 use Rattle.dwarf_types.specs.declared.graph.Target.{Target}
 use Rattle.dwarf_types.specs.declared.shape.Origin.{Origin}
 use Rattle.dwarf_types.specs.declared.shape.ShapeUnit.{ShapeUnit}
-use Rattle.dwarf_types.specs.LinkedShape.{origin_of}
+use Rattle.dwarf_types.specs.LinkedShape.{origin_of, plain_in}
 use Rattle.dwarf_types.specs.LinkedUnits.{Object, is_kept, kept_entries, node_number, numbered}
 
 -- an analysis with its marks
@@ -17,16 +17,23 @@ marked seen live = record { seen = seen; kept = live }
 
 -- ---- one entry
 
--- the node of a parent, where the images up to it are known
-abbrev pub parent_in : List (Option Target) → Option ℕ → Option ℕ
-parent_in images parent = option_map (λ target. target.node) (option_and_then (λ p. option_and_then (λ image. image) (slice_get images p)) parent)
+-- the node of a parent, where those of the entries up to it are known
+abbrev pub parent_in : List (Option ℕ) → Option ℕ → Option ℕ
+parent_in plain parent = option_and_then (λ p. option_and_then (λ node. node) (slice_get plain p)) parent
 
 -- the node of entry k of an object, if it is kept; the objects count from 1
-abbrev pub nodes_with : Bool → ℕ → ℕ → Entry → List (Option Target) → List Origin
-nodes_with kept object k e images = if kept then record { object = object; entry = k; parent = parent_in images e.parent } ∷ [] else []
+abbrev pub nodes_with : Bool → ℕ → ℕ → Entry → List (Option ℕ) → List Origin
+nodes_with kept object k e plain = if kept then record { object = object; entry = k; parent = parent_in plain e.parent } ∷ [] else []
 
-abbrev pub image_with : Bool → ℕ → ℕ → Option Target
-image_with kept unit node = if kept then Some (record { unit = unit; node = node }) else None
+abbrev pub plain_with : Bool → ℕ → Option ℕ
+plain_with kept node = if kept then Some node else None
+
+-- a node of the unit of a number
+abbrev pub target_in : ℕ → Option ℕ → Option Target
+target_in number node = option_map (λ n. record { unit = number; node = n }) node
+
+abbrev pub node_in : Option Target → Option ℕ
+node_in image = option_map (λ target. target.node) image
 
 -- ---- one unit
 
@@ -45,9 +52,13 @@ is_kept_one o e = is_kept o e.0
 abbrev pub nodes_in : ℕ → Object → ℕ → List (ℕ × Entry) → List Origin
 nodes_in object o u es = map (origin_of object o u) (filter (is_kept_one o) es)
 
--- where these entries of unit u went, which has a number in the output
+-- the numbers of their nodes
+abbrev pub plain_in_unit : Object → ℕ → List (ℕ × Entry) → List (Option ℕ)
+plain_in_unit o u es = map (λ e. node_number o u e.0) es
+
+-- where references to them lead, where the unit has a number in the output
 abbrev pub images_in_unit : ℕ → Object → ℕ → List (ℕ × Entry) → List (Option Target)
-images_in_unit number o u es = map (λ e. option_map (λ node. record { unit = number; node = node }) (node_number o u e.0)) es
+images_in_unit number o u es = map (λ e. target_in number (node_number o u e.0)) es
 
 -- ---- one object
 
@@ -67,9 +78,9 @@ units_below object o u = filter_map (unit_in object o) (take u (enumerate_from 0
 abbrev pub units_of : ℕ → Object → List ShapeUnit
 units_of object o = filter_map (unit_in object o) (enumerate_from 0 o.seen.units)
 
--- where an entry went, behind so many units of the objects before
+-- where references to an entry lead, behind so many units of the objects before
 abbrev pub image_behind : ℕ → ℕ → Object → ℕ × Entry → Option Target
-image_behind before object o e = option_map (λ node. record { unit = before + length (units_below object o e.1.unit); node = node }) (node_number o e.1.unit e.0)
+image_behind before object o e = target_in (before + length (units_below object o e.1.unit)) (node_number o e.1.unit e.0)
 
 abbrev pub images_of : ℕ → ℕ → Object → List (Option Target)
 images_of before object o = map (image_behind before object o) (numbered o)
@@ -80,6 +91,10 @@ images_of before object o = map (image_behind before object o) (numbered o)
 abbrev pub units_before : List Object → ℕ → List ShapeUnit
 units_before objects i = flat_map (λ o. units_of o.0 o.1) (take i (enumerate_from 0 objects))
 
--- where the entries of the objects below i went
+-- the nodes of the entries of the objects below i
+abbrev pub plain_before : List Object → ℕ → List (List (Option ℕ))
+plain_before objects i = map plain_in (take i objects)
+
+-- where references to them lead
 abbrev pub images_before : List Object → ℕ → List (List (Option Target))
 images_before objects i = map (λ o. images_of (length (units_before objects o.0)) o.0 o.1) (take i (enumerate_from 0 objects))

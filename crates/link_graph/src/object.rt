@@ -1,6 +1,7 @@
-//! One object: its units that are written, and where its entries went.
+//! One object: its units that are written, the nodes of its entries, and where references to them lead.
 
-ghost use Rattle.std.specs.Prelude.{◌≡◌, ◌<◌, ◌^◌, ◌++◌, length, OnOk, IfOk};
+ghost use Rattle.std.specs.Prelude.{◌≡◌, ◌<◌, ◌^◌, ◌++◌, length, map, OnOk, IfOk};
+ghost use Rattle.dwarf_types.specs.LinkedShape.{plain_in};
 ghost use Rattle.dwarf_types.specs.Sound.{IsSound};
 ghost use Rattle.link_graph.specs.Passes.{images_of, marked, units_of};
 
@@ -9,8 +10,14 @@ use ds_base::{BitRow, List, NoMemory};
 use dwarf_types::{Analysis, ShapeUnit, Target};
 use std::alloc::Global;
 
-/// Puts the units of an object that are written behind those of the objects before, and tells where each of its entries
-/// went.
+/// Of each entry of an object the number of its node in its own unit, and where a reference to it leads.
+#[derive(Drop)]
+pub(crate) struct Rows {
+    pub(crate) plain: List<Option<u32>>,
+    pub(crate) images: List<Option<Target>>,
+}
+
+/// Puts the units of an object that are written behind those of the objects before, and tells the nodes of its entries.
 ///
 /// `object` is the object's number from 0.
 pub(crate) fn add_object(
@@ -19,16 +26,20 @@ pub(crate) fn add_object(
     seen: &Analysis,
     live: &BitRow,
     units: &mut List<ShapeUnit>,
-) -> Result<List<Option<Target>>, NoMemory>
+) -> Result<Rows, NoMemory>
     requires few { object < 2 ^ 16 }
     requires sound { IsSound seen.now }
     requires marked { length live.now ≡ length seen.now.entries }
     ensures units { OnOk result (units.new ≡ units.old ++ units_of object (marked seen.now live.now)) }
-    ensures images { IfOk result (λ images. images ≡ images_of (length units.old) object (marked seen.now live.now)) }
+    ensures images { IfOk result (λ rows. rows.images ≡ images_of (length units.old) object (marked seen.now live.now)) }
+    ensures plain { IfOk result (λ rows. rows.plain ≡ plain_in (marked seen.now live.now)) }
 {
-    let mut images = List::new(alloc);
+    let mut rows = Rows {
+        plain: List::new(alloc),
+        images: List::new(alloc),
+    };
     for u in 0..seen.units.len() {
-        add_unit(alloc, object, seen, live, u, units, &mut images)?;
+        add_unit(alloc, object, seen, live, u, units, &mut rows)?;
     }
-    Ok(images)
+    Ok(rows)
 }

@@ -9,8 +9,8 @@ use ds_base::{BitRow, List, NoMemory};
 use dwarf_types::{Analysis, Shape};
 use std::alloc::Global;
 
-/// The shape of what is linked of some objects: of each unit with a live entry its live entries in document order, and
-/// where each entry went.
+/// The shape of what is linked of some objects: of each unit with a live entry its live entries in document order, the
+/// node of each entry, and where a reference to it leads, which is that node.
 ///
 /// A row of marks tells of each object which of its entries are live, each at its number. An entry keeps the unit in
 /// which it stands, and units keep the order of the objects and of their places there.
@@ -22,10 +22,16 @@ pub fn build(alloc: Global, seen: &[Analysis], live: &[BitRow]) -> Result<Shape,
     ensures is { IfOk result (λ shape. IsShape seen.now shape) }
 {
     let mut units = List::new(alloc);
+    let mut plain = List::new(alloc);
     let mut images = List::new(alloc);
     for (i, object) in seen.iter().enumerate() {
-        let row = add_object(alloc, i as u32, object, &live[i], &mut units)?;
-        images.push(row)?;
+        let rows = add_object(alloc, i as u32, object, &live[i], &mut units)?;
+        plain.push(rows.plain)?;
+        images.push(rows.images)?;
     }
-    Ok(Shape { units, images })
+    Ok(Shape {
+        units,
+        plain,
+        images,
+    })
 }

@@ -4,7 +4,7 @@ use Rattle.std.specs.List.{All, filter_map, flat_map}
 use Rattle.std.specs.Option.{option_and_then, option_map}
 use Rattle.std.proofs.lemmas.List.Elements.{All-cons, All-head, All-nil, All-tail, All-weaker}
 use Rattle.std.proofs.lemmas.Option.{same_Some}
-use Rattle.ds_base.specs.declared.dwarf.TheConstants.{DW_AT_sibling}
+use Rattle.ds_base.specs.declared.dwarf.TheConstants.{DW_AT_decl_file, DW_AT_sibling, DW_FORM_udata}
 use Rattle.dwarf_types.specs.declared.address.Place.{Place}
 use Rattle.dwarf_types.specs.declared.entry.Attr.{Attr}
 use Rattle.dwarf_types.specs.declared.entry.Entry.{Entry}
@@ -24,11 +24,11 @@ use Rattle.dwarf_types.specs.declared.value.Value.{Value}
 use Rattle.dwarf_types.specs.declared.value.Value.TheVariants as values
 use Rattle.dwarf_types.specs.LinkedExpressions.{parts_of}
 use Rattle.dwarf_types.specs.Forms.{is_flag}
-use Rattle.dwarf_types.specs.LinkedValues.{all_move, attr_written, attrs_written, is_left_out, location_written, loses_low_pc, unless_empty, value_written}
+use Rattle.dwarf_types.specs.LinkedValues.{FileNumbers, all_move, attr_written, attrs_written, file_written, is_left_out, location_written, loses_low_pc, unless_empty, value_written}
 use Rattle.dwarf_types.specs.Live.{base_in, op_bases, operations_of, target_in}
 use Rattle.dwarf_types.specs.Moves.{address_moved, place_in, tells_end}
 use Rattle.dwarf_types.specs.WellNodes.{IsAttribute, is_dropped}
-use Rattle.dwarf_types.specs.WellValues.{IsLocation, IsTarget, IsValue, MayStand}
+use Rattle.dwarf_types.specs.WellValues.{in_udata, IsLocation, IsTarget, IsValue, MayStand}
 use Rattle.dwarf_types.specs.WholeParts.{IsBaseType}
 use Rattle.link_graph.proofs.Gathered.{All-filter_map}
 use Rattle.linked_laws.specs.Given.{IsGivenAttr, IsGivenLocation, IsGivenPlace, IsGivenValue}
@@ -160,17 +160,46 @@ module _ (image : ℕ → Option Target) (graph : Graph) (nodes : List Node) whe
 
   -- ---- attributes
 
-  pub attribute_holds : (e : Entry) (a : Attr) (y : OutAttr) → IsGivenAttr a → Refers a → All BaseGoes (flat_map op_bases (operations_of a.value)) → attr_written image e a ≡ Some y → IsAttribute graph nodes y
-  attribute_holds e a y given refers goes written =
-      let left = unless_left (is_left_out image e a.name) (option_map (λ value. record { name = a.name; value = value }) (value_written image e a a.value)) y written in
-      let made = mapped_some (λ value. record { name = a.name; value = value }) (value_written image e a a.value) y left.1 in
+  -- the number of a source file is a number of 64 bits
+  abbrev pub FilesFit : FileNumbers → Type 0
+  FilesFit files = IfSome files (λ number. (n m : ℕ) → number n ≡ Some m → m < 2 ^ 64)
+
+  file_holds : (files : FileNumbers) → FilesFit files → (e : Entry) (a : Attr) (v : Value) (y : OutValue) → a.value ≡ v → (a.name == DW_AT_sibling) ≡ false → IsGivenValue a.name v → Refers a → All BaseGoes (flat_map op_bases (operations_of v))
+      → file_written image files e a v ≡ Some y → ValueHolds a.name y
+  file_holds None fit e a v y is sibling given refers goes written = value_holds e a v y is sibling given refers goes written
+  file_holds (Some number) fit e a (values.Number form bits) y is sibling given refers goes written =
+      let h = mapped_some (λ n. out.Number DW_FORM_udata n) (number bits) y written in
+      holds_as a.name (out.Number DW_FORM_udata h.0) y h.2 (in_udata refl (fit bits h.0 h.1)) tt
+  file_holds (Some number) fit e a (values.Address place) y is sibling given refers goes written = absurd cc
+  file_holds (Some number) fit e a (values.Text text) y is sibling given refers goes written = absurd cc
+  file_holds (Some number) fit e a (values.Wide bytes) y is sibling given refers goes written = absurd cc
+  file_holds (Some number) fit e a (values.Block form bytes) y is sibling given refers goes written = absurd cc
+  file_holds (Some number) fit e a (values.Expr ops) y is sibling given refers goes written = absurd cc
+  file_holds (Some number) fit e a (values.Ref k) y is sibling given refers goes written = absurd cc
+  file_holds (Some number) fit e a (values.Ranges spans) y is sibling given refers goes written = absurd cc
+  file_holds (Some number) fit e a (values.Locations items) y is sibling given refers goes written = absurd cc
+  file_holds (Some number) fit e a values.Lines y is sibling given refers goes written = absurd cc
+  file_holds (Some number) fit e a (values.Offset n) y is sibling given refers goes written = absurd cc
+
+  said_holds : (files : FileNumbers) → FilesFit files → (b : Bool) (e : Entry) (a : Attr) (y : OutValue) → (a.name == DW_AT_sibling) ≡ false → IsGivenValue a.name a.value → Refers a → All BaseGoes (flat_map op_bases (operations_of a.value))
+      → cond b (file_written image files e a a.value) (value_written image e a a.value) ≡ Some y → ValueHolds a.name y
+  said_holds files fit true e a y sibling given refers goes written = file_holds files fit e a a.value y refl sibling given refers goes written
+  said_holds files fit false e a y sibling given refers goes written = value_holds e a a.value y refl sibling given refers goes written
+
+  pub attribute_holds : (files : FileNumbers) → FilesFit files → (e : Entry) (a : Attr) (y : OutAttr) → IsGivenAttr a → Refers a → All BaseGoes (flat_map op_bases (operations_of a.value)) → attr_written image files e a ≡ Some y
+      → IsAttribute graph nodes y
+  attribute_holds files fit e a y given refers goes written =
+      let said : Option OutValue = cond (a.name == DW_AT_decl_file) (file_written image files e a a.value) (value_written image e a a.value) in
+      let left = unless_left (is_left_out image e a.name) (option_map (λ value. record { name = a.name; value = value }) said) y written in
+      let made = mapped_some (λ value. record { name = a.name; value = value }) said y left.1 in
       let dropped = neither (is_dropped a.name) _ left.0 in
       let sibling = neither (a.name == DW_AT_sibling) _ dropped in
-      let h = value_holds e a a.value made.0 refl sibling given.value refers goes made.1 in
+      let h = said_holds files fit (a.name == DW_AT_decl_file) e a made.0 sibling given.value refers goes made.1 in
       let own : IsAttribute graph nodes (record { name = a.name; value = made.0 }) = record { some = given.some; fits = given.fits; kept = dropped; value = h.value; stands = h.stands } in
       subst (IsAttribute graph nodes) (sym made.2) own
 
   -- all of an entry
-  pub attributes_hold : (e : Entry) → All IsGivenAttr e.attrs → All Refers e.attrs → All (λ a. All BaseGoes (flat_map op_bases (operations_of a.value))) e.attrs → All (IsAttribute graph nodes) (attrs_written image e)
-  attributes_hold e given refers goes =
-      All-filter_map (IsAttribute graph nodes) (attr_written image e) e.attrs (λ k d lt y written. attribute_holds e _ y (given k d lt) (refers k d lt) (goes k d lt) written)
+  pub attributes_hold : (files : FileNumbers) → FilesFit files → (e : Entry) → All IsGivenAttr e.attrs → All Refers e.attrs → All (λ a. All BaseGoes (flat_map op_bases (operations_of a.value))) e.attrs
+      → All (IsAttribute graph nodes) (attrs_written image files e)
+  attributes_hold files fit e given refers goes =
+      All-filter_map (IsAttribute graph nodes) (attr_written image files e) e.attrs (λ k d lt y written. attribute_holds files fit e _ y (given k d lt) (refers k d lt) (goes k d lt) written)

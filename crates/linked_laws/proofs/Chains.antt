@@ -4,7 +4,7 @@ use Rattle.std.proofs.lemmas.Option.{same_Some, slice_get_cases}
 use Rattle.dwarf_types.specs.declared.entry.Entry.{Entry}
 use Rattle.dwarf_types.specs.declared.entry.InUnit.{InUnit}
 use Rattle.dwarf_types.specs.LinkedUnits.{Object, is_kept}
-use Rattle.dwarf_types.specs.Live.{Needs, Stands, its_parent}
+use Rattle.dwarf_types.specs.Live.{Stands}
 use Rattle.dwarf_types.specs.Sound.{IsIn, IsParent, IsSound}
 use Rattle.link_graph.proofs.Units.{unit_of, unit_spans}
 use Rattle.linked_laws.specs.Given.{ArePreorder, IsUp}
@@ -44,7 +44,7 @@ module _ (entries : List Entry) (order : ArePreorder entries) where
 
 -- ---- entries that are written
 
-module _ (o : Object) (sound : IsSound o.seen) (closed : (k j : ℕ) → is_kept o k ≡ true → Needs o.seen.entries k j → is_kept o j ≡ true) where
+module _ (o : Object) (sound : IsSound o.seen) (parents : (k p : ℕ) (e : Entry) → is_kept o k ≡ true → Stands o.seen.entries k e → e.parent ≡ Some p → is_kept o p ≡ true) where
   parent_lies : (unit : InUnit) (k p : ℕ) (parent : Option ℕ) → IsIn unit k → IsParent unit k parent → parent ≡ Some p → IsIn unit p × (p < k)
   parent_lies unit k p None lies h e = absurd cc
   parent_lies unit k p (Some q) lies h e =
@@ -81,7 +81,7 @@ module _ (o : Object) (sound : IsSound o.seen) (closed : (k j : ℕ) → is_kept
   root_kept_by (suc fuel) u unit k e (Some p) parent is at same kept le =
       let lies = parent_in_unit u unit k p e is at same parent in
       let it = entry_of_unit u unit p is lies.0 in
-      root_kept_by fuel u unit p it.0 it.0.parent refl is it.1 it.2 (closed k p kept (its_parent e at parent)) (omega (arith, lies.1, le))
+      root_kept_by fuel u unit p it.0 it.0.parent refl is it.1 it.2 (parents k p e kept at parent) (omega (arith, lies.1, le))
 
   -- the root of a unit with an entry that is written is written
   pub root_kept : (u : ℕ) (unit : InUnit) (k : ℕ) (e : Entry) → slice_get o.seen.units u ≡ Some unit → Stands o.seen.entries k e → e.unit ≡ u → is_kept o k ≡ true → is_kept o unit.first ≡ true

@@ -1,11 +1,11 @@
 -- The lists of siblings that end behind a node of a well unit.
-use Rattle.std.proofs.Common.{◌≡◌, ℕ, zero, suc, ◌+◌, ◌-◌, ◌<◌, ◌≤◌, List, [], ◌∷◌, ◌++◌, length, slice_get, append-nil, Option, Some, None, inl, inr, refl, sym, ap, ◌∙◌, arith, length-append}
+use Rattle.std.proofs.Common.{◌≡◌, ℕ, zero, suc, ◌+◌, ◌<◌, List, [], ◌∷◌, ◌++◌, length, slice_get, append-nil, Option, Some, None, inl, inr, refl, sym, ap, ◌∙◌, arith, length-append}
 use Rattle.std.specs.Option.{option_and_then}
-use Rattle.std.proofs.lemmas.Option.{same_Some, slice_get_past}
+use Rattle.std.proofs.lemmas.Option.{same_Some}
 use Rattle.dwarf_types.specs.declared.graph.Graph.{Graph}
 use Rattle.dwarf_types.specs.declared.graph.Node.{Node}
 use Rattle.dwarf_types.specs.declared.graph.OutUnit.{OutUnit}
-use Rattle.dwarf_types.specs.Entries.{ancestors_of, depth_of, lists_ended, parent_of}
+use Rattle.dwarf_types.specs.Entries.{ancestors_of, parent_of}
 use Rattle.dwarf_types.specs.Well.{IsWellUnit}
 use Rattle.dwarf_types.specs.WellNodes.{IsPreorderParent, IsUp}
 use Rattle.dwarf_types.proofs.Ancestors.{ancestors_of_child, no_ancestors}

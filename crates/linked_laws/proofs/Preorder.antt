@@ -8,7 +8,7 @@ use Rattle.dwarf_types.specs.declared.entry.Entry.{Entry}
 use Rattle.dwarf_types.specs.declared.entry.InUnit.{InUnit}
 use Rattle.dwarf_types.specs.declared.graph.Node.{Node}
 use Rattle.dwarf_types.specs.LinkedUnits.{Object, is_kept, kept_entries, node_number, parent_node}
-use Rattle.dwarf_types.specs.Live.{Needs, Stands, its_parent}
+use Rattle.dwarf_types.specs.Live.{Stands}
 use Rattle.dwarf_types.specs.Sound.{IsParent, IsSound}
 use Rattle.dwarf_types.specs.WellNodes.{IsPreorderParent}
 use Rattle.dwarf_types.specs.WellNodes as nodes_of
@@ -44,7 +44,7 @@ number_before xs rise i j x y at at' lt = elim (cases_lt i j) [
   ])
 ]
 
-module _ (o : Object) (sound : IsSound o.seen) (closed : (k j : ℕ) → is_kept o k ≡ true → Needs o.seen.entries k j → is_kept o j ≡ true) (order : ArePreorder o.seen.entries)
+module _ (o : Object) (sound : IsSound o.seen) (parents : (k p : ℕ) (e : Entry) → is_kept o k ≡ true → Stands o.seen.entries k e → e.parent ≡ Some p → is_kept o p ≡ true) (order : ArePreorder o.seen.entries)
     (u : ℕ) (unit : InUnit) (is : slice_get o.seen.units u ≡ Some unit) (f : ℕ × Entry → Node) (parent_is : (x : ℕ × Entry) → (f x).parent ≡ parent_node o u x.1) where
   abbrev nodes : List Node
   nodes = map f (kept_entries o u)
@@ -62,9 +62,9 @@ module _ (o : Object) (sound : IsSound o.seen) (closed : (k j : ℕ) → is_kept
 
   has_parent : (k p : ℕ) (e : Entry) → Stands o.seen.entries k e → e.unit ≡ u → is_kept o k ≡ true → e.parent ≡ Some p → HasParent e p
   has_parent k p e at same kept parent =
-      let lies = parent_in_unit o sound closed u unit k p e is at same parent in
-      let it = entry_of_unit o sound closed u unit p is lies.0 in
-      let p_kept = closed k p kept (its_parent e at parent) in
+      let lies = parent_in_unit o sound parents u unit k p e is at same parent in
+      let it = entry_of_unit o sound parents u unit p is lies.0 in
+      let p_kept = parents k p e kept at parent in
       record { entry = it.0; stands = it.1; unit_is = it.2; kept = p_kept; node = node_of_entry o u unit p it.0 sound is it.1 it.2 p_kept }
 
   -- a chain of entries is a chain of their nodes
@@ -96,7 +96,7 @@ module _ (o : Object) (sound : IsSound o.seen) (closed : (k j : ℕ) → is_kept
       let w' = written_at o u j (k', e') at' in
       let rise = written_rise o u in
       let above = has_parent k p e w.stands w.unit w.kept parent in
-      let lies = parent_in_unit o sound closed u unit k p e is w.stands w.unit parent in
+      let lies = parent_in_unit o sound parents u unit k p e is w.stands w.unit parent in
       let before = number_before (kept_entries o u) rise above.node.number (j + 1) (p, above.entry) (k, e) above.node.at at lies.1 in
       let not_behind : p ≤ k' = elim (cases_lt k' p) [
         | inl lt ↦ absurd (omega (arith, before, number_before (kept_entries o u) rise j above.node.number (k', e') (p, above.entry) at' above.node.at lt))

@@ -4,7 +4,7 @@ use Rattle.std.specs.List.{cons_option, filter_map, list_any}
 use Rattle.std.specs.Option.{is_none, option_map}
 use Rattle.std.proofs.lemmas.Bool.{and_parts, eqb-true}
 use Rattle.std.proofs.lemmas.Option.{same_Some}
-use Rattle.ds_base.specs.declared.dwarf.TheConstants.{DW_AT_stmt_list}
+use Rattle.ds_base.specs.declared.dwarf.TheConstants.{DW_AT_decl_file, DW_AT_stmt_list}
 use Rattle.dwarf_types.specs.declared.entry.Attr.{Attr}
 use Rattle.dwarf_types.specs.declared.entry.Entry.{Entry}
 use Rattle.dwarf_types.specs.declared.graph.OutAttr.{OutAttr}
@@ -52,14 +52,21 @@ module _ (image : ℕ → Option Target) (e : Entry) where
   value_same a values.Lines y w = ap is_lines (sym (same_Some _ y w))
   value_same a (values.Offset n) y w = absurd cc
 
-  same : (a : Attr) (y : OutAttr) → attr_written image e a ≡ Some y → Same a y
+  -- the unit has the line table of its object's
+  either : (b : Bool) (x : Option OutValue) → cond b x x ≡ x
+  either true x = refl
+  either false x = refl
+
+  same : (a : Attr) (y : OutAttr) → attr_written image None e a ≡ Some y → Same a y
   same a y w =
-      let left = unless_left (is_left_out image e a.name) (option_map (λ value. record { name = a.name; value = value }) (value_written image e a a.value)) y w in
-      let made = mapped_some (λ value. record { name = a.name; value = value }) (value_written image e a a.value) y left.1 in
-      record { name = ap (λ b. b.name) made.2; lines = ap (λ b. is_lines b.value) made.2 ∙ value_same a a.value made.0 made.1; kept = left.0 }
+      let value = value_written image e a a.value in
+      let said : Option OutValue = cond (eqb a.name DW_AT_decl_file) value value in
+      let left = unless_left (is_left_out image e a.name) (option_map (λ value. record { name = a.name; value = value }) said) y w in
+      let made = mapped_some (λ value. record { name = a.name; value = value }) said y left.1 in
+      record { name = ap (λ b. b.name) made.2; lines = ap (λ b. is_lines b.value) made.2 ∙ value_same a a.value made.0 (sym (either (eqb a.name DW_AT_decl_file) value) ∙ made.1); kept = left.0 }
 
   abbrev f : Attr → Option OutAttr
-  f a = attr_written image e a
+  f a = attr_written image None e a
 
   -- ---- no test on names or line tables that failed passes
 
@@ -73,10 +80,10 @@ module _ (image : ℕ → Option Target) (e : Entry) where
   none_left p q agree (a ∷ attrs) none =
       none_by p q agree a attrs (f a) refl (neither (q a) (list_any q attrs) none) (none_left p q agree attrs (nor_right (q a) (list_any q attrs) none))
 
-  pub no_lines_left : given.has_lines e.attrs ≡ false → lines_out (attrs_written image e) ≡ false
+  pub no_lines_left : given.has_lines e.attrs ≡ false → lines_out (attrs_written image None e) ≡ false
   no_lines_left none = none_left (λ b. is_lines b.value) (λ a. given.is_lines a.value) (λ a y w no. (same a y w).lines ∙ no) e.attrs none
 
-  pub no_split_left : list_any (λ a. is_split a.name) e.attrs ≡ false → list_any (λ b. is_split b.name) (attrs_written image e) ≡ false
+  pub no_split_left : list_any (λ a. is_split a.name) e.attrs ≡ false → list_any (λ b. is_split b.name) (attrs_written image None e) ≡ false
   no_split_left none = none_left (λ b. is_split b.name) (λ a. is_split a.name) (λ a y w no. ap is_split (same a y w).name ∙ no) e.attrs none
 
   never : (attrs : List Attr) → list_any (λ a. false) attrs ≡ false
@@ -84,7 +91,7 @@ module _ (image : ℕ → Option Target) (e : Entry) where
   never (a ∷ attrs) = never attrs
 
   -- a root keeps no attribute that tells its unit's code
-  pub no_code_left : e.parent ≡ None → list_any (λ b. is_code_range b.name) (attrs_written image e) ≡ false
+  pub no_code_left : e.parent ≡ None → list_any (λ b. is_code_range b.name) (attrs_written image None e) ≡ false
   no_code_left root =
       none_left (λ b. is_code_range b.name) (λ a. false)
       (λ a y w no. ap is_code_range (same a y w).name ∙ subst (λ (b : Bool). (b && is_code_range a.name) ≡ false) (ap is_none root) (nor_right (is_dropped a.name) _ (same a y w).kept)) e.attrs (never e.attrs)
@@ -145,8 +152,9 @@ module _ (image : ℕ → Option Target) (e : Entry) where
 
   lines_kept : (a : Attr) → given.is_lines a.value ≡ true → eqb a.name DW_AT_stmt_list ≡ true → f a ≡ Some (record { name = a.name; value = out.Lines })
   lines_kept a l s =
-      ap (λ (b : Bool). cond b None (option_map (λ value. record { name = a.name; value = value }) (value_written image e a a.value))) (stmt_kept a.name s)
-      ∙ ap (option_map (λ value. record { name = a.name; value = value })) (lines_value a a.value l)
+      let value = value_written image e a a.value in
+      ap (λ (b : Bool). cond b None (option_map (λ value. record { name = a.name; value = value }) (cond (eqb a.name DW_AT_decl_file) value value))) (stmt_kept a.name s)
+      ∙ ap (option_map (λ value. record { name = a.name; value = value })) (either (eqb a.name DW_AT_decl_file) value ∙ lines_value a a.value l)
 
   lines_by : (a : Attr) (attrs : List Attr) (l s : Bool) (o : Option OutAttr) → f a ≡ o → given.is_lines a.value ≡ l → eqb a.name DW_AT_stmt_list ≡ s
       → cond s (not (given.has_lines attrs)) (not l && given.names_lines_first attrs) ≡ true → (given.names_lines_first attrs ≡ true → lines_out (filter_map f attrs) ≡ given.has_lines attrs)

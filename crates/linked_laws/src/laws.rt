@@ -1,21 +1,28 @@
 //! What is linked, and what is marked for it.
 
-ghost use Rattle.std.specs.Prelude.{◌≡◌, ◌↔◌, ℕ, true, false, slice_index_or, List as Listed};
+ghost use Rattle.std.specs.Prelude.{◌≡◌, ◌↔◌, ℕ, true, false, slice_get, slice_index_or, Option, Some, List as Listed};
 ghost use Rattle.std.specs.List.{All};
-ghost use Rattle.dwarf_types.specs.LinkedGraph.{linked};
+ghost use Rattle.dwarf_types.specs.LinkedGraph.{linked, linked_behind};
 ghost use Rattle.dwarf_types.specs.LinkedUnits.{Object, is_kept};
 ghost use Rattle.dwarf_types.specs.Live.{IsLive, Needs};
 ghost use Rattle.dwarf_types.specs.declared.graph.Graph.{Graph};
 ghost use Rattle.dwarf_types.specs.declared.graph.OutUnit.{OutUnit};
+ghost use Rattle.dwarf_types.specs.declared.graph.Target.{Target};
 ghost use Rattle.dwarf_types.specs.Well.{IsWell, IsWellUnit};
 ghost use Rattle.linked_laws.specs.Ends.{Ends};
-ghost use Rattle.linked_laws.specs.Kept.{IsWhole};
+ghost use Rattle.linked_laws.specs.Kept.{IsWhole, Leads};
 
 /// What is linked of objects of version 4 is well.
 ///
 /// Each object is sound and given, and its entries that are written keep to each other (`specs/Kept.antt`).
 pub fn linked_is_well()
     ensures { (objects : Listed Object) → All IsWhole objects → IsWell (linked objects) }
+{}
+
+/// So it is behind some units that are well, where references lead to nodes, and base types keep their own.
+pub fn linked_behind_is_well()
+    ensures { (units : Listed OutUnit) (image : ℕ → ℕ → Option Target) (objects : Listed Object) → All IsWhole objects → ((i : ℕ) (o : Object) → slice_get objects i ≡ Some o → Leads units image objects i o)
+        → All (IsWellUnit (linked_behind units image objects)) units → IsWell (linked_behind units image objects) }
 {}
 
 /// The live entries of an object keep to each other: what a live entry needs is live.

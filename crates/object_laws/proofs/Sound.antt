@@ -24,7 +24,7 @@ use Rattle.unit_tree.specs.Sound.{AreSound}
 use Rattle.unit_tree.specs.Unit.{nothing, units_at, units_of}
 use Rattle.unit_tree.proofs.Soundness.{units_sound}
 use Rattle.linked_laws.specs.Kept.{IsWhole}
-use Rattle.linked_laws.proofs.Live.{live_closed}
+use Rattle.linked_laws.proofs.Live.{live_whole}
 use Rattle.linked_laws.proofs.Whole.{graph_well}
 use Rattle.object_view.specs.Analysis.{analysis_of, units_analysed}
 use Rattle.object_view.specs.Opened.{opened_of}
@@ -65,11 +65,8 @@ sound_analysis bytes object cpu a small are e =
     analysis_sound o.0 (map_of object o.0.image) raw.0 a (raw_sound o.0.sections raw.0 raw.1) (raw_plain o.0.sections raw.0 (omega (arith, few, small)) info.are sections.abbrevs.are raw.1) raw.2
 
 whole : (o : Object) → IsAnalysed o → IsWhole o
-whole o h = record {
-  sound = sound_analysis h.bytes h.part h.cpu o.seen h.few h.are h.seen;
-  given = analysis_given h.bytes h.part h.cpu o.seen h.few h.are h.seen;
-  closed = live_closed o h.live;
-}
+whole o h =
+    live_whole o (sound_analysis h.bytes h.part h.cpu o.seen h.few h.are h.seen) (analysis_given h.bytes h.part h.cpu o.seen h.few h.are h.seen) h.live
 
 pub linked_well : (objects : List Object) → All IsAnalysed objects → IsWell (linked objects)
 linked_well objects all = graph_well objects (λ i o at. whole o (subst IsAnalysed (get_or_from_slice_get objects i o o at) (all i o (slice_get_within objects i o at))))

@@ -5,4 +5,4 @@ use Rattle.clone_units.proofs.nodes.nodes_of.Given as goal
 
 -- the nodes so far and those that are left
 abbrev pub invariant-loop-origin : goal.invariant-loop-origin
-invariant-loop-origin l = l.nodes ++ filter_map (node_at l.entries l.images l.spans) (drop l.origin-index l.origins) ≡ filter_map (node_at l.entries l.images l.spans) l.origins
+invariant-loop-origin l = l.nodes ++ filter_map (node_at l.seen l.images l.spans) (drop l.origin-index l.origins) ≡ filter_map (node_at l.seen l.images l.spans) l.origins

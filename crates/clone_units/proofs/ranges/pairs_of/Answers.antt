@@ -13,7 +13,7 @@ pieces_within-pieces-requires c = subst (λ (code : List CodeRange). IsNonDecrea
 
 pub returns : goal.returns
 returns c =
-    let o : Object = object_in c.args.seen.now c.args.images.now in
+    let o : Object = object_in c.args.seen.now c.args.plain.now in
     let f = pair_in o c.args.u in
     let unit = c.args.unit.now in
     let pieces = c.pieces_within-pieces.result.now in

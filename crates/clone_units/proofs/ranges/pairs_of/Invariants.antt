@@ -5,4 +5,4 @@ use Rattle.clone_units.proofs.ranges.pairs_of.Given as goal
 
 -- the pieces so far and those that are left
 abbrev pub invariant-loop-piece : goal.invariant-loop-piece
-invariant-loop-piece l = l.pairs.items ++ filter_map (pair_in (object_in l.seen l.images) l.u) (drop l.piece-index l.pieces) ≡ filter_map (pair_in (object_in l.seen l.images) l.u) l.pieces
+invariant-loop-piece l = l.pairs.items ++ filter_map (pair_in (object_in l.seen l.plain) l.u) (drop l.piece-index l.pieces) ≡ filter_map (pair_in (object_in l.seen l.plain) l.u) l.pieces

@@ -3,8 +3,8 @@ use Rattle.std.specs.Option.{IfSome}
 use Rattle.dwarf_types.specs.declared.entry.InUnit.{InUnit}
 use Rattle.dwarf_types.specs.Live.{Stands}
 use Rattle.dwarf_types.specs.LinkedUnits.{Object, is_kept}
-use Rattle.link_graph.specs.Passes.{images_in_unit, marked, nodes_in, stretch}
-use Rattle.link_graph.proofs.Nodes.{images_step, kept_read, nodes_few, nodes_step}
+use Rattle.link_graph.specs.Passes.{marked, nodes_in, plain_in_unit, stretch}
+use Rattle.link_graph.proofs.Nodes.{plain_step, kept_read, nodes_few, nodes_step}
 use Rattle.link_graph.proofs.Stretches.{entries_are, stretch_length}
 use Rattle.link_graph.proofs.Units.{unit_read, unit_spans}
 use Rattle.link_graph.proofs.unit.nodes_in.Goals as goal
@@ -45,16 +45,16 @@ loop-n-preserved c =
     let unit = c.index-as_slice-u.result in
     let is = unit_read o.seen.units c.as_slice.result.now c.args.u unit c.as_slice.ensures c.requires.unit c.index-as_slice-u.is in
     let span = unit_spans 0 o.seen.units (length o.seen.entries) c.args.u unit c.requires.sound.units is in
-    let begun : length c.args.images.now ≡ unit.first = subst (λ (found : Option InUnit). IfSome found (λ unit. length c.args.images.now ≡ unit.first)) is c.requires.begun in
+    let begun : length c.args.plain.now ≡ unit.first = subst (λ (found : Option InUnit). IfSome found (λ unit. length c.args.plain.now ≡ unit.first)) is c.requires.begun in
     let k = unit.first + c.loop-n.n in
     let within : k < length o.seen.entries = omega (arith, span.ends) in
     let at : Stands o.seen.entries k c.entry.result = c.entry.ensures.stands in
     let kept : c.get.result ≡ is_kept o k = c.get.ensures ∙ sym (kept_read o k (omega (arith, within, c.requires.marked))) in
     record {
       nodes = c.in_ok-add_entry.ensures.nodes
-          ∙ nodes_step o c.args.object c.args.number c.args.u unit c.loop-n.n c.entry.result c.args.images.now _ _ c.get.result c.requires.sound is c.loop-n-test.true at begun kept c.loop-n.invariant.nodes c.loop-n.invariant.images;
-      images = c.in_ok-add_entry.ensures.images
-          ∙ images_step o c.args.object c.args.number c.args.u unit c.loop-n.n c.entry.result c.args.images.now _ _ c.get.result c.requires.sound is c.loop-n-test.true at kept c.loop-n.invariant.nodes c.loop-n.invariant.images;
+          ∙ nodes_step o c.args.object c.args.u unit c.loop-n.n c.entry.result c.args.plain.now _ _ c.get.result c.requires.sound is c.loop-n-test.true at begun kept c.loop-n.invariant.nodes c.loop-n.invariant.plain;
+      plain = c.in_ok-add_entry.ensures.plain
+          ∙ plain_step o c.args.object c.args.u unit c.loop-n.n c.entry.result c.args.plain.now _ _ c.get.result c.requires.sound is c.loop-n-test.true at kept c.loop-n.invariant.nodes c.loop-n.invariant.plain;
     }
 
 pub returns-clause-nodes : goal.returns-clause-nodes
@@ -65,10 +65,10 @@ returns-clause-nodes c =
     let all : c.loop-n.n ≡ unit.count = omega arith in
     c.loop-n.invariant.nodes ∙ ap (λ n. nodes_in c.args.object o c.args.u (stretch o unit.first n)) all ∙ ap (nodes_in c.args.object o c.args.u) (sym (entries_are o c.args.u unit is))
 
-pub returns-clause-images : goal.returns-clause-images
-returns-clause-images c =
+pub returns-clause-plain : goal.returns-clause-plain
+returns-clause-plain c =
     let o : Object = marked c.args.seen.now c.args.live.now in
     let unit = c.index-as_slice-u.result in
     let is = unit_read o.seen.units c.as_slice.result.now c.args.u unit c.as_slice.ensures c.requires.unit c.index-as_slice-u.is in
     let all : c.loop-n.n ≡ unit.count = omega arith in
-    c.loop-n.invariant.images ∙ ap (λ n. c.args.images.now ++ images_in_unit c.args.number o c.args.u (stretch o unit.first n)) all ∙ ap (λ es. c.args.images.now ++ images_in_unit c.args.number o c.args.u es) (sym (entries_are o c.args.u unit is))
+    c.loop-n.invariant.plain ∙ ap (λ n. c.args.plain.now ++ plain_in_unit o c.args.u (stretch o unit.first n)) all ∙ ap (λ es. c.args.plain.now ++ plain_in_unit o c.args.u es) (sym (entries_are o c.args.u unit is))

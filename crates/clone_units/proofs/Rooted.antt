@@ -1,0 +1,79 @@
+-- The unit of a root, as it is read of a shape.
+use Rattle.std.proofs.Common.{◌≡◌, ◌<◌, ℕ, List, length, slice_get, Option, Some, None, refl, sym, ap, subst, ◌∙◌, arith}
+use Rattle.std.specs.List.{All}
+use Rattle.std.specs.Option.{option_map}
+use Rattle.std.proofs.lemmas.Option.{get_or_from_slice_get, same_Some, slice_get_within}
+use Rattle.dwarf_types.specs.declared.analysis.Analysis.{Analysis}
+use Rattle.dwarf_types.specs.declared.graph.OutUnit.{OutUnit}
+use Rattle.dwarf_types.specs.declared.graph.Target.{Target}
+use Rattle.dwarf_types.specs.declared.shape.Origin.{Origin}
+use Rattle.dwarf_types.specs.declared.shape.Shape.{Shape}
+use Rattle.dwarf_types.specs.declared.shape.ShapeUnit.{ShapeUnit}
+use Rattle.dwarf_types.specs.LinkedShape.{plain_in}
+use Rattle.dwarf_types.specs.Sound.{IsSound}
+use Rattle.clone_units.specs.Nodes.{IsNamed, number_of_object}
+use Rattle.clone_units.specs.Units.{Holds, IsUnitIn, IsUnitOf}
+use Rattle.clone_units.proofs.Cloned.{all_named, cloned, has_root, o, rooted}
+
+-- the nodes of a unit as they are read
+pub record Reads (shape : Shape) (n : ℕ) (nodes : List Origin) : Type 0 where
+  pub unit : ShapeUnit
+  pub at : slice_get shape.units n ≡ Some unit
+  pub same : nodes ≡ unit.nodes
+
+pub reads : (shape : Shape) (n : ℕ) (nodes : List Origin) → option_map (λ (u : ShapeUnit). u.nodes) (slice_get shape.units n) ≡ Some nodes → Reads shape n nodes
+reads shape n nodes its = by (slice_get shape.units n) refl its
+  where
+    by : (found : Option ShapeUnit) → slice_get shape.units n ≡ found → option_map (λ (u : ShapeUnit). u.nodes) found ≡ Some nodes → Reads shape n nodes
+    by None is its = absurd cc
+    by (Some unit) is its = record { unit = unit; at = is; same = sym (same_Some unit.nodes nodes its) }
+
+module _ (seen : List Analysis) (shape : Shape) (n : ℕ) (nodes : List Origin) (holds : Holds seen shape n) (r : Reads shape n nodes) where
+  pub some_nodes : 0 < length nodes
+  some_nodes = omega (arith, ap length r.same, has_root holds.all shape n r.unit holds.is_shape r.at seen holds.there)
+
+  pub are_named : All (IsNamed seen shape.images) nodes
+  are_named = subst (All (IsNamed seen shape.images)) (sym r.same) (all_named holds.all shape n r.unit holds.is_shape r.at seen holds.there)
+
+  -- its object, and what that has
+  pub record AtRoot (root : Origin) (object : ℕ) : Type 0 where
+    pub own : Analysis
+    pub its_own : slice_get seen object ≡ Some own
+    pub sound : IsSound own
+    pub inside : root.entry < length own.entries
+    pub plain : List (Option ℕ)
+    pub its_plain : slice_get shape.plain object ≡ Some plain
+    pub done : (it : OutUnit) → IsUnitOf seen shape.images own plain root.entry nodes it → IsUnitIn seen shape n it
+
+  pub at_root : (root : Origin) (object : ℕ) → slice_get nodes 0 ≡ Some root → number_of_object root ≡ Some object → AtRoot root object
+  at_root root object first number =
+      let first_of = sym (ap (λ (os : List Origin). slice_get os 0) r.same) ∙ first in
+      let h = rooted holds.all shape n r.unit holds.is_shape r.at seen holds.there root object first_of number in
+      let own = o holds.all shape n r.unit holds.is_shape r.at in
+      record {
+        own = own.seen;
+        its_own = h.own;
+        sound = subst IsSound (get_or_from_slice_get holds.all object own.seen own.seen h.own_of_all) (holds.sound object own.seen (slice_get_within holds.all object own.seen h.own_of_all));
+        inside = h.inside;
+        plain = plain_in own;
+        its_plain = h.plain;
+        done = λ it of all is there.
+            let h' = rooted all shape n r.unit is r.at seen there root object first_of number in
+            let own' = o all shape n r.unit is r.at in
+            let same : own.seen ≡ own'.seen = same_Some own.seen own'.seen (sym h.own ∙ h'.own) in
+            let plain : plain_in own ≡ plain_in own' = same_Some (plain_in own) (plain_in own') (sym h.plain ∙ h'.plain) in
+            let of_unit = subst (λ (os : List Origin). IsUnitOf seen shape.images own.seen (plain_in own) root.entry os it) r.same of in
+            let of_own = subst (λ (a : Analysis). IsUnitOf seen shape.images a (plain_in own) root.entry r.unit.nodes it) same of_unit in
+            cloned all shape n r.unit is r.at seen there root it first_of (subst (λ (p : List (Option ℕ)). IsUnitOf seen shape.images own'.seen p root.entry r.unit.nodes it) plain of_own);
+      }
+
+  -- as they are read
+  pub inside_of : (root : Origin) (object : ℕ) (own : Analysis) → AtRoot root object → slice_get seen object ≡ Some own → root.entry < length own.entries
+  inside_of root object own h its = subst (λ (a : Analysis). root.entry < length a.entries) (same_Some h.own own (sym h.its_own ∙ its)) h.inside
+
+  pub done_of : (root : Origin) (object : ℕ) (images : List (List (Option Target))) (own : Analysis) (plain : List (Option ℕ)) (it : OutUnit) → AtRoot root object → images ≡ shape.images → slice_get seen object ≡ Some own
+      → slice_get shape.plain object ≡ Some plain → IsUnitOf seen images own plain root.entry nodes it → IsUnitIn seen shape n it
+  done_of root object images own plain it h rows its its_plain of =
+      let of_rows = subst (λ (r : List (List (Option Target))). IsUnitOf seen r own plain root.entry nodes it) rows of in
+      let of_plain = subst (λ (p : List (Option ℕ)). IsUnitOf seen shape.images own p root.entry nodes it) (same_Some plain h.plain (sym its_plain ∙ h.its_plain)) of_rows in
+      h.done it (subst (λ (a : Analysis). IsUnitOf seen shape.images a h.plain root.entry nodes it) (same_Some own h.own (sym its ∙ h.its_own)) of_plain)
