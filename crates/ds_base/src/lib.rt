@@ -14,6 +14,7 @@ pub mod dwarf;
 mod emit;
 mod fault;
 mod leb;
+pub mod limits;
 mod list;
 pub mod macho;
 mod pieces;
