@@ -1,4 +1,3 @@
 pub mod Codes
 pub mod FirstUses
-pub mod Spelled
 pub mod Tables

@@ -1,12 +1,18 @@
 -- A station between the code and the definitions: declarations are looked up by lists of numbers, which are equal exactly where the declarations are the same.
-use Rattle.std.specs.Prelude.{◌≡◌, ℕ, suc, List, [], ◌∷◌, ◌++◌, Option, Some, None, if◌then◌else◌}
+use Rattle.std.specs.Prelude.{◌≡◌, ℕ, suc, Bool, List, [], ◌∷◌, ◌++◌, map, Option, Some, None, if◌then◌else◌}
 use Rattle.std.specs.List.{flat_map, list_any}
 use Rattle.std.specs.Option.{option_map}
 use Rattle.std.specs.Str.{bytes_eq}
 use Rattle.std.specs.declared.vec.Vec.{Vec}
 use Rattle.indexmap.specs.IndexMap.{IndexMap, get_by}
 use Rattle.dwarf_types.specs.declared.abbrev.Declaration.{Declaration}
+use Rattle.dwarf_types.specs.declared.graph.Node.{Node}
 use Rattle.dwarf_types.specs.Abbreviations.{same_declaration}
+use Rattle.dwarf_types.specs.Forms.{form_of}
+
+-- what declares a node of the unit of a number, with or without children
+abbrev pub declaring : ℕ → Node → Bool → Declaration
+declaring u node children = record { tag = node.tag; children = children; attributes = map (λ a. (a.name, form_of u a.value)) node.attrs }
 
 -- the tag, whether children follow, and the pairs
 abbrev pub key_of : Declaration → List ℕ

@@ -1,12 +1,10 @@
 //! The table of a unit, and the code of each node.
 
 ghost use Rattle.std.specs.Prelude.{◌≡◌, ◌<◌, length, slice_index, IfOk};
-ghost use Rattle.dwarf_types.specs.Abbreviations.{declarations_bytes};
-ghost use Rattle.abbrev_write.specs.Table.{unit_table, size_of};
+ghost use Rattle.abbrev_write.specs.Table.{unit_table};
 
-use crate::declare::{declare, parents_in};
+use crate::declare::{make_key, parents_in};
 use crate::known::{code_for, new_known};
-use crate::write::size_of_all;
 use ds_base::{List, NoMemory};
 use dwarf_types::{Declaration, OutUnit};
 use std::alloc::Global;
@@ -19,20 +17,14 @@ use std::marker::Model;
 pub struct AbbrevTable {
     declarations: List<Declaration>,
     codes: List<u32>,
-    // in bytes
-    size: u64,
 }
 
 impl Model for AbbrevTable {
-    ghost use Rattle.std.specs.Prelude.{◌≡◌, length};
-    ghost use Rattle.dwarf_types.specs.Abbreviations.{declarations_bytes};
     ghost use Rattle.abbrev_write.specs.Table.{Table};
 
     ghost Value = { Table };
 
     ghost view = { λ a. record { declarations = a.declarations; codes = a.codes } };
-
-    ghost invariant = { λ a. a.size ≡ length (declarations_bytes a.declarations) };
 }
 
 /// The table of a unit, whose number in the graph counts from 0: the form of a reference depends on whether it stays
@@ -46,19 +38,20 @@ pub fn table(alloc: Global, unit: &OutUnit, number: u32) -> Result<AbbrevTable, 
     let nodes = unit.nodes.as_slice();
     let parents = parents_in(alloc, nodes)?;
     let mut known = new_known(alloc);
-    let mut codes = List::new(alloc);
+    let mut codes = List::with_capacity(alloc, nodes.len())?;
+    let mut key = Vec::new(alloc);
     for (k, node) in nodes.iter().enumerate() {
         let Ok(k) = u32::try_from(k) else {
             return Err(NoMemory);
         };
-        let declared = declare(alloc, number, node, parents.get(k))?;
-        codes.push(code_for(alloc, &mut known, declared)?)?;
+        let children = parents.get(k);
+        make_key(&mut key, number, node, children)?;
+        let code = code_for(alloc, &mut known, &key, number, node, children)?;
+        codes.push(code)?;
     }
-    let size = size_of_all(known.declarations.as_slice())?;
     Ok(AbbrevTable {
         declarations: known.declarations,
         codes,
-        size,
     })
 }
 
@@ -75,13 +68,6 @@ pub fn codes_of(table: &AbbrevTable) -> &[u32]
     ensures { result.now ≡ table.now.codes }
 {
     table.codes.as_slice()
-}
-
-/// The size of the table in bytes.
-pub fn table_size(table: &AbbrevTable) -> u64
-    ensures { result ≡ size_of table.now }
-{
-    table.size
 }
 
 /// The declarations, in the order of their codes.

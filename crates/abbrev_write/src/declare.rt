@@ -1,8 +1,10 @@
 //! What declares a node.
 
-ghost use Rattle.std.specs.Prelude.{◌≡◌, ◌<◌, ◌||◌, ℕ, length, map, slice_index_or, false, IfOk};
+ghost use Rattle.std.specs.Prelude.{◌≡◌, ◌<◌, ◌||◌, ◌++◌, ◌∷◌, [], ℕ, length, map, slice_index_or, false, IfOk, OnOk};
+ghost use Rattle.std.specs.List.{flat_map};
 ghost use Rattle.dwarf_types.specs.Abbreviations.{has_children, is_number};
 ghost use Rattle.dwarf_types.specs.Forms.{form_of};
+ghost use Rattle.abbrev_write.specs.Keys.{declaring, key_of};
 
 use ds_base::dwarf::{
     DW_FORM_addr, DW_FORM_data16, DW_FORM_exprloc, DW_FORM_ref_addr, DW_FORM_ref4,
@@ -47,7 +49,7 @@ pub(crate) fn declare(
     node: &Node,
     children: bool,
 ) -> Result<Declaration, NoMemory>
-    ensures { IfOk result (λ d. d ≡ record { tag = node.now.tag; children = children; attributes = map (λ a. (a.name, form_of number a.value)) node.now.attrs }) }
+    ensures { IfOk result (λ declared. declared ≡ declaring number node.now children) }
 {
     let mut attributes = List::with_capacity(alloc, node.attrs.len())?;
     for attr in node.attrs.as_slice() {
@@ -58,6 +60,34 @@ pub(crate) fn declare(
         children,
         attributes,
     })
+}
+
+/// Makes the key of what declares a node, in the place of what stood there: its tag, whether children follow, and the
+/// pairs of name and form.
+pub(crate) fn make_key(
+    key: &mut Vec<u32>,
+    number: u32,
+    node: &Node,
+    children: bool,
+) -> Result<(), NoMemory>
+    ensures { OnOk result (key.new.items ≡ key_of (declaring number node.now children)) }
+{
+    key.clear();
+    key.push(u32::from(node.tag))?;
+    key.push(u32::from(children))?;
+    add_pairs(key, number, node.attrs.as_slice())?;
+    Ok(())
+}
+
+/// Puts the pairs of name and form behind a key.
+fn add_pairs(key: &mut Vec<u32>, number: u32, attrs: &[OutAttr]) -> Result<(), NoMemory>
+    ensures { OnOk result (key.new.items ≡ key.old.items ++ flat_map (λ (p : ℕ × ℕ). p.0 ∷ p.1 ∷ []) (map (λ a. (a.name, form_of number a.value)) attrs.now)) }
+{
+    for attr in attrs {
+        key.push(u32::from(attr.name))?;
+        key.push(u32::from(form_in(number, &attr.value)))?;
+    }
+    Ok(())
 }
 
 /// The form of a value of the unit of a number.

@@ -2,10 +2,11 @@
 
 ghost use Rattle.std.specs.Prelude.{◌≡◌, ◌+◌, [], IfOk, OnOk};
 ghost use Rattle.dwarf_types.specs.Abbreviations.{code_in};
-ghost use Rattle.abbrev_write.specs.Keys.{AreKnown, key_of, with_declaration};
+ghost use Rattle.abbrev_write.specs.Keys.{AreKnown, declaring, key_of, with_declaration};
 
+use crate::declare::declare;
 use ds_base::{List, NoMemory};
-use dwarf_types::Declaration;
+use dwarf_types::{Declaration, Node};
 use indexmap::IndexMap;
 use std::alloc::Global;
 
@@ -28,23 +29,28 @@ pub(crate) fn new_known(alloc: Global) -> Known
     }
 }
 
-/// The code of a declaration, which is put last where it is new.
+/// The code of what declares a node, whose key this is. It is put last where it is new.
 pub(crate) fn code_for(
     alloc: Global,
     known: &mut Known,
-    declared: Declaration,
+    key: &[u32],
+    number: u32,
+    node: &Node,
+    children: bool,
 ) -> Result<u32, NoMemory>
-    requires { AreKnown known.old.codes known.old.declarations }
+    requires known { AreKnown known.old.codes known.old.declarations }
+    requires key { key.now ≡ key_of (declaring number node.now children) }
     ensures known { OnOk result (AreKnown known.new.codes known.new.declarations) }
-    ensures grown { OnOk result (known.new.declarations ≡ with_declaration known.old.declarations declared) }
-    ensures code { IfOk result (λ code. code ≡ code_in known.new.declarations declared) }
+    ensures grown { OnOk result (known.new.declarations ≡ with_declaration known.old.declarations (declaring number node.now children)) }
+    ensures code { IfOk result (λ code. code ≡ code_in known.new.declarations (declaring number node.now children)) }
 {
-    let key = key_for(alloc, &declared)?;
-    if let Some(code) = known.codes.get(&key) {
+    if let Some(code) = known.codes.get(key) {
         return Ok(*code);
     }
     let code = code_behind(known.declarations.len())?;
-    known.codes.insert(key, code)?;
+    let kept = Vec::from_slice(alloc, key)?;
+    known.codes.insert(kept, code)?;
+    let declared = declare(alloc, number, node, children)?;
     known.declarations.push(declared)?;
     Ok(code)
 }
@@ -57,19 +63,4 @@ fn code_behind(count: usize) -> Result<u32, NoMemory>
         Ok(count) if count < u32::MAX => Ok(count + 1),
         _ => Err(NoMemory),
     }
-}
-
-/// The key of a declaration: its tag, whether children follow, and the pairs.
-fn key_for(alloc: Global, declared: &Declaration) -> Result<Vec<u32>, NoMemory>
-    ensures { IfOk result (λ key. key.items ≡ key_of declared.now) }
-{
-    let count = declared.attributes.len();
-    let mut key = Vec::with_capacity(alloc, count.saturating_mul(2).saturating_add(2))?;
-    key.push(u32::from(declared.tag))?;
-    key.push(u32::from(declared.children))?;
-    for (name, form) in declared.attributes.as_slice() {
-        key.push(u32::from(*name))?;
-        key.push(u32::from(*form))?;
-    }
-    Ok(key)
 }

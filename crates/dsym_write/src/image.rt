@@ -1,10 +1,10 @@
 //! The image file.
 
-ghost use Rattle.std.specs.Prelude.{◌≡◌, ◌+◌, ◌-◌, ◌<◌, ◌≤◌, ◌^◌, Ok, length, replicate, IfOk, OnOk};
+ghost use Rattle.std.specs.Prelude.{◌≡◌, ◌+◌, ◌-◌, ◌<◌, ◌≤◌, ◌^◌, Ok, length, replicate};
 ghost use Rattle.ds_base.specs.Room.{Adds};
-ghost use Rattle.dwarf_types.specs.Encode.{encode, info_section};
-ghost use Rattle.dwarf_types.specs.Well.{IsWell};
-ghost use Rattle.layout.specs.Laid.{Measures};
+ghost use Rattle.dwarf_types.specs.declared.graph.Graph.{Graph};
+ghost use Rattle.dwarf_types.specs.Encode.{encode};
+ghost use Rattle.layout.specs.Laid.{IsMeasured, Measures};
 ghost use Rattle.macho_read.specs.Sound.{IsSound};
 ghost use Rattle.dsym_write.specs.Bundle.{Writes, contents, image_file};
 ghost use Rattle.dsym_write.specs.Pieces.{ArePlaces};
@@ -12,71 +12,43 @@ ghost use Rattle.dsym_write.specs.Pieces.{ArePlaces};
 use crate::commands::emit_front;
 use crate::error::WriteError;
 use crate::places::{Places, places_of};
-use ds_base::{Bytes, NoMemory};
-use dwarf_types::Graph;
+use ds_base::Bytes;
 use layout::Layout;
 use macho_read::Image;
 use section_write::emit_sections;
 use std::alloc::Global;
 
 /// The dSYM image of a program: the commands and the symbols of the program, and the sections of a graph that was
-/// measured (mach-o/loader.h). `info` is `__debug_info`, which is written unit by unit before.
+/// measured (mach-o/loader.h).
 ///
 /// The file keeps the program's UUID, its segments and sections without their bytes, and the symbols that are not
-/// stabs. A file of 2^32 bytes or more is not made, and its size is told.
-pub fn image_bytes(
-    alloc: Global,
-    program: &Image,
-    graph: &Graph,
-    layout: &Layout,
-    info: &[u8],
-) -> Result<Bytes, WriteError>
+/// stabs. A file of 2^32 bytes or more is not made, and its size is told. Memory is taken once, for the file.
+pub fn image_from(alloc: Global, program: &Image, layout: &Layout) -> Result<Bytes, WriteError>
     requires sound { IsSound program.now }
-    requires well { IsWell graph.now }
-    requires measured { Measures graph.now (Ok layout.now) }
-    requires info { info.now ≡ info_section graph.now }
-    ensures { Writes program.now graph.now result }
+    requires measured { IsMeasured layout.now }
+    ensures { (graph : Graph) → Measures graph (Ok layout.now) → Writes program.now graph result }
 {
     let places = places_of(program, layout)?;
     if places.size > u64::from(u32::MAX) {
         return Err(WriteError::File { size: places.size });
     }
     let mut file = Bytes::zeros(alloc, places.size as usize)?;
-    write_image(
-        alloc,
-        program,
-        graph,
-        layout,
-        info,
-        places,
-        file.as_mut_slice(),
-    )?;
+    write_image(program, layout, places, file.as_mut_slice());
     Ok(file)
 }
 
 /// Writes the file into a room of its size.
-fn write_image(
-    alloc: Global,
-    program: &Image,
-    graph: &Graph,
-    layout: &Layout,
-    info: &[u8],
-    places: Places,
-    room: &mut [u8],
-) -> Result<(), NoMemory>
+fn write_image(program: &Image, layout: &Layout, places: Places, room: &mut [u8])
     requires sound { IsSound program.now }
-    requires well { IsWell graph.now }
-    requires measured { Measures graph.now (Ok layout.now) }
-    requires info { info.now ≡ info_section graph.now }
+    requires measured { IsMeasured layout.now }
     requires places { ArePlaces program.now layout.now.sizes places }
     requires small { places.size < 2 ^ 32 }
     requires size { length room.old ≡ places.size }
-    ensures { OnOk result (room.new ≡ image_file program.now graph.now) }
+    ensures { (graph : Graph) → Measures graph (Ok layout.now) → room.new ≡ image_file program.now graph }
 {
     let at = emit_front(program, layout, places, room);
     let at = emit_zeros(room, at, places.offset as usize);
-    add_sections(alloc, graph, layout, info, room, at)?;
-    Ok(())
+    add_sections(layout, room, at);
 }
 
 /// Writes zeros up to a place.
@@ -97,21 +69,13 @@ fn clear(bytes: &mut [u8])
 }
 
 /// Writes the sections at the end of the file.
-fn add_sections(
-    alloc: Global,
-    graph: &Graph,
-    layout: &Layout,
-    info: &[u8],
-    room: &mut [u8],
-    at: usize,
-) -> Result<usize, NoMemory>
-    requires well { IsWell graph.now }
-    requires measured { Measures graph.now (Ok layout.now) }
-    requires info { info.now ≡ info_section graph.now }
-    requires size { at + length (contents (encode graph.now)) ≡ length room.old }
-    ensures { IfOk result (λ end. Adds room.old at (contents (encode graph.now)) room.new end) }
+fn add_sections(layout: &Layout, room: &mut [u8], at: usize) -> usize
+    requires measured { IsMeasured layout.now }
+    requires within { at ≤ length room.old }
+    requires size { (graph : Graph) → Measures graph (Ok layout.now) → at + length (contents (encode graph)) ≡ length room.old }
+    ensures { (graph : Graph) → Measures graph (Ok layout.now) → Adds room.old at (contents (encode graph)) room.new result }
 {
     let end = room.len();
-    emit_sections(alloc, graph, layout, info, &mut room[at..end])?;
-    Ok(end)
+    emit_sections(layout, &mut room[at..end]);
+    end
 }

@@ -1,6 +1,3 @@
-pub mod Laying
-pub mod Lowest
-pub mod Passing
-pub mod Runs
-pub mod Sizes
-pub mod Whole
+pub mod Drafts
+pub mod SubRooms
+pub mod UnitByUnit

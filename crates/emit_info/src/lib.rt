@@ -1,15 +1,10 @@
-//! The entries of an output unit as bytes of `__debug_info` (DWARF 4, section 7.5).
+//! The entries of output units as bytes of `__debug_info` (DWARF 4, section 7.5).
 //!
-//! Layer: writers. [`emit_unit`] goes over the nodes of a unit once, in preorder, and takes the place of everything that
-//! a value names from the layout of the graph. It takes no memory.
+//! Layer: writers. A unit is drafted once (`unit_draft`). [`emit_unit`] copies the draft of one unit into a room of its
+//! size and fills in what stands outside of the unit, by the layout; [`emit_units`] does so for all, one behind the
+//! other. Neither takes memory, and units can be written apart from each other.
 #![tactic(auto)]
 
-mod context;
-mod entries;
-mod lists;
-mod numbers;
-mod places;
 mod unit;
-mod values;
 
-pub use unit::emit_unit;
+pub use unit::{emit_unit, emit_units};

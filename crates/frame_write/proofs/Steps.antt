@@ -1,5 +1,5 @@
 -- Frames written one after the other are the section.
-use Rattle.std.proofs.Common.{◌≡◌, ℕ, ◌+◌, Bool, true, false, List, [], ◌∷◌, ◌++◌, length, fold, Option, None, Some, is_some, if◌then◌else◌, refl, sym, ap, ◌∙◌, append_assoc, arith, length-append, ◌<◌, ◌≤◌, take, drop, get_or}
+use Rattle.std.proofs.Common.{◌≡◌, ℕ, ◌+◌, ◌-◌, Bool, true, false, List, [], ◌∷◌, ◌++◌, length, fold, Option, None, Some, is_some, if◌then◌else◌, refl, sym, ap, ◌∙◌, append_assoc, arith, length-append, ◌<◌, ◌≤◌, drop, get_or}
 use Rattle.std.specs.List.{flat_map, sum_by}
 use Rattle.std.specs.Option.{option_map, option_or, unwrap_or}
 use Rattle.std.specs.Str.{bytes_eq}
@@ -7,7 +7,6 @@ use Rattle.std.specs.Cmp.Lexicographic.{nat_list_eq_equiv}
 use Rattle.std.proofs.lemmas.List.{append-nil}
 use Rattle.std.proofs.lemmas.List.Concat.{flat_map-append}
 use Rattle.std.proofs.lemmas.List.Sums.{sum_by-append}
-use Rattle.ds_base.specs.Room.{Adds}
 use Rattle.ds_base.proofs.Lookups.{lookup-push}
 use Rattle.ds_base.proofs.Walking.{drop_one}
 use Rattle.dwarf_types.specs.declared.frames.OutFrame.{OutFrame}
@@ -106,41 +105,22 @@ pub next_frame : (known : Known) (at : ℕ) (frames : List OutFrame) (i : ℕ) (
     → bytes_from known at (drop i frames) ≡ frame_bytes known f at ++ bytes_from (with_cie known f.cie at) (at + length (frame_bytes known f at)) (drop (i + 1) frames)
 next_frame known at frames i f lt is = ap (bytes_from known at) (drop_one frames i f lt is)
 
--- that fits in the room, if all do
-pub step_fits : (known : Known) (at size : ℕ) (frames : List OutFrame) (i : ℕ) (f : OutFrame) → i < length frames → f ≡ get_or frames i f
-    → at + length (bytes_from known at (drop i frames)) ≡ size → at + length (frame_bytes known f at) ≤ size
-step_fits known at size frames i f lt is so_far =
-    let step = frame_bytes known f at in
-    omega (arith, so_far, ap length (next_frame known at frames i f lt is), length-append step (bytes_from (with_cie known f.cie at) (at + length step) (drop (i + 1) frames)))
-
--- frame i is written, and the others are still to come
-pub frame_written : (known after : Known) (room new : List ℕ) (at next : ℕ) (frames : List OutFrame) (i : ℕ) (f : OutFrame) (all : List ℕ) → i < length frames → f ≡ get_or frames i f
-    → Adds room at (frame_bytes known f at) new next → after ≡ with_cie known f.cie at
-    → take at room ++ bytes_from known at (drop i frames) ≡ all → take next new ++ bytes_from after next (drop (i + 1) frames) ≡ all
-frame_written known after room new at next frames i f all lt is one after_is so_far =
+-- frame i is appended, and the others are still to come
+pub frame_appended : (known after : Known) (out new all : List ℕ) (start at : ℕ) (frames : List OutFrame) (i : ℕ) (f : OutFrame) → i < length frames → f ≡ get_or frames i f
+    → start ≤ length out → at ≡ length out - start → new ≡ out ++ frame_bytes known f at → after ≡ with_cie known f.cie at
+    → out ++ bytes_from known (length out - start) (drop i frames) ≡ all
+    → (start ≤ length new) × (new ++ bytes_from after (length new - start) (drop (i + 1) frames) ≡ all)
+frame_appended known after out new all start at frames i f lt is le at_is new_is after_is so_far =
     let step = frame_bytes known f at in
     let others = drop (i + 1) frames in
-    ap (λ (front : List ℕ). front ++ bytes_from after next others) one.written
-    ∙ append_assoc (take at room) step (bytes_from after next others)
-    ∙ ap (λ (k : Known). take at room ++ (step ++ bytes_from k next others)) after_is
-    ∙ ap (λ (n : ℕ). take at room ++ (step ++ bytes_from (with_cie known f.cie at) n others)) one.behind
-    ∙ ap (λ (bytes : List ℕ). take at room ++ bytes) (sym (next_frame known at frames i f lt is))
-    ∙ so_far
-
-pub still_fits : (known after : Known) (room new : List ℕ) (at next : ℕ) (frames : List OutFrame) (i : ℕ) (f : OutFrame) → i < length frames → f ≡ get_or frames i f
-    → Adds room at (frame_bytes known f at) new next → after ≡ with_cie known f.cie at
-    → at + length (bytes_from known at (drop i frames)) ≡ length room → next + length (bytes_from after next (drop (i + 1) frames)) ≡ length new
-still_fits known after room new at next frames i f lt is one after_is so_far =
-    let step = frame_bytes known f at in
-    let others = drop (i + 1) frames in
-    let told : length (bytes_from after next others) ≡ length (bytes_from (with_cie known f.cie at) (at + length step) others) =
-    ap (λ (k : Known). length (bytes_from k next others)) after_is ∙ ap (λ (n : ℕ). length (bytes_from (with_cie known f.cie at) n others)) one.behind in
-    omega (
-      arith,
-      so_far,
-      one.size,
-      one.behind,
-      told,
-      ap length (next_frame known at frames i f lt is),
-      length-append step (bytes_from (with_cie known f.cie at) (at + length step) others),
+    let len : length new ≡ length out + length step = ap length new_is ∙ length-append out step in
+    let next : length new - start ≡ at + length step = omega (arith, len, le, at_is) in (
+      omega (arith, len, le),
+      ap (λ (bytes : List ℕ). bytes ++ bytes_from after (length new - start) others) new_is
+          ∙ append_assoc out step (bytes_from after (length new - start) others)
+          ∙ ap (λ (k : Known). out ++ (step ++ bytes_from k (length new - start) others)) after_is
+          ∙ ap (λ (n : ℕ). out ++ (step ++ bytes_from (with_cie known f.cie at) n others)) next
+          ∙ ap (λ (bytes : List ℕ). out ++ bytes) (sym (next_frame known at frames i f lt is))
+          ∙ ap (λ (n : ℕ). out ++ bytes_from known n (drop i frames)) at_is
+          ∙ so_far,
     )

@@ -1,10 +1,11 @@
-pub mod FrameLengths
+pub mod Behind
+pub mod DraftRuns
+pub mod Folds
+pub mod GraphParts
 pub mod Limits
-pub mod ListRooms
-pub mod NodeDepths
-pub mod NodePlaces
 pub mod Numbered
-pub mod OneUnit
+pub mod OfDrafts
+pub mod Outsides
 pub mod SectionLengths
 pub mod TextRuns
-pub mod Turns
+pub mod Whole

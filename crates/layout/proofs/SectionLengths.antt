@@ -1,11 +1,9 @@
 -- How long the sections of a graph are.
-use Rattle.std.proofs.Common.{◌≡◌, ℕ, ◌+◌, ◌==◌, Bool, true, false, List, [], ◌∷◌, length, if◌then◌else◌, refl, sym, ap, ◌∙◌, arith}
+use Rattle.std.proofs.Common.{◌≡◌, ℕ, ◌+◌, List, [], ◌∷◌, length, refl, sym, ap, ◌∙◌, arith}
 use mathlib.Core.Path.{fun_ext}
 use Rattle.std.specs.List.{enumerate_from, flat_map, sum_by}
 use Rattle.std.proofs.lemmas.List.Concat.{length-flat_map}
 use Rattle.std.proofs.lemmas.List.Sums.{sum_by-cons}
-use Rattle.ds_base.specs.Texts.{section_of}
-use Rattle.dwarf_types.specs.declared.address.Span.{Span}
 use Rattle.dwarf_types.specs.declared.graph.Graph.{Graph}
 use Rattle.dwarf_types.specs.declared.graph.Node.{Node}
 use Rattle.dwarf_types.specs.declared.graph.OutAttr.{OutAttr}
@@ -13,19 +11,17 @@ use Rattle.dwarf_types.specs.declared.graph.OutUnit.{OutUnit}
 use Rattle.dwarf_types.specs.declared.graph.OutValue.{OutValue}
 use Rattle.dwarf_types.specs.declared.graph.OutValue.TheVariants as values
 use Rattle.dwarf_types.specs.Abbreviations.{table_bytes}
-use Rattle.dwarf_types.specs.Aranges.{aranges_bytes, aranges_len, set_bytes, set_len}
-use Rattle.dwarf_types.specs.Encode.{abbrev_section, aranges_section, info_section, line_section, loc_section, over_units, over_values, ranges_section}
+use Rattle.dwarf_types.specs.Encode.{abbrev_section, info_section, line_section, loc_section, over_units, over_values, ranges_section}
 use Rattle.dwarf_types.specs.Entries.{node_locations_len, node_ranges_len, unit_bytes, unit_len}
-use Rattle.dwarf_types.specs.Frames.{frames_len}
-use Rattle.dwarf_types.specs.Layout.{before_unit, lists_place, numbered_units, places_of, table_place, texts_of, unit_start}
+use Rattle.dwarf_types.specs.Layout.{before_unit, lists_place, numbered_units, places_of, table_place}
 use Rattle.dwarf_types.specs.LineTable.{lines_bytes}
 use Rattle.dwarf_types.specs.Lists.{locations_bytes, locations_len, ranges_bytes, ranges_len}
 use Rattle.dwarf_types.specs.Places.{own_node}
-use Rattle.dwarf_types.proofs.Lengths.{length-frames, length-location_list, length-range_list, length-set, length-unit}
+use Rattle.dwarf_types.proofs.Lengths.{length-location_list, length-range_list, length-unit}
 use Rattle.layout.specs.declared.sizes.Sizes.{Sizes}
-use Rattle.layout.specs.declared.unit.Starts.{Starts}
+use Rattle.layout.specs.declared.starts.Starts.{Starts}
 use Rattle.layout.specs.Laid.{sizes_of}
-use Rattle.layout.specs.Pass.{starts_of}
+use Rattle.layout.specs.Pass.{sized, starts_of}
 use Rattle.layout.proofs.Numbered.{all_numbered}
 
 -- ---- sums
@@ -39,7 +35,7 @@ unnumbered {X} len n (x ∷ xs) = omega (arith, sum_by-cons (λ (m : ℕ × X). 
 
 -- ---- values
 
-ranges_each : (value : OutValue) → length (ranges_bytes value) ≡ ranges_len value
+pub ranges_each : (value : OutValue) → length (ranges_bytes value) ≡ ranges_len value
 ranges_each (values.Ranges spans) = length-range_list spans
 ranges_each (values.Address n) = refl
 ranges_each (values.Text t) = refl
@@ -51,7 +47,7 @@ ranges_each (values.Ref t) = refl
 ranges_each (values.Locations l) = refl
 ranges_each values.Lines = refl
 
-locations_each : (place : ℕ → ℕ) (value : OutValue) → length (locations_bytes place value) ≡ locations_len value
+pub locations_each : (place : ℕ → ℕ) (value : OutValue) → length (locations_bytes place value) ≡ locations_len value
 locations_each place (values.Locations items) = length-location_list place items
 locations_each place (values.Address n) = refl
 locations_each place (values.Text t) = refl
@@ -63,15 +59,11 @@ locations_each place (values.Ref t) = refl
 locations_each place (values.Ranges s) = refl
 locations_each place values.Lines = refl
 
-over_values_len : (part : OutValue → List ℕ) (len : OutValue → ℕ) → ((value : OutValue) → length (part value) ≡ len value) → (unit : OutUnit)
+pub over_values_len : (part : OutValue → List ℕ) (len : OutValue → ℕ) → ((value : OutValue) → length (part value) ≡ len value) → (unit : OutUnit)
     → length (over_values part unit) ≡ sum_by (λ node. sum_by (λ a. len a.value) node.attrs) unit.nodes
 over_values_len part len each unit =
     over (λ (node : Node). flat_map (λ (a : OutAttr). part a.value) node.attrs) (λ (node : Node). sum_by (λ (a : OutAttr). len a.value) node.attrs)
     (λ (node : Node). over (λ (a : OutAttr). part a.value) (λ (a : OutAttr). len a.value) (λ (a : OutAttr). each a.value) node.attrs) unit.nodes
-
-aranges_by : (b : Bool) (start : ℕ) (spans : List Span) → length (if b then [] else set_bytes start spans) ≡ (if b then 0 else set_len spans)
-aranges_by true start spans = refl
-aranges_by false start spans = length-set start spans
 
 -- ---- sections
 
@@ -107,9 +99,6 @@ module _ (graph : Graph) where
       numbered (λ u. over_values (locations_bytes (own_node (places_of graph u)))) (λ u unit. sum_by node_locations_len unit.nodes)
       (λ u unit. over_values_len (locations_bytes (own_node (places_of graph u))) locations_len (locations_each (own_node (places_of graph u))) unit)
 
-  aranges_end : ends.aranges ≡ length (aranges_section graph)
-  aranges_end = numbered (λ u unit. aranges_bytes (unit_start graph u) unit.ranges) (λ u unit. aranges_len unit.ranges) (λ u unit. aranges_by (length unit.ranges == 0) (unit_start graph u) unit.ranges)
-
   abbrev by : ℕ → ℕ → ℕ → ℕ → ℕ → ℕ → ℕ → ℕ → Sizes
   by tables info texts line ranges loc aranges frames = record { tables = tables; info = info; texts = texts; line = line; ranges = ranges; loc = loc; aranges = aranges; frames = frames }
 
@@ -118,8 +107,7 @@ module _ (graph : Graph) where
       ap (λ (x : ℕ). by x b c d e f g h) ea ∙ ap (λ (x : ℕ). by a' x c d e f g h) eb ∙ ap (λ (x : ℕ). by a' b' x d e f g h) ec ∙ ap (λ (x : ℕ). by a' b' c' x e f g h) ed
       ∙ ap (λ (x : ℕ). by a' b' c' d' x f g h) ee ∙ ap (λ (x : ℕ). by a' b' c' d' e' x g h) ef ∙ ap (λ (x : ℕ). by a' b' c' d' e' f' x h) eg ∙ ap (by a' b' c' d' e' f' g') eh
 
-  pub sizes_are : (at : Starts) (texts frames : ℕ) → at ≡ ends → texts ≡ length (section_of (texts_of graph)) → frames ≡ frames_len graph.frames
-      → by at.tables at.info texts at.line at.ranges at.loc at.aranges frames ≡ sizes_of graph
-  sizes_are at texts frames e t f =
+  pub sizes_are : (at : Starts) (texts aranges frames : ℕ) → at ≡ ends → texts ≡ (sizes_of graph).texts → aranges ≡ (sizes_of graph).aranges → frames ≡ (sizes_of graph).frames → sized at texts aranges frames ≡ sizes_of graph
+  sizes_are at texts aranges frames e t a f =
       all_same _ _ _ _ _ _ _ _ _ _ _ _ _ _ _ _ (ap (λ (s : Starts). s.tables) e ∙ tables_end) (ap (λ (s : Starts). s.info) e ∙ info_end) t (ap (λ (s : Starts). s.line) e ∙ line_end)
-      (ap (λ (s : Starts). s.ranges) e ∙ ranges_end) (ap (λ (s : Starts). s.loc) e ∙ loc_end) (ap (λ (s : Starts). s.aranges) e ∙ aranges_end) (f ∙ sym (length-frames graph.frames))
+      (ap (λ (s : Starts). s.ranges) e ∙ ranges_end) (ap (λ (s : Starts). s.loc) e ∙ loc_end) a f

@@ -1,6 +1,6 @@
 -- Texts that are added one after the other.
-use Rattle.std.proofs.Common.{◌≡◌, ℕ, ◌+◌, ◌-◌, ◌^◌, ◌<◌, ◌≤◌, List, [], ◌∷◌, ◌++◌, length, drop, fold, get_or, Option, Some, is_some, refl, sym, ap, ◌∙◌, arith, length-append}
-use Rattle.std.specs.List.{filter_map, flat_map}
+use Rattle.std.proofs.Common.{◌≡◌, ℕ, ◌+◌, ◌-◌, ◌^◌, ◌<◌, ◌≤◌, List, [], ◌∷◌, ◌++◌, length, drop, fold, get_or, is_some, sym, ap, ◌∙◌, arith, length-append}
+use Rattle.std.specs.List.{flat_map}
 use Rattle.std.proofs.lemmas.Bool.{cond_both}
 use Rattle.std.proofs.lemmas.Grind.{flat_map-append, fold-append}
 use Rattle.ds_base.proofs.Walking.{drop_one}
@@ -26,11 +26,10 @@ module _ {X : Type 0} (xs : List X) (i : ℕ) (x : X) (pool all : List (List ℕ
       sym (fold-append with_text pool (texts_in x) behind) ∙ sym (ap (λ (ys : List X). fold with_text pool (flat_map texts_in ys)) (drop_one xs i x lt is)) ∙ so_far in
       omega (arith, long, grows behind (fold with_text pool (texts_in x)), ap (λ (texts : List (List ℕ)). length (section_of texts)) parts)
 
-  pub long_text : (text_in : X → Option (List ℕ)) (t : List ℕ) → text_in x ≡ Some t → fold with_text pool (filter_map text_in (drop i xs)) ≡ all
-      → 2 ^ 32 - 1 ≤ length (section_of (with_text pool t)) → 2 ^ 32 - 1 ≤ length (section_of all)
-  long_text text_in t e so_far long =
-      let behind = filter_map text_in (drop (i + 1) xs) in
-      let first : filter_map text_in (x ∷ drop (i + 1) xs) ≡ t ∷ behind = rw e refl in
-      let parts : fold with_text (with_text pool t) behind ≡ all =
-      sym (ap (fold with_text pool) (ap (filter_map text_in) (drop_one xs i x lt is) ∙ first)) ∙ so_far in
-      omega (arith, long, grows behind (with_text pool t), ap (λ (texts : List (List ℕ)). length (section_of texts)) parts)
+-- too long with one text more, and so with all
+pub long_name : (names : List (List ℕ)) (i : ℕ) (t : List ℕ) (pool all : List (List ℕ)) → drop i names ≡ t ∷ drop (i + 1) names → fold with_text pool (drop i names) ≡ all
+    → 2 ^ 32 - 1 ≤ length (section_of (with_text pool t)) → 2 ^ 32 - 1 ≤ length (section_of all)
+long_name names i t pool all cut so_far long =
+    let behind = drop (i + 1) names in
+    let parts : fold with_text (with_text pool t) behind ≡ all = sym (ap (fold with_text pool) cut) ∙ so_far in
+    omega (arith, long, grows behind (with_text pool t), ap (λ (texts : List (List ℕ)). length (section_of texts)) parts)

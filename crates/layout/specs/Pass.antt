@@ -1,60 +1,51 @@
--- Stations between the code and the definitions: unit by unit, list by list, text by text.
-use Rattle.std.specs.Prelude.{◌≡◌, ℕ, ◌+◌, ◌^◌, ◌<◌, ◌≤◌, List, [], ◌∷◌, ◌++◌, fold, length, map, Option, Some, None, Result, Ok, Err, slice_get}
-use Rattle.std.specs.List.{range_with_len, sum_by}
-use Rattle.std.specs.Option.{option_map}
+-- Stations between the code and the definitions: draft by draft, and text by text.
+use Rattle.std.specs.Prelude.{◌≡◌, ℕ, ◌+◌, ◌^◌, ◌<◌, Bool, List, [], ◌∷◌, ◌++◌, length, map, if◌then◌else◌, Option, Some, None, Result, Ok, Err, nat_le, ◌-◌}
+use Rattle.std.specs.List.{find, sum_by}
+use Rattle.std.specs.Option.{unwrap_or}
+use Rattle.ds_base.specs.declared.fault.Part.{Part}
+use Rattle.ds_base.specs.declared.fault.Part.TheVariants as parts
+use Rattle.ds_base.specs.Texts.{place_of}
 use Rattle.dwarf_types.specs.declared.graph.Graph.{Graph}
-use Rattle.dwarf_types.specs.declared.graph.Node.{Node}
-use Rattle.dwarf_types.specs.declared.graph.OutAttr.{OutAttr}
 use Rattle.dwarf_types.specs.declared.graph.OutUnit.{OutUnit}
-use Rattle.dwarf_types.specs.declared.graph.OutValue.{OutValue}
-use Rattle.dwarf_types.specs.declared.graph.OutValue.TheVariants as values
 use Rattle.dwarf_types.specs.Abbreviations.{table_bytes}
-use Rattle.dwarf_types.specs.Aranges.{aranges_len}
-use Rattle.dwarf_types.specs.Entries.{depth_of, node_locations_len, node_ranges_len, unit_len}
-use Rattle.dwarf_types.specs.Layout.{before_unit, lines_place, lists_place, numbered_units, table_place, unit_start}
-use Rattle.dwarf_types.specs.LineTable.{line_table_bytes, lines_bytes}
-use Rattle.dwarf_types.specs.Lists.{location_list_len, range_list_len}
-use Rattle.abbrev_write.specs.Table.{unit_table}
+use Rattle.dwarf_types.specs.Aranges.{aranges_bytes}
+use Rattle.dwarf_types.specs.Entries.{node_locations_len, node_ranges_len, unit_len}
+use Rattle.dwarf_types.specs.Layout.{lines_place, lists_place, table_place, unit_start}
+use Rattle.dwarf_types.specs.LineTable.{lines_bytes}
+use Rattle.unit_draft.specs.declared.unit.Draft.{Draft}
 use Rattle.layout.specs.declared.error.LayoutError.{LayoutError}
 use Rattle.layout.specs.declared.error.LayoutError.TheVariants as errors
-use Rattle.layout.specs.declared.lists.UnitLists.{UnitLists}
-use Rattle.layout.specs.declared.nodes.MeasuredNodes.{MeasuredNodes}
-use Rattle.layout.specs.declared.unit.LaidUnit.{LaidUnit}
-use Rattle.layout.specs.declared.unit.Starts.{Starts}
-use Rattle.layout.specs.declared.units.MeasuredUnits.{MeasuredUnits}
-use Rattle.layout.specs.Laid.{laid_unit, list_lens, location_list_in, long_unit, node_places, range_list_in, room, rooms_from}
+use Rattle.layout.specs.declared.placing.Placing.{Placing}
+use Rattle.layout.specs.declared.sizes.Sizes.{Sizes}
+use Rattle.layout.specs.declared.starts.Starts.{Starts}
+use Rattle.layout.specs.Laid.{AreDrafts, long_unit}
 
--- ---- nodes
+-- ---- places
 
--- how deep each node stands
-abbrev pub depths_of : List Node → List ℕ
-depths_of nodes = map (depth_of nodes) (range_with_len 0 (length nodes))
+abbrev pub no_starts : Starts
+no_starts = record { info = 0; tables = 0; line = 0; ranges = 0; loc = 0 }
 
--- none where the unit is too long
-abbrev pub MeasuresNodes : ℕ → OutUnit → Option MeasuredNodes → Type 0
-MeasuresNodes u unit None = 2 ^ 28 ≤ unit_len u unit
-MeasuresNodes u unit (Some nodes) =
-    (nodes.table ≡ unit_table u unit.nodes) × (nodes.places ≡ node_places u unit) × (nodes.len ≡ unit_len u unit) × (unit_len u unit < 2 ^ 28)
+-- where the parts of the next draft stand
+abbrev pub behind_draft : Starts → Draft → Starts
+behind_draft at d = record {
+  info = at.info + d.len;
+  tables = at.tables + length d.table;
+  line = at.line + length d.lines;
+  ranges = at.ranges + length d.ranges;
+  loc = at.loc + length d.locations;
+}
 
--- ---- lists
+-- parts whose lengths have 64 bits
+pub record HasParts (d : Draft) : Type 0 where
+  pub info : d.len < 2 ^ 64
+  pub tables : length d.table < 2 ^ 64
+  pub line : length d.lines < 2 ^ 64
+  pub ranges : length d.ranges < 2 ^ 64
+  pub loc : length d.locations < 2 ^ 64
 
--- a value's list goes behind those before it
-abbrev pub with_value : UnitLists → OutValue → UnitLists
-with_value lists (values.Ranges spans) = record lists { range_rooms = lists.range_rooms ++ room lists.ranges (range_list_len spans) ∷ []; ranges = lists.ranges + range_list_len spans }
-with_value lists (values.Locations items) =
-    record lists { location_rooms = lists.location_rooms ++ room lists.locations (location_list_len items) ∷ []; locations = lists.locations + location_list_len items }
-with_value lists _ = lists
-
-abbrev pub with_attr : UnitLists → OutAttr → UnitLists
-with_attr lists a = with_value lists a.value
-
-abbrev pub with_node : UnitLists → Node → UnitLists
-with_node lists node = fold with_attr lists node.attrs
-
-abbrev pub no_lists : ℕ → ℕ → UnitLists
-no_lists ranges locations = record { range_rooms = []; location_rooms = []; ranges = ranges; locations = locations }
-
--- ---- units
+-- each below some number
+abbrev pub AreBelow : ℕ → Starts → Type 0
+AreBelow most at = (at.info < most) × (at.tables < most) × (at.line < most) × (at.ranges < most) × (at.loc < most)
 
 -- where the parts of the unit of a number stand
 abbrev pub starts_of : Graph → ℕ → Starts
@@ -64,7 +55,6 @@ starts_of graph u = record {
   line = lines_place graph u;
   ranges = (lists_place graph u).ranges;
   loc = (lists_place graph u).locations;
-  aranges = before_unit graph (λ v unit. aranges_len unit.ranges) u;
 }
 
 -- where those of the next unit stand
@@ -75,34 +65,59 @@ behind_unit at u unit = record {
   line = at.line + length (lines_bytes unit);
   ranges = at.ranges + sum_by node_ranges_len unit.nodes;
   loc = at.loc + sum_by node_locations_len unit.nodes;
-  aranges = at.aranges + aranges_len unit.ranges;
 }
 
--- what is measured of a unit whose parts stand there
-abbrev pub laid_at : Starts → ℕ → OutUnit → LaidUnit
-laid_at at u unit = record {
-  start = at.info;
-  nodes = node_places u unit;
-  table = unit_table u unit.nodes;
-  table_room = room at.tables (length (table_bytes u unit));
-  lines_room = option_map (λ lines. room at.line (length (line_table_bytes lines))) unit.lines;
-  range_rooms = rooms_from at.ranges (list_lens range_list_in unit);
-  location_rooms = rooms_from at.loc (list_lens location_list_in unit);
+-- ---- texts
+
+-- where a text stands among others, or 0
+abbrev pub place_in : List (List ℕ) → List ℕ → ℕ
+place_in texts t = unwrap_or (place_of texts t) 0
+
+-- ---- drafts that have their places
+
+abbrev pub with_draft : List (List ℕ) → Placing → Draft → Placing
+with_draft texts p d = record {
+  units = p.units ++ record { start = p.at.info; nodes = d.places; len = d.len } ∷ [];
+  parts = p.parts ++ record { table = p.at.tables; lines = p.at.line; ranges = p.at.ranges; locations = p.at.loc } ∷ [];
+  text_places = p.text_places ++ map (place_in texts) d.names ∷ [];
+  aranges = p.aranges ++ aranges_bytes p.at.info d.code;
+  at = behind_draft p.at d;
 }
 
-abbrev pub MeasuresUnit : Starts → ℕ → OutUnit → Result (LaidUnit × Starts) LayoutError → Type 0
-MeasuresUnit at u unit (Ok measured) = (measured.0 ≡ laid_at at u unit) × (measured.1 ≡ behind_unit at u unit) × (unit_len u unit < 2 ^ 28)
-MeasuresUnit at u unit (Err (errors.Unit v)) = (v ≡ u) × (2 ^ 28 ≤ unit_len u unit)
-MeasuresUnit at u unit (Err (errors.Section part)) = ⊥
-MeasuresUnit at u unit (Err errors.NoMemory) = Unit {0}
+abbrev pub none_placed : Placing
+none_placed = record { units = []; parts = []; text_places = []; aranges = []; at = no_starts }
 
-abbrev pub MeasuresUnits : Graph → Result MeasuredUnits LayoutError → Type 0
-MeasuresUnits graph (Ok measured) =
-    (measured.units ≡ map (λ n. laid_unit graph n.0 n.1) (numbered_units graph)) × (measured.ends ≡ starts_of graph (length graph.units)) × (long_unit graph ≡ None)
-MeasuresUnits graph (Err (errors.Unit u)) = long_unit graph ≡ Some u
-MeasuresUnits graph (Err (errors.Section part)) = ⊥
-MeasuresUnits graph (Err errors.NoMemory) = Unit {0}
+-- ---- limits
 
--- places have four bytes
-abbrev pub AreSmall : List LaidUnit → Type 0
-AreSmall units = (u : ℕ) (unit : LaidUnit) → slice_get units u ≡ Some unit → (unit.start < 2 ^ 32) × ((k place : ℕ) → slice_get unit.nodes k ≡ Some place → unit.start + place < 2 ^ 32)
+abbrev pub is_long : ℕ → Bool
+is_long size = nat_le (2 ^ 32 - 1) size
+
+-- how long the sections are whose parts drafts and texts have
+abbrev pub drafted_size : Starts → ℕ → Part → ℕ
+drafted_size ends texts parts.Abbrev = ends.tables
+drafted_size ends texts parts.Info = ends.info
+drafted_size ends texts parts.Str = texts
+drafted_size ends texts parts.Line = ends.line
+drafted_size ends texts parts.Ranges = ends.ranges
+drafted_size ends texts parts.Loc = ends.loc
+drafted_size ends texts _ = 0
+
+abbrev pub long_drafted : Starts → ℕ → Option Part
+long_drafted ends texts = find (λ part. is_long (drafted_size ends texts part)) (parts.Str ∷ parts.Abbrev ∷ parts.Info ∷ parts.Line ∷ parts.Ranges ∷ parts.Loc ∷ [])
+
+-- and of the two others
+abbrev pub long_other : ℕ → ℕ → Option Part
+long_other aranges frames = if is_long aranges then Some parts.Aranges else if is_long frames then Some parts.Frame else None
+
+-- all sizes
+abbrev pub sized : Starts → ℕ → ℕ → ℕ → Sizes
+sized ends texts aranges frames =
+    record { tables = ends.tables; info = ends.info; texts = texts; line = ends.line; ranges = ends.ranges; loc = ends.loc; aranges = aranges; frames = frames }
+
+-- ---- all units
+
+abbrev pub DraftsUnits : Graph → Result (List Draft) LayoutError → Type 0
+DraftsUnits graph (Ok drafts) = AreDrafts graph drafts
+DraftsUnits graph (Err (errors.Unit u)) = long_unit graph ≡ Some u
+DraftsUnits graph (Err (errors.Section part)) = ⊥
+DraftsUnits graph (Err errors.NoMemory) = Unit {0}

@@ -1,131 +1,153 @@
 //! The layout of a graph, and what writers ask of it.
 
-ghost use Rattle.std.specs.Prelude.{◌≡◌, ◌-◌, ◌^◌, ◌<◌, length, Some, IsSome, is_some, nat_lt, slice_get};
+ghost use Rattle.std.specs.Prelude.{◌≡◌, ◌-◌, ◌^◌, ◌<◌, length, Some, Ok, slice_get};
 ghost use Rattle.std.specs.Option.{option_map};
-ghost use Rattle.ds_base.specs.Texts.{place_of};
-ghost use Rattle.layout.specs.Laid.{Measures, offset_in, place_in, room_in, size_in};
+ghost use Rattle.dwarf_types.specs.declared.graph.Graph.{Graph as Program};
+ghost use Rattle.ds_base.specs.Texts.{section_of};
+ghost use Rattle.layout.specs.Laid.{AreDrafts, Measures, size_in};
+ghost use Rattle.layout.specs.Pass.{AreBelow, sized};
+ghost use Rattle.unit_draft.specs.declared.unit.Draft.{Draft as ADraft};
+ghost use Rattle.unit_draft.specs.Outside.{IsOutside};
 
+use crate::drafting::draft_units;
 use crate::error::LayoutError;
-use crate::frames::frames_size;
-use crate::sizes::{Sizes, first_long, size_of};
+use crate::placing::{PartPlaces, Placing, place_all};
+use crate::sizes::{Sizes, first_long, last_long, size_of};
+use crate::starts::ends_of;
 use crate::text::texts_in;
-use crate::unit::{LaidUnit, list_rooms, node_in, unit_in};
-use crate::units::measure_units;
-use abbrev_write::AbbrevTable;
-use ds_base::{List, Part};
-use dwarf_types::{Graph, Span, Target};
+use ds_base::{Bytes, List, Part};
+use dwarf_types::{Graph, OutFrames};
+use frame_write::append_frames;
+use patches::{Outside, Placed};
 use std::alloc::Global;
 use std::marker::Model;
-use text_pool::{TextError, TextPool, offset_of, pool_size};
+use text_pool::{TextError, TextPool, pool_size};
+use unit_draft::Draft;
 
-/// The layout of a graph.
+/// The layout of a graph, with the drafts of its units.
 ///
-/// A contract sees what is measured of each unit, the texts of the string section, and the size of each section.
+/// A contract sees where everything stands, the texts of the string section, the size of each section, and the drafts.
 #[derive(Drop)]
 pub struct Layout {
-    units: List<LaidUnit>,
+    units: List<Placed>,
+    parts: List<PartPlaces>,
     texts: TextPool,
+    text_places: List<List<u32>>,
+    aranges: Bytes,
+    frames: Bytes,
     sizes: Sizes,
+    drafts: List<Draft>,
 }
 
 impl Model for Layout {
+    ghost use Rattle.std.specs.Prelude.{◌≡◌, ◌<◌, ◌^◌, length};
     ghost use Rattle.layout.specs.Laid.{Laid};
-    ghost use Rattle.layout.specs.Pass.{AreSmall};
 
     ghost Value = { Laid };
 
-    ghost view = { λ a. record { units = a.units; texts = a.texts; sizes = a.sizes } };
+    ghost view = { λ a. record { units = a.units; parts = a.parts; texts = a.texts; text_places = a.text_places; aranges = a.aranges; frames = a.frames; sizes = a.sizes; drafts = a.drafts } };
 
-    ghost invariant = { λ a. AreSmall a.units };
+    ghost invariant = { λ a. (a.sizes.info < 2 ^ 32) × (length a.parts ≡ length a.units) × (length a.text_places ≡ length a.units) };
 }
 
-/// Measures a graph.
+/// Measures a graph: drafts its units, and gives the drafts their places.
 ///
 /// A unit that is too long is told before a section that is, and the string section before the others. The time is
-/// linear in the graph. Each node takes four bytes, and each list sixteen.
+/// linear in the graph.
 pub fn measure(alloc: Global, graph: &Graph) -> Result<Layout, LayoutError>
     requires few { length graph.now.units < 2 ^ 32 - 1 }
     ensures { Measures graph.now result }
 {
-    let measured = measure_units(alloc, graph)?;
-    let texts = match texts_in(alloc, graph) {
+    let drafts = draft_units(alloc, graph)?;
+    place_drafts(alloc, drafts, &graph.frames)
+}
+
+/// The layout of a graph by the drafts of its units, in their order, and by its frames.
+///
+/// The string section is told before others that are too long. The time is linear in the drafts.
+pub fn place_drafts(
+    alloc: Global,
+    drafts: List<Draft>,
+    frames: &OutFrames,
+) -> Result<Layout, LayoutError>
+    requires few { length drafts < 2 ^ 32 - 1 }
+    ensures { (graph : Program) → AreDrafts graph drafts → graph.frames ≡ frames.now → Measures graph result }
+{
+    let texts = match texts_in(alloc, drafts.as_slice()) {
         Ok(texts) => texts,
         Err(TextError::Long) => return Err(LayoutError::Section { part: Part::Str }),
         Err(TextError::NoMemory) => return Err(LayoutError::NoMemory),
     };
-    let sizes = Sizes {
-        tables: measured.ends.tables,
-        info: measured.ends.info,
-        texts: pool_size(&texts),
-        line: measured.ends.line,
-        ranges: measured.ends.ranges,
-        loc: measured.ends.loc,
-        aranges: measured.ends.aranges,
-        frames: frames_size(alloc, &graph.frames)?,
-    };
-    if let Some(part) = first_long(&sizes) {
+    let ends = ends_of(drafts.as_slice());
+    if let Some(part) = first_long(&ends, pool_size(&texts)) {
         return Err(LayoutError::Section { part });
     }
+    let placing = place_all(alloc, &texts, drafts.as_slice())?;
+    let mut described = Bytes::new(alloc);
+    append_frames(alloc, &mut described, frames)?;
+    if let Some(part) = last_long(placing.aranges.len(), described.len()) {
+        return Err(LayoutError::Section { part });
+    }
+    let sizes = sizes_from(&placing, &texts, &described);
     Ok(Layout {
-        units: measured.units,
+        units: placing.units,
+        parts: placing.parts,
         texts,
+        text_places: placing.text_places,
+        aranges: placing.aranges,
+        frames: described,
         sizes,
+        drafts,
     })
+}
+
+/// The sizes of the sections, of which none is too long.
+fn sizes_from(placing: &Placing, texts: &TextPool, frames: &Bytes) -> Sizes
+    requires small { AreBelow (2 ^ 32) placing.now.at }
+    ensures { result ≡ sized placing.now.at (length (section_of texts.now)) (length placing.now.aranges) (length frames.now) }
+{
+    Sizes {
+        tables: placing.at.tables as u64,
+        info: placing.at.info as u64,
+        texts: pool_size(texts),
+        line: placing.at.line as u64,
+        ranges: placing.at.ranges as u64,
+        loc: placing.at.loc as u64,
+        aranges: placing.aranges.len() as u64,
+        frames: frames.len() as u64,
+    }
 }
 
 /// Where the header of a unit stands in `__debug_info`.
 pub fn unit_start(layout: &Layout, unit: u32) -> u32
     requires { unit < length layout.now.units }
-    ensures { option_map (λ laid. laid.start) (slice_get layout.now.units unit) ≡ Some result }
+    ensures { option_map (λ placed. placed.start) (slice_get layout.now.units unit) ≡ Some result }
 {
-    unit_in(layout.units.as_slice(), unit).start as u32
+    layout.units.as_slice()[unit as usize].start
 }
 
-/// Where an entry stands in `__debug_info`, as a value of form `DW_FORM_ref_addr` tells it.
-pub fn node_place(layout: &Layout, target: &Target) -> u32
-    requires { IsSome (place_in layout.now target.now) }
-    ensures { place_in layout.now target.now ≡ Some result }
-{
-    let unit = unit_in(layout.units.as_slice(), target.unit);
-    (unit.start + u64::from(node_in(unit, target.node))) as u32
-}
-
-/// Where an entry stands, counted from the header of its unit, as a value of form `DW_FORM_ref4` tells it.
-pub fn node_offset(layout: &Layout, target: &Target) -> u32
-    requires { IsSome (offset_in layout.now target.now) }
-    ensures { offset_in layout.now target.now ≡ Some result }
-{
-    node_in(unit_in(layout.units.as_slice(), target.unit), target.node)
-}
-
-/// Where each entry of a unit stands, counted from the header of the unit.
-pub fn node_offsets(layout: &Layout, unit: u32) -> &[u32]
+/// What stands outside of a unit, as its draft asks for it.
+pub fn outside_of(layout: &Layout, unit: u32) -> Outside<'_>
     requires { unit < length layout.now.units }
-    ensures { option_map (λ laid. laid.nodes) (slice_get layout.now.units unit) ≡ Some result.now }
+    ensures { (graph : Program) (draft : ADraft) → Measures graph (Ok layout.now) → slice_get layout.now.drafts unit ≡ Some draft → IsOutside graph unit draft.names result }
 {
-    unit_in(layout.units.as_slice(), unit).nodes.as_slice()
+    let parts = layout.parts.as_slice()[unit as usize];
+    Outside {
+        table: parts.table,
+        lines: parts.lines,
+        ranges: parts.ranges,
+        locations: parts.locations,
+        texts: layout.text_places.as_slice()[unit as usize].as_slice(),
+        units: layout.units.as_slice(),
+        end: layout.sizes.info as u32,
+    }
 }
 
-/// Where a text begins in `__debug_str`, or `None` where the graph does not have it.
-pub fn text_place(layout: &Layout, text: &[u8]) -> Option<u32>
-    ensures { result ≡ place_of layout.now.texts text.now }
+/// The drafts of the units, in their order.
+pub fn drafts(layout: &Layout) -> &[Draft]
+    ensures { result.now ≡ layout.now.drafts }
 {
-    offset_of(&layout.texts, text)
-}
-
-/// The size of a section in bytes; 0 where a graph has no part there.
-pub fn section_size(layout: &Layout, part: Part) -> u64
-    ensures { result ≡ size_in layout.now.sizes part }
-{
-    size_of(&layout.sizes, part)
-}
-
-/// The abbreviations of a unit.
-pub fn table_of(layout: &Layout, unit: u32) -> &AbbrevTable
-    requires { unit < length layout.now.units }
-    ensures { option_map (λ laid. laid.table) (slice_get layout.now.units unit) ≡ Some result.now }
-{
-    &unit_in(layout.units.as_slice(), unit).table
+    layout.drafts.as_slice()
 }
 
 /// The texts of the string section.
@@ -135,48 +157,23 @@ pub fn texts(layout: &Layout) -> &TextPool
     &layout.texts
 }
 
-/// Where the abbreviations of a unit stand in `__debug_abbrev`, and where they end.
-pub fn table_room(layout: &Layout, unit: u32) -> Span
-    requires { unit < length layout.now.units }
-    ensures { option_map (λ laid. laid.table_room) (slice_get layout.now.units unit) ≡ Some result }
+/// The bytes of `__debug_aranges`.
+pub fn aranges(layout: &Layout) -> &[u8]
+    ensures { result.now ≡ layout.now.aranges }
 {
-    unit_in(layout.units.as_slice(), unit).table_room
+    layout.aranges.as_slice()
 }
 
-/// Where the line table of a unit stands in `__debug_line`, and where it ends; none where the unit has none.
-pub fn lines_room(layout: &Layout, unit: u32) -> Option<Span>
-    requires { unit < length layout.now.units }
-    ensures { option_map (λ laid. laid.lines_room) (slice_get layout.now.units unit) ≡ Some result }
+/// The bytes of `__debug_frame`.
+pub fn frames(layout: &Layout) -> &[u8]
+    ensures { result.now ≡ layout.now.frames }
 {
-    unit_in(layout.units.as_slice(), unit).lines_room
+    layout.frames.as_slice()
 }
 
-/// Where each range list of a unit stands in `__debug_ranges`, and where it ends, over nodes and values.
-pub fn range_rooms(layout: &Layout, unit: u32) -> &[Span]
-    requires { unit < length layout.now.units }
-    ensures { option_map (λ laid. laid.range_rooms) (slice_get layout.now.units unit) ≡ Some result.now }
+/// The size of a section in bytes; 0 where a graph has no part there.
+pub fn section_size(layout: &Layout, part: Part) -> u64
+    ensures { result ≡ size_in layout.now.sizes part }
 {
-    unit_in(layout.units.as_slice(), unit)
-        .range_rooms
-        .as_slice()
-}
-
-/// Where each location list of a unit stands in `__debug_loc`, and where it ends, over nodes and values.
-pub fn location_rooms(layout: &Layout, unit: u32) -> &[Span]
-    requires { unit < length layout.now.units }
-    ensures { option_map (λ laid. laid.location_rooms) (slice_get layout.now.units unit) ≡ Some result.now }
-{
-    unit_in(layout.units.as_slice(), unit)
-        .location_rooms
-        .as_slice()
-}
-
-/// Where a list of a unit stands in its section, and where it ends.
-///
-/// The part is `Ranges` or `Loc`, and the lists of a unit are counted from 0 in each, over nodes and values.
-pub fn list_room(layout: &Layout, unit: u32, part: Part, list: u32) -> Span
-    requires { IsSome (room_in layout.now unit part list) }
-    ensures { room_in layout.now unit part list ≡ Some result }
-{
-    list_rooms(unit_in(layout.units.as_slice(), unit), part)[list as usize]
+    size_of(&layout.sizes, part)
 }

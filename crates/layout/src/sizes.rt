@@ -1,14 +1,14 @@
-//! The sizes of the sections.
+//! The sizes of the sections, and the first that is too long.
 
-ghost use Rattle.std.specs.Prelude.{◌≡◌, ◌-◌, ◌^◌, [], ◌∷◌, nat_le};
-ghost use Rattle.std.specs.List.{find};
-ghost use Rattle.ds_base.specs.declared.fault.Part.TheVariants as parts;
+ghost use Rattle.std.specs.Prelude.{◌≡◌};
 ghost use Rattle.layout.specs.Laid.{size_in};
+ghost use Rattle.layout.specs.Pass.{is_long, long_drafted, long_other};
 
+use crate::starts::Starts;
 use ds_base::Part;
 
 /// The first size of a section that is too long.
-const SECTION_LIMIT: u64 = (1 << 32) - 1;
+const SECTION_LIMIT: u128 = (1 << 32) - 1;
 
 /// The sizes of the sections in bytes.
 #[derive(Clone, Copy)]
@@ -42,33 +42,47 @@ pub(crate) fn size_of(sizes: &Sizes, part: Part) -> u64
     }
 }
 
-/// A section that is too long: the string section, else the first in the order of the output.
-pub(crate) fn first_long(sizes: &Sizes) -> Option<Part>
-    ensures { result ≡ find (λ part. nat_le (2 ^ 32 - 1) (size_in sizes.now part))
-        (parts.Str ∷ parts.Abbrev ∷ parts.Info ∷ parts.Line ∷ parts.Ranges ∷ parts.Loc ∷ parts.Aranges ∷ parts.Frame ∷ []) }
+/// Whether a section of a size is too long.
+fn is_too_long(size: u128) -> bool
+    ensures { result ≡ is_long size }
 {
-    if sizes.texts >= SECTION_LIMIT {
+    size >= SECTION_LIMIT
+}
+
+/// A section that is too long, of those that texts and drafts have parts of: the string section, else the first in
+/// the order of the output.
+pub(crate) fn first_long(ends: &Starts, texts: u64) -> Option<Part>
+    ensures { result ≡ long_drafted ends.now texts }
+{
+    if is_too_long(u128::from(texts)) {
         return Some(Part::Str);
     }
-    if sizes.tables >= SECTION_LIMIT {
+    if is_too_long(ends.tables) {
         return Some(Part::Abbrev);
     }
-    if sizes.info >= SECTION_LIMIT {
+    if is_too_long(ends.info) {
         return Some(Part::Info);
     }
-    if sizes.line >= SECTION_LIMIT {
+    if is_too_long(ends.line) {
         return Some(Part::Line);
     }
-    if sizes.ranges >= SECTION_LIMIT {
+    if is_too_long(ends.ranges) {
         return Some(Part::Ranges);
     }
-    if sizes.loc >= SECTION_LIMIT {
+    if is_too_long(ends.loc) {
         return Some(Part::Loc);
     }
-    if sizes.aranges >= SECTION_LIMIT {
+    None
+}
+
+/// Which of the two last sections is too long, the first of them where both are.
+pub(crate) fn last_long(aranges: usize, frames: usize) -> Option<Part>
+    ensures { result ≡ long_other aranges frames }
+{
+    if is_too_long(aranges as u128) {
         return Some(Part::Aranges);
     }
-    if sizes.frames >= SECTION_LIMIT {
+    if is_too_long(frames as u128) {
         return Some(Part::Frame);
     }
     None

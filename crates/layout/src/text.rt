@@ -1,47 +1,68 @@
-//! The texts of a graph.
+//! The texts of drafts.
 
-ghost use Rattle.std.specs.Prelude.{◌≡◌, ◌-◌, ◌^◌, ◌≤◌, Err, IfOk, OnOk, fold, length};
-ghost use Rattle.std.specs.List.{filter_map, flat_map};
+ghost use Rattle.std.specs.Prelude.{◌≡◌, ◌-◌, ◌^◌, ◌<◌, ◌≤◌, [], Err, Some, IfOk, OnOk, fold, length, map, slice_get};
+ghost use Rattle.std.specs.List.{flat_map};
 ghost use Rattle.ds_base.specs.Texts.{section_of, with_text};
-ghost use Rattle.dwarf_types.specs.Layout.{text_of, texts_of, texts_of_node};
+ghost use Rattle.layout.specs.Pass.{place_in};
 ghost use Rattle.text_pool.specs.declared.pool.TextError.TheVariants as errors;
 
-use dwarf_types::{Graph, Node, OutAttr, OutValue};
+use ds_base::{List, NoMemory};
 use std::alloc::Global;
-use text_pool::{TextError, TextPool, add, new_pool};
+use text_pool::{Names, TextError, TextPool, add, new_pool, offset_of};
+use unit_draft::Draft;
 
-/// The texts of a graph by first use, each once.
-pub(crate) fn texts_in(alloc: Global, graph: &Graph) -> Result<TextPool, TextError>
-    ensures ok { IfOk result (λ pool. pool ≡ texts_of graph.now) }
-    ensures long { result ≡ Err errors.Long → 2 ^ 32 - 1 ≤ length (section_of (texts_of graph.now)) }
+/// The texts of drafts by first use, each once.
+pub(crate) fn texts_in(alloc: Global, drafts: &[Draft]) -> Result<TextPool, TextError>
+    ensures ok { IfOk result (λ pool. pool ≡ fold with_text [] (flat_map (λ d. d.names) drafts.now)) }
+    ensures long { result ≡ Err errors.Long → 2 ^ 32 - 1 ≤ length (section_of (fold with_text [] (flat_map (λ d. d.names) drafts.now))) }
 {
     let mut pool = new_pool(alloc);
-    for unit in graph.units.as_slice() {
-        add_all(&mut pool, unit.nodes.as_slice())?;
+    for draft in drafts {
+        add_names(&mut pool, &draft.names)?;
     }
     Ok(pool)
 }
 
-/// Adds the texts of nodes.
-fn add_all(pool: &mut TextPool, nodes: &[Node]) -> Result<(), TextError>
-    ensures ok { OnOk result (pool.new ≡ fold with_text pool.old (flat_map texts_of_node nodes.now)) }
-    ensures long { result ≡ Err errors.Long → 2 ^ 32 - 1 ≤ length (section_of (fold with_text pool.old (flat_map texts_of_node nodes.now))) }
+/// Adds the texts of a draft.
+fn add_names(pool: &mut TextPool, names: &Names) -> Result<(), TextError>
+    ensures ok { OnOk result (pool.new ≡ fold with_text pool.old names.now) }
+    ensures long { result ≡ Err errors.Long → 2 ^ 32 - 1 ≤ length (section_of (fold with_text pool.old names.now)) }
 {
-    for node in nodes {
-        add_texts(pool, node.attrs.as_slice())?;
+    for i in 0..names.len() {
+        add(pool, name_at(names, i))?;
     }
     Ok(())
 }
 
-/// Adds the texts of a node.
-fn add_texts(pool: &mut TextPool, attrs: &[OutAttr]) -> Result<(), TextError>
-    ensures ok { OnOk result (pool.new ≡ fold with_text pool.old (filter_map (λ a. text_of a.value) attrs.now)) }
-    ensures long { result ≡ Err errors.Long → 2 ^ 32 - 1 ≤ length (section_of (fold with_text pool.old (filter_map (λ a. text_of a.value) attrs.now))) }
+/// The text of a number.
+fn name_at(names: &Names, i: usize) -> &[u8]
+    requires { i < length names.now }
+    ensures { slice_get names.now i ≡ Some result.now }
 {
-    for attr in attrs {
-        if let OutValue::Text(text) = &attr.value {
-            add(pool, text.as_slice())?;
-        }
+    match names.get(i) {
+        Some(text) => text,
+        None => unreachable!(),
     }
-    Ok(())
+}
+
+/// Where each text of a draft stands in the section of a pool; 0 where it does not stand there.
+pub(crate) fn places_in(
+    alloc: Global,
+    pool: &TextPool,
+    names: &Names,
+) -> Result<List<u32>, NoMemory>
+    ensures { IfOk result (λ places. places ≡ map (place_in pool.now) names.now) }
+{
+    let mut places = List::with_capacity(alloc, names.len())?;
+    for i in 0..names.len() {
+        places.push(place_of_text(pool, name_at(names, i)))?;
+    }
+    Ok(places)
+}
+
+/// Where a text stands in the section of a pool; 0 where it does not stand there.
+fn place_of_text(pool: &TextPool, text: &[u8]) -> u32
+    ensures { result ≡ place_in pool.now text.now }
+{
+    offset_of(pool, text).unwrap_or(0)
 }

@@ -1,18 +1,13 @@
 -- The sections of a graph, one behind the other.
-use Rattle.std.proofs.Common.{◌≡◌, ◌+◌, ◌==◌, ℕ, Bool, true, false, not, List, [], ◌∷◌, ◌++◌, length, filter, if◌then◌else◌, Ok, refl, sym, ap, ◌∙◌, append_assoc, arith, length-append}
+use Rattle.std.proofs.Common.{◌≡◌, ◌+◌, ◌==◌, ℕ, Bool, true, false, not, List, [], ◌∷◌, ◌++◌, length, filter, if◌then◌else◌, refl, sym, ap, ◌∙◌, append_assoc, arith, length-append}
 use Rattle.std.specs.List.{flat_map}
 use Rattle.std.proofs.lemmas.Bool.{eqb-true}
 use Rattle.std.proofs.lemmas.List.{append-nil}
 use Rattle.ds_base.specs.declared.fault.Part.TheVariants as parts
 use Rattle.dwarf_types.specs.declared.graph.Graph.{Graph}
 use Rattle.dwarf_types.specs.declared.graph.Written.{Written}
-use Rattle.dwarf_types.specs.Encode.{abbrev_section, aranges_section, encode, frame_section, has_bytes, info_section, line_section, loc_section, over_values, ranges_section, str_section}
-use Rattle.dwarf_types.specs.Lists.{ranges_bytes}
-use Rattle.layout.specs.Laid.{Laid, Measures}
-use Rattle.section_write.specs.declared.lists.ListKind.TheVariants as kinds
-use Rattle.section_write.specs.Front.{front_bytes}
-use Rattle.section_write.specs.ListRooms.{list_section}
-use Rattle.section_write.proofs.Pieces.{without_numbers}
+use Rattle.dwarf_types.specs.Encode.{abbrev_section, aranges_section, encode, frame_section, has_bytes, info_section, line_section, loc_section, ranges_section, str_section}
+use Rattle.section_write.specs.Halves.{back_bytes, front_bytes}
 
 -- ---- sections without bytes
 
@@ -34,12 +29,6 @@ bytes_kept (s ∷ sections) = by (has_bytes s) refl ∙ ap (λ (bytes : List ℕ
 
 -- ---- all sections
 
-pub ranges_are : (graph : Graph) → list_section kinds.Ranges graph ≡ ranges_section graph
-ranges_are graph = without_numbers (over_values ranges_bytes) 0 graph.units
-
-abbrev pub back_bytes : Graph → List ℕ
-back_bytes graph = list_section kinds.Ranges graph ++ (list_section kinds.Locations graph ++ (aranges_section graph ++ frame_section graph))
-
 regrouped : (a b c d e f g h : List ℕ) → a ++ (b ++ (c ++ (d ++ (e ++ (f ++ (g ++ (h ++ []))))))) ≡ (a ++ (b ++ (c ++ d))) ++ (e ++ (f ++ (g ++ h)))
 regrouped a b c d e f g h = rw (append-nil h) (simp append_assoc)
 
@@ -56,34 +45,24 @@ sections_are graph =
     ∷ record { part = parts.Frame; bytes = frame_section graph } ∷ [] in
     bytes_kept all
     ∙ regrouped (abbrev_section graph) (info_section graph) (str_section graph) (line_section graph) (ranges_section graph) (loc_section graph) (aranges_section graph) (frame_section graph)
-    ∙ ap (λ (ranges : List ℕ). front_bytes graph ++ (ranges ++ (loc_section graph ++ (aranges_section graph ++ frame_section graph)))) (sym (ranges_are graph))
 
-pub sections_len : (graph : Graph) → length (flat_map (λ s. s.bytes) (encode graph))
-    ≡ length (front_bytes graph) + (length (list_section kinds.Ranges graph) + (length (list_section kinds.Locations graph) + (length (aranges_section graph) + length (frame_section graph))))
-sections_len graph =
-    let r = list_section kinds.Ranges graph in
-    let l = list_section kinds.Locations graph in
+pub sections_len : (graph : Graph) → length (flat_map (λ s. s.bytes) (encode graph)) ≡ length (front_bytes graph) + length (back_bytes graph)
+sections_len graph = ap length (sections_are graph) ∙ length-append (front_bytes graph) (back_bytes graph)
+
+pub front_len : (graph : Graph) → length (front_bytes graph) ≡ length (abbrev_section graph) + (length (info_section graph) + (length (str_section graph) + length (line_section graph)))
+front_len graph =
     omega (
       arith,
-      ap length (sections_are graph),
-      length-append (front_bytes graph) (back_bytes graph),
-      length-append r (l ++ (aranges_section graph ++ frame_section graph)),
-      length-append l (aranges_section graph ++ frame_section graph),
-      length-append (aranges_section graph) (frame_section graph),
+      length-append (abbrev_section graph) (info_section graph ++ (str_section graph ++ line_section graph)),
+      length-append (info_section graph) (str_section graph ++ line_section graph),
+      length-append (str_section graph) (line_section graph),
     )
 
--- the sum of the sizes that the layout tells
-pub sizes_sum : (graph : Graph) (layout : Laid) → Measures graph (Ok layout)
-    → ((layout.sizes.tables + layout.sizes.info) + (layout.sizes.texts + layout.sizes.line)) + ((layout.sizes.ranges + layout.sizes.loc) + (layout.sizes.aranges + layout.sizes.frames))
-    ≡ length (flat_map (λ s. s.bytes) (encode graph))
-sizes_sum graph layout measured =
-    let rest = str_section graph ++ line_section graph in
-    ap (λ (l : Laid). ((l.sizes.tables + l.sizes.info) + (l.sizes.texts + l.sizes.line)) + ((l.sizes.ranges + l.sizes.loc) + (l.sizes.aranges + l.sizes.frames))) measured.0
-    ∙ omega (
+pub back_len : (graph : Graph) → length (back_bytes graph) ≡ length (ranges_section graph) + (length (loc_section graph) + (length (aranges_section graph) + length (frame_section graph)))
+back_len graph =
+    omega (
       arith,
-      sections_len graph,
-      ap length (ranges_are graph),
-      length-append (abbrev_section graph) (info_section graph ++ rest),
-      length-append (info_section graph) rest,
-      length-append (str_section graph) (line_section graph),
+      length-append (ranges_section graph) (loc_section graph ++ (aranges_section graph ++ frame_section graph)),
+      length-append (loc_section graph) (aranges_section graph ++ frame_section graph),
+      length-append (aranges_section graph) (frame_section graph),
     )

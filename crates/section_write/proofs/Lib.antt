@@ -1,7 +1,2 @@
+pub mod FromDrafts
 pub mod InTurn
-pub mod Laying
-pub mod OneList
-pub mod Pieces
-pub mod Rooms
-pub mod SubRooms
-pub mod UnitParts

@@ -1,2 +1,2 @@
-pub mod Front
-pub mod ListRooms
+pub mod Copied
+pub mod Halves

@@ -1,3 +1,5 @@
 pub mod FirstUses
 pub mod KeptLemmas
+pub mod Naming
 pub mod Places
+pub mod Uses

@@ -5,10 +5,16 @@
 //! offset. A [`TextPool`] is the list of its texts: [`add`] gives `with_text` of it, [`offset_of`] gives `place_of`
 //! and [`emit_texts`] writes `section_of` (`ds_base/specs/Texts.antt`). No text shares the end of another, and
 //! that a text has no zero byte is left to its user.
+//! [`Names`] numbers the texts of a part of the output that is written before their places are known.
 #![tactic(auto)]
 
+mod names;
 mod pool;
 
+pub use names::{Names, texts_by_first_use_in_each_part_are_those_of_all};
 pub use pool::{
     TextError, TextPool, add, emit_texts, new_pool, offset_of, pool_of_uses_is_each_once, pool_size,
 };
+
+#[cfg(test)]
+mod tests;

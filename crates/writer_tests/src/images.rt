@@ -1,9 +1,5 @@
 //! Images of programs, laid out by hand (mach-o/loader.h, mach-o/nlist.h), and the text of an Info.plist.
 
-ghost use Rattle.std.specs.Prelude.{◌≡◌, Ok, length};
-ghost use Rattle.dwarf_types.specs.Encode.{info_section};
-ghost use Rattle.dwarf_types.specs.Well.{IsWell};
-ghost use Rattle.layout.specs.Laid.{Measures};
 ghost use Rattle.macho_read.specs.Sound.{IsSound};
 
 use ds_base::dwarf::{
@@ -11,14 +7,12 @@ use ds_base::dwarf::{
     DW_AT_stmt_list, DW_FORM_data2, DW_FORM_data4, DW_OP_dup, DW_OP_stack_value,
     DW_TAG_compile_unit, DW_TAG_subprogram, DW_TAG_variable,
 };
-use ds_base::{Bytes, List, Part};
-use dsym_write::{image_bytes, plist_text};
+use ds_base::{Bytes, List};
+use dsym_write::{image_from, plist_text};
 use dwarf_types::{
     ExprPart, Graph, Node, OutAttr, OutFrames, OutLines, OutLocation, OutUnit, OutValue, Span,
 };
-use emit_info::emit_unit;
-use graph_check::is_well;
-use layout::{Layout, measure, section_size};
+use layout::measure;
 use macho_read::{Image, read_image};
 use std::alloc::Global;
 use std::process::Abort;
@@ -29,17 +23,6 @@ fn program_in(rt: &impl Abort, alloc: Global, bytes: &[u8]) -> Image
     ensures { IsSound result }
 {
     read_image(alloc, bytes).expect(rt, "a program")
-}
-
-// Writes the information section of a graph of one unit.
-fn put_info(graph: &Graph, layout: &Layout, room: &mut [u8])
-    requires well { IsWell graph.now }
-    requires measured { Measures graph.now (Ok layout.now) }
-    requires one { length graph.now.units ≡ 1 }
-    requires size { length room.old ≡ length (info_section graph.now) }
-    ensures { room.new ≡ info_section graph.now }
-{
-    emit_unit(graph, layout, 0, room);
 }
 
 // An image begins with some bytes, and has zeros behind them up to 4096.
@@ -59,21 +42,12 @@ fn are_zeros(bytes: &[u8]) -> bool {
     bytes.iter().all(|b| *b == 0)
 }
 
-// The image of a program and a graph of one unit, whose information section has the size of a room.
-fn image_of(
-    rt: &impl Abort,
-    alloc: Global,
-    program: &[u8],
-    graph: &Graph,
-    info: &mut [u8],
-) -> Bytes {
+// The image of a program and a graph.
+fn image_of(rt: &impl Abort, alloc: Global, program: &[u8], graph: &Graph) -> Bytes {
     let program = program_in(rt, alloc, program);
-    assert!(rt; is_well(graph));
-    assert_eq!(rt; graph.units.len(), 1);
+    assert!(rt; graph.units.len() <= 1);
     let layout = measure(alloc, graph).expect(rt, "a layout");
-    assert_eq!(rt; section_size(&layout, Part::Info), info.len() as u64);
-    put_info(graph, &layout, info);
-    image_bytes(alloc, &program, graph, &layout, info).expect(rt, "an image")
+    image_from(alloc, &program, &layout).expect(rt, "an image")
 }
 
 // ---- graphs
@@ -255,7 +229,7 @@ fn an_image_has_the_commands_of_its_program_and_the_sections_of_its_graph(rt: Ho
         units: one(&rt, alloc, unit(&rt, alloc)),
         frames: OutFrames::new(alloc),
     };
-    let image = image_of(&rt, alloc, &program, &graph, &mut [0; 48]);
+    let image = image_of(&rt, alloc, &program, &graph);
     begins_with(&rt, image.as_slice(), &front);
     sections_are(&rt, image.as_slice(), &sections);
 }
@@ -360,7 +334,7 @@ fn eight_sections_stand_one_behind_the_other(rt: HostRuntime) {
         0x0c, 0, 0, 0,  0xff, 0xff, 0xff, 0xff,  4, 0, 8, 0, 1, 0x78, 0x1e, 0,
         0x14, 0, 0, 0,  0, 0, 0, 0,  0, 0x10, 0, 0, 0, 0, 0, 0,  0x10, 0, 0, 0, 0, 0, 0, 0,
     ];
-    let image = image_of(&rt, alloc, &program, &graph, &mut [0; 38]);
+    let image = image_of(&rt, alloc, &program, &graph);
     sections_are(&rt, image.as_slice(), &sections);
 }
 

@@ -6,45 +6,58 @@ use Rattle.std.specs.Cmp.Lexicographic.{nat_list_eq_equiv}
 use Rattle.indexmap.specs.IndexMap.{get_by}
 use Rattle.indexmap.proofs.CallerLemmas.{insert_entry-new}
 use Rattle.std.specs.Map.{lookup}
+use Rattle.dwarf_types.specs.declared.abbrev.Declaration.{Declaration}
 use Rattle.dwarf_types.specs.Abbreviations.{code_in, same_declaration}
 use Rattle.ds_base.proofs.Lookups.{lookup-push}
-use Rattle.abbrev_write.specs.Keys.{code_among, key_of}
+use Rattle.abbrev_write.specs.Keys.{code_among, declaring, key_of}
 use Rattle.abbrev_write.proofs.Codes.{among_is, among_push, new_code, same_keys, with_known, with_new}
 use Rattle.abbrev_write.proofs.known.code_for.Goals as goal
 
 -- the declaration was known
-found : (c : goal.After-drop-declared-in-Some) → code_among c.args.known.now.declarations c.args.declared ≡ Some c.in-Some.code.now
-found c = sym (c.requires c.args.declared) ∙ ap (λ ks. get_by (λ y. bytes_eq ks y.items) c.args.known.now.codes) (sym c.in_ok-key.ensures) ∙ sym c.in-Some.ensures.value
+found : (c : goal.After-row_known-1) → code_among c.args.known.now.declarations (declaring c.args.number c.args.node.now c.args.children) ≡ Some c.in-Some.code.now
+found c =
+    sym (c.requires.known (declaring c.args.number c.args.node.now c.args.children))
+    ∙ ap (λ ks. get_by (λ y. bytes_eq ks y.items) c.args.known.now.codes) (sym c.requires.key) ∙ sym c.in-Some.ensures.value
 
 pub returns-in-Some-clause-grown : goal.returns-in-Some-clause-grown
-returns-in-Some-clause-grown c = with_known c.args.known.now.declarations c.args.declared c.in-Some.code.now (found c)
+returns-in-Some-clause-grown c = with_known c.args.known.now.declarations (declaring c.args.number c.args.node.now c.args.children) c.in-Some.code.now (found c)
 
 pub returns-in-Some-clause-code : goal.returns-in-Some-clause-code
-returns-in-Some-clause-code c = sym (among_is c.args.known.now.declarations c.args.declared c.in-Some.code.now (found c))
+returns-in-Some-clause-code c = sym (among_is c.args.known.now.declarations (declaring c.args.number c.args.node.now c.args.children) c.in-Some.code.now (found c))
 
 -- the declaration is new, and goes last
-new : (c : goal.In_ok-push) → code_among c.args.known.now.declarations c.args.declared ≡ None
-new c = sym (c.requires c.args.declared) ∙ ap (λ ks. get_by (λ y. bytes_eq ks y.items) c.args.known.now.codes) (sym c.in_ok-key.ensures) ∙ sym c.in_default.ensures.value
+new : (c : goal.In_ok-push) → code_among c.args.known.now.declarations (declaring c.args.number c.args.node.now c.args.children) ≡ None
+new c =
+    sym (c.requires.known (declaring c.args.number c.args.node.now c.args.children))
+    ∙ ap (λ ks. get_by (λ y. bytes_eq ks y.items) c.args.known.now.codes) (sym c.requires.key) ∙ sym c.in_default.ensures.value
 
 code_is : (c : goal.In_ok-push) → c.in_ok-code.code ≡ length c.args.known.now.declarations + 1
 code_is c = c.in_ok-code.ensures ∙ ap (λ n. n + 1) c.len.ensures
 
-grown : (c : goal.In_ok-push) → c.insert.new.self.entries ≡ c.args.known.now.codes.entries ++ (c.in_ok-key.key, c.in_ok-code.code) ∷ []
-grown c = c.in_ok-insert.ensures.entries ∙ insert_entry-new _ c.args.known.now.codes c.in_ok-key.key c.in_ok-code.code (sym c.in_default.ensures.value)
+unknown : (c : goal.In_ok-push) → get_by (λ y. bytes_eq c.in_ok-kept.kept.items y.items) c.args.known.now.codes ≡ None
+unknown c = ap (λ ks. get_by (λ y. bytes_eq ks y.items) c.args.known.now.codes) c.in_ok-kept.ensures.items ∙ sym c.in_default.ensures.value
+
+grown : (c : goal.In_ok-push) → c.insert.new.self.entries ≡ c.args.known.now.codes.entries ++ (c.in_ok-kept.kept, c.in_ok-code.code) ∷ []
+grown c = c.in_ok-insert.ensures.entries ∙ insert_entry-new _ c.args.known.now.codes c.in_ok-kept.kept c.in_ok-code.code (unknown c)
+
+pushed : (c : goal.In_ok-push) → c.push.new.self ≡ c.args.known.now.declarations ++ declaring c.args.number c.args.node.now c.args.children ∷ []
+pushed c = c.in_ok-push.ensures.ok ∙ ap (λ d. c.args.known.now.declarations ++ d ∷ []) c.in_ok-declared.ensures
 
 pub returns-clause-known : goal.returns-clause-known
 returns-clause-known c = λ d.
-    let key : bytes_eq (key_of d) c.in_ok-key.key.items ≡ same_declaration c.args.declared d =
-    ap (bytes_eq (key_of d)) c.in_ok-key.ensures ∙ nat_list_eq_equiv.symm (key_of d) (key_of c.args.declared) ∙ same_keys c.args.declared d in
-    ap (λ es. lookup (λ k. bytes_eq (key_of d) k.items) es) (grown c) ∙ lookup-push (λ k. bytes_eq (key_of d) k.items) c.args.known.now.codes.entries c.in_ok-key.key c.in_ok-code.code
-    ∙ ap (λ o. option_or o (if bytes_eq (key_of d) c.in_ok-key.key.items then Some c.in_ok-code.code else None)) (c.requires d)
+    let declared : Declaration = declaring c.args.number c.args.node.now c.args.children in
+    let key : bytes_eq (key_of d) c.in_ok-kept.kept.items ≡ same_declaration declared d =
+    ap (bytes_eq (key_of d)) (c.in_ok-kept.ensures.items ∙ c.requires.key) ∙ nat_list_eq_equiv.symm (key_of d) (key_of declared) ∙ same_keys declared d in
+    ap (λ es. lookup (λ k. bytes_eq (key_of d) k.items) es) (grown c) ∙ lookup-push (λ k. bytes_eq (key_of d) k.items) c.args.known.now.codes.entries c.in_ok-kept.kept c.in_ok-code.code
+    ∙ ap (λ o. option_or o (if bytes_eq (key_of d) c.in_ok-kept.kept.items then Some c.in_ok-code.code else None)) (c.requires.known d)
     ∙ ap (λ b. option_or (code_among c.args.known.now.declarations d) (if b then Some c.in_ok-code.code else None)) key
-    ∙ ap (λ n. option_or (code_among c.args.known.now.declarations d) (if same_declaration c.args.declared d then Some n else None)) (code_is c)
-    ∙ sym (among_push c.args.known.now.declarations c.args.declared d)
-    ∙ ap (λ ds. code_among ds d) (sym c.in_ok-push.ensures.ok)
+    ∙ ap (λ n. option_or (code_among c.args.known.now.declarations d) (if same_declaration declared d then Some n else None)) (code_is c)
+    ∙ sym (among_push c.args.known.now.declarations declared d)
+    ∙ ap (λ ds. code_among ds d) (sym (pushed c))
 
 pub returns-clause-grown : goal.returns-clause-grown
-returns-clause-grown c = c.in_ok-push.ensures.ok ∙ with_new c.args.known.now.declarations c.args.declared (new c)
+returns-clause-grown c = pushed c ∙ with_new c.args.known.now.declarations (declaring c.args.number c.args.node.now c.args.children) (new c)
 
 pub returns-clause-code : goal.returns-clause-code
-returns-clause-code c = code_is c ∙ sym (ap (λ ds. code_in ds c.args.declared) c.in_ok-push.ensures.ok ∙ new_code c.args.known.now.declarations c.args.declared (new c))
+returns-clause-code c =
+    code_is c ∙ sym (ap (λ ds. code_in ds (declaring c.args.number c.args.node.now c.args.children)) (pushed c) ∙ new_code c.args.known.now.declarations (declaring c.args.number c.args.node.now c.args.children) (new c))

@@ -6,31 +6,31 @@ use Rattle.dsym_write.proofs.image.write_image.Goals as goal
 
 pub emit_front-at-requires-clause-fits : goal.emit_front-at-requires-clause-fits
 emit_front-at-requires-clause-fits c =
-    let told = subst (λ l. AreTold (encode c.args.graph.now) l.sizes) (sym c.requires.measured.0) (graph_told c.args.graph.now) in
+    let told = subst (λ l. AreTold (encode c.requires.measured.graph) l.sizes) (sym c.requires.measured.measured.0) (graph_told c.requires.measured.graph) in
     omega (
       arith,
-      front_length c.args.program.now (encode c.args.graph.now) c.args.layout.now.sizes c.args.places c.requires.sound c.requires.places told,
-      front_before c.args.program.now (encode c.args.graph.now) c.args.layout.now.sizes c.args.places c.requires.sound c.requires.places told,
+      front_length c.args.program.now (encode c.requires.measured.graph) c.args.layout.now.sizes c.args.places c.requires.sound c.requires.places told,
+      front_before c.args.program.now (encode c.requires.measured.graph) c.args.layout.now.sizes c.args.places c.requires.sound c.requires.places told,
       c.requires.places.size,
       c.requires.size,
     )
 
 pub emit_zeros-at-requires-clause-behind : goal.emit_zeros-at-requires-clause-behind
 emit_zeros-at-requires-clause-behind c =
-    let told = subst (λ l. AreTold (encode c.args.graph.now) l.sizes) (sym c.requires.measured.0) (graph_told c.args.graph.now) in
+    let told = subst (λ l. AreTold (encode c.requires.measured.graph) l.sizes) (sym c.requires.measured.measured.0) (graph_told c.requires.measured.graph) in
     omega (
       arith,
-      front_length c.args.program.now (encode c.args.graph.now) c.args.layout.now.sizes c.args.places c.requires.sound c.requires.places told,
-      front_before c.args.program.now (encode c.args.graph.now) c.args.layout.now.sizes c.args.places c.requires.sound c.requires.places told,
+      front_length c.args.program.now (encode c.requires.measured.graph) c.args.layout.now.sizes c.args.places c.requires.sound c.requires.places told,
+      front_before c.args.program.now (encode c.requires.measured.graph) c.args.layout.now.sizes c.args.places c.requires.sound c.requires.places told,
       c.emit_front-at.ensures.behind,
     )
 
 pub add_sections-requires-clause-size : goal.add_sections-requires-clause-size
-add_sections-requires-clause-size c =
-    let told = subst (λ l. AreTold (encode c.args.graph.now) l.sizes) (sym c.requires.measured.0) (graph_told c.args.graph.now) in
-    added_size c.args.program.now (encode c.args.graph.now) c.args.layout.now.sizes c.args.places c.requires.sound c.requires.places told _ _ _ _ _ c.requires.size c.emit_front-at.ensures c.emit_zeros-at.ensures
+add_sections-requires-clause-size c = λ graph measured.
+    let told = subst (λ l. AreTold (encode graph) l.sizes) (sym measured.0) (graph_told graph) in
+    added_size c.args.program.now (encode graph) c.args.layout.now.sizes c.args.places c.requires.sound c.requires.places told _ _ _ _ _ c.requires.size c.emit_front-at.ensures c.emit_zeros-at.ensures
 
 pub returns : goal.returns
-returns c =
-    let told = subst (λ l. AreTold (encode c.args.graph.now) l.sizes) (sym c.requires.measured.0) (graph_told c.args.graph.now) in
-    file_written c.args.program.now (encode c.args.graph.now) c.args.layout.now.sizes c.args.places c.requires.sound c.requires.places told _ _ _ _ _ c.requires.size c.emit_front-at.ensures c.emit_zeros-at.ensures _ _ c.in_ok-add_sections.ensures
+returns c = λ graph measured.
+    let told = subst (λ l. AreTold (encode graph) l.sizes) (sym measured.0) (graph_told graph) in
+    file_written c.args.program.now (encode graph) c.args.layout.now.sizes c.args.places c.requires.sound c.requires.places told _ _ _ _ _ c.requires.size c.emit_front-at.ensures c.emit_zeros-at.ensures _ _ (c.add_sections.ensures graph measured)

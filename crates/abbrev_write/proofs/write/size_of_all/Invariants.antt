@@ -1,7 +1,0 @@
-use Rattle.std.proofs.Common.{◌≡◌, ◌+◌, drop, length}
-use Rattle.std.specs.List.{enumerate_from, flat_map}
-use Rattle.dwarf_types.specs.Abbreviations.{declaration_bytes, declarations_bytes}
-use Rattle.abbrev_write.proofs.write.size_of_all.Given as goal
-
-abbrev pub invariant-loop-i : goal.invariant-loop-i
-invariant-loop-i l = l.size + length (flat_map (λ d. declaration_bytes d.0 d.1) (enumerate_from (l.i + 1) (drop l.i l.declarations))) ≡ length (declarations_bytes l.declarations)

@@ -1,2 +1,0 @@
-pub mod InnerLengths
-pub mod SamePlaces

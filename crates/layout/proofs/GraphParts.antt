@@ -1,0 +1,32 @@
+-- The parts of the units of a graph, one unit after the other.
+use Rattle.std.proofs.Common.{◌≡◌, ℕ, ◌+◌, ◌<◌, length, take, get_or, ap, ◌∙◌}
+use Rattle.std.specs.List.{sum_by}
+use Rattle.std.proofs.lemmas.List.Sums.{sum_by_push}
+use Rattle.dwarf_types.specs.declared.graph.Graph.{Graph}
+use Rattle.dwarf_types.specs.declared.graph.OutUnit.{OutUnit}
+use Rattle.dwarf_types.specs.Abbreviations.{table_bytes}
+use Rattle.dwarf_types.specs.Entries.{node_locations_len, node_ranges_len, unit_len}
+use Rattle.dwarf_types.specs.Layout.{before_unit, numbered_units}
+use Rattle.dwarf_types.specs.LineTable.{lines_bytes}
+use Rattle.layout.specs.declared.starts.Starts.{Starts}
+use Rattle.layout.specs.Pass.{behind_unit, starts_of}
+use Rattle.layout.proofs.Numbered.{take_numbered}
+
+abbrev pub starts_by : ℕ → ℕ → ℕ → ℕ → ℕ → Starts
+starts_by info tables line ranges loc = record { info = info; tables = tables; line = line; ranges = ranges; loc = loc }
+
+pub by_all : (a b c d e a' b' c' d' e' : ℕ) → a ≡ a' → b ≡ b' → c ≡ c' → d ≡ d' → e ≡ e' → starts_by a b c d e ≡ starts_by a' b' c' d' e'
+by_all a b c d e a' b' c' d' e' ea eb ec ed ee =
+    ap (λ (x : ℕ). starts_by x b c d e) ea ∙ ap (λ (x : ℕ). starts_by a' x c d e) eb ∙ ap (λ (x : ℕ). starts_by a' b' x d e) ec
+    ∙ ap (λ (x : ℕ). starts_by a' b' c' x e) ed ∙ ap (starts_by a' b' c' d') ee
+
+module _ (graph : Graph) where
+  -- the lengths before the next unit
+  pub before_more : (len : ℕ → OutUnit → ℕ) (u : ℕ) (unit : OutUnit) → u < length graph.units → unit ≡ get_or graph.units u unit → before_unit graph len (u + 1) ≡ before_unit graph len u + len u unit
+  before_more len u unit lt is =
+      ap (sum_by (λ (n : ℕ × OutUnit). len n.0 n.1)) (take_numbered graph.units u unit lt is) ∙ sum_by_push (λ (n : ℕ × OutUnit). len n.0 n.1) (take u (numbered_units graph)) (u, unit)
+
+  pub starts_more : (u : ℕ) (unit : OutUnit) → u < length graph.units → unit ≡ get_or graph.units u unit → starts_of graph (u + 1) ≡ behind_unit (starts_of graph u) u unit
+  starts_more u unit lt is =
+      by_all _ _ _ _ _ _ _ _ _ _ (before_more unit_len u unit lt is) (before_more (λ v one. length (table_bytes v one)) u unit lt is) (before_more (λ v one. length (lines_bytes one)) u unit lt is)
+      (before_more (λ v one. sum_by node_ranges_len one.nodes) u unit lt is) (before_more (λ v one. sum_by node_locations_len one.nodes) u unit lt is)

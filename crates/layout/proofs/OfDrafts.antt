@@ -1,0 +1,192 @@
+-- What drafts give is what their graph has.
+use Rattle.std.proofs.Common.{◌≡◌, ℕ, suc, ◌+◌, ◌^◌, ◌<◌, List, [], ◌∷◌, ◌++◌, length, map, fold, get_or, slice_get, Some, None, nat_le, refl, sym, subst, ap, ◌∙◌, append_assoc, append-nil, arith, length-append}
+use Rattle.std.specs.List.{enumerate_from, find, flat_map}
+use Rattle.std.specs.Option.{option_map}
+use Rattle.std.specs.Str.{bytes_eq}
+use Rattle.std.proofs.lemmas.Bool.{lt-leb}
+use Rattle.std.proofs.Math.Seq.{get_or-append_seam}
+use Rattle.ds_base.specs.FirstUse.{once}
+use Rattle.ds_base.specs.Texts.{with_text}
+use Rattle.dwarf_types.specs.declared.address.Span.{Span}
+use Rattle.dwarf_types.specs.declared.graph.Graph.{Graph}
+use Rattle.dwarf_types.specs.declared.graph.OutUnit.{OutUnit}
+use Rattle.dwarf_types.specs.Aranges.{aranges_bytes}
+use Rattle.dwarf_types.specs.Entries.{node_place, unit_len}
+use Rattle.dwarf_types.specs.Layout.{numbered_units, texts_of, texts_of_node, unit_start}
+use Rattle.dwarf_types.specs.Lists.{locations_bytes, locations_len, ranges_bytes, ranges_len}
+use Rattle.patches.specs.declared.outside.Placed.{Placed}
+use Rattle.unit_draft.specs.declared.unit.Draft.{Draft}
+use Rattle.unit_draft.specs.Drafted.{IsDraft, node_places}
+use Rattle.unit_draft.specs.Outside.{placed}
+use Rattle.text_pool.proofs.Uses.{once_of_onces}
+use Rattle.layout.specs.declared.placing.PartPlaces.{PartPlaces}
+use Rattle.layout.specs.declared.placing.Placing.{Placing}
+use Rattle.layout.specs.declared.starts.Starts.{Starts}
+use Rattle.layout.specs.Laid.{AreDrafts, long_unit, part_places}
+use Rattle.layout.specs.Pass.{behind_draft, behind_unit, no_starts, none_placed, place_in, starts_of, with_draft}
+use Rattle.layout.proofs.GraphParts.{by_all, starts_more}
+use Rattle.layout.proofs.SectionLengths.{locations_each, over_values_len, ranges_each}
+
+-- ---- one draft
+
+behind_is : (at : Starts) (u : ℕ) (unit : OutUnit) (d : Draft) → IsDraft u unit d → behind_draft at d ≡ behind_unit at u unit
+behind_is at u unit d is =
+    by_all _ _ _ _ _ _ _ _ _ _ (ap (λ (n : ℕ). at.info + n) is.len) (ap (λ (bytes : List ℕ). at.tables + length bytes) is.table) (ap (λ (bytes : List ℕ). at.line + length bytes) is.lines)
+    (ap (λ (n : ℕ). at.ranges + n) (ap length is.ranges ∙ over_values_len ranges_bytes ranges_len ranges_each unit))
+    (ap (λ (n : ℕ). at.loc + n) (ap length is.locations ∙ over_values_len (locations_bytes (node_place u unit)) locations_len (locations_each (node_place u unit)) unit))
+
+abbrev placed_by : ℕ → List ℕ → ℕ → Placed
+placed_by start nodes len = record { start = start; nodes = nodes; len = len }
+
+abbrev parts_by : Starts → PartPlaces
+parts_by s = record { table = s.tables; lines = s.line; ranges = s.ranges; locations = s.loc }
+
+-- ---- drafts of the units from a number on
+
+abbrev pub From : ℕ → List OutUnit → List Draft → Type 0
+From n [] [] = Unit {0}
+From n [] (d ∷ ds) = ⊥
+From n (u ∷ us) [] = ⊥
+From n (u ∷ us) (d ∷ ds) = IsDraft n u d × From (n + 1) us ds
+
+from_each : (us : List OutUnit) (ds : List Draft) (n : ℕ) → length ds ≡ length us
+    → ((k : ℕ) (u : OutUnit) (d : Draft) → slice_get us k ≡ Some u → slice_get ds k ≡ Some d → IsDraft (n + k) u d) → From n us ds
+from_each [] [] n same each = tt
+from_each [] (d ∷ ds) n same each = absurd (omega (arith, same))
+from_each (u ∷ us) [] n same each = absurd (omega (arith, same))
+from_each (u ∷ us) (d ∷ ds) n same each =
+    let here : n + 0 ≡ n = omega arith in
+    let next : (k : ℕ) → n + suc k ≡ n + 1 + k = λ k. omega arith in (
+      subst (λ (m : ℕ). IsDraft m u d) here (each 0 u d refl refl),
+      from_each us ds (n + 1) (omega (arith, same)) (λ k v f a b. subst (λ (m : ℕ). IsDraft m v f) (next k) (each (suc k) v f a b)),
+    )
+
+pub from_graph : (graph : Graph) (drafts : List Draft) → AreDrafts graph drafts → From 0 graph.units drafts
+from_graph graph drafts are =
+    let zero_add : (k : ℕ) → k ≡ 0 + k = λ k. omega arith in
+    from_each graph.units drafts 0 are.count (λ k u d a b. subst (λ (m : ℕ). IsDraft m u d) (zero_add k) (are.each k u d a b))
+
+-- ---- texts
+
+names_from : (n : ℕ) (us : List OutUnit) (ds : List Draft) → From n us ds → flat_map (λ d. d.names) ds ≡ flat_map (λ unit. once bytes_eq (flat_map texts_of_node unit.nodes)) us
+names_from n [] [] f = refl
+names_from n [] (d ∷ ds) f = absurd f
+names_from n (u ∷ us) [] f = absurd f
+names_from n (u ∷ us) (d ∷ ds) f =
+    ap (λ (names : List (List ℕ)). names ++ flat_map (λ (e : Draft). e.names) ds) f.0.names ∙ ap (λ (rest : List (List ℕ)). once bytes_eq (flat_map texts_of_node u.nodes) ++ rest) (names_from (n + 1) us ds f.1)
+
+pub texts_are : (graph : Graph) (drafts : List Draft) → AreDrafts graph drafts → fold with_text [] (flat_map (λ d. d.names) drafts) ≡ texts_of graph
+texts_are graph drafts are =
+    ap (fold with_text []) (names_from 0 graph.units drafts (from_graph graph drafts are)) ∙ once_of_onces (λ (unit : OutUnit). flat_map texts_of_node unit.nodes) graph.units
+
+-- ---- no unit is too long
+
+short_from : (n : ℕ) (us : List OutUnit) (ds : List Draft) → From n us ds → find (λ m. nat_le (2 ^ 28) (unit_len m.0 m.1)) (enumerate_from n us) ≡ None
+short_from n [] [] f = refl
+short_from n [] (d ∷ ds) f = absurd f
+short_from n (u ∷ us) [] f = absurd f
+short_from n (u ∷ us) (d ∷ ds) f = rw (lt-leb (2 ^ 28) (unit_len n u) f.0.short) (short_from (n + 1) us ds f.1)
+
+pub none_long : (graph : Graph) (drafts : List Draft) → AreDrafts graph drafts → long_unit graph ≡ None
+none_long graph drafts are = ap (option_map (λ (n : ℕ × OutUnit). n.0)) (short_from 0 graph.units drafts (from_graph graph drafts are))
+
+-- ---- places
+
+module _ (graph : Graph) where
+  -- the unit behind the first ones
+  next_starts : (n : ℕ) (front us : List OutUnit) (u : OutUnit) (d : Draft) (at : Starts) → graph.units ≡ front ++ u ∷ us → length front ≡ n → IsDraft n u d → at ≡ starts_of graph n → behind_draft at d ≡ starts_of graph (n + 1)
+  next_starts n front us u d at parts len is same =
+      let lt : n < length graph.units = omega (arith, len, ap length parts, length-append front (u ∷ us)) in
+      let there : u ≡ get_or graph.units n u = sym (ap (λ (xs : List OutUnit). get_or xs n u) parts ∙ ap (λ (m : ℕ). get_or (front ++ u ∷ us) m u) (sym len) ∙ get_or-append_seam front u us u) in
+      behind_is at n u d is ∙ ap (λ (s : Starts). behind_unit s n u) same ∙ sym (starts_more graph n u lt there)
+
+  next_front : (front us : List OutUnit) (u : OutUnit) → graph.units ≡ front ++ u ∷ us → graph.units ≡ (front ++ u ∷ []) ++ us
+  next_front front us u parts = parts ∙ sym (append_assoc front (u ∷ []) us)
+
+  -- where the parts of all drafts end
+  ends_from : (n : ℕ) (front us : List OutUnit) (ds : List Draft) (at : Starts) → graph.units ≡ front ++ us → length front ≡ n → From n us ds → at ≡ starts_of graph n → fold behind_draft at ds ≡ starts_of graph (length graph.units)
+  ends_from n front [] [] at parts len f same =
+      let end : n ≡ length graph.units = omega (arith, len, ap length parts, length-append front []) in
+      same ∙ ap (starts_of graph) end
+  ends_from n front [] (d ∷ ds) at parts len f same = absurd f
+  ends_from n front (u ∷ us) [] at parts len f same = absurd f
+  ends_from n front (u ∷ us) (d ∷ ds) at parts len f same =
+      ends_from (n + 1) (front ++ u ∷ []) us ds (behind_draft at d) (next_front front us u parts) (omega (arith, len, length-append front (u ∷ []))) f.1 (next_starts n front us u d at parts len f.0 same)
+
+  pub ends_are : (drafts : List Draft) → AreDrafts graph drafts → fold behind_draft no_starts drafts ≡ starts_of graph (length graph.units)
+  ends_are drafts are = ends_from 0 [] graph.units drafts no_starts refl refl (from_graph graph drafts are) refl
+
+  -- what is known of drafts that follow the first ones
+  record Follow (p : Placing) (n : ℕ) (us : List OutUnit) (texts : List (List ℕ)) (new : Placing) : Type 0 where
+    units : new.units ≡ p.units ++ map (λ m. placed graph m.0 m.1) (enumerate_from n us)
+    parts : new.parts ≡ p.parts ++ map (λ m. part_places graph m.0) (enumerate_from n us)
+    text_places : new.text_places ≡ p.text_places ++ map (λ m. map (place_in texts) (once bytes_eq (flat_map texts_of_node m.1.nodes))) (enumerate_from n us)
+    aranges : new.aranges ≡ p.aranges ++ flat_map (λ m. aranges_bytes (unit_start graph m.0) m.1.ranges) (enumerate_from n us)
+    at : new.at ≡ starts_of graph (n + length us)
+
+  -- one item behind the others
+  one_more : {X : Type 0} (xs ys more all : List X) (x y : X) → ys ≡ (xs ++ x ∷ []) ++ more → x ≡ y → all ≡ y ∷ more → ys ≡ xs ++ all
+  one_more {X} xs ys more all x y is same whole = is ∙ append_assoc xs (x ∷ []) more ∙ ap (λ (z : X). xs ++ z ∷ more) same ∙ ap (λ (zs : List X). xs ++ zs) (sym whole)
+
+  follow_from : (n : ℕ) (front us : List OutUnit) (ds : List Draft) (p : Placing) (texts : List (List ℕ)) → graph.units ≡ front ++ us → length front ≡ n → From n us ds → p.at ≡ starts_of graph n
+      → Follow p n us texts (fold (with_draft texts) p ds)
+  follow_from n front [] [] p texts parts len f same =
+      let end : n ≡ n + 0 = omega arith in
+      record {
+        units = sym (append-nil p.units);
+        parts = sym (append-nil p.parts);
+        text_places = sym (append-nil p.text_places);
+        aranges = sym (append-nil p.aranges);
+        at = same ∙ ap (starts_of graph) end;
+      }
+  follow_from n front [] (d ∷ ds) p texts parts len f same = absurd f
+  follow_from n front (u ∷ us) [] p texts parts len f same = absurd f
+  follow_from n front (u ∷ us) (d ∷ ds) p texts parts len f same =
+      let next = with_draft texts p d in
+      let h = follow_from (n + 1) (front ++ u ∷ []) us ds next texts (next_front front us u parts) (omega (arith, len, length-append front (u ∷ []))) f.1 (next_starts n front us u d p.at parts len f.0 same) in
+      let info : p.at.info ≡ unit_start graph n = ap (λ (s : Starts). s.info) same in
+      let unit : placed_by p.at.info d.places d.len ≡ placed_by (unit_start graph n) (node_places n u) (unit_len n u) =
+      ap (λ (s : ℕ). placed_by s d.places d.len) info ∙ ap (λ (ns : List ℕ). placed_by (unit_start graph n) ns d.len) f.0.places ∙ ap (placed_by (unit_start graph n) (node_places n u)) f.0.len in
+      let part = ap parts_by same in
+      let end : n + 1 + length us ≡ n + suc (length us) = omega arith in
+      record {
+        units = one_more _ _ _ _ _ _ h.units unit refl;
+        parts = one_more _ _ _ _ _ _ h.parts part refl;
+        text_places = one_more _ _ _ _ _ _ h.text_places (ap (map (place_in texts)) f.0.names) refl;
+        aranges = h.aranges ∙ append_assoc p.aranges (aranges_bytes p.at.info d.code) _
+            ∙ ap (λ (s : ℕ). p.aranges ++ (aranges_bytes s d.code ++ flat_map (λ m. aranges_bytes (unit_start graph m.0) m.1.ranges) (enumerate_from (n + 1) us))) info
+            ∙ ap (λ (spans : List Span). p.aranges ++ (aranges_bytes (unit_start graph n) spans ++ flat_map (λ m. aranges_bytes (unit_start graph m.0) m.1.ranges) (enumerate_from (n + 1) us))) f.0.code;
+        at = h.at ∙ ap (starts_of graph) end;
+      }
+
+  -- all drafts
+  pub record AllPlaced (texts : List (List ℕ)) (new : Placing) : Type 0 where
+    pub units : new.units ≡ map (λ m. placed graph m.0 m.1) (numbered_units graph)
+    pub parts : new.parts ≡ map (λ m. part_places graph m.0) (numbered_units graph)
+    pub text_places : new.text_places ≡ map (λ m. map (place_in texts) (once bytes_eq (flat_map texts_of_node m.1.nodes))) (numbered_units graph)
+    pub aranges : new.aranges ≡ flat_map (λ m. aranges_bytes (unit_start graph m.0) m.1.ranges) (numbered_units graph)
+    pub at : new.at ≡ starts_of graph (length graph.units)
+
+  pub placed_all : (drafts : List Draft) (texts : List (List ℕ)) → AreDrafts graph drafts → AllPlaced texts (fold (with_draft texts) none_placed drafts)
+  placed_all drafts texts are =
+      let h = follow_from 0 [] graph.units drafts none_placed texts refl refl (from_graph graph drafts are) refl in
+      let end : 0 + length graph.units ≡ length graph.units = omega arith in
+      record { units = h.units; parts = h.parts; text_places = h.text_places; aranges = h.aranges; at = h.at ∙ ap (starts_of graph) end }
+
+-- ---- whatever the graph
+
+-- the places behind all drafts
+pub at_end : (texts : List (List ℕ)) (drafts : List Draft) (p : Placing) → (fold (with_draft texts) p drafts).at ≡ fold behind_draft p.at drafts
+at_end texts [] p = refl
+at_end texts (d ∷ drafts) p = at_end texts drafts (with_draft texts p d)
+
+-- each draft has its places in all lists
+pub as_many : (texts : List (List ℕ)) (drafts : List Draft) (p : Placing) → length p.parts ≡ length p.units → length p.text_places ≡ length p.units
+    → (length (fold (with_draft texts) p drafts).parts ≡ length (fold (with_draft texts) p drafts).units) × (length (fold (with_draft texts) p drafts).text_places ≡ length (fold (with_draft texts) p drafts).units)
+as_many texts [] p parts places = (parts, places)
+as_many texts (d ∷ drafts) p parts places =
+    let next = with_draft texts p d in
+    let units : length next.units ≡ length p.units + 1 = length-append p.units _ in
+    let more : length next.parts ≡ length p.parts + 1 = length-append p.parts _ in
+    let others : length next.text_places ≡ length p.text_places + 1 = length-append p.text_places _ in
+    as_many texts drafts next (omega (arith, units, more, parts)) (omega (arith, units, others, places))

@@ -1,0 +1,53 @@
+-- What a layout tells of what stands outside of a unit.
+use Rattle.std.proofs.Common.{◌≡◌, ℕ, ◌+◌, ◌<◌, List, [], length, map, get_or, slice_get, slice_index, Some, None, sym, ap, ◌∙◌, arith}
+use Rattle.std.proofs.lemmas.List.{get_or-map, length-map}
+use Rattle.std.proofs.lemmas.List.FromFn.{get_or-enumerate_from, length-enumerate_from}
+use Rattle.std.proofs.lemmas.Option.{get_or_from_slice_get, slice_get-get_or, slice_get_within}
+use Rattle.dwarf_types.specs.declared.graph.Graph.{Graph}
+use Rattle.dwarf_types.specs.declared.graph.OutUnit.{OutUnit}
+use Rattle.dwarf_types.specs.Layout.{numbered_units, text_place}
+use Rattle.patches.specs.declared.outside.Outside.{Outside}
+use Rattle.unit_draft.specs.declared.unit.Draft.{Draft}
+use Rattle.unit_draft.specs.Drafted.{IsDraft}
+use Rattle.unit_draft.specs.Outside.{IsOutside, placed}
+use Rattle.layout.specs.declared.placing.PartPlaces.{PartPlaces}
+use Rattle.layout.specs.Laid.{AreDrafts, Laid, laid, part_places, text_places}
+use Rattle.layout.proofs.SectionLengths.{info_end}
+
+blank : OutUnit
+blank = record { version = 0; nodes = []; lines = None; ranges = [] }
+
+module _ (graph : Graph) (u : ℕ) (within : u < length graph.units) where
+  -- what is told of a unit by its number
+  told : {Y : Type 0} (f : ℕ × OutUnit → Y) (d : Y) → get_or (map f (numbered_units graph)) u d ≡ f (u, get_or graph.units u blank)
+  told {Y} f d =
+      let index : 0 + u ≡ u = omega arith in
+      get_or-map f (numbered_units graph) u (0, blank) d (omega (arith, within, length-enumerate_from 0 graph.units))
+      ∙ ap f (get_or-enumerate_from 0 graph.units u (0, blank) within) ∙ ap (λ (n : ℕ). f (n, get_or graph.units u blank)) index
+
+-- a text by its number
+text_told : (f : List ℕ → ℕ) (names : List (List ℕ)) (i : ℕ) (t : List ℕ) → slice_get names i ≡ Some t → slice_index (map f names) i ≡ f t
+text_told f names i t at = get_or-map f names i t 0 (slice_get_within names i t at) ∙ ap f (get_or_from_slice_get names i t t at)
+
+module _ (graph : Graph) (layout : Laid) (u : ℕ) (draft : Draft) (part d : PartPlaces) (places : List ℕ) (o : Outside) where
+  pub outside_is : layout ≡ laid graph layout.drafts → AreDrafts graph layout.drafts → u < length layout.units → slice_get layout.drafts u ≡ Some draft
+      → part ≡ get_or layout.parts u d → places ≡ get_or layout.text_places u places
+      → o.table ≡ part.table → o.lines ≡ part.lines → o.ranges ≡ part.ranges → o.locations ≡ part.locations → o.texts.now ≡ places → o.units.now ≡ layout.units → o.end ≡ layout.sizes.info
+      → IsOutside graph u draft.names o
+  outside_is whole are lt there part_is places_is table lines ranges locations texts units end =
+      let units_are : layout.units ≡ map (λ n. placed graph n.0 n.1) (numbered_units graph) = ap (λ (l : Laid). l.units) whole in
+      let within : u < length graph.units = omega (arith, lt, ap length units_are, length-map (numbered_units graph) (λ (n : ℕ × OutUnit). placed graph n.0 n.1), length-enumerate_from 0 graph.units) in
+      let unit : OutUnit = get_or graph.units u blank in
+      let here : IsDraft u unit draft = are.each u unit draft (slice_get-get_or graph.units u blank within) there in
+      let parts : part ≡ part_places graph u = part_is ∙ ap (λ (l : Laid). get_or l.parts u d) whole ∙ told graph u within (λ (n : ℕ × OutUnit). part_places graph n.0) d in
+      let text_list : o.texts.now ≡ map (text_place graph) draft.names =
+      texts ∙ places_is ∙ ap (λ (l : Laid). get_or l.text_places u places) whole ∙ told graph u within (λ (n : ℕ × OutUnit). text_places graph n.1) places ∙ ap (map (text_place graph)) (sym here.names) in
+      record {
+        table = table ∙ ap (λ (p : PartPlaces). p.table) parts;
+        lines = lines ∙ ap (λ (p : PartPlaces). p.lines) parts;
+        ranges = ranges ∙ ap (λ (p : PartPlaces). p.ranges) parts;
+        locations = locations ∙ ap (λ (p : PartPlaces). p.locations) parts;
+        texts = λ i t at. ap (λ (ps : List ℕ). slice_index ps i) text_list ∙ text_told (text_place graph) draft.names i t at;
+        units = units ∙ units_are;
+        end = end ∙ ap (λ (l : Laid). l.sizes.info) whole ∙ sym (info_end graph);
+      }

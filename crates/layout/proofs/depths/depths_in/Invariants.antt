@@ -1,7 +1,0 @@
-use Rattle.std.proofs.Common.{◌≡◌, map}
-use Rattle.std.specs.List.{range_with_len}
-use Rattle.dwarf_types.specs.Entries.{depth_of}
-use Rattle.layout.proofs.depths.depths_in.Given as goal
-
-abbrev pub invariant-loop-node : goal.invariant-loop-node
-invariant-loop-node l = l.depths ≡ map (depth_of l.nodes) (range_with_len 0 l.node-index)

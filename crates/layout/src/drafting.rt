@@ -1,0 +1,27 @@
+//! The drafts of the units of a graph.
+
+ghost use Rattle.std.specs.Prelude.{◌-◌, ◌^◌, ◌<◌, length};
+ghost use Rattle.layout.specs.Pass.{DraftsUnits};
+
+use crate::error::LayoutError;
+use ds_base::List;
+use dwarf_types::Graph;
+use std::alloc::Global;
+use unit_draft::{Draft, DraftError, draft_unit};
+
+/// Drafts the units up to the first that is too long.
+pub(crate) fn draft_units(alloc: Global, graph: &Graph) -> Result<List<Draft>, LayoutError>
+    requires few { length graph.now.units < 2 ^ 32 - 1 }
+    ensures { DraftsUnits graph.now result }
+{
+    let mut drafts = List::new(alloc);
+    for (u, unit) in graph.units.as_slice().iter().enumerate() {
+        let draft = match draft_unit(alloc, unit, u as u32) {
+            Ok(draft) => draft,
+            Err(DraftError::Unit) => return Err(LayoutError::Unit { unit: u as u32 }),
+            Err(DraftError::NoMemory) => return Err(LayoutError::NoMemory),
+        };
+        drafts.push(draft)?;
+    }
+    Ok(drafts)
+}

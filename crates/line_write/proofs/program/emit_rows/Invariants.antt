@@ -1,7 +1,0 @@
-use Rattle.std.proofs.Common.{drop}
-use Rattle.dwarf_types.specs.LineProgram.{registers_at, rows_bytes}
-use Rattle.line_write.proofs.Pieces.{Going}
-use Rattle.line_write.proofs.program.emit_rows.Given as goal
-
-abbrev pub invariant-loop-row : goal.invariant-loop-row
-invariant-loop-row l = Going l.fn.room l.fn.start (rows_bytes (registers_at l.first) l.rows l.end) (rows_bytes l.before (drop l.row-index l.rows) l.end) l.room l.at

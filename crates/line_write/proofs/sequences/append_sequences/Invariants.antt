@@ -1,0 +1,7 @@
+use Rattle.std.proofs.Common.{◌≡◌, ◌++◌, drop}
+use Rattle.std.specs.List.{flat_map}
+use Rattle.dwarf_types.specs.LineProgram.{sequence_bytes}
+use Rattle.line_write.proofs.sequences.append_sequences.Given as goal
+
+abbrev pub invariant-loop-sequence : goal.invariant-loop-sequence
+invariant-loop-sequence l = l.out ++ flat_map sequence_bytes (drop l.sequence-index l.sequences) ≡ l.fn.out ++ flat_map sequence_bytes l.sequences

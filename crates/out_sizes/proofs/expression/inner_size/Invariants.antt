@@ -1,6 +1,0 @@
-use Rattle.std.proofs.Common.{◌≡◌, ◌-◌, ◌^◌, length, min, take}
-use Rattle.dwarf_types.specs.Expressions.{inner_len}
-use Rattle.out_sizes.proofs.expression.inner_size.Given as goal
-
-abbrev pub invariant-loop-part : goal.invariant-loop-part
-invariant-loop-part l = l.size ≡ min (inner_len (take l.part-index l.parts)) (2 ^ 64 - 1)

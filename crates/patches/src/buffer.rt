@@ -1,0 +1,230 @@
+//! Bytes that grow, with holes.
+
+ghost use Rattle.std.specs.Prelude.{ℕ, ◌≡◌, ◌++◌, ◌∷◌, ◌<◌, ◌≤◌, ◌^◌, [], ◌+◌, length, map, OnOk};
+ghost use Rattle.std.specs.List.{All};
+ghost use Rattle.byteorder.specs.Endian.{little_bytes};
+ghost use Rattle.ds_base.specs.Leb.{sleb, uleb};
+ghost use Rattle.patches.specs.Filling.{Filling, filled, own_behind, own_bytes, outer_behind, outer_bytes};
+ghost use Rattle.patches.specs.Numbers.{patched, settled};
+
+use crate::fill::{fill_all_outer, fill_all_own};
+use crate::hole::{Outer, OuterPatch, Own, OwnPatch};
+use crate::outside::Outside;
+use ds_base::{Bytes, NoMemory, put_sleb, put_uleb, sleb_len, uleb_len};
+use std::alloc::Global;
+use std::marker::Model;
+
+/// Bytes with holes. A contract sees what they are, once each hole has its number. Places count from the first byte.
+#[derive(Drop)]
+pub struct Buffer {
+    bytes: Vec<u8>,
+    own: Vec<OwnPatch>,
+    outer: Vec<OuterPatch>,
+}
+
+impl Model for Buffer {
+    ghost use Rattle.patches.specs.Filling.{AreInside, Holey};
+
+    ghost Value = { Holey };
+
+    ghost view = { λ a. record { bytes = a.bytes.items; own = a.own.items; outer = a.outer.items } };
+
+    ghost invariant = { λ a. AreInside (record { bytes = a.bytes.items; own = a.own.items; outer = a.outer.items }) };
+}
+
+impl Buffer {
+    /// No bytes. It asks the allocator for nothing.
+    pub fn new(alloc: Global) -> Buffer
+        ensures { (f : Filling) → filled result f ≡ [] }
+    {
+        Buffer {
+            bytes: Vec::new(alloc),
+            own: Vec::new(alloc),
+            outer: Vec::new(alloc),
+        }
+    }
+
+    /// Makes the buffer as a new one, which keeps its memory.
+    pub fn clear(&mut self)
+        ensures { (f : Filling) → filled self.new f ≡ [] }
+    {
+        self.outer.clear();
+        self.own.clear();
+        self.bytes.clear();
+    }
+
+    /// How many bytes there are, those of holes with them.
+    pub fn len(&self) -> usize
+        ensures { (f : Filling) → length (filled self.now f) ≡ result }
+    {
+        self.bytes.len()
+    }
+
+    /// Puts a byte last.
+    pub fn push(&mut self, byte: u8) -> Result<(), NoMemory>
+        ensures { OnOk result ((f : Filling) → filled self.new f ≡ filled self.old f ++ byte ∷ []) }
+    {
+        self.bytes.push(byte)?;
+        Ok(())
+    }
+
+    /// Puts bytes last.
+    pub fn extend(&mut self, bytes: &[u8]) -> Result<(), NoMemory>
+        ensures { OnOk result ((f : Filling) → filled self.new f ≡ filled self.old f ++ bytes.now) }
+    {
+        self.bytes.extend_from_slice(bytes)?;
+        Ok(())
+    }
+
+    /// Puts the lowest bytes of a number last, the lowest first.
+    pub fn extend_lowest(&mut self, n: u64, count: usize) -> Result<(), NoMemory>
+        requires few { count ≤ 8 }
+        ensures { OnOk result ((f : Filling) → filled self.new f ≡ filled self.old f ++ little_bytes count n) }
+    {
+        self.extend(&n.to_le_bytes()[..count])?;
+        Ok(())
+    }
+
+    /// Puts the shortest LEB number without a sign last (DWARF 4, section 7.6).
+    pub fn extend_uleb(&mut self, n: u64) -> Result<(), NoMemory>
+        ensures { OnOk result ((f : Filling) → filled self.new f ≡ filled self.old f ++ uleb n) }
+    {
+        let mut room = [0; 10];
+        put_uleb(&mut room, 0, n);
+        self.extend(&room[..uleb_len(n) as usize])?;
+        Ok(())
+    }
+
+    /// Puts the shortest LEB number with a sign last (DWARF 4, section 7.6).
+    pub fn extend_sleb(&mut self, n: i64) -> Result<(), NoMemory>
+        ensures { OnOk result ((f : Filling) → filled self.new f ≡ filled self.old f ++ sleb n) }
+    {
+        let mut room = [0; 10];
+        put_sleb(&mut room, 0, n);
+        self.extend(&room[..sleb_len(n) as usize])?;
+        Ok(())
+    }
+
+    /// Leaves a hole for what stands outside of the unit.
+    pub fn leave(&mut self, hole: Outer) -> Result<(), NoMemory>
+        ensures { OnOk result ((f : Filling) → filled self.new f ≡ filled self.old f ++ outer_bytes f.outer hole) }
+    {
+        let at = self.bytes.len();
+        self.bytes.extend_from_slice(&[0; 4])?;
+        self.outer.push(OuterPatch { at, hole })?;
+        Ok(())
+    }
+
+    /// Leaves a hole for what the unit itself tells.
+    pub fn leave_own(&mut self, hole: Own) -> Result<(), NoMemory>
+        ensures { OnOk result ((f : Filling) → filled self.new f ≡ filled self.old f ++ own_bytes f.own hole) }
+    {
+        let at = self.bytes.len();
+        self.bytes.extend_from_slice(&[0; 4])?;
+        self.own.push(OwnPatch { at, hole })?;
+        Ok(())
+    }
+
+    /// Puts other bytes last, with their holes.
+    pub fn append(&mut self, other: &Buffer) -> Result<(), NoMemory>
+        ensures { OnOk result ((f : Filling) → filled self.new f ≡ filled self.old f ++ filled other.now f) }
+    {
+        let base = self.bytes.len();
+        self.bytes.extend_from_slice(other.bytes.as_slice())?;
+        let end = self.bytes.len();
+        push_own(&mut self.own, other.own.as_slice(), base, end)?;
+        push_outer(&mut self.outer, other.outer.as_slice(), base, end)?;
+        Ok(())
+    }
+
+    /// Puts other bytes last, and before them their length, as the shortest LEB number without a sign.
+    pub fn append_prefixed(&mut self, other: &Buffer) -> Result<(), NoMemory>
+        ensures { OnOk result ((f : Filling) → filled self.new f ≡ filled self.old f ++ (uleb (length (filled other.now f)) ++ filled other.now f)) }
+    {
+        self.extend_uleb(other.len() as u64)?;
+        self.append(other)?;
+        Ok(())
+    }
+
+    /// Fills what the unit itself tells: it has `len` bytes, and its nodes stand at `places`. A node behind the last
+    /// stands at the unit's end. What memory the buffer holds behind its last byte is given back.
+    pub fn settle(&mut self, len: u32, places: &[u32])
+        requires small { All (λ place. place < 2 ^ 28) places.now }
+        requires short { len < 2 ^ 28 }
+        ensures is { (f : Filling) → filled self.new f ≡ filled self.old (settled f len places.now) }
+        ensures none { self.new.own ≡ [] }
+    {
+        fill_all_own(self.bytes.as_mut_slice(), self.own.as_slice(), len, places);
+        self.own.clear();
+        self.own.shrink_to_fit();
+        self.outer.shrink_to_fit();
+        self.bytes.shrink_to_fit();
+    }
+
+    /// Fills what stands outside of the unit.
+    pub fn patch(&mut self, outside: &Outside)
+        requires settled { self.old.own ≡ [] }
+        ensures { (f : Filling) → self.new.bytes ≡ filled self.old (patched f outside.now) }
+    {
+        fill_all_outer(self.bytes.as_mut_slice(), self.outer.as_slice(), outside);
+        self.outer.clear();
+    }
+
+    /// Writes the bytes into a room of their size, with what stands outside of the unit. It takes no memory.
+    pub fn emit(&self, outside: &Outside, room: &mut [u8])
+        requires settled { self.now.own ≡ [] }
+        requires fits { (f : Filling) → length room.old ≡ length (filled self.now f) }
+        ensures { (f : Filling) → room.new ≡ filled self.now (patched f outside.now) }
+    {
+        room.copy_from_slice(self.bytes.as_slice());
+        fill_all_outer(room, self.outer.as_slice(), outside);
+    }
+
+    /// The bytes, with zeros in the holes that are left.
+    pub fn into_bytes(self) -> Bytes
+        ensures { result ≡ self.bytes }
+    {
+        let Buffer { bytes, .. } = self;
+        Bytes::from_vec(bytes)
+    }
+}
+
+/// Puts patches last, of bytes that stand behind `base` others and before `end`.
+fn push_own(
+    out: &mut Vec<OwnPatch>,
+    patches: &[OwnPatch],
+    base: usize,
+    end: usize,
+) -> Result<(), NoMemory>
+    requires { All (λ p. base + p.at + 4 ≤ end) patches.now }
+    ensures pushed { OnOk result (out.new.items ≡ out.old.items ++ map (own_behind base) patches.now) }
+    ensures inside { All (λ p. p.at + 4 ≤ end) out.old.items → All (λ p. p.at + 4 ≤ end) out.new.items }
+{
+    for patch in patches {
+        out.push(OwnPatch {
+            at: base + patch.at,
+            hole: patch.hole,
+        })?;
+    }
+    Ok(())
+}
+
+/// Puts patches last, of bytes that stand behind `base` others and before `end`.
+fn push_outer(
+    out: &mut Vec<OuterPatch>,
+    patches: &[OuterPatch],
+    base: usize,
+    end: usize,
+) -> Result<(), NoMemory>
+    requires { All (λ p. base + p.at + 4 ≤ end) patches.now }
+    ensures pushed { OnOk result (out.new.items ≡ out.old.items ++ map (outer_behind base) patches.now) }
+    ensures inside { All (λ p. p.at + 4 ≤ end) out.old.items → All (λ p. p.at + 4 ≤ end) out.new.items }
+{
+    for patch in patches {
+        out.push(OuterPatch {
+            at: base + patch.at,
+            hole: patch.hole,
+        })?;
+    }
+    Ok(())
+}

@@ -1,0 +1,65 @@
+use Rattle.std.proofs.Common.{◌∙◌, ap, length, arith}
+use Rattle.std.specs.List.{flat_map}
+use Rattle.ds_base.specs.Texts.{section_of}
+use Rattle.ds_base.proofs.Adding.{adds_more, adds_same}
+use Rattle.section_write.specs.Copied.{part_in}
+use Rattle.section_write.specs.declared.parts.DraftPart.TheVariants as kinds
+use Rattle.section_write.proofs.FromDrafts.{lines_are, tables_are, texts_are}
+use Rattle.section_write.proofs.InTurn.{front_len}
+use Rattle.section_write.proofs.sections.emit_front.Goals as goal
+
+pub emit_parts-at-requires : goal.emit_parts-at-requires
+emit_parts-at-requires c =
+    let m = c.requires.measured in
+    let tables = ap length (ap (flat_map (part_in kinds.Table)) c.drafts.ensures ∙ tables_are m.graph c.args.layout.now m.measured) in
+    let fits = c.requires.fits m.graph m.measured in
+    record { fits = omega (arith, tables, fits, front_len m.graph) }
+
+pub emit_units-at-requires-clause-fits : goal.emit_units-at-requires-clause-fits
+emit_units-at-requires-clause-fits c = λ graph measured.
+    let tables = ap length (ap (flat_map (part_in kinds.Table)) c.drafts.ensures ∙ tables_are graph c.args.layout.now measured) in
+    let fits = c.requires.fits graph measured in
+    omega (arith, tables, fits, front_len graph, c.emit_parts-at.ensures.size, c.emit_parts-at.ensures.behind)
+
+pub add_texts-at-requires : goal.add_texts-at-requires
+add_texts-at-requires c =
+    let m = c.requires.measured in
+    let tables = ap length (ap (flat_map (part_in kinds.Table)) c.drafts.ensures ∙ tables_are m.graph c.args.layout.now m.measured) in
+    let units = c.emit_units-at.ensures m.graph m.measured in
+    let strings = ap length (ap section_of c.texts.ensures ∙ texts_are m.graph c.args.layout.now m.measured) in
+    let fits = c.requires.fits m.graph m.measured in
+    record { fits = omega (arith, tables, strings, fits, front_len m.graph, c.emit_parts-at.ensures.size, c.emit_parts-at.ensures.behind, units.size, units.behind) }
+
+pub emit_parts-requires : goal.emit_parts-requires
+emit_parts-requires c =
+    let m = c.requires.measured in
+    let tables = ap length (ap (flat_map (part_in kinds.Table)) c.drafts.ensures ∙ tables_are m.graph c.args.layout.now m.measured) in
+    let units = c.emit_units-at.ensures m.graph m.measured in
+    let strings = ap length (ap section_of c.texts.ensures ∙ texts_are m.graph c.args.layout.now m.measured) in
+    let lines = ap length (ap (flat_map (part_in kinds.Lines)) c.drafts-2.ensures ∙ lines_are m.graph c.args.layout.now m.measured) in
+    let fits = c.requires.fits m.graph m.measured in
+    record {
+      fits = omega (
+        arith,
+        tables,
+        strings,
+        lines,
+        fits,
+        front_len m.graph,
+        c.emit_parts-at.ensures.size,
+        c.emit_parts-at.ensures.behind,
+        units.size,
+        units.behind,
+        c.add_texts-at.ensures.size,
+        c.add_texts-at.ensures.behind,
+      );
+    }
+
+pub returns : goal.returns
+returns c = λ graph measured.
+    let tables = ap (flat_map (part_in kinds.Table)) c.drafts.ensures ∙ tables_are graph c.args.layout.now measured in
+    let strings = ap section_of c.texts.ensures ∙ texts_are graph c.args.layout.now measured in
+    let lines = ap (flat_map (part_in kinds.Lines)) c.drafts-2.ensures ∙ lines_are graph c.args.layout.now measured in
+    adds_more _ _ _ _ _ _ _ _ (adds_same _ _ _ _ _ _ tables c.emit_parts-at.ensures)
+    (adds_more _ _ _ _ _ _ _ _ (c.emit_units-at.ensures graph measured)
+    (adds_more _ _ _ _ _ _ _ _ (adds_same _ _ _ _ _ _ strings c.add_texts-at.ensures) (adds_same _ _ _ _ _ _ lines c.emit_parts.ensures)))

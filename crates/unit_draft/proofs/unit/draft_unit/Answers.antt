@@ -1,0 +1,40 @@
+use Rattle.std.proofs.Common.{◌≡◌, ◌^◌, ◌<◌, ◌∙◌, List, ℕ, All, length, ap, sym, subst, arith}
+use Rattle.abbrev_write.specs.Table.{Table}
+use Rattle.dwarf_types.specs.Abbreviations.{declarations_bytes}
+use Rattle.patches.specs.Filling.{Filling, filled}
+use Rattle.patches.specs.Numbers.{settled}
+use Rattle.unit_draft.specs.Whole.{told}
+use Rattle.unit_draft.specs.World.{Stands}
+use Rattle.unit_draft.proofs.Placing.{nodes_within, places_small}
+use Rattle.unit_draft.proofs.unit.draft_unit.Goals as goal
+
+pub returns-then-len-ge-UNIT_LIMIT : goal.returns-then-len-ge-UNIT_LIMIT
+returns-then-len-ge-UNIT_LIMIT c = omega (arith, c.if-len-ge-UNIT_LIMIT.true, c.len.ensures, nodes_within c.args.number c.args.unit.now)
+
+pub settled_draft-requires-clause-small : goal.settled_draft-requires-clause-small
+settled_draft-requires-clause-small c =
+    let whole = c.in_ok-whole.ensures.whole in
+    subst (λ (ps : List ℕ). All (λ place. place < 2 ^ 28) ps) (sym whole.places) (places_small c.args.number c.args.unit.now whole.short)
+
+pub returns : goal.returns
+returns c =
+    let number = c.args.number in
+    let clone = c.args.unit.now in
+    let whole = c.in_ok-whole.whole in
+    let is = c.in_ok-whole.ensures.whole in
+    let settles = c.settled_draft.ensures.settled in
+    let tells : (f : Filling) → settled f whole.len whole.places ≡ told number clone f = λ f. ap (λ (n : ℕ). settled f n whole.places) is.len ∙ ap (settled f _) is.places in
+    record {
+      info = λ w stands. settles.info w.filling ∙ ap (filled whole.drafting.info) (tells w.filling) ∙ is.info w (subst (λ (texts : List (List ℕ)). Stands number clone texts w) settles.names stands);
+      size = λ f. ap length (settles.info f) ∙ is.size (settled f whole.len whole.places);
+      settled = settles.own;
+      locations = settles.locations.1 ∙ ap (filled whole.drafting.locations) (tells settles.locations.0) ∙ is.locations settles.locations.0;
+      ranges = settles.ranges ∙ is.ranges;
+      lines = c.settled_draft.ensures.lines ∙ c.in_ok-lines.ensures;
+      table = c.settled_draft.ensures.table ∙ c.in_ok-table-2.ensures ∙ ap (λ (t : Table). declarations_bytes t.declarations) c.in_ok-table.ensures.exact;
+      names = settles.names ∙ is.names;
+      places = settles.places ∙ is.places;
+      code = c.settled_draft.ensures.code ∙ c.in_ok-code.ensures ∙ c.as_slice.ensures;
+      len = settles.len ∙ is.len;
+      short = is.short;
+    }

@@ -1,0 +1,19 @@
+use Rattle.std.proofs.Common.{◌+◌, List, drop, subst, sym}
+use Rattle.std.proofs.lemmas.List.{drop_all}
+use Rattle.ds_base.proofs.Walking.{drop_one}
+use Rattle.dwarf_types.specs.declared.graph.OutAttr.{OutAttr}
+use Rattle.unit_draft.specs.Appends.{AppendsValues}
+use Rattle.unit_draft.proofs.Appending.{appends_none, values_cons}
+use Rattle.unit_draft.proofs.values.append_values.Goals as goal
+
+pub loop-attr-preserved : goal.loop-attr-preserved
+loop-attr-preserved c = λ new rest.
+    let attrs = c.args.attrs.now in
+    let i = c.loop-attr.attr-index in
+    let one = values_cons c.args.number c.loop-attr.drafting c.append_value.new.drafting new c.attr-item.result (drop (i + 1) attrs) c.in_ok-append_value.ensures rest in
+    c.loop-attr.invariant new (subst (λ (left : List OutAttr). AppendsValues c.args.number c.loop-attr.drafting new left) (sym (drop_one attrs i c.attr-item.result c.loop-attr-test.true c.attr-item.is)) one)
+
+pub returns : goal.returns
+returns c =
+    let d = c.loop-attr.drafting in
+    c.loop-attr.invariant d (subst (λ (left : List OutAttr). AppendsValues c.args.number d d left) (sym (drop_all c.loop-attr.attr-index c.args.attrs.now c.loop-attr-test.false)) (appends_none c.args.number d))

@@ -1,0 +1,44 @@
+-- What the draft of a unit is: its parts of all sections, as far as they follow from the unit alone.
+use Rattle.std.specs.Prelude.{◌≡◌, ℕ, ◌^◌, ◌<◌, ◌≤◌, List, [], length, map, Result, Ok, Err}
+use Rattle.std.specs.List.{enumerate_from, flat_map}
+use Rattle.std.specs.Str.{bytes_eq}
+use Rattle.ds_base.specs.FirstUse.{once}
+use Rattle.dwarf_types.specs.declared.graph.OutUnit.{OutUnit}
+use Rattle.dwarf_types.specs.Abbreviations.{table_bytes}
+use Rattle.dwarf_types.specs.Encode.{over_values}
+use Rattle.dwarf_types.specs.Entries.{node_place, unit_bytes, unit_len}
+use Rattle.dwarf_types.specs.Layout.{texts_of_node}
+use Rattle.dwarf_types.specs.LineTable.{lines_bytes}
+use Rattle.dwarf_types.specs.Lists.{ranges_bytes, locations_bytes}
+use Rattle.patches.specs.Filling.{Filling, filled}
+use Rattle.unit_draft.specs.declared.unit.Draft.{Draft}
+use Rattle.unit_draft.specs.declared.error.DraftError.{DraftError}
+use Rattle.unit_draft.specs.declared.error.DraftError.TheVariants as errors
+use Rattle.unit_draft.specs.World.{Stands, World}
+
+-- where each node stands, counted from the header
+abbrev pub node_places : ℕ → OutUnit → List ℕ
+node_places u unit = map (λ k. node_place u unit k.0) (enumerate_from 0 unit.nodes)
+
+-- a draft of the unit of a number
+pub record IsDraft (number : ℕ) (clone : OutUnit) (draft : Draft) : Type 0 where
+  -- wherever the unit stands, its bytes are those of the draft with that filling
+  pub info : (w : World) → Stands number clone draft.names w → filled draft.info w.filling ≡ unit_bytes w.places w.lists w.table clone
+  pub size : (f : Filling) → length (filled draft.info f) ≡ unit_len number clone
+  -- what the unit itself tells is filled in
+  pub settled : draft.info.own ≡ []
+  pub locations : draft.locations ≡ over_values (locations_bytes (node_place number clone)) clone
+  pub ranges : draft.ranges ≡ over_values ranges_bytes clone
+  pub lines : draft.lines ≡ lines_bytes clone
+  pub table : draft.table ≡ table_bytes number clone
+  pub names : draft.names ≡ once bytes_eq (flat_map texts_of_node clone.nodes)
+  pub places : draft.places ≡ node_places number clone
+  pub code : draft.code ≡ clone.ranges
+  pub len : draft.len ≡ unit_len number clone
+  pub short : unit_len number clone < 2 ^ 28
+
+-- Ok is a draft; Unit comes exactly where the unit has 2^28 bytes or more; of want of memory nothing is said
+abbrev pub Drafts : ℕ → OutUnit → Result Draft DraftError → Type 0
+Drafts number clone (Ok draft) = IsDraft number clone draft
+Drafts number clone (Err errors.Unit) = 2 ^ 28 ≤ unit_len number clone
+Drafts number clone (Err errors.NoMemory) = Unit {0}

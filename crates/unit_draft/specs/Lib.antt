@@ -1,0 +1,9 @@
+pub mod Appends
+pub mod Based
+pub mod Depths
+pub mod Drafted
+pub mod Long
+pub mod Outside
+pub mod Settled
+pub mod Whole
+pub mod World

@@ -1,0 +1,23 @@
+-- What stands outside of a unit of a graph.
+use Rattle.std.specs.Prelude.{◌≡◌, ℕ, List, length, map, slice_get, slice_index, Some}
+use Rattle.dwarf_types.specs.declared.graph.Graph.{Graph}
+use Rattle.dwarf_types.specs.declared.graph.OutUnit.{OutUnit}
+use Rattle.dwarf_types.specs.Entries.{unit_len}
+use Rattle.dwarf_types.specs.Layout.{lines_place, lists_place, numbered_units, table_place, text_place, unit_start}
+use Rattle.patches.specs.declared.outside.Outside.{Outside}
+use Rattle.patches.specs.declared.outside.Placed.{Placed}
+use Rattle.unit_draft.specs.Drafted.{node_places}
+
+-- where a unit of a number stands
+abbrev pub placed : Graph → ℕ → OutUnit → Placed
+placed graph u unit = record { start = unit_start graph u; nodes = node_places u unit; len = unit_len u unit }
+
+-- what stands outside of the unit of a number, which numbers its texts so
+pub record IsOutside (graph : Graph) (u : ℕ) (names : List (List ℕ)) (o : Outside) : Type 0 where
+  pub table : o.table ≡ table_place graph u
+  pub lines : o.lines ≡ lines_place graph u
+  pub ranges : o.ranges ≡ (lists_place graph u).ranges
+  pub locations : o.locations ≡ (lists_place graph u).locations
+  pub texts : (i : ℕ) (t : List ℕ) → slice_get names i ≡ Some t → slice_index o.texts.now i ≡ text_place graph t
+  pub units : o.units.now ≡ map (λ n. placed graph n.0 n.1) (numbered_units graph)
+  pub end : o.end ≡ unit_start graph (length graph.units)

@@ -1,0 +1,135 @@
+//! A unit, drafted from its clone alone.
+
+ghost use Rattle.std.specs.Prelude.{ℕ, length, ◌≡◌, ◌<◌, ◌^◌, [], Some, slice_get};
+ghost use Rattle.std.specs.List.{All};
+ghost use Rattle.dwarf_types.specs.declared.graph.Graph.{Graph as Program};
+ghost use Rattle.dwarf_types.specs.declared.graph.OutUnit.{OutUnit as Clone};
+ghost use Rattle.dwarf_types.specs.Entries.{unit_bytes};
+ghost use Rattle.dwarf_types.specs.Layout.{lists_place, places_of, table_place};
+ghost use Rattle.patches.specs.Filling.{Filling, filled};
+ghost use Rattle.patches.specs.Numbers.{outer_number, settled};
+ghost use Rattle.unit_draft.specs.Drafted.{Drafts, IsDraft};
+ghost use Rattle.unit_draft.specs.Outside.{IsOutside};
+ghost use Rattle.unit_draft.specs.Settled.{Settles};
+ghost use Rattle.unit_draft.specs.World.{Stands, World};
+
+use crate::entries::UNIT_LIMIT;
+use crate::error::DraftError;
+use crate::parts::{abbreviations_of, copy_of, lines_of};
+use crate::whole::{Whole, append_unit};
+use abbrev_write::{codes_of, table};
+use ds_base::{Bytes, List};
+use dwarf_types::{OutUnit, Span};
+use patches::{Buffer, Outside};
+use std::alloc::Global;
+use text_pool::Names;
+
+/// A unit's parts of all sections, as far as they follow from the unit alone.
+#[derive(Drop)]
+pub struct Draft {
+    /// The unit in `__debug_info`, with holes for what stands outside of it.
+    pub info: Buffer,
+    /// Its location lists in `__debug_loc`, in the order of the attributes.
+    pub locations: Bytes,
+    /// Its range lists in `__debug_ranges`, in the order of the attributes.
+    pub ranges: Bytes,
+    /// Its line table in `__debug_line`; no bytes where it has none.
+    pub lines: Bytes,
+    /// Its abbreviations in `__debug_abbrev`.
+    pub table: Bytes,
+    /// Its texts, by the numbers under which the holes name them.
+    pub names: Names,
+    /// The place of each node, counted from the unit's header.
+    pub places: List<u32>,
+    /// The addresses of its code in the linked program.
+    pub code: List<Span>,
+    /// The size of `info` in bytes.
+    pub len: u32,
+}
+
+/// Drafts the unit of a number in the graph, counted from 0: whether a reference stays in the unit depends on it.
+///
+/// References inside the unit and the base operands of expressions are final. The time is linear in the unit.
+pub fn draft_unit(alloc: Global, unit: &OutUnit, number: u32) -> Result<Draft, DraftError>
+    ensures { Drafts number unit.now result }
+{
+    // Each node has a byte at least.
+    if unit.nodes.len() >= UNIT_LIMIT {
+        return Err(DraftError::Unit);
+    }
+    let table = table(alloc, unit, number)?;
+    let whole = append_unit(alloc, unit, number, codes_of(&table))?;
+    let lines = lines_of(alloc, unit)?;
+    let table = abbreviations_of(alloc, &table)?;
+    let code = copy_of(alloc, unit.ranges.as_slice())?;
+    Ok(settled_draft(whole, lines, table, code))
+}
+
+/// The draft of a whole unit, whose own places are filled in.
+fn settled_draft(whole: Whole, lines: Bytes, table: Bytes, code: List<Span>) -> Draft
+    requires small { All (λ place. place < 2 ^ 28) whole.places }
+    requires short { whole.len < 2 ^ 28 }
+    ensures settled { Settles whole result }
+    ensures lines { result.lines ≡ lines }
+    ensures table { result.table ≡ table }
+    ensures code { result.code ≡ code }
+{
+    let Whole {
+        drafting,
+        places,
+        len,
+    } = whole;
+    let mut info = drafting.info;
+    info.settle(len, places.as_slice());
+    let locations = settled_bytes(drafting.locations, len, places.as_slice());
+    Draft {
+        info,
+        locations,
+        ranges: drafting.ranges,
+        lines,
+        table,
+        names: drafting.names,
+        places,
+        code,
+        len,
+    }
+}
+
+/// The bytes of lists in which nothing outside of the unit is named.
+fn settled_bytes(lists: Buffer, len: u32, places: &[u32]) -> Bytes
+    requires small { All (λ place. place < 2 ^ 28) places.now }
+    requires short { len < 2 ^ 28 }
+    ensures { (f : Filling) × (result ≡ filled lists (settled f len places.now)) }
+{
+    let mut lists = lists;
+    lists.settle(len, places);
+    lists.patch(&nowhere());
+    lists.into_bytes()
+}
+
+/// Nothing has a place.
+fn nowhere<'a>() -> Outside<'a> {
+    Outside {
+        table: 0,
+        lines: 0,
+        ranges: 0,
+        locations: 0,
+        texts: &[],
+        units: &[],
+        end: 0,
+    }
+}
+
+/// Writes the entries of a draft into a room of their size, with what stands outside of the unit. It takes no memory.
+pub fn emit_draft(draft: &Draft, outside: &Outside, room: &mut [u8])
+    requires settled { draft.now.info.own ≡ [] }
+    requires fits { (f : Filling) → length room.old ≡ length (filled draft.now.info f) }
+
+    // in any world in which the unit stands
+    ensures world { (number : ℕ) (clone : Clone) (w : World) → IsDraft number clone draft.now → Stands number clone draft.now.names w → w.filling.outer ≡ outer_number outside.now → room.new ≡ unit_bytes w.places w.lists w.table clone }
+
+    // in a graph
+    ensures graph { (whole : Program) (u : ℕ) (clone : Clone) → slice_get whole.units u ≡ Some clone → IsDraft u clone draft.now → IsOutside whole u draft.now.names outside.now → room.new ≡ unit_bytes (places_of whole u) (lists_place whole u) (table_place whole u) clone }
+{
+    draft.info.emit(outside, room);
+}

@@ -1,0 +1,75 @@
+//! All entries of a unit.
+
+ghost use Rattle.std.specs.Prelude.{ℕ, ◌≡◌, ◌++◌, ◌∷◌, [], ◌<◌, ◌^◌, length, IfOk, OnOk};
+ghost use Rattle.byteorder.specs.Endian.{little_bytes};
+ghost use Rattle.abbrev_write.specs.Table.{unit_table};
+ghost use Rattle.dwarf_types.specs.Entries.{unit_len};
+ghost use Rattle.patches.specs.declared.hole.Outer.TheVariants as outer_holes;
+ghost use Rattle.patches.specs.declared.hole.Own.TheVariants as own_holes;
+ghost use Rattle.patches.specs.Filling.{Filling, filled};
+ghost use Rattle.unit_draft.specs.Long.{RefusesLong};
+ghost use Rattle.unit_draft.specs.Whole.{IsWhole};
+
+use crate::depths::depths_in;
+use crate::drafting::Drafting;
+use crate::entries::{append_entries, end_of};
+use crate::error::DraftError;
+use ds_base::{List, NoMemory};
+use dwarf_types::OutUnit;
+use patches::{Buffer, Outer, Own};
+use std::alloc::Global;
+
+/// A unit whose own places are not filled in yet.
+#[derive(Drop)]
+pub(crate) struct Whole {
+    pub(crate) drafting: Drafting,
+    /// The place of each node, counted from the header.
+    pub(crate) places: List<u32>,
+    /// The size of the unit in bytes.
+    pub(crate) len: u32,
+}
+
+/// Drafts the unit of a number, whose nodes have these codes.
+pub(crate) fn append_unit(
+    alloc: Global,
+    unit: &OutUnit,
+    number: u32,
+    codes: &[u32],
+) -> Result<Whole, DraftError>
+    requires few { length unit.now.nodes < 2 ^ 28 }
+    requires codes { codes.now ≡ (unit_table number unit.now.nodes).codes }
+    ensures whole { IfOk result (IsWhole number unit.now) }
+    ensures long { RefusesLong result (unit_len number unit.now) }
+{
+    let nodes = unit.nodes.as_slice();
+    let depths = depths_in(alloc, nodes)?;
+    let mut drafting = Drafting::new(alloc);
+    append_header(&mut drafting.info, unit.version)?;
+    let mut places = List::with_capacity(alloc, nodes.len())?;
+    append_entries(
+        &mut drafting,
+        &mut places,
+        number,
+        nodes,
+        codes,
+        depths.as_slice(),
+    )?;
+    let len = end_of(&drafting.info)?;
+    Ok(Whole {
+        drafting,
+        places,
+        len,
+    })
+}
+
+/// The header of a unit of version 4 (DWARF 4, section 7.5.1.1): `unit_length`, the version, the place of the
+/// abbreviations, and the size of an address.
+fn append_header(out: &mut Buffer, version: u16) -> Result<(), NoMemory>
+    ensures { OnOk result ((f : Filling) → filled out.new f ≡ filled out.old f ++ (little_bytes 4 (f.own own_holes.Size) ++ (little_bytes 2 version ++ (little_bytes 4 (f.outer outer_holes.Table) ++ (8 ∷ []))))) }
+{
+    out.leave_own(Own::Size)?;
+    out.extend_lowest(u64::from(version), 2)?;
+    out.leave(Outer::Table)?;
+    out.push(8)?;
+    Ok(())
+}
