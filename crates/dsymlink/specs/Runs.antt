@@ -4,9 +4,9 @@ use Rattle.ds_files.specs.Outside.{Counts}
 use Rattle.ds_files.specs.Counting.{no_counts}
 use Rattle.link_core.specs.declared.status.Status.{Status}
 use Rattle.link_core.specs.declared.status.Status.TheVariants as statuses
-use Rattle.link_core.specs.Answer.{Links}
+use Rattle.link_cli.specs.Answer.{Links}
 use Rattle.link_core.specs.Codes.{code_of}
-use Rattle.link_core.specs.Files.{world}
+use Rattle.link_cli.specs.Files.{world}
 
 -- The arguments are not all text, or memory ran out when they were read, or what the linker answers of the words.
 pub data Runs : Status → Type 0 where

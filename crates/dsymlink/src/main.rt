@@ -11,7 +11,8 @@ ghost use Rattle.link_core.specs.declared.status.Status.TheVariants as statuses;
 ghost use Rattle.dsymlink.specs.Runs.{Ends, Runs};
 
 use ds_files::{HostFiles, HostSink, OpenGate};
-use link_core::{Status, code, link_main};
+use link_cli::link_main;
+use link_core::{Status, code};
 use std::alloc::{AllocError, Global};
 use std::io::ErrorKind;
 use std::process::ExitCode;

@@ -5,7 +5,8 @@
 #![tactic(auto)]
 
 use ds_files::{FileError, Files, HostFiles, HostSink, OpenGate, Sink};
-use link_core::{Status, link_main};
+use link_cli::link_main;
+use link_core::Status;
 use std::alloc::{AllocError, Global};
 
 /// Where the bundle of `hello` has its property list and its image.

@@ -1,7 +1,8 @@
-pub mod Holding
-pub mod LastPart
-pub mod Later
-pub mod LinkSteps
-pub mod Sources
-pub mod Told
-pub mod ToldSteps
+pub mod Analysing
+pub mod Counting
+pub mod Marking
+pub mod Members
+pub mod ItsObject
+pub mod Graphs
+pub mod Refusing
+pub mod Bundling

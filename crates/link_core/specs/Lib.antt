@@ -1,8 +1,4 @@
-pub mod Answer
 pub mod Codes
-pub mod Files
-pub mod Holding
-pub mod Refusals
-pub mod Seen
-pub mod Told
-pub mod Words
+pub mod Linked
+pub mod Passes
+pub mod Statuses

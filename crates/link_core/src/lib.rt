@@ -1,23 +1,22 @@
-//! A link: from the words of the command to the two files of the bundle.
+//! The objects of a program linked to its bundle, and how a link ends.
 //!
-//! Layer: top. [`link_main`] reads a program, its debug map and the files that the map names, links the objects by
-//! `object_link`, and writes Info.plist and the image. Its contract is `specs/Answer.antt`: for each list of words and each
-//! content of the files, the status with its cause, and what stands in the files then. What the program's file refuses is
-//! `specs/Refusals.antt`; what the objects refuse, and the bytes of the bundle, is `object_link/specs/Linked.antt`.
-//!
-//! Both files and their names are made before the first is replaced, so that a refusal leaves all files as they were. No
-//! message is written yet.
+//! Layer: top. [`link_objects`] goes over the objects in passes: it reads each (`objects`), marks its live entries
+//! (`marks`), gives the output its shape, makes each unit and drafts its bytes (`graph`), gives the drafts their places
+//! and writes the image (`image`), and counts (`counts`). What it answers is `specs/Linked.antt`; what the passes answer,
+//! each to the next, `specs/Passes.antt`.
 #![tactic(auto)]
 
-mod files;
-mod laws;
+mod bundle;
+mod counts;
+mod graph;
+mod image;
 mod link;
-mod output;
-mod program;
+mod marks;
+mod objects;
+mod refusal;
 mod status;
-mod words;
 
-pub use laws::{links_answer_what_is_told, what_is_linkable_is_linked};
-pub use link::link_main;
-pub use object_link::{Counts, LimitKind, Linked, Options, Refusal};
+pub use bundle::{Counts, Linked, Options};
+pub use link::link_objects;
+pub use refusal::{LimitKind, Refusal};
 pub use status::{Status, code};

@@ -1,160 +1,95 @@
-//! One link, from the words to the bundle.
+//! The bundle of a program, from the bytes of its objects.
 
-ghost use Rattle.std.specs.Prelude.{◌≡◌, ◌<◌, ◌≤◌, ◌^◌, Ok, length, map};
-ghost use Rattle.std.specs.String.{string_bytes};
-ghost use Rattle.ds_files.specs.Outside.{IsLater};
+ghost use Rattle.std.specs.Prelude.{◌≡◌, ◌<◌, ◌≤◌, ◌^◌, ℕ, List as Listed, IfSome, Ok, length};
+ghost use Rattle.std.specs.List.{All};
 ghost use Rattle.macho_read.specs.declared.kind.Role.TheVariants as roles;
 ghost use Rattle.macho_read.specs.Kind.{kind_of};
 ghost use Rattle.macho_read.specs.Sound.{IsSound as IsSoundImage};
-ghost use Rattle.object_link.specs.Linked.{Bundles};
-ghost use Rattle.link_core.specs.Answer.{Links, LinksProgram, LinksObjects, LinksSources, refused_status, sources_in};
-ghost use Rattle.link_core.specs.Files.{world};
-ghost use Rattle.link_core.specs.Seen.{AreSmall, HaveNames, held_seen};
+ghost use Rattle.dwarf_types.specs.Sound.{IsSound};
+ghost use Rattle.linked_laws.specs.Given.{IsGiven};
+ghost use Rattle.link_core.specs.Linked.{Bundles, MarkLive, sources_of};
+ghost use Rattle.link_core.specs.Passes.{Links};
 
-use crate::files::{HeldFiles, MOST_INPUT, contents_of, numbers_of, read_files, unread};
-use crate::output::write_bundle;
-use crate::program::{Program, read_program};
-use crate::status::Status;
-use crate::words::{last_part, program_named};
-use ds_files::{Files, Gate, Sink};
-use object_link::{Linked, Options, Refusal, link_objects};
+use crate::bundle::{Counts, Linked, Options};
+use crate::counts::{count_entries, count_live, count_nodes};
+use crate::graph::{drafts_of, frames_of, shape_of};
+use crate::image::image_of;
+use crate::marks::marks_of;
+use crate::objects::analyses;
+use crate::refusal::Refusal;
+use ds_base::{BitRow, Bytes, List};
+use ds_files::Gate;
+use dsym_write::plist_text;
+use dwarf_types::Analysis;
+use macho_read::Image;
+use stab_map::MapObject;
 use std::alloc::Global;
 
-/// Links a program with its objects and writes the program's bundle: Info.plist and the image.
+/// Links the objects of a program to its bundle: the image and Info.plist for a program of this name.
 ///
-/// The words are one, the program's name. Files are numbered: 0 is the program, and its objects follow from 1 in the
-/// order of its debug map.
-pub fn link_main<F: Files, S: Sink, G: Gate + Sync>(
+/// `source` tells for each object the number of its file among `files`; an object without one has no entries. Faults
+/// come in the order of the objects, which are numbered from 1, and behind them the limits: of units, of a unit's bytes,
+/// of a section's, of the image's. `options` and `gate` aren't looked at: nothing is merged, and one thread works.
+pub fn link_objects<G: Gate + Sync>(
     alloc: Global,
-    words: &[String],
-    files: &mut F,
-    messages: &mut S,
-    gate: &G,
-) -> Status
-    ensures exact { Links (map string_bytes words.now) (world (F.files files.old) (F.counts files.old)) (world (F.files files.new) (F.counts files.new)) result }
-    ensures later { IsLater (F.counts files.old) (F.counts files.new) }
-
-    // No message is put.
-    ensures text { S.text messages.new ≡ S.text messages.old }
-    ensures silent { S.faults messages.new ≡ S.faults messages.old }
-{
-    let _ = messages;
-    match program_named(words) {
-        Some(exe) => link_program(alloc, exe, files, gate),
-        None => Status::Usage,
-    }
-}
-
-/// Links the program of a name.
-fn link_program<F: Files, G: Gate + Sync>(
-    alloc: Global,
-    exe: &str,
-    files: &mut F,
-    gate: &G,
-) -> Status
-    ensures { LinksProgram exe.now (world (F.files files.old) (F.counts files.old)) (world (F.files files.new) (F.counts files.new)) result }
-{
-    let bytes = match files.read(alloc, exe, MOST_INPUT) {
-        Ok(bytes) => bytes,
-        Err(error) => return unread(0, error),
-    };
-    match read_program(alloc, bytes.as_slice()) {
-        Ok(program) => link_files(
-            alloc,
-            exe,
-            &program,
-            MOST_INPUT - bytes.len() as u64,
-            files,
-            gate,
-        ),
-        Err(refusal) => refused(refusal),
-    }
-}
-
-/// Links a program with its objects, whose files have at most `most` bytes together.
-fn link_files<F: Files, G: Gate + Sync>(
-    alloc: Global,
-    exe: &str,
-    program: &Program,
-    most: u64,
-    files: &mut F,
-    gate: &G,
-) -> Status
-    requires sound { IsSoundImage program.now.image }
-    requires kind { kind_of program.now.image roles.Program ≡ Ok tt }
-    requires few { length program.now.objects < 2 ^ 16 }
-    requires names { HaveNames program.now.objects }
-    requires bounded { most ≤ 2 ^ 29 }
-    ensures { LinksObjects exe.now program.now most (world (F.files files.old) (F.counts files.old)) (world (F.files files.new) (F.counts files.new)) result }
-{
-    match read_files(alloc, program.objects.as_slice(), most, files) {
-        Ok(held) => link_held(alloc, exe, program, held, files, gate),
-        Err(status) => status,
-    }
-}
-
-/// Links a program with its objects, whose files are held.
-fn link_held<F: Files, G: Gate + Sync>(
-    alloc: Global,
-    exe: &str,
-    program: &Program,
-    held: HeldFiles,
-    files: &mut F,
-    gate: &G,
-) -> Status
-    requires sound { IsSoundImage program.now.image }
-    requires kind { kind_of program.now.image roles.Program ≡ Ok tt }
-    requires few { length program.now.objects < 2 ^ 16 }
-    requires held { length (held_seen held.files) < 2 ^ 16 }
-    requires small { AreSmall (held_seen held.files) }
-    ensures { LinksSources exe.now program.now (held_seen held.entry.files) (world (F.files files.old) (F.counts files.old)) (world (F.files files.new) (F.counts files.new)) result }
-{
-    match bundle(alloc, last_part(exe), program, held, gate) {
-        Ok(linked) => write_bundle(alloc, exe, &linked, files),
-        Err(refusal) => refused(refusal),
-    }
-}
-
-/// The bundle of a program of this name with its objects, whose files are held.
-fn bundle<G: Gate + Sync>(
-    alloc: Global,
+    program: &Image,
     name: &str,
-    program: &Program,
-    held: HeldFiles,
+    objects: &[MapObject],
+    files: &[Bytes],
+    source: &[Option<u32>],
+    options: &Options,
     gate: &G,
 ) -> Result<Linked, Refusal>
-    requires sound { IsSoundImage program.now.image }
-    requires kind { kind_of program.now.image roles.Program ≡ Ok tt }
-    requires few { length program.now.objects < 2 ^ 16 }
-    requires held { length (held_seen held.files) < 2 ^ 16 }
-    requires small { AreSmall (held_seen held.files) }
-    ensures { Bundles program.now.image name.now (sources_in (held_seen held.entry.files) program.now.objects) result }
+    requires sound { IsSoundImage program.now }
+    requires kind { kind_of program.now roles.Program ≡ Ok tt }
+    requires few { length objects.now < 2 ^ 16 }
+    requires each { length source.now ≡ length objects.now }
+    requires held { All (λ k. IfSome k (λ n. n < length files.now)) source.now }
+    requires small { All (λ file. length file < 2 ^ 32) files.now }
+    requires workers { (1 ≤ options.now.workers) × (options.now.workers ≤ 64) }
+    ensures { Bundles program.now name.now (sources_of objects.now files.now source.now) result }
 {
-    let objects = program.objects.as_slice();
-    let source = numbers_of(alloc, objects, &held)?;
-    let contents = contents_of(alloc, held)?;
-    link_objects(
-        alloc,
-        &program.image,
-        name,
-        objects,
-        contents.as_slice(),
-        source.as_slice(),
-        &Options {
-            odr: false,
-            workers: 1,
-        },
-        gate,
-    )
+    let seen = analyses(alloc, program.cpu, objects, files, source)?;
+    let marks = marks_of(alloc, seen.as_slice())?;
+    link_marked(alloc, program, name, seen, marks.as_slice())
 }
 
-/// The status for what the content of the files refuses.
-fn refused(refusal: Refusal) -> Status
-    ensures { result ≡ refused_status refusal }
+/// Links the marked entries of objects to the bundle of a program of this name.
+fn link_marked(
+    alloc: Global,
+    program: &Image,
+    name: &str,
+    seen: List<Analysis>,
+    marks: &[BitRow],
+) -> Result<Linked, Refusal>
+    requires program { IsSoundImage program.now }
+    requires few { length seen < 2 ^ 16 }
+    requires sound { All IsSound seen }
+    requires given { All IsGiven seen }
+    requires live { MarkLive seen marks.now }
+    ensures { Links program.now name.now seen marks.now result }
 {
-    match refusal {
-        Refusal::Faulty { file, fault } => Status::Faulty { file, fault },
-        Refusal::Limit { which, number } => Status::Limit { which, number },
-        Refusal::NoMemory => Status::NoMemory,
-    }
+    let objects = seen.len() as u64;
+    let entries = count_entries(seen.as_slice());
+    let live = count_live(seen.as_slice(), marks);
+    let shape = shape_of(alloc, seen.as_slice(), marks)?;
+    let frames = frames_of(alloc, seen.as_slice())?;
+    let drafts = drafts_of(alloc, seen, &shape)?;
+    let nodes = count_nodes(drafts.as_slice());
+    let image = image_of(alloc, program, drafts, &frames)?;
+    let plist = plist_text(alloc, name)?;
+    let counts = Counts {
+        objects,
+        entries,
+        live,
+        pooled: 0,
+        names: 0,
+        nodes,
+        bytes: image.len() as u64,
+    };
+    Ok(Linked {
+        image,
+        plist,
+        counts,
+    })
 }

@@ -3,8 +3,8 @@
 ghost use Rattle.std.specs.Prelude.{◌≡◌};
 ghost use Rattle.link_core.specs.Codes.{code_of};
 
+use crate::refusal::{LimitKind, Refusal};
 use ds_base::Fault;
-use object_link::LimitKind;
 
 /// How a link ended.
 ///
@@ -45,5 +45,20 @@ pub fn code(status: &Status) -> u8
         Status::WriteFault { .. } => 6,
         Status::NoMemory => 7,
         Status::MessageFault => 8,
+    }
+}
+
+impl From<Refusal> for Status {
+    ghost use Rattle.std.specs.Prelude.{◌≡◌};
+    ghost use Rattle.link_core.specs.Statuses.{refused_status};
+
+    ghost from_gives = { λ refusal status. status ≡ refused_status refusal };
+
+    fn from(refusal: Refusal) -> Status {
+        match refusal {
+            Refusal::Faulty { file, fault } => Status::Faulty { file, fault },
+            Refusal::Limit { which, number } => Status::Limit { which, number },
+            Refusal::NoMemory => Status::NoMemory,
+        }
     }
 }

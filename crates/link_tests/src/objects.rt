@@ -1,7 +1,7 @@
 use ds_base::{Bytes, List};
 use ds_files::OpenGate;
+use link_core::{Options, link_objects};
 use macho_read::{Role, check_kind, read_image};
-use object_link::{Options, link_objects};
 use stab_map::MapObject;
 use std::alloc::Global;
 

@@ -1,7 +1,8 @@
 use crate::bytes::{OBJECT, PLIST_TEXT, PROGRAM, image, joined};
 use ds_base::{Fault, Kind, List, NoMemory, Part};
 use ds_files::{MemoryFiles, MemorySink, OpenGate};
-use link_core::{Status, link_main};
+use link_cli::link_main;
+use link_core::Status;
 use std::alloc::Global;
 use std::process::Abort;
 

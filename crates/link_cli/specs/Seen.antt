@@ -1,0 +1,25 @@
+-- What is held in memory, without where its texts lie.
+use Rattle.std.specs.Prelude.{◌≡◌, ℕ, ◌<◌, ◌^◌, List, length, map, Option, true}
+use Rattle.std.specs.List.{All}
+use Rattle.std.specs.HashMap.{HashMap}
+use Rattle.std.specs.Str.{bytes_eq, is_utf8}
+use denote.Ref.{Bor}
+use Rattle.indexmap.specs.IndexMap.{index_of_by}
+use Rattle.stab_map.specs.declared.object.MapObject.{MapObject}
+use Rattle.link_cli.specs.Files.{HeldFile}
+
+-- the files in a table by their names
+abbrev pub held_seen : {S : Type 0} → HashMap (Bor (List ℕ)) (List ℕ) S → List HeldFile
+held_seen held = map (λ e. record { name = e.0.now; bytes = e.1 }) held.entries
+
+-- the names of the objects' files are text
+abbrev pub HaveNames : List MapObject → Type 0
+HaveNames objects = All (λ o. is_utf8 o.file ≡ true) objects
+
+-- the number of the file of a name in such a table, in the order of reading
+abbrev pub number_in : {S : Type 0} → HashMap (Bor (List ℕ)) (List ℕ) S → List ℕ → Option ℕ
+number_in held name = index_of_by (λ k. bytes_eq name k.now) held
+
+-- each file has fewer than 2 ^ 32 bytes
+abbrev pub AreSmall : List HeldFile → Type 0
+AreSmall held = All (λ f. length f.bytes < 2 ^ 32) held

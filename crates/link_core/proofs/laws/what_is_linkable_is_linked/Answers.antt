@@ -1,5 +1,0 @@
-use Rattle.link_core.proofs.Told.{linkable_done}
-use Rattle.link_core.proofs.laws.what_is_linkable_is_linked.Goals as goal
-
-pub returns : goal.returns
-returns c = linkable_done

@@ -1,0 +1,17 @@
+-- How a link ends.
+use Rattle.std.specs.Prelude.{Result, Ok, Err}
+use Rattle.link_core.specs.declared.refusal.Refusal.{Refusal}
+use Rattle.link_core.specs.declared.refusal.Refusal.TheVariants as refusals
+use Rattle.link_core.specs.declared.status.Status.{Status}
+use Rattle.link_core.specs.declared.status.Status.TheVariants as statuses
+
+-- the status for what the content of the files refuses
+abbrev pub refused_status : Refusal → Status
+refused_status (refusals.Faulty file fault) = statuses.Faulty file fault
+refused_status (refusals.Limit which number) = statuses.Limit which number
+refused_status refusals.NoMemory = statuses.NoMemory
+
+-- the status of what went through, or broke off with one
+abbrev pub ended : Result (Unit {0}) Status → Status
+ended (Ok done) = statuses.Done
+ended (Err status) = status

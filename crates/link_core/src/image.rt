@@ -1,0 +1,69 @@
+//! The image of a program, from the drafts of its units.
+
+ghost use Rattle.std.specs.Prelude.{◌≡◌, ◌<◌, ◌^◌, ◌-◌, length, Ok};
+ghost use Rattle.dwarf_types.specs.declared.graph.Graph.{Graph as Linked};
+ghost use Rattle.layout.specs.Laid.{AreDrafts, IsMeasured, Measures};
+ghost use Rattle.link_core.specs.Passes.{AreOfGraph, Images, Lays};
+ghost use Rattle.macho_read.specs.Sound.{IsSound};
+
+use crate::refusal::{LimitKind, Refusal};
+use ds_base::limits::{IMAGE_BYTES, SECTION_BYTES, UNIT_BYTES};
+use ds_base::{Bytes, List};
+use dsym_write::{WriteError, image_from};
+use dwarf_types::OutFrames;
+use layout::{Layout, LayoutError, place_drafts};
+use macho_read::Image;
+use std::alloc::Global;
+use unit_draft::Draft;
+
+/// The image of a program and of the graph of these drafts and frames, or the first limit that is reached.
+pub(crate) fn image_of(
+    alloc: Global,
+    program: &Image,
+    drafts: List<Draft>,
+    frames: &OutFrames,
+) -> Result<Bytes, Refusal>
+    requires sound { IsSound program.now }
+    requires few { length drafts < 2 ^ 32 - 1 }
+    requires drafted { AreOfGraph drafts frames.now }
+    ensures { (graph : Linked) → AreDrafts graph drafts → graph.frames ≡ frames.now → Images program.now graph result }
+{
+    let layout = layout_of(alloc, drafts, frames)?;
+    let image = write_image(alloc, program, &layout)?;
+    Ok(image)
+}
+
+/// The layout of the graph of these drafts and frames, or the first limit that it reaches.
+fn layout_of(alloc: Global, drafts: List<Draft>, frames: &OutFrames) -> Result<Layout, Refusal>
+    requires few { length drafts < 2 ^ 32 - 1 }
+    ensures { (graph : Linked) → AreDrafts graph drafts → graph.frames ≡ frames.now → Lays graph result }
+{
+    match place_drafts(alloc, drafts, frames) {
+        Ok(layout) => Ok(layout),
+        Err(LayoutError::Unit { .. }) => Err(Refusal::Limit {
+            which: LimitKind::Unit,
+            number: UNIT_BYTES,
+        }),
+        Err(LayoutError::Section { .. }) => Err(Refusal::Limit {
+            which: LimitKind::Section,
+            number: SECTION_BYTES,
+        }),
+        Err(LayoutError::NoMemory) => Err(Refusal::NoMemory),
+    }
+}
+
+/// The image of a program and of a layout.
+fn write_image(alloc: Global, program: &Image, layout: &Layout) -> Result<Bytes, Refusal>
+    requires sound { IsSound program.now }
+    requires measured { IsMeasured layout.now }
+    ensures { (graph : Linked) → Measures graph (Ok layout.now) → length graph.units < 2 ^ 32 - 1 → Images program.now graph result }
+{
+    match image_from(alloc, program, layout) {
+        Ok(image) => Ok(image),
+        Err(WriteError::File { .. }) => Err(Refusal::Limit {
+            which: LimitKind::File,
+            number: IMAGE_BYTES,
+        }),
+        Err(WriteError::NoMemory) => Err(Refusal::NoMemory),
+    }
+}

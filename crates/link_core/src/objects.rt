@@ -1,0 +1,169 @@
+//! The analyses of a program's objects.
+
+ghost use Rattle.std.specs.Prelude.{◌≡◌, ◌<◌, ◌≤◌, ◌^◌, [], Result as Outcome, length, slice_index_or, IfOk, IfSome};
+ghost use Rattle.dwarf_types.specs.declared.analysis.Analysis.{Analysis as Seen};
+ghost use Rattle.ds_base.specs.declared.fault.Fault.{Fault as Wrong};
+ghost use Rattle.std.specs.List.{All};
+ghost use Rattle.std.specs.Option.{option_map};
+ghost use Rattle.ds_base.specs.Reading.{Finds, Gives};
+ghost use Rattle.dwarf_types.specs.Sound.{IsSound};
+ghost use Rattle.linked_laws.specs.Given.{IsGiven};
+ghost use Rattle.object_view.specs.Analysis.{analysis_of};
+ghost use Rattle.link_core.specs.Linked.{analyses_from, analysis_from, analysis_in, content_of as bytes_of, sources_of};
+ghost use Rattle.link_core.specs.Passes.{Analyses, Numbered};
+
+use crate::refusal::Refusal;
+use ar_read::{Members, read_members};
+use ds_base::{Bytes, Fault, List, NoMemory, ReadError};
+use dwarf_types::{Analysis, Entries, OutFrames};
+use object_view::analyse;
+use stab_map::MapObject;
+use std::alloc::Global;
+
+/// The analyses of objects for a program of this CPU type, or the first fault of the first object that has one.
+///
+/// Objects are numbered from 1, and `source` tells for each the number of its file among `files`, counted from 0; an
+/// object without one has no entries. Each archive is walked once.
+pub(crate) fn analyses(
+    alloc: Global,
+    cpu: u32,
+    objects: &[MapObject],
+    files: &[Bytes],
+    source: &[Option<u32>],
+) -> Result<List<Analysis>, Refusal>
+    requires few { length objects.now < 2 ^ 16 }
+    requires each { length source.now ≡ length objects.now }
+    requires held { All (λ k. IfSome k (λ n. n < length files.now)) source.now }
+    requires small { All (λ file. length file < 2 ^ 32) files.now }
+    ensures exact { Analyses (analyses_from cpu 1 (sources_of objects.now files.now source.now)) result }
+    ensures sound { IfOk result (All IsSound) }
+    ensures given { IfOk result (All IsGiven) }
+    ensures size { IfOk result (λ seen. length seen ≡ length objects.now) }
+{
+    let archives = members_of(alloc, files)?;
+    let mut seen = List::new(alloc);
+    for (i, number) in source.iter().enumerate() {
+        let read = analysis(alloc, cpu, &objects[i], files, archives.as_slice(), *number);
+        let it = numbered(i as u32 + 1, read)?;
+        seen.push(it)?;
+    }
+    Ok(seen)
+}
+
+/// The members of each file; a file that is no archive has none.
+fn members_of<'a>(alloc: Global, files: &'a [Bytes]) -> Result<List<Members<'a>>, NoMemory>
+    ensures { IfOk result (λ archives. archives ≡ files.now) }
+{
+    let mut archives = List::new(alloc);
+    for file in files {
+        let members = read_members(alloc, file.as_slice())?;
+        archives.push(members)?;
+    }
+    Ok(archives)
+}
+
+/// What was read of the object of a number.
+fn numbered(number: u32, read: Result<Analysis, ReadError>) -> Result<Analysis, Refusal>
+    ensures exact { (of : Outcome Seen Wrong) → Gives (λ it. it) read of → Numbered number of result }
+    ensures sound { IfOk read IsSound → IfOk result IsSound }
+    ensures given { IfOk read IsGiven → IfOk result IsGiven }
+{
+    match read {
+        Ok(it) => Ok(it),
+        Err(ReadError::Faulty(fault)) => Err(Refusal::Faulty {
+            file: number,
+            fault,
+        }),
+        Err(ReadError::NoMemory) => Err(Refusal::NoMemory),
+    }
+}
+
+/// The analysis of an object by the number of its file.
+fn analysis(
+    alloc: Global,
+    cpu: u32,
+    object: &MapObject,
+    files: &[Bytes],
+    archives: &[Members],
+    source: Option<u32>,
+) -> Result<Analysis, ReadError>
+    requires held { IfSome source (λ n. n < length files.now) }
+    requires archives { archives.now ≡ files.now }
+    requires small { All (λ file. length file < 2 ^ 32) files.now }
+    ensures exact { Gives (λ it. it) result (analysis_from cpu object.now (option_map (λ k. slice_index_or files.now k []) source)) }
+    ensures sound { IfOk result IsSound }
+    ensures given { IfOk result IsGiven }
+{
+    let Some(number) = source else {
+        return Ok(no_entries(alloc));
+    };
+    analysis_of_file(
+        alloc,
+        cpu,
+        object,
+        files[number as usize].as_slice(),
+        &archives[number as usize],
+    )
+}
+
+/// The analysis of an object without entries, as of one that is left away.
+pub(crate) fn no_entries(alloc: Global) -> Analysis
+    ensures { result ≡ Rattle.link_core.specs.Linked.no_entries }
+{
+    Analysis {
+        units: List::new(alloc),
+        entries: Entries::new(alloc),
+        code: List::new(alloc),
+        frames: OutFrames::new(alloc),
+    }
+}
+
+/// The analysis of an object by the bytes of its file, and the members of that.
+#[tactic(auto, unfolding(crate::specs::Linked::analysis_in))]
+fn analysis_of_file(
+    alloc: Global,
+    cpu: u32,
+    object: &MapObject,
+    file: &[u8],
+    members: &Members,
+) -> Result<Analysis, ReadError>
+    requires members { members.now ≡ file.now }
+    requires small { length file.now < 2 ^ 32 }
+    ensures exact { Gives (λ it. it) result (analysis_in cpu object.now file.now) }
+    ensures sound { IfOk result IsSound }
+    ensures given { IfOk result IsGiven }
+{
+    let bytes = content_of(&object.member, file, members)?;
+    analysis_of_bytes(alloc, cpu, object, bytes)
+}
+
+/// The bytes of an object: those of its file, or of the member that it is.
+fn content_of<'a>(
+    member: &Option<Bytes>,
+    file: &'a [u8],
+    members: &Members<'a>,
+) -> Result<&'a [u8], Fault>
+    requires { members.now ≡ file.now }
+    ensures finds { Finds (λ bytes. bytes.now) result (bytes_of member.now file.now) }
+    ensures within { IfOk result (λ bytes. length bytes.now ≤ length file.now) }
+{
+    match member {
+        None => Ok(file),
+        Some(name) => members.find(name.as_slice()),
+    }
+}
+
+/// The analysis of an object by its bytes.
+fn analysis_of_bytes(
+    alloc: Global,
+    cpu: u32,
+    object: &MapObject,
+    bytes: &[u8],
+) -> Result<Analysis, ReadError>
+    requires { length bytes.now < 2 ^ 32 }
+    ensures exact { Gives (λ it. it) result (analysis_of bytes.now object.now cpu) }
+    ensures sound { IfOk result IsSound }
+    ensures given { IfOk result IsGiven }
+{
+    analyse(alloc, bytes, object, cpu)
+}
