@@ -1,4 +1,5 @@
-//! Tables over the calls that choose entries and make the linked graph: `liveness`, `link_graph`, `clone_units`.
+//! Tables over the calls that choose entries, name them and make the linked graph: `liveness`, `odr_names`, `link_graph`,
+//! `clone_units`.
 //!
 //! Layer: output graph. There is nothing here but tests.
 #![tactic(auto)]
@@ -6,8 +7,12 @@
 #[cfg(test)]
 mod live;
 #[cfg(test)]
+mod names;
+#[cfg(test)]
 mod rows;
 #[cfg(test)]
 mod sound;
 #[cfg(test)]
 mod units;
+#[cfg(test)]
+mod words;

@@ -264,6 +264,16 @@ pub(crate) fn analysis(
     rows: &[Row],
     code: &[CodeRange],
 ) -> Result<Analysis, NoMemory> {
+    analysis_in(alloc, 0, rows, code)
+}
+
+/// The same, where all units are of one language.
+pub(crate) fn analysis_in(
+    alloc: Global,
+    language: u16,
+    rows: &[Row],
+    code: &[CodeRange],
+) -> Result<Analysis, NoMemory> {
     let mut units: Vec<InUnit> = Vec::new(alloc);
     let mut built = Builder::new(alloc, &[], 0)?;
     let mut number: u32 = 0;
@@ -275,7 +285,7 @@ pub(crate) fn analysis(
                 first: number,
                 count: 0,
                 version: 4,
-                language: 0,
+                language,
                 lines: if number == 0 {
                     Some(lines(alloc)?)
                 } else {

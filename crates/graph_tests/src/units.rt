@@ -10,6 +10,7 @@ ghost use Rattle.dwarf_types.specs.Sound.{IsSound};
 
 use crate::rows::{Row, Says, analysis, marks, piece, under, unit};
 use crate::sound::is_sound;
+use crate::words::put_number;
 use clone_units::clone_unit;
 use ds_base::dwarf::{
     DW_AT_byte_size, DW_AT_const_value, DW_AT_external, DW_AT_high_pc, DW_AT_language,
@@ -24,23 +25,6 @@ use std::alloc::Global;
 use std::process::Abort;
 
 // ---- words
-
-/// A number without leading zeros.
-fn put_number(line: &mut Vec<u8>, n: u64) -> Result<(), NoMemory> {
-    let mut wrote = false;
-    for i in 0..16u32 {
-        let digit = ((n >> (60 - 4 * i)) & 15) as u8;
-        if wrote || digit != 0 || i == 15 {
-            line.push(if digit < 10 {
-                b'0' + digit
-            } else {
-                b'a' + (digit - 10)
-            })?;
-            wrote = true;
-        }
-    }
-    Ok(())
-}
 
 fn put_spans(line: &mut Vec<u8>, spans: &[Span]) -> Result<(), NoMemory> {
     for span in spans {

@@ -1,0 +1,9 @@
+pub mod Hashes
+pub mod ObjectLists
+pub mod BookPaths
+pub mod Winning
+pub mod Counting
+pub mod Siblings
+pub mod Closed
+pub mod EnteringRows
+pub mod MakingBooks

@@ -1,0 +1,201 @@
+-- Siblings in the order of the hashes of their parents and parts.
+use Rattle.std.proofs.Common.{◌≡◌, ℕ, ◌+◌, ◌-◌, ◌<◌, ◌≤◌, ◌⊎◌, inl, inr, Bool, true, false, cond, List, [], ◌∷◌, ◌++◌, length, Option, Some, None, slice_get, get_or, set, refl, sym, ap, ◌∙◌, arith, subst}
+use Rattle.std.specs.Prelude.{if◌then◌else◌}
+use Rattle.std.specs.Option.{option_and_then, option_map, option_map_or}
+use Rattle.std.specs.Prelude.{◌||◌}
+use Rattle.std.specs.List.{list_any}
+use Rattle.std.proofs.lemmas.List.Folds.{list_any-append}
+use Rattle.std.specs.List.Sorted.{IsPermutation}
+use Rattle.std.proofs.lemmas.Bool.{both_ways, cases_eq, cases_lt}
+use Rattle.std.proofs.lemmas.List.{get_or-set_other, get_or-set_same, length-set, length_push}
+use Rattle.std.proofs.lemmas.List.Sorted.{Contains-permutation, IsPermutation-sym}
+use Rattle.std.proofs.lemmas.Option.{get_or_from_slice_get, none-some, same_Some, slice_get-get_or, slice_get_read, slice_get_within}
+use Rattle.dwarf_types.specs.declared.entry.Entry.{Entry}
+use Rattle.odr_names.specs.declared.winners.Ranked.{Ranked}
+use Rattle.odr_names.specs.Pieces.{IsSpelled}
+use Rattle.odr_names.specs.Ranking.{AreInOrder}
+use Rattle.odr_names.specs.Twins.{AreCounted, AreNoTwins, AreSiblings, AreTwins, IsSibling, is_inside, parts_hash, parts_in, twins_before}
+use Rattle.type_names.specs.Heads.{Object, entries_of, is_head, is_in_head}
+use Rattle.type_names.specs.Paths.{parts_of, spelled_of}
+use Rattle.type_names.specs.Rows.{IsRow}
+use Rattle.type_names.specs.Tree.{ParentsStandBefore, lineage, parent_of}
+use Rattle.type_names.proofs.Lineages.{lineage_below, parent_before}
+use Rattle.odr_names.proofs.BookPaths.{get_before, get_last}
+use Rattle.odr_names.proofs.Counting.{no_twin, one_twin_more}
+
+-- the piece of an entry in the subtree of a head has the text that is told
+pub spelled_in_head : (o : Object) (k : ℕ) → is_in_head o k ≡ true → IsSpelled o k
+spelled_in_head o k inside = λ e at. ap (λ (b : Bool). if b then option_and_then (spelled_of o k) (slice_get (entries_of o) k) else None) inside ∙ ap (option_and_then (spelled_of o k)) at
+
+pub parent_at : (o : Object) (k : ℕ) (e : Entry) → slice_get (entries_of o) k ≡ Some e → parent_of (entries_of o) k ≡ e.parent
+parent_at o k e at = ap (option_and_then (λ (e : Entry). e.parent)) at
+
+-- ---- all siblings
+
+pub siblings_none : (n : ℕ) (o : Object) → AreSiblings n o [] 0
+siblings_none n o = record { each = λ j r at. absurd (none-some r at); all = λ k lt. absurd (omega arith) }
+
+pub siblings_more : (n : ℕ) (o : Object) (ranks : List Ranked) (i : ℕ) (r : Ranked) → r.name ≡ i → IsSibling n o r → AreSiblings n o ranks i → AreSiblings n o (ranks ++ r ∷ []) (i + 1)
+siblings_more n o ranks i r is sibling so_far = record {
+  each = λ j s at. elim (cases_lt j (length ranks)) [
+    | inl earlier ↦ so_far.each j s (sym (get_before ranks (r ∷ []) j earlier) ∙ at)
+    | inr later ↦ (
+        let last : j ≡ length ranks = omega (arith, slice_get_within (ranks ++ r ∷ []) j s at, length_push ranks r) in
+        subst (IsSibling n o) (same_Some r s (sym (ap (slice_get (ranks ++ r ∷ [])) last ∙ get_last ranks r) ∙ at)) sibling)
+  ];
+  all = λ k lt inside. elim (cases_eq k i) [
+    | inl same ↦ (length ranks, r, get_last ranks r, is ∙ sym same)
+    | inr other ↦ (let found = so_far.all k (omega arith) inside in (found.0, found.1, get_before ranks (r ∷ []) found.0 (slice_get_within ranks found.0 found.1 found.2) ∙ found.2, found.3))
+  ];
+}
+
+pub siblings_same : (n : ℕ) (o : Object) (ranks : List Ranked) (i : ℕ) → is_inside o i ≡ false → AreSiblings n o ranks i → AreSiblings n o ranks (i + 1)
+siblings_same n o ranks i outside so_far = record {
+  each = so_far.each;
+  all = λ k lt inside. elim (cases_eq k i) [
+    | inl same ↦ absurd (both_ways _ outside (ap (is_inside o) (sym same) ∙ inside))
+    | inr other ↦ so_far.all k (omega arith) inside
+  ];
+}
+
+pub siblings_moved : (n : ℕ) (o : Object) (ranks moved : List Ranked) (i : ℕ) → AreSiblings n o ranks i → IsPermutation ranks moved → AreSiblings n o moved i
+siblings_moved n o ranks moved i are same = record {
+  each = λ j r at. (
+      let there = Contains-permutation moved ranks r (IsPermutation-sym ranks moved same) (j, slice_get_within moved j r at, get_or_from_slice_get moved j r r at) in
+      are.each there.0 r (slice_get_read ranks _ there.0 r refl there.1 (sym there.2)));
+  all = λ k within inside. (
+      let it = are.all k within inside in
+      let there = Contains-permutation ranks moved it.1 same (it.0, slice_get_within ranks it.0 it.1 it.2, get_or_from_slice_get ranks it.0 it.1 it.1 it.2) in
+      (there.0, it.1, slice_get_read moved _ there.0 it.1 refl there.1 (sym there.2), it.3));
+}
+
+-- ---- the nearest earlier twin
+
+pub no_twins_more : (n : ℕ) (o : Object) (ranks : List Ranked) (here r : Ranked) (j i : ℕ) → slice_get ranks (j - 1) ≡ Some r → (r.name < here.name → AreTwins n o r.name here.name → ⊥)
+    → AreNoTwins n o ranks here j i → AreNoTwins n o ranks here (j - 1) i
+no_twins_more n o ranks here r j i at differs so_far = record {
+  le = omega (arith, so_far.le);
+  differ = λ k s from below at_k lower same. elim (cases_eq k (j - 1)) [
+    | inl first ↦ (let one : r ≡ s = same_Some r s (sym at ∙ ap (slice_get ranks) (sym first) ∙ at_k) in differs (subst (λ (t : Ranked). t.name < here.name) (sym one) lower) (subst (λ (t : Ranked). AreTwins n o t.name here.name) (sym one) same))
+    | inr other ↦ so_far.differ k s (omega arith) below at_k lower same
+  ];
+}
+
+up : {a b c e : ℕ} → (a < b) ⊎ ((a ≡ b) × (c ≤ e)) → a ≤ b
+up (inl lt) = omega arith
+up (inr same) = omega (arith, same.0)
+
+-- an earlier twin stands in the run before it
+twin_before : (n : ℕ) (o : Object) (ranks : List Ranked) (here : Ranked) (i m : ℕ) → AreSiblings n o ranks (length (entries_of o)) → AreInOrder ranks → slice_get ranks i ≡ Some here → m < here.name → AreTwins n o m here.name
+    → (k : ℕ) × (r : Ranked) × (slice_get ranks k ≡ Some r) × (r.name ≡ m) × (k < i) × (r.hash ≡ here.hash)
+twin_before n o ranks here i m are order at before twins =
+    let it = are.each i here at in
+    let parent_m : parent_of (entries_of o) m ≡ Some it.parent = twins.parent ∙ parent_at o here.name it.entry it.stands ∙ it.child in
+    let in_m : is_inside o m ≡ true = ap (λ (p : Option ℕ). option_map_or (is_in_head o) p false) parent_m ∙ it.inside in
+    let inside : m < length (entries_of o) = omega (arith, before, slice_get_within (entries_of o) here.name it.entry it.stands) in
+    let found = are.all m inside in_m in
+    let k = found.0 in
+    let r = found.1 in
+    let its = are.each k r found.2 in
+    let parent_r : its.parent ≡ it.parent = same_Some its.parent it.parent (sym (sym (ap (parent_of (entries_of o)) found.3) ∙ parent_at o r.name its.entry its.stands ∙ its.child) ∙ parent_m) in
+    let parts_r : parts_of n o r.name its.entry ≡ parts_of n o here.name it.entry = same_Some _ _ (sym (ap (option_map (parts_of n o r.name)) its.stands) ∙ ap (parts_in n o) found.3 ∙ twins.parts ∙ ap (option_map (parts_of n o here.name)) it.stands) in
+    let hash : r.hash ≡ here.hash = its.hash ∙ (λ j. parts_hash (parent_r j) (parts_r j)) ∙ sym it.hash in
+    let earlier : k < i = elim (cases_lt k i) [
+      | inl lt ↦ lt
+      | inr later ↦ elim (order i k here r later at found.2) [
+        | inl above ↦ absurd (omega arith)
+        | inr not_above ↦ absurd (omega (arith, not_above.1, it.bid, its.bid, found.3, before))
+      ]
+    ] in
+    (k, r, found.2, found.3, earlier, hash)
+
+pub taken : (n : ℕ) (o : Object) (ranks : List Ranked) (counts : List ℕ) (here r : Ranked) (j i : ℕ) → AreSiblings n o ranks (length (entries_of o)) → AreInOrder ranks → slice_get ranks i ≡ Some here → slice_get ranks j ≡ Some r → j < i → r.hash ≡ here.hash
+    → AreTwins n o r.name here.name → AreNoTwins n o ranks here (j + 1) i → r.name < here.name → AreCounted n o ranks counts i → get_or counts r.name 0 + 1 ≡ twins_before n o here.name
+taken n o ranks counts here r j i are order at at_j below hash twins none lower counted =
+    let it = are.each i here at in
+    let its = are.each j r at_j in
+    let more = one_twin_more n o r.name here.name it.parent its.entry it.entry its.stands it.stands it.child lower twins (λ m above under is. (
+    let found = twin_before n o ranks here i m are order at under is in
+    let m_is = are.each found.0 found.1 found.2 in
+    elim (cases_lt found.0 (j + 1)) [
+      | inr in_run ↦ none.differ found.0 found.1 in_run found.4 found.2 (omega (arith, found.3, under)) (subst (λ (x : ℕ). AreTwins n o x here.name) (sym found.3) is)
+      | inl not_after ↦ elim (order found.0 j found.1 r (omega arith) found.2 at_j) [
+        | inl above_hash ↦ omega (arith, found.5, hash)
+        | inr same ↦ omega (arith, same.1, m_is.bid, its.bid, found.3, above)
+      ]
+    ])) in
+    ap (λ (c : ℕ). c + 1) (counted.each j r below at_j) ∙ sym more
+
+pub none_taken : (n : ℕ) (o : Object) (ranks : List Ranked) (here : Ranked) (j i : ℕ) → AreSiblings n o ranks (length (entries_of o)) → AreInOrder ranks → slice_get ranks i ≡ Some here → AreNoTwins n o ranks here j i
+    → ((r : Ranked) → 0 < j → slice_get ranks (j - 1) ≡ Some r → r.hash ≡ here.hash → ⊥) → 0 ≡ twins_before n o here.name
+none_taken n o ranks here j i are order at none begins =
+    let it = are.each i here at in
+    sym (no_twin n o here.name it.parent it.entry it.stands it.child (λ m under is. (
+    let found = twin_before n o ranks here i m are order at under is in
+    elim (cases_lt found.0 j) [
+      | inr in_run ↦ none.differ found.0 found.1 in_run found.4 found.2 (omega (arith, found.3, under)) (subst (λ (x : ℕ). AreTwins n o x here.name) (sym found.3) is)
+      | inl before ↦ (
+          let d : Ranked = record { hash = 0; bid = 0; name = 0 } in
+          let s = get_or ranks (j - 1) d in
+          let s_at : slice_get ranks (j - 1) ≡ Some s = slice_get-get_or ranks (j - 1) d (omega (arith, slice_get_within ranks i here at, none.le)) in
+          let low : found.1.hash ≤ s.hash = up (order found.0 (j - 1) found.1 s (omega arith) found.2 s_at) in
+          let high : s.hash ≤ here.hash = up (order (j - 1) i s here (omega (arith, none.le)) s_at at) in
+          begins s (omega arith) s_at (omega (arith, found.5)))
+    ])))
+
+-- ---- counts rank by rank
+
+pub counted_more : (n : ℕ) (o : Object) (ranks : List Ranked) (counts : List ℕ) (i : ℕ) (here : Ranked) (count : ℕ) → AreSiblings n o ranks (length (entries_of o)) → slice_get ranks i ≡ Some here → count ≡ twins_before n o here.name
+    → AreCounted n o ranks counts i → AreCounted n o ranks (set counts here.name count) (i + 1)
+counted_more n o ranks counts i here count are at is so_far = record {
+  len = length-set counts here.name count ∙ so_far.len;
+  each = λ j r below at_j. elim (cases_eq r.name here.name) [
+    | inl same ↦ ap (λ (x : ℕ). get_or (set counts here.name count) x 0) same ∙ get_or-set_same counts here.name count 0 (omega (arith, slice_get_within (entries_of o) here.name (are.each i here at).entry (are.each i here at).stands, so_far.len)) ∙ is ∙ ap (twins_before n o) (sym same)
+    | inr other ↦ (
+        let earlier : j < i = elim (cases_eq j i) [
+          | inl last ↦ absurd (other (ap (λ (t : Ranked). t.name) (same_Some r here (sym at_j ∙ ap (slice_get ranks) last ∙ at))))
+          | inr not_last ↦ omega arith
+        ] in
+        get_or-set_other counts here.name r.name count 0 other ∙ so_far.each j r earlier at_j)
+  ];
+}
+
+pub counted_all : (n : ℕ) (o : Object) (ranks : List Ranked) (counts : List ℕ) (k : ℕ) → AreSiblings n o ranks (length (entries_of o)) → AreCounted n o ranks counts (length ranks) → k < length (entries_of o) → is_inside o k ≡ true → get_or counts k 0 ≡ twins_before n o k
+counted_all n o ranks counts k are counted within inside =
+    let found = are.all k within inside in
+    subst (λ (x : ℕ). get_or counts x 0 ≡ twins_before n o x) found.3 (counted.each found.0 found.1 (slice_get_within ranks found.0 found.1 found.2) found.2)
+
+-- ---- what is told of siblings
+
+list_any_last : (test : ℕ → Bool) (xs : List ℕ) (x : ℕ) → list_any test xs ≡ true → list_any test (xs ++ x ∷ []) ≡ true
+list_any_last test xs x is = list_any-append test xs (x ∷ []) ∙ ap (λ (b : Bool). b || list_any test (x ∷ [])) is
+
+-- what stands below an entry in the subtree of a head stands there too
+pub inside_below : (o : Object) (k p : ℕ) → ParentsStandBefore (entries_of o) → parent_of (entries_of o) k ≡ Some p → is_in_head o p ≡ true → is_in_head o k ≡ true
+inside_below o k p before child inside = ap (list_any (is_head o)) (lineage_below (entries_of o) k p before child) ∙ list_any_last (is_head o) (lineage (entries_of o) p) k inside
+
+pub sibling_spelled : (n : ℕ) (o : Object) (r : Ranked) → ParentsStandBefore (entries_of o) → IsSibling n o r → IsSpelled o r.name
+sibling_spelled n o r before it = spelled_in_head o r.name (inside_below o r.name it.parent before (parent_at o r.name it.entry it.stands ∙ it.child) it.inside)
+
+-- the parent that stands in the subtree of a head
+pub found_inside : (o : Object) (row : List Bool) (k p : ℕ) → ParentsStandBefore (entries_of o) → k < length (entries_of o) → IsRow (is_in_head o) (length (entries_of o)) row
+    → option_and_then (λ (p : ℕ). if get_or row p false then Some p else None) (parent_of (entries_of o) k) ≡ Some p → (parent_of (entries_of o) k ≡ Some p) × (is_in_head o p ≡ true)
+found_inside o row k p before within are is = go (parent_of (entries_of o) k) refl is where
+  decide : (q : ℕ) (b : Bool) → get_or row q false ≡ b → cond b (Some q) None ≡ Some p → q < k → (Some q ≡ Some p) × (is_in_head o p ≡ true)
+  decide q true marked same lower = (same, sym (ap (is_in_head o) (same_Some q p same)) ∙ sym (are.each q (omega arith)) ∙ marked)
+  decide q false marked same lower = absurd (none-some p same)
+
+  go : (x : Option ℕ) → parent_of (entries_of o) k ≡ x → option_and_then (λ (p : ℕ). if get_or row p false then Some p else None) x ≡ Some p → (x ≡ Some p) × (is_in_head o p ≡ true)
+  go None top same = absurd (none-some p same)
+  go (Some q) up same = decide q (get_or row q false) refl same (parent_before (entries_of o) k q before up)
+
+pub none_inside : (o : Object) (row : List Bool) (k : ℕ) → ParentsStandBefore (entries_of o) → k < length (entries_of o) → IsRow (is_in_head o) (length (entries_of o)) row
+    → option_and_then (λ (p : ℕ). if get_or row p false then Some p else None) (parent_of (entries_of o) k) ≡ None → is_inside o k ≡ false
+none_inside o row k before within are is = go (parent_of (entries_of o) k) refl is where
+  decide : (q : ℕ) (b : Bool) → get_or row q false ≡ b → cond b (Some q) None ≡ None → q < k → is_in_head o q ≡ false
+  decide q true marked same lower = absurd (none-some q (sym same))
+  decide q false marked same lower = sym (are.each q (omega arith)) ∙ marked
+
+  go : (x : Option ℕ) → parent_of (entries_of o) k ≡ x → option_and_then (λ (p : ℕ). if get_or row p false then Some p else None) x ≡ None → option_map_or (is_in_head o) x false ≡ false
+  go None top same = refl
+  go (Some q) up same = decide q (get_or row q false) refl same (parent_before (entries_of o) k q before up)

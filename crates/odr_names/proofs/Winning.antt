@@ -1,0 +1,159 @@
+-- Winners found in the order by hash and bid.
+use Rattle.std.proofs.Common.{◌≡◌, ◌<◌, ◌≤◌, ◌+◌, ◌-◌, ◌⊎◌, inl, inr, ℕ, List, [], ◌∷◌, ◌++◌, length, Some, refl, sym, ap, ◌∙◌, arith, subst, slice_get, get_or, set}
+use Rattle.std.proofs.Common.{true, false}
+use Rattle.std.specs.Cmp.{IsTotalOrder}
+use Rattle.std.specs.Ordering.{is_lt, nat_cmp, ordering_then}
+use Rattle.std.specs.List.Sorted.{IsPermutation, IsSortedBy}
+use Rattle.std.proofs.lemmas.Cmp.{nat_cmp_total, on_total, then_total}
+use Rattle.std.proofs.lemmas.List.Sorted.{Contains-permutation, IsPermutation-sym, ranks_by, sorted_far}
+use Rattle.std.proofs.lemmas.Bool.{both_ways, cases_eq, cases_lt, eq-eqb, le-ltb, lt-ltb}
+use Rattle.std.proofs.lemmas.List.{get_or-set_other, get_or-set_same, length-set, length_push}
+use Rattle.std.proofs.lemmas.Option.{get_or_from_slice_get, same_Some, slice_get-get_or, slice_get_read, slice_get_within}
+use Rattle.odr_names.specs.declared.winners.Ranked.{Ranked}
+use Rattle.type_names.specs.Start.{path_hash}
+use Rattle.type_names.specs.Names.{Named}
+use Rattle.odr_names.specs.Book.{SamePath, bid_at, path_at}
+use Rattle.odr_names.specs.Winners.{AreWinners, IsWinner}
+use Rattle.odr_names.specs.Ranking.{AreFound, AreInOrder, AreRanked, AreRankedTo, IsRank, IsRun}
+use Rattle.odr_names.proofs.BookPaths.{get_before, get_last}
+
+-- ---- ranks
+
+pub ranked_more : (names : List Named) (ranks : List Ranked) (n : ℕ) (r : Ranked) → AreRankedTo names ranks n → r.name ≡ n → IsRank names r → AreRankedTo names (ranks ++ r ∷ []) (n + 1)
+ranked_more names ranks n r so_far is rank = record {
+  len = length_push ranks r ∙ ap (λ k. k + 1) so_far.len;
+  each = λ i s at. elim (cases_lt i (length ranks)) [
+    | inl earlier ↦ so_far.each i s (sym (get_before ranks (r ∷ []) i earlier) ∙ at)
+    | inr later ↦ (
+        let last : i ≡ length ranks = omega (arith, slice_get_within (ranks ++ r ∷ []) i s at, length_push ranks r) in
+        let same : r ≡ s = same_Some r s (sym (ap (slice_get (ranks ++ r ∷ [])) last ∙ get_last ranks r) ∙ at) in
+        subst (λ (s : Ranked). (s.name ≡ i) × IsRank names s) same (is ∙ sym so_far.len ∙ sym last, rank))
+  ];
+}
+
+pub ranked_all : (names : List Named) (ranks : List Ranked) (n : ℕ) → AreRankedTo names ranks n → length names ≤ n → AreRanked names ranks
+ranked_all names ranks n so_far whole = record {
+  each = λ i r at. (so_far.each i r at).1;
+  all = λ x within. (
+      let d : Ranked = record { hash = 0; bid = 0; name = 0 } in
+      let at = slice_get-get_or ranks x d (omega (arith, so_far.len)) in
+      (x, get_or ranks x d, at, (so_far.each x (get_or ranks x d) at).0));
+}
+
+-- ---- the winner at a rank
+
+pub run_more : (names : List Named) (ranks : List Ranked) (here r : Ranked) (j i : ℕ) → slice_get ranks (j - 1) ≡ Some r → (SamePath names r.name here.name → ⊥)
+    → IsRun names ranks here j i → IsRun names ranks here (j - 1) i
+run_more names ranks here r j i at differs so_far = record {
+  le = omega (arith, so_far.le);
+  differ = λ k s from below at_k same. elim (cases_eq k (j - 1)) [
+    | inl first ↦ (let one : r ≡ s = same_Some r s (sym at ∙ ap (slice_get ranks) (sym first) ∙ at_k) in differs (ap (λ (t : Ranked). path_at names t.name) one ∙ same))
+    | inr other ↦ so_far.differ k s (omega arith) below at_k same
+  ];
+}
+
+pub winner_taken : (names : List Named) (ranks : List Ranked) (winners : List ℕ) (here r : Ranked) (j i : ℕ) → slice_get ranks j ≡ Some r → j < i → SamePath names r.name here.name
+    → AreFound names ranks winners i → IsWinner names here.name (get_or winners r.name 0)
+winner_taken names ranks winners here r j i at below same found =
+    let its = found.each j r below at in
+    record { within = its.within; same = its.same ∙ same; least = λ y within is. its.least y within (is ∙ sym same) }
+
+pub winner_itself : (names : List Named) (ranks : List Ranked) (here : Ranked) (j i : ℕ) → AreRanked names ranks → AreInOrder ranks → slice_get ranks i ≡ Some here → IsRun names ranks here j i
+    → ((r : Ranked) → 0 < j → slice_get ranks (j - 1) ≡ Some r → r.hash ≡ here.hash → ⊥) → IsWinner names here.name here.name
+winner_itself names ranks here j i ranked order at run begins =
+    let rank = ranked.each i here at in
+    record {
+      within = rank.within;
+      same = refl;
+      least = λ y within is. (
+          let found = ranked.all y within in
+          let k = found.0 in
+          let r = found.1 in
+          let r_rank = ranked.each k r found.2 in
+          let hash : r.hash ≡ here.hash = r_rank.hash ∙ ap (λ (x : ℕ). path_hash (path_at names x)) found.3 ∙ ap path_hash is ∙ sym rank.hash in
+          let bid : r.bid ≡ bid_at names y = r_rank.bid ∙ ap (bid_at names) found.3 in
+          elim (cases_lt k i) [
+            | inr later ↦ elim (order i k here r later at found.2) [
+              | inl above ↦ absurd (omega arith)
+              | inr not_above ↦ omega (arith, not_above.1, rank.bid)
+            ]
+            | inl earlier ↦ elim (cases_lt k j) [
+              | inr in_run ↦ absurd (run.differ k r in_run earlier found.2 (ap (path_at names) found.3 ∙ is))
+              | inl before ↦ absurd (
+                  let d : Ranked = record { hash = 0; bid = 0; name = 0 } in
+                  let s = get_or ranks (j - 1) d in
+                  let s_at : slice_get ranks (j - 1) ≡ Some s = slice_get-get_or ranks (j - 1) d (omega (arith, slice_get_within ranks i here at, run.le)) in
+                  let low : r.hash ≤ s.hash = up (order k (j - 1) r s (omega arith) found.2 s_at) in
+                  let high : s.hash ≤ here.hash = up (order (j - 1) i s here (omega (arith, run.le)) s_at at) in
+                  begins s (omega arith) s_at (omega arith))
+            ]
+          ]);
+    } where
+      up : {a b c e : ℕ} → (a < b) ⊎ ((a ≡ b) × (c ≤ e)) → a ≤ b
+      up (inl lt) = omega arith
+      up (inr same) = omega (arith, same.0)
+
+-- ---- winners rank by rank
+
+pub found_more : (names : List Named) (ranks : List Ranked) (winners : List ℕ) (i : ℕ) (here : Ranked) (winner : ℕ) → AreRanked names ranks → slice_get ranks i ≡ Some here → IsWinner names here.name winner
+    → AreFound names ranks winners i → AreFound names ranks (set winners here.name winner) (i + 1)
+found_more names ranks winners i here winner ranked at is so_far = record {
+  len = length-set winners here.name winner ∙ so_far.len;
+  each = λ j r below at_j. elim (cases_eq r.name here.name) [
+    | inl same ↦ (
+        let read : get_or (set winners here.name winner) r.name 0 ≡ winner = ap (λ (x : ℕ). get_or (set winners here.name winner) x 0) same ∙ get_or-set_same winners here.name winner 0 (omega (arith, (ranked.each i here at).within, so_far.len)) in
+        subst (IsWinner names r.name) (sym read) (subst (λ (x : ℕ). IsWinner names x winner) (sym same) is))
+    | inr other ↦ (
+        let earlier : j < i = elim (cases_eq j i) [
+          | inl last ↦ absurd (other (ap (λ (t : Ranked). t.name) (same_Some r here (sym at_j ∙ ap (slice_get ranks) last ∙ at))))
+          | inr not_last ↦ omega arith
+        ] in
+        subst (IsWinner names r.name) (sym (get_or-set_other winners here.name r.name winner 0 other)) (so_far.each j r earlier at_j))
+  ];
+}
+
+pub found_all : (names : List Named) (ranks : List Ranked) (winners : List ℕ) (i : ℕ) → AreRanked names ranks → length ranks ≤ i → AreFound names ranks winners i → AreWinners names winners
+found_all names ranks winners i ranked whole found = record {
+  len = found.len;
+  each = λ x within. (
+      let rank = ranked.all x within in
+      subst (λ (y : ℕ). IsWinner names y (get_or winners y 0)) rank.3 (found.each rank.0 rank.1 (omega (arith, slice_get_within ranks rank.0 rank.1 rank.2)) rank.2));
+}
+
+-- ---- the order
+
+told : (a b c e : ℕ) → is_lt (ordering_then (nat_cmp b a) (nat_cmp e c)) ≡ false → (a < b) ⊎ ((a ≡ b) × (c ≤ e))
+told a b c e not_below = elim (cases_lt a b) [
+  | inl lt ↦ inl lt
+  | inr ge ↦ elim (cases_lt b a) [
+    | inl lower ↦ absurd (let less : is_lt (ordering_then (nat_cmp b a) (nat_cmp e c)) ≡ true = rw (lt-ltb b a lower) refl in both_ways _ not_below less)
+    | inr le ↦ (
+        let same : a ≡ b = omega arith in
+        elim (cases_lt e c) [
+          | inl less ↦ absurd (let below : is_lt (ordering_then (nat_cmp b a) (nat_cmp e c)) ≡ true = rw (le-ltb b a le, eq-eqb b a (sym same), lt-ltb e c less) refl in both_ways _ not_below below)
+          | inr no_less ↦ inr (same, no_less)
+        ])
+  ]
+]
+
+by_hash : IsTotalOrder (λ (x y : Ranked). ordering_then (nat_cmp x.hash y.hash) (nat_cmp x.bid y.bid))
+by_hash = then_total (on_total (λ (r : Ranked). r.hash) nat_cmp_total) (on_total (λ (r : Ranked). r.bid) nat_cmp_total)
+
+pub in_order : (ranks : List Ranked) → IsSortedBy (λ x y. is_lt (ordering_then (nat_cmp x.hash y.hash) (nat_cmp x.bid y.bid))) ranks → AreInOrder ranks
+in_order ranks sorted = λ i j r s le at_i at_j. (
+    let d : Ranked = record { hash = 0; bid = 0; name = 0 } in
+    let far = sorted_far (λ (x y : Ranked). is_lt (ordering_then (nat_cmp x.hash y.hash) (nat_cmp x.bid y.bid))) (ranks_by by_hash (λ (r : Ranked). r)) ranks sorted i j d le (slice_get_within ranks j s at_j) in
+    let r_is = get_or_from_slice_get ranks i r d at_i in
+    let s_is = get_or_from_slice_get ranks j s d at_j in
+    told r.hash s.hash r.bid s.bid (rw (r_is, s_is) at far))
+
+pub ranked_moved : (names : List Named) (ranks moved : List Ranked) → AreRanked names ranks → IsPermutation ranks moved → AreRanked names moved
+ranked_moved names ranks moved ranked same = record {
+  each = λ i r at. (
+      let there = Contains-permutation moved ranks r (IsPermutation-sym ranks moved same) (i, slice_get_within moved i r at, get_or_from_slice_get moved i r r at) in
+      ranked.each there.0 r (slice_get_read ranks _ there.0 r refl there.1 (sym there.2)));
+  all = λ x within. (
+      let it = ranked.all x within in
+      let there = Contains-permutation ranks moved it.1 same (it.0, slice_get_within ranks it.0 it.1 it.2, get_or_from_slice_get ranks it.0 it.1 it.1 it.2) in
+      (there.0, it.1, slice_get_read moved _ there.0 it.1 refl there.1 (sym there.2), it.3));
+}

@@ -1,0 +1,7 @@
+pub mod Pieces
+pub mod Book
+pub mod Winners
+pub mod Ranking
+pub mod Twins
+pub mod Entering
+pub mod Making

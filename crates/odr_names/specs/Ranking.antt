@@ -1,0 +1,36 @@
+-- Names in the order in which their winners are found: those of one hash stand together, and of these the lowest bid first.
+use Rattle.std.specs.Prelude.{◌≡◌, ℕ, ◌<◌, ◌≤◌, ◌⊎◌, List, length, slice_get, slice_index_or, Some}
+use Rattle.odr_names.specs.declared.winners.Ranked.{Ranked}
+use Rattle.type_names.specs.Names.{Named}
+use Rattle.odr_names.specs.Book.{SamePath, bid_at, path_at}
+use Rattle.type_names.specs.Start.{path_hash}
+use Rattle.odr_names.specs.Winners.{IsWinner}
+
+-- the rank of name x
+pub record IsRank (names : List Named) (r : Ranked) : Type 0 where
+  pub within : r.name < length names
+  pub hash : r.hash ≡ path_hash (path_at names r.name)
+  pub bid : r.bid ≡ bid_at names r.name
+
+pub record AreRanked (names : List Named) (ranks : List Ranked) : Type 0 where
+  pub each : (i : ℕ) (r : Ranked) → slice_get ranks i ≡ Some r → IsRank names r
+  pub all : (x : ℕ) → x < length names → (i : ℕ) × (r : Ranked) × (slice_get ranks i ≡ Some r) × (r.name ≡ x)
+
+-- by hash, and then by bid
+abbrev pub AreInOrder : List Ranked → Type 0
+AreInOrder ranks = (i j : ℕ) (r s : Ranked) → i ≤ j → slice_get ranks i ≡ Some r → slice_get ranks j ≡ Some s → (r.hash < s.hash) ⊎ ((r.hash ≡ s.hash) × (r.bid ≤ s.bid))
+
+-- the winners of the first i ranks are found
+pub record AreFound (names : List Named) (ranks : List Ranked) (winners : List ℕ) (i : ℕ) : Type 0 where
+  pub len : length winners ≡ length names
+  pub each : (j : ℕ) (r : Ranked) → j < i → slice_get ranks j ≡ Some r → IsWinner names r.name (slice_index_or winners r.name 0)
+
+-- the ranks of the first n names, each at its number
+pub record AreRankedTo (names : List Named) (ranks : List Ranked) (n : ℕ) : Type 0 where
+  pub len : length ranks ≡ n
+  pub each : (i : ℕ) (r : Ranked) → slice_get ranks i ≡ Some r → (r.name ≡ i) × IsRank names r
+
+-- the names from rank j up to rank i have the hash of rank i, and none has its path
+pub record IsRun (names : List Named) (ranks : List Ranked) (here : Ranked) (j i : ℕ) : Type 0 where
+  pub le : j ≤ i
+  pub differ : (k : ℕ) (r : Ranked) → j ≤ k → k < i → slice_get ranks k ≡ Some r → SamePath names r.name here.name → ⊥

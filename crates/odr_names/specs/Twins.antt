@@ -1,0 +1,56 @@
+-- How many earlier siblings of an entry have its parts.
+use Rattle.std.specs.Prelude.{◌≡◌, ℕ, ◌<◌, ◌≤◌, Bool, true, false, List, length, slice_get, slice_index_or, Option, Some}
+use Rattle.std.specs.Option.{option_map, option_map_or}
+use Rattle.dwarf_types.specs.declared.entry.Entry.{Entry}
+use Rattle.odr_names.specs.declared.winners.Ranked.{Ranked}
+use Rattle.type_names.specs.Heads.{Object, entries_of, is_in_head}
+use Rattle.type_names.specs.Paths.{Parts, earlier_twins, parts_of}
+use Rattle.type_names.specs.Start.{hash_from, piece_bytes}
+use Rattle.type_names.specs.Tree.{parent_of}
+
+-- the parts of entry k of object n
+abbrev pub parts_in : ℕ → Object → ℕ → Option Parts
+parts_in n o k = option_map (parts_of n o k) (slice_get (entries_of o) k)
+
+-- entries a and b are children of one entry, and have the same parts
+pub record AreTwins (n : ℕ) (o : Object) (a b : ℕ) : Type 0 where
+  pub parent : parent_of (entries_of o) a ≡ parent_of (entries_of o) b
+  pub parts : parts_in n o a ≡ parts_in n o b
+
+-- how many earlier siblings have its parts
+abbrev pub twins_before : ℕ → Object → ℕ → ℕ
+twins_before n o k = option_map_or (λ e. option_map_or (λ p. length (earlier_twins n o p k (parts_of n o k e))) e.parent 0) (slice_get (entries_of o) k) 0
+
+-- ---- siblings in the order of the hashes of their parts
+
+-- it stands below an entry that is in the subtree of a head
+abbrev pub is_inside : Object → ℕ → Bool
+is_inside o k = option_map_or (is_in_head o) (parent_of (entries_of o) k) false
+
+-- a hash of its parent and its parts
+abbrev pub parts_hash : ℕ → Parts → ℕ
+parts_hash parent parts = hash_from parent (piece_bytes (record { parts = parts; ordinal = 0 }))
+
+-- the hash of parts goes on from the parent's number
+pub record IsSibling (n : ℕ) (o : Object) (r : Ranked) : Type 0 where
+  pub entry : Entry
+  pub parent : ℕ
+  pub stands : slice_get (entries_of o) r.name ≡ Some entry
+  pub child : entry.parent ≡ Some parent
+  pub inside : is_in_head o parent ≡ true
+  pub hash : r.hash ≡ parts_hash parent (parts_of n o r.name entry)
+  pub bid : r.bid ≡ r.name
+
+pub record AreSiblings (n : ℕ) (o : Object) (ranks : List Ranked) (i : ℕ) : Type 0 where
+  pub each : (j : ℕ) (r : Ranked) → slice_get ranks j ≡ Some r → IsSibling n o r
+  pub all : (k : ℕ) → k < i → is_inside o k ≡ true → (j : ℕ) × (r : Ranked) × (slice_get ranks j ≡ Some r) × (r.name ≡ k)
+
+-- the twins of the first i ranks are counted
+pub record AreCounted (n : ℕ) (o : Object) (ranks : List Ranked) (counts : List ℕ) (i : ℕ) : Type 0 where
+  pub len : length counts ≡ length (entries_of o)
+  pub each : (j : ℕ) (r : Ranked) → j < i → slice_get ranks j ≡ Some r → slice_index_or counts r.name 0 ≡ twins_before n o r.name
+
+-- the entries from rank j up to rank i are no earlier twins of that at rank i
+pub record AreNoTwins (n : ℕ) (o : Object) (ranks : List Ranked) (here : Ranked) (j i : ℕ) : Type 0 where
+  pub le : j ≤ i
+  pub differ : (k : ℕ) (r : Ranked) → j ≤ k → k < i → slice_get ranks k ≡ Some r → r.name < here.name → AreTwins n o r.name here.name → ⊥

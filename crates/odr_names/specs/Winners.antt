@@ -1,0 +1,15 @@
+-- Which name wins a path: the one with the least bid.
+use Rattle.std.specs.Prelude.{◌≡◌, ℕ, ◌<◌, ◌≤◌, List, length, slice_index_or}
+use Rattle.type_names.specs.Names.{Named}
+use Rattle.odr_names.specs.Book.{SamePath, bid_at}
+
+-- name w has the path of name x, and no name of that path has a lower bid
+pub record IsWinner (names : List Named) (x w : ℕ) : Type 0 where
+  pub within : w < length names
+  pub same : SamePath names w x
+  pub least : (y : ℕ) → y < length names → SamePath names y x → bid_at names w ≤ bid_at names y
+
+-- of each name the winner of its path
+pub record AreWinners (names : List Named) (winners : List ℕ) : Type 0 where
+  pub len : length winners ≡ length names
+  pub each : (x : ℕ) → x < length names → IsWinner names x (slice_index_or winners x 0)

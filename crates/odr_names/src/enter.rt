@@ -1,0 +1,155 @@
+//! The pooled entries of an object, entered into the book.
+
+ghost use Rattle.std.specs.Prelude.{◌≡◌, ◌+◌, ◌≤◌, ◌<◌, ◌^◌, ℕ, ◌-◌, List, [], true, false, length, slice_get, slice_index_or, Some, None, Err, OnOk, OnErr, if◌then◌else◌};
+ghost use Rattle.std.specs.Option.{ForSome, option_and_then};
+ghost use Rattle.dwarf_types.specs.declared.entry.Entry.{Entry as AnEntry};
+ghost use Rattle.odr_names.specs.declared.path_book.Row.{Row as ARow};
+ghost use Rattle.odr_names.specs.declared.book_error.BookError.TheVariants as errors;
+ghost use Rattle.type_names.specs.Names.{names_in};
+ghost use Rattle.odr_names.specs.Book.{AreRows};
+ghost use Rattle.odr_names.specs.Entering.{AreEntered, AreLiveParents, Enters, hash_above, new_row};
+ghost use Rattle.odr_names.specs.Twins.{is_inside, twins_before};
+ghost use Rattle.type_names.specs.Entries.{is_declaration};
+ghost use Rattle.type_names.specs.Heads.{Object, is_pooled};
+ghost use Rattle.type_names.specs.Objects.{object_of};
+ghost use Rattle.type_names.specs.Pooled.{AreNames};
+ghost use Rattle.type_names.specs.Tree.{ParentsStandBefore, parent_of};
+
+use crate::book_error::BookError;
+use crate::hash::hash_piece;
+use crate::ordinals::ordinal_at;
+use crate::path_book::Row;
+use crate::piece::{PieceRef, parts_at};
+use ds_base::BitRow;
+use dwarf_types::Analysis;
+use std::alloc::Global;
+use type_names::{TypeNames, is_declaration};
+
+/// The number of entries from which on no book is made.
+const MOST_POOLED: usize = 1 << 25;
+
+/// Enters an entry, where it is pooled, and gives the number of its row.
+pub(crate) fn enter_entry(
+    seen: &Analysis,
+    live: &BitRow,
+    names: &TypeNames,
+    object: u32,
+    counts: &[u32],
+    numbers: &[Option<u32>],
+    rows: &mut Vec<Row>,
+    k: u32,
+) -> Result<Option<u32>, BookError>
+    requires place { k < length seen.now.entries }
+    requires parents { ParentsStandBefore seen.now.entries }
+    requires names { AreNames (object_of seen.now live.now) names.now }
+    requires len { length counts.now ≡ length seen.now.entries }
+    requires counts { (j : ℕ) → j < length seen.now.entries → is_inside (object_of seen.now live.now) j ≡ true
+        → slice_index_or counts.now j 0 ≡ twins_before object (object_of seen.now live.now) j }
+    requires numbers { (x : ℕ) → option_and_then (λ p. slice_index_or numbers.now p None) (parent_of seen.now.entries k) ≡ Some x → x < length rows.old.items }
+    requires few { length rows.old.items < 2 ^ 25 }
+    ensures { (e : AnEntry) → slice_get seen.now.entries k ≡ Some e
+        → Enters object (object_of seen.now live.now) k e (option_and_then (λ p. slice_index_or numbers.now p None) (parent_of seen.now.entries k)) rows.old.items rows.new.items result }
+{
+    if !names.pooled.get(k) {
+        return Ok(None);
+    }
+    let number = rows.len();
+    if number + 1 >= MOST_POOLED {
+        return Err(BookError::Pooled);
+    }
+    let parent = number_of(numbers, seen.entries.entry(k as usize).parent());
+    let row = row_of(seen, live, names, object, counts, rows, parent, k);
+    rows.push(row)?;
+    Ok(Some(number as u32))
+}
+
+/// The number of the parent's row, if it has one.
+fn number_of(numbers: &[Option<u32>], parent: Option<u32>) -> Option<u32>
+    ensures { result ≡ option_and_then (λ p. slice_index_or numbers.now p None) parent }
+{
+    let parent = parent? as usize;
+    if parent < numbers.len() {
+        numbers[parent]
+    } else {
+        None
+    }
+}
+
+/// The row of a pooled entry below another row, or at the top.
+fn row_of(
+    seen: &Analysis,
+    live: &BitRow,
+    names: &TypeNames,
+    object: u32,
+    counts: &[u32],
+    rows: &[Row],
+    parent: Option<u32>,
+    k: u32,
+) -> Row
+    requires place { k < length seen.now.entries }
+    requires parents { ParentsStandBefore seen.now.entries }
+    requires names { AreNames (object_of seen.now live.now) names.now }
+    requires pooled { is_pooled (object_of seen.now live.now) k ≡ true }
+    requires len { length counts.now ≡ length seen.now.entries }
+    requires counts { (j : ℕ) → j < length seen.now.entries → is_inside (object_of seen.now live.now) j ≡ true
+        → slice_index_or counts.now j 0 ≡ twins_before object (object_of seen.now live.now) j }
+    requires parent { ForSome parent (λ p. p < length rows.now) }
+    ensures { (e : AnEntry) → slice_get seen.now.entries k ≡ Some e
+        → result ≡ new_row object (object_of seen.now live.now) k e parent (hash_above rows.now parent) }
+{
+    let entry = seen.entries.entry(k as usize);
+    let parts = parts_at(seen, live, names, object, k);
+    let ordinal = ordinal_at(seen, live, names, object, counts, k);
+    let piece = PieceRef { parts, ordinal };
+    Row {
+        object,
+        entry: k,
+        hash: hash_piece(hash_above(rows, parent), &piece),
+        parent,
+        ordinal,
+        declared: is_declaration(&entry),
+    }
+}
+
+/// The hash of the path of the row above, or of no path.
+fn hash_above(rows: &[Row], parent: Option<u32>) -> u64
+    requires { ForSome parent (λ p. p < length rows.now) }
+    ensures { result ≡ hash_above rows.now parent }
+{
+    match parent {
+        Some(p) => rows[p as usize].hash,
+        None => 0,
+    }
+}
+
+/// Enters the pooled entries of an object.
+pub(crate) fn enter_entries(
+    alloc: Global,
+    seen: &Analysis,
+    live: &BitRow,
+    names: &TypeNames,
+    object: u32,
+    counts: &[u32],
+    rows: &mut Vec<Row>,
+) -> Result<(), BookError>
+    requires few { length seen.now.entries ≤ 2 ^ 24 }
+    requires counted { (1 ≤ object) × (object < 2 ^ 16) }
+    requires parents { ParentsStandBefore seen.now.entries }
+    requires live_parents { AreLiveParents (object_of seen.now live.now) }
+    requires names { AreNames (object_of seen.now live.now) names.now }
+    requires len { length counts.now ≡ length seen.now.entries }
+    requires counts { (j : ℕ) → j < length seen.now.entries → is_inside (object_of seen.now live.now) j ≡ true
+        → slice_index_or counts.now j 0 ≡ twins_before object (object_of seen.now live.now) j }
+    requires rows { length rows.old.items < 2 ^ 25 }
+    ensures few { OnOk result (length rows.new.items < 2 ^ 25) }
+    ensures all { (objects : List Object) → slice_get objects (object - 1) ≡ Some (object_of seen.now live.now) → AreRows objects rows.old.items
+        → OnOk result (AreEntered objects object (object_of seen.now live.now) rows.old.items rows.new.items) }
+    ensures pooled { result ≡ Err errors.Pooled → 2 ^ 25 ≤ length rows.old.items + length (names_in object (object_of seen.now live.now)) }
+{
+    let mut numbers = Vec::new(alloc);
+    for i in 0..seen.entries.len() {
+        let number = enter_entry(seen, live, names, object, counts, &numbers, rows, i as u32)?;
+        numbers.push(number)?;
+    }
+    Ok(())
+}

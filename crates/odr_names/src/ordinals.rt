@@ -1,0 +1,224 @@
+//! Ordinals of pieces: how many earlier siblings have the same parts.
+
+ghost use Rattle.std.specs.Prelude.{◌≡◌, ◌==◌, ◌||◌, ◌&&◌, not, ◌≤◌, ◌<◌, ◌^◌, ◌↔◌, ℕ, true, false, length, slice_get, slice_index_or, Some, None, IfOk, IsTrue, if◌then◌else◌};
+ghost use Rattle.std.specs.Option.{option_and_then};
+ghost use Rattle.dwarf_types.specs.declared.entry.Entry.{Entry as AnEntry};
+ghost use Rattle.odr_names.specs.Pieces.{IsSpelled, parts_seen};
+ghost use Rattle.odr_names.specs.Ranking.{AreInOrder};
+ghost use Rattle.odr_names.specs.Twins.{AreCounted, AreNoTwins, AreSiblings, AreTwins, is_inside, parts_hash, twins_before};
+ghost use Rattle.odr_names.specs.declared.winners.Ranked.{Ranked as RankedAs};
+ghost use Rattle.type_names.specs.Entries.{is_named_type};
+ghost use Rattle.type_names.specs.Heads.{is_in_head, is_pooled};
+ghost use Rattle.type_names.specs.Objects.{object_of};
+ghost use Rattle.type_names.specs.Paths.{is_overloaded, ordinal_of, parts_of};
+ghost use Rattle.type_names.specs.Pooled.{AreNames};
+ghost use Rattle.type_names.specs.Tree.{ParentsStandBefore, parent_of};
+
+use crate::hash::hash_piece;
+use crate::piece::{PartsRef, PieceRef, parts_at, parts_equal};
+use crate::winners::{Ranked, sort_ranks};
+use ds_base::dwarf::DW_TAG_namespace;
+use ds_base::{BitRow, NoMemory};
+use dwarf_types::{Analysis, Entries, EntryRef};
+use std::alloc::Global;
+use type_names::{TypeNames, is_named_type, is_overloaded};
+
+/// Of each entry below one that stands in the subtree of a head, how many earlier siblings have the same parts.
+///
+/// The siblings are put in order by the hashes of their parents and parts, and then by number, so that the nearest
+/// earlier one with the same parts stands a few places before.
+pub(crate) fn twins_of(
+    alloc: Global,
+    seen: &Analysis,
+    live: &BitRow,
+    names: &TypeNames,
+    object: u32,
+) -> Result<Vec<u32>, NoMemory>
+    requires few { length seen.now.entries ≤ 2 ^ 24 }
+    requires parents { ParentsStandBefore seen.now.entries }
+    requires names { AreNames (object_of seen.now live.now) names.now }
+    ensures len { IfOk result (λ counts. length counts.items ≡ length seen.now.entries) }
+    ensures exact { IfOk result (λ counts. (k : ℕ) → k < length seen.now.entries → is_inside (object_of seen.now live.now) k ≡ true
+        → slice_index_or counts.items k 0 ≡ twins_before object (object_of seen.now live.now) k) }
+{
+    let mut ranks = siblings_of(alloc, seen, live, names, object)?;
+    sort_ranks(&mut ranks);
+    let counts = counts_of(alloc, seen, live, names, object, &ranks)?;
+    Ok(counts)
+}
+
+/// The entries below those in subtrees of heads, with the hashes of their parents and parts.
+fn siblings_of(
+    alloc: Global,
+    seen: &Analysis,
+    live: &BitRow,
+    names: &TypeNames,
+    object: u32,
+) -> Result<Vec<Ranked>, NoMemory>
+    requires few { length seen.now.entries ≤ 2 ^ 24 }
+    requires parents { ParentsStandBefore seen.now.entries }
+    requires names { AreNames (object_of seen.now live.now) names.now }
+    ensures { IfOk result (λ ranks. AreSiblings object (object_of seen.now live.now) ranks.items (length seen.now.entries)) }
+{
+    let mut ranks = Vec::new(alloc);
+    for i in 0..seen.entries.len() {
+        let k = i as u32;
+        if let Some(parent) = parent_inside(&seen.entries, names, k) {
+            let parts = parts_at(seen, live, names, object, k);
+            ranks.push(Ranked {
+                hash: hash_parts(parent, parts),
+                bid: u64::from(k),
+                name: k,
+            })?;
+        }
+    }
+    Ok(ranks)
+}
+
+/// The parent of an entry, where that is in the subtree of a head.
+fn parent_inside(entries: &Entries, names: &TypeNames, k: u32) -> Option<u32>
+    requires place { k < length entries.now }
+    requires len { length names.now.in_heads ≡ length entries.now }
+    requires parents { ParentsStandBefore entries.now }
+    ensures { result ≡ option_and_then (λ p. if slice_index_or names.now.in_heads p false then Some p else None) (parent_of entries.now k) }
+{
+    let parent = entries.entry(k as usize).parent()?;
+    if names.in_heads.get(parent) {
+        Some(parent)
+    } else {
+        None
+    }
+}
+
+/// A hash of a parent and of parts.
+fn hash_parts(parent: u32, parts: PartsRef) -> u64
+    ensures { result ≡ parts_hash parent (parts_seen parts.entry) }
+{
+    hash_piece(u64::from(parent), &PieceRef { parts, ordinal: 0 })
+}
+
+/// The counts, rank by rank.
+fn counts_of(
+    alloc: Global,
+    seen: &Analysis,
+    live: &BitRow,
+    names: &TypeNames,
+    object: u32,
+    ranks: &[Ranked],
+) -> Result<Vec<u32>, NoMemory>
+    requires few { length seen.now.entries ≤ 2 ^ 24 }
+    requires parents { ParentsStandBefore seen.now.entries }
+    requires names { AreNames (object_of seen.now live.now) names.now }
+    requires siblings { AreSiblings object (object_of seen.now live.now) ranks.now (length seen.now.entries) }
+    requires order { AreInOrder ranks.now }
+    ensures { IfOk result (λ counts. AreCounted object (object_of seen.now live.now) ranks.now counts.items (length ranks.now)) }
+{
+    let mut counts = vec![in alloc; 0; seen.entries.len()]?;
+    for i in 0..ranks.len() {
+        let count = count_at(seen, live, names, object, ranks, &counts, i);
+        counts[ranks[i].name as usize] = count;
+    }
+    Ok(counts)
+}
+
+/// The count at rank `i`: one more than that of the nearest rank before it with the same parent and parts, or 0.
+fn count_at(
+    seen: &Analysis,
+    live: &BitRow,
+    names: &TypeNames,
+    object: u32,
+    ranks: &[Ranked],
+    counts: &[u32],
+    i: usize,
+) -> u32
+    requires few { length seen.now.entries ≤ 2 ^ 24 }
+    requires parents { ParentsStandBefore seen.now.entries }
+    requires names { AreNames (object_of seen.now live.now) names.now }
+    requires siblings { AreSiblings object (object_of seen.now live.now) ranks.now (length seen.now.entries) }
+    requires order { AreInOrder ranks.now }
+    requires within { i < length ranks.now }
+    requires counted { AreCounted object (object_of seen.now live.now) ranks.now counts.now i }
+    ensures { (r : RankedAs) → slice_get ranks.now i ≡ Some r → result ≡ twins_before object (object_of seen.now live.now) r.name }
+{
+    let here = rank_at(ranks, i);
+    let mut j = i;
+    while j > 0 && rank_at(ranks, j - 1).hash == here.hash {
+        j -= 1;
+        let other = rank_at(ranks, j);
+        if is_earlier_twin(seen, live, names, object, other.name, here.name) {
+            return counts[other.name as usize] + 1;
+        }
+    }
+    0
+}
+
+/// The rank at a place.
+fn rank_at(ranks: &[Ranked], i: usize) -> Ranked
+    requires { i < length ranks.now }
+    ensures { slice_get ranks.now i ≡ Some result }
+{
+    ranks[i]
+}
+
+/// Whether an entry is an earlier sibling of another, and has the same parts.
+fn is_earlier_twin(
+    seen: &Analysis,
+    live: &BitRow,
+    names: &TypeNames,
+    object: u32,
+    a: u32,
+    b: u32,
+) -> bool
+    requires names { AreNames (object_of seen.now live.now) names.now }
+    requires places { (a < length seen.now.entries) × (b < length seen.now.entries) }
+    requires spelled { IsSpelled (object_of seen.now live.now) a × IsSpelled (object_of seen.now live.now) b }
+    ensures { IsTrue result ↔ ((a < b) × AreTwins object (object_of seen.now live.now) a b) }
+{
+    a < b && are_twins(seen, live, names, object, a, b)
+}
+
+/// Whether two entries have the same parent and the same parts.
+fn are_twins(seen: &Analysis, live: &BitRow, names: &TypeNames, object: u32, a: u32, b: u32) -> bool
+    requires names { AreNames (object_of seen.now live.now) names.now }
+    requires places { (a < length seen.now.entries) × (b < length seen.now.entries) }
+    requires spelled { IsSpelled (object_of seen.now live.now) a × IsSpelled (object_of seen.now live.now) b }
+    ensures { IsTrue result ↔ AreTwins object (object_of seen.now live.now) a b }
+{
+    seen.entries.entry(a as usize).parent() == seen.entries.entry(b as usize).parent()
+        && parts_equal(
+            &parts_at(seen, live, names, object, a),
+            &parts_at(seen, live, names, object, b),
+        )
+}
+
+/// The ordinal of the piece of a pooled entry.
+pub(crate) fn ordinal_at(
+    seen: &Analysis,
+    live: &BitRow,
+    names: &TypeNames,
+    object: u32,
+    counts: &[u32],
+    k: u32,
+) -> u32
+    requires place { k < length seen.now.entries }
+    requires parents { ParentsStandBefore seen.now.entries }
+    requires names { AreNames (object_of seen.now live.now) names.now }
+    requires pooled { is_pooled (object_of seen.now live.now) k ≡ true }
+    requires len { length counts.now ≡ length seen.now.entries }
+    requires counts { (j : ℕ) → j < length seen.now.entries → is_inside (object_of seen.now live.now) j ≡ true
+        → slice_index_or counts.now j 0 ≡ twins_before object (object_of seen.now live.now) j }
+    ensures { (e : AnEntry) → slice_get seen.now.entries k ≡ Some e → result ≡ ordinal_of object (object_of seen.now live.now) k e }
+{
+    let entry = seen.entries.entry(k as usize);
+    if is_told_by_parts(&entry, names.spelled.get(k).is_some()) {
+        return 0;
+    }
+    counts[k as usize]
+}
+
+/// Whether an entry with these parts is one wherever it stands: it is a namespace, a type with a name, or a derived head.
+fn is_told_by_parts(entry: &EntryRef, spelled: bool) -> bool
+    ensures { result ≡ (entry.now.tag == DW_TAG_namespace || (is_named_type entry.now || (not (is_overloaded entry.now) && spelled))) }
+{
+    entry.tag() == DW_TAG_namespace || is_named_type(entry) || (!is_overloaded(entry) && spelled)
+}

@@ -1,0 +1,265 @@
+//! The book of names.
+
+ghost use Rattle.std.specs.Prelude.{◌≡◌, ◌<◌, ◌≤◌, ◌-◌, ◌/◌, ◌%◌, ◌^◌, ◌↔◌, ℕ, length, slice_get, IsTrue, Some, Err, IfOk};
+ghost use Rattle.std.specs.List.{All};
+ghost use Rattle.std.specs.Option.{ForSome, option_map};
+ghost use Rattle.dwarf_types.specs.Sound.{IsSound};
+ghost use Rattle.odr_names.specs.declared.book_error.BookError.TheVariants as errors;
+ghost use Rattle.odr_names.specs.Book.{AreRows, AreTold, IsBook, IsRowOf, SamePath, bid_at, objects_in, objects_of, path_at, path_in, row_bid, row_piece};
+ghost use Rattle.odr_names.specs.Making.{AreLiveRows, merged};
+ghost use Rattle.odr_names.specs.Pieces.{piece_seen};
+ghost use Rattle.odr_names.specs.declared.path_book.Row.{Row as ARow};
+ghost use Rattle.type_names.specs.Names.{Named, names};
+ghost use Rattle.type_names.specs.Start.{path_hash, start_of};
+
+use crate::book_error::BookError;
+use crate::entry_place::Occurrence;
+use crate::objects::{objects_told, rows_of};
+use crate::piece::{PieceRef, parts_at, piece_equal};
+use ds_base::BitRow;
+use dwarf_types::Analysis;
+use std::alloc::Global;
+use std::marker::Model;
+use type_names::TypeNames;
+
+/// The objects of a link.
+#[derive(Drop)]
+pub struct Objects<'a> {
+    pub(crate) seen: &'a [Analysis],
+    pub(crate) live: &'a [BitRow],
+    pub(crate) names: Vec<TypeNames>,
+}
+
+/// A pooled entry.
+#[derive(Clone, Copy)]
+pub struct Row {
+    /// Counted from 1.
+    pub(crate) object: u32,
+    pub(crate) entry: u32,
+    /// The hash of the whole path.
+    pub(crate) hash: u64,
+    /// The row of the entry above, where that is not the unit.
+    pub(crate) parent: Option<u32>,
+    pub(crate) ordinal: u32,
+    /// Whether it is a declaration of a type.
+    pub(crate) declared: bool,
+}
+
+/// The pooled entries of a link, in the order of objects and entries, with their paths and bids.
+///
+/// Contracts see the list of the names.
+#[derive(Drop)]
+pub struct PathBook<'a> {
+    objects: Objects<'a>,
+    rows: Vec<Row>,
+}
+
+impl<'a> Model for PathBook<'a> {
+    ghost use Rattle.std.specs.Prelude.{List, map};
+    ghost use Rattle.odr_names.specs.Book.{IsBook, objects_in, row_name};
+    ghost use Rattle.type_names.specs.Names.{Named};
+
+    ghost Value = { List Named };
+
+    ghost view = { λ b. map (row_name (objects_in b.objects)) b.rows.items };
+
+    ghost invariant = { λ b. IsBook b.objects b.rows.items };
+}
+
+/// The book of the names of a link.
+///
+/// `live` has a row for each object, which marks its live entries. Without `odr` no types are merged, and the book is
+/// empty. A link with 2^25 names or more has none ([`BookError::Pooled`]). Source: this project's profile
+/// (docs/PROFILE.md, "Names and the pool").
+pub fn book<'a>(
+    alloc: Global,
+    seen: &'a [Analysis],
+    live: &'a [BitRow],
+    odr: bool,
+) -> Result<PathBook<'a>, BookError>
+    requires few { length seen.now < 2 ^ 16 }
+    requires sound { All IsSound seen.now }
+    requires live { AreLiveRows seen.now live.now }
+    ensures made { IfOk result (λ book. (book ≡ names (merged odr seen.now live.now)) × (length book < 2 ^ 25)) }
+    ensures pooled { result ≡ Err errors.Pooled → 2 ^ 25 ≤ length (names (merged odr seen.now live.now)) }
+{
+    if odr {
+        merged_book(alloc, seen, live)
+    } else {
+        merged_book(alloc, &seen[..0], &live[..0])
+    }
+}
+
+/// The book of the names of these objects.
+fn merged_book<'a>(
+    alloc: Global,
+    seen: &'a [Analysis],
+    live: &'a [BitRow],
+) -> Result<PathBook<'a>, BookError>
+    requires few { length seen.now < 2 ^ 16 }
+    requires sound { All IsSound seen.now }
+    requires live { AreLiveRows seen.now live.now }
+    ensures made { IfOk result (λ book. (book ≡ names (objects_of seen.now live.now)) × (length book < 2 ^ 25)) }
+    ensures pooled { result ≡ Err errors.Pooled → 2 ^ 25 ≤ length (names (objects_of seen.now live.now)) }
+{
+    let objects = objects_told(alloc, seen, live)?;
+    let rows = rows_of(alloc, &objects)?;
+    Ok(PathBook { objects, rows })
+}
+
+/// How many names there are.
+pub fn count(names: &PathBook) -> u32
+    ensures { result ≡ length names.now }
+{
+    names.rows.len() as u32
+}
+
+/// Where a name stands.
+pub fn occurrence(names: &PathBook, x: u32) -> Occurrence
+    requires { x < length names.now }
+    ensures { (name : Named) → slice_get names.now x ≡ Some name → (result.object ≡ name.object) × (result.entry ≡ name.entry) }
+{
+    let row = row_at(&names.rows, x);
+    Occurrence {
+        object: row.object,
+        entry: row.entry,
+    }
+}
+
+/// The bid of a name: definitions go before declarations, earlier objects before later ones, and earlier entries before
+/// later ones.
+pub fn number(names: &PathBook, x: u32) -> u64
+    requires { x < length names.now }
+    ensures { result ≡ bid_at names.now x }
+{
+    bid_of(row_at(&names.rows, x))
+}
+
+/// Whether two names have the same path.
+pub fn path_equal(names: &PathBook, a: u32, b: u32) -> bool
+    requires { (a < length names.now) × (b < length names.now) }
+    ensures { IsTrue result ↔ SamePath names.now a b }
+{
+    rows_equal(&names.objects, &names.rows, a, b)
+}
+
+/// The cell, below `cells`, at which the search for a name begins.
+pub fn path_start(names: &PathBook, x: u32, cells: u32) -> u32
+    requires { (x < length names.now) × (1 ≤ cells) }
+    ensures { result ≡ start_of (path_at names.now x) cells }
+{
+    start_among(hash_at(names, x), cells)
+}
+
+/// The hash of a name's path.
+pub(crate) fn hash_at(names: &PathBook, x: u32) -> u64
+    requires { x < length names.now }
+    ensures { result ≡ path_hash (path_at names.now x) }
+{
+    row_at(&names.rows, x).hash
+}
+
+/// The row of a name.
+fn row_at(rows: &[Row], x: u32) -> Row
+    requires { x < length rows.now }
+    ensures { slice_get rows.now x ≡ Some result }
+{
+    rows[x as usize]
+}
+
+/// The bid of a row.
+fn bid_of(row: Row) -> u64
+    requires { (row.object < 2 ^ 16) × (row.entry < 2 ^ 24) }
+    ensures { result ≡ row_bid row }
+{
+    let place = (u64::from(row.object) << 32) + u64::from(row.entry);
+    if row.declared {
+        (1 << 63) + place
+    } else {
+        place
+    }
+}
+
+/// The cell at which the search for a hash begins among so many.
+fn start_among(hash: u64, cells: u32) -> u32
+    requires { 1 ≤ cells }
+    ensures { result ≡ hash / 2 ^ 32 % cells }
+{
+    ((hash >> 32) % u64::from(cells)) as u32
+}
+
+/// Whether two rows have the same path.
+fn rows_equal(objects: &Objects, rows: &[Row], a: u32, b: u32) -> bool
+    requires book { IsBook objects.now rows.now }
+    requires inside { (a < length rows.now) × (b < length rows.now) }
+    ensures { IsTrue result ↔ (path_in (objects_in objects.now) rows.now a ≡ path_in (objects_in objects.now) rows.now b) }
+{
+    let mut left = Some(a);
+    let mut right = Some(b);
+    while let Some(x) = left {
+        let Some(y) = right else {
+            return false;
+        };
+        let first = row_at(rows, x);
+        let second = row_at(rows, y);
+        if !may_be_equal(objects, first, second) {
+            return false;
+        }
+        left = first.parent;
+        right = second.parent;
+    }
+    right.is_none()
+}
+
+/// Whether two rows have the same hash and the same piece.
+fn may_be_equal(objects: &Objects, a: Row, b: Row) -> bool
+    requires told { AreTold objects.now }
+    requires rows { (IsRowOf (objects_in objects.now) a) × (IsRowOf (objects_in objects.now) b) }
+    ensures { IsTrue result ↔ ((a.hash ≡ b.hash) × (row_piece (objects_in objects.now) a ≡ row_piece (objects_in objects.now) b)) }
+{
+    a.hash == b.hash && piece_equal(&piece_of(objects, a), &piece_of(objects, b))
+}
+
+/// The piece of a row.
+fn piece_of<'b>(objects: &'b Objects, row: Row) -> PieceRef<'b>
+    requires told { AreTold objects.now }
+    requires row { IsRowOf (objects_in objects.now) row }
+    ensures { row_piece (objects_in objects.now) row ≡ Some (piece_seen result) }
+{
+    let i = row.object as usize - 1;
+    let parts = parts_at(
+        seen_at(objects, i),
+        live_at(objects, i),
+        names_at(objects, i),
+        row.object,
+        row.entry,
+    );
+    PieceRef {
+        parts,
+        ordinal: row.ordinal,
+    }
+}
+
+/// The analysis of an object.
+pub(crate) fn seen_at<'b>(objects: &'b Objects, i: usize) -> &'b Analysis
+    requires { i < length objects.now.seen.now }
+    ensures { slice_get objects.now.seen.now i ≡ Some result.now }
+{
+    &objects.seen[i]
+}
+
+/// The row of the live entries of an object.
+pub(crate) fn live_at<'b>(objects: &'b Objects, i: usize) -> &'b BitRow
+    requires { i < length objects.now.live.now }
+    ensures { slice_get objects.now.live.now i ≡ Some result.now }
+{
+    &objects.live[i]
+}
+
+/// What is told of the names of an object.
+pub(crate) fn names_at<'b>(objects: &'b Objects, i: usize) -> &'b TypeNames
+    requires { i < length objects.now.names.items }
+    ensures { slice_get objects.now.names.items i ≡ Some result.now }
+{
+    &objects.names[i]
+}

@@ -1,0 +1,74 @@
+-- The lineage of an entry is that of its parent, and itself.
+use Rattle.std.proofs.Common.{◌≡◌, ℕ, zero, suc, ◌<◌, ◌≤◌, Bool, true, false, List, [], ◌∷◌, ◌++◌, Option, Some, None, refl, sym, ap, ◌∙◌, arith, slice_get, ◌||◌}
+use Rattle.std.specs.Option.{option_and_then, option_map_or}
+use Rattle.std.proofs.lemmas.List.Folds.{list_any-append}
+use Rattle.dwarf_types.specs.declared.entry.Entry.{Entry}
+use Rattle.type_names.specs.Tree.{ParentsStandBefore, is_in_marked, is_marked, lineage, lineage_of, parent_of}
+
+-- the parent stands before
+pub parent_before : (entries : List Entry) (k p : ℕ) → ParentsStandBefore entries → parent_of entries k ≡ Some p → p < k
+parent_before entries k p before is = go (slice_get entries k) refl is where
+  go : (o : Option Entry) → slice_get entries k ≡ o → option_and_then (λ (e : Entry). e.parent) o ≡ Some p → p < k
+  go None at is = absurd (cc)
+  go (Some e) at is = before k p e at is
+
+-- two bounds that are not below the entry's number give one lineage
+same_lineage : (n m : ℕ) (entries : List Entry) (k : ℕ) → ParentsStandBefore entries → k ≤ n → k ≤ m → lineage_of n entries k ≡ lineage_of m entries k
+same_lineage zero zero entries k before a b = refl
+same_lineage zero (suc m) entries k before a b = go (parent_of entries k) refl where
+  go : (o : Option ℕ) → parent_of entries k ≡ o → k ∷ [] ≡ option_map_or (lineage_of m entries) (parent_of entries k) [] ++ k ∷ []
+  go None is = rw is refl
+  go (Some p) is = let h = parent_before entries k p before is in absurd (omega arith)
+same_lineage (suc n) zero entries k before a b = go (parent_of entries k) refl where
+  go : (o : Option ℕ) → parent_of entries k ≡ o → option_map_or (lineage_of n entries) (parent_of entries k) [] ++ k ∷ [] ≡ k ∷ []
+  go None is = rw is refl
+  go (Some p) is = let h = parent_before entries k p before is in absurd (omega arith)
+same_lineage (suc n) (suc m) entries k before a b = go (parent_of entries k) refl (λ p h. same_lineage n m entries p before (omega arith) (omega arith)) where
+  go : (o : Option ℕ) → parent_of entries k ≡ o → ((p : ℕ) → p < k → lineage_of n entries p ≡ lineage_of m entries p)
+      → option_map_or (lineage_of n entries) (parent_of entries k) [] ++ k ∷ [] ≡ option_map_or (lineage_of m entries) (parent_of entries k) [] ++ k ∷ []
+  go None is above = rw is refl
+  go (Some p) is above = rw is (ap (λ (xs : List ℕ). xs ++ k ∷ []) (above p (parent_before entries k p before is)))
+
+pub lineage_top : (entries : List Entry) (k : ℕ) → parent_of entries k ≡ None → lineage entries k ≡ k ∷ []
+unfolding lineage
+lineage_top entries zero is = refl
+lineage_top entries (suc k) is = rw is refl
+
+pub lineage_below : (entries : List Entry) (k p : ℕ) → ParentsStandBefore entries → parent_of entries k ≡ Some p → lineage entries k ≡ lineage entries p ++ k ∷ []
+unfolding lineage
+lineage_below entries zero p before is = absurd (omega (arith, parent_before entries zero p before is))
+lineage_below entries (suc k) p before is =
+    let h = parent_before entries (suc k) p before is in
+    rw is (ap (λ (xs : List ℕ). xs ++ suc k ∷ []) (same_lineage k p entries p before (omega arith) (omega arith)))
+
+-- ---- marks
+
+pub in_marked_top : (entries : List Entry) (marks : List Bool) (k : ℕ) → parent_of entries k ≡ None → is_in_marked entries marks k ≡ is_marked marks k
+in_marked_top entries marks k is = rw (lineage_top entries k is) (or_false (is_marked marks k)) where
+  or_false : (b : Bool) → (b || false) ≡ b
+  or_false true = refl
+  or_false false = refl
+
+pub in_marked_below : (entries : List Entry) (marks : List Bool) (k p : ℕ) → ParentsStandBefore entries → parent_of entries k ≡ Some p
+    → is_in_marked entries marks k ≡ (is_marked marks k || is_in_marked entries marks p)
+in_marked_below entries marks k p before is =
+    rw (lineage_below entries k p before is, list_any-append (is_marked marks) (lineage entries p) (k ∷ [])) (turned (is_in_marked entries marks p) (is_marked marks k)) where
+      turned : (a b : Bool) → (a || (b || false)) ≡ (b || a)
+      turned true true = refl
+      turned true false = refl
+      turned false true = refl
+      turned false false = refl
+
+-- one more entry of the row
+pub marked_more : (entries : List Entry) (marks row : List Bool) (k : ℕ) (e : Entry) → ParentsStandBefore entries → slice_get entries k ≡ Some e
+    → ((p : ℕ) → p < k → is_marked row p ≡ is_in_marked entries marks p)
+    → (is_marked marks k || option_map_or (is_marked row) e.parent false) ≡ is_in_marked entries marks k
+marked_more entries marks row k e before at so_far = go e.parent refl where
+  go : (o : Option ℕ) → e.parent ≡ o → (is_marked marks k || option_map_or (is_marked row) o false) ≡ is_in_marked entries marks k
+  go None is = or_false (is_marked marks k) ∙ sym (in_marked_top entries marks k (rw at is)) where
+    or_false : (b : Bool) → (b || false) ≡ b
+    or_false true = refl
+    or_false false = refl
+  go (Some p) is =
+      let above = so_far p (before k p e at is) in
+      rw above (sym (in_marked_below entries marks k p before (rw at is)))

@@ -1,0 +1,14 @@
+pub mod Tree
+pub mod Rows
+pub mod Entries
+pub mod Spell
+pub mod Children
+pub mod Onto
+pub mod Heads
+pub mod TextTable
+pub mod Objects
+pub mod HeadRows
+pub mod Paths
+pub mod Names
+pub mod Start
+pub mod Pooled

@@ -1,0 +1,31 @@
+-- Texts written one behind the other, up to the length that a spelling may have.
+use Rattle.std.specs.Prelude.{◌≡◌, ℕ, ◌≤◌, ◌^◌, List, ◌++◌, length, Option, Some, None, Result, Ok, Err, nat_le, if◌then◌else◌}
+use Rattle.type_names.specs.declared.spell.SpellError.{SpellError}
+use Rattle.type_names.specs.declared.spell.SpellError.TheVariants as errors
+use Rattle.type_names.specs.declared.spell.Types.{Types}
+use Rattle.type_names.specs.Children.{IsTableFrom}
+use Rattle.type_names.specs.Entries.{Text}
+use Rattle.type_names.specs.Spell.{spelled_within}
+use Rattle.type_names.specs.Tree.{ParentsStandBefore, is_marked}
+
+-- a text behind what is written, where it is there and fits
+unfoldable pub onto : List ℕ → Option Text → Option (List ℕ)
+onto out None = None
+onto out (Some text) = if nat_le (length (out ++ text)) 4096 then Some (out ++ text) else None
+
+-- a call wrote what the definition gives, or it can't be written, or memory ran out
+abbrev pub Writes : {A : Type 0} → Result A SpellError → List ℕ → Option (List ℕ) → Type 0
+Writes (Ok x) new told = told ≡ Some new
+Writes (Err errors.Cannot) new told = told ≡ None
+Writes (Err errors.NoMemory) new told = Unit {0}
+
+-- what spelling reads is of one object
+pub record AreTypes (types : Types) : Type 0 where
+  pub few : length types.entries.now ≤ 2 ^ 24
+  pub parents : ParentsStandBefore types.entries.now
+  pub table : IsTableFrom types.entries.now types.children.now.first.items types.children.now.next.items 0
+  pub open_len : length types.may_open.now ≡ length types.entries.now
+
+-- the spelling of a type with at most so many types open
+abbrev pub spelled_in : Types → ℕ → ℕ → Option Text
+spelled_in types levels = spelled_within levels (is_marked types.may_open.now) types.entries.now

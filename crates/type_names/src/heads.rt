@@ -1,0 +1,374 @@
+//! Heads: the types that are merged with those of the same name in other objects.
+
+ghost use Rattle.std.specs.Prelude.{◌≡◌, ◌≤◌, ◌<◌, ◌^◌, ◌&&◌, ◌||◌, not, true, false, length, slice_get, Some, is_some, IfOk};
+ghost use Rattle.type_names.specs.Spell.{made_by};
+ghost use Rattle.std.specs.List.{list_all};
+ghost use Rattle.std.specs.Option.{ForSome, option_map_or};
+ghost use Rattle.type_names.specs.Entries.{name_of};
+ghost use Rattle.type_names.specs.HeadRows.{AreRows, HasParametersTo, is_open_at, is_tied_at, template_of};
+ghost use Rattle.type_names.specs.Heads.{has_one_definition, has_template_parameter, is_clean, is_common, is_derived, is_derived_at_top, is_derived_attribute, is_in_named_head, is_named_head, is_open_namespace, is_plain_derived, is_reached, takes_part, tells};
+ghost use Rattle.type_names.specs.Objects.{object_of};
+ghost use Rattle.type_names.specs.Rows.{IsRow};
+ghost use Rattle.type_names.specs.Tree.{ParentsStandBefore, is_at_top, is_marked, parent_of};
+
+use crate::entries::{
+    has_field, holds, is_made_up, is_named_type, is_template_parameter, is_tied, is_type, name_of,
+};
+use crate::rows::mark_if;
+use crate::tree::{mark, marked_below};
+use ds_base::dwarf::{
+    DW_AT_byte_size, DW_AT_containing_type, DW_AT_prototyped, DW_AT_sibling, DW_AT_type,
+    DW_LANG_C_plus_plus, DW_LANG_C_plus_plus_03, DW_LANG_C_plus_plus_11, DW_LANG_C_plus_plus_14,
+    DW_LANG_ObjC_plus_plus, DW_TAG_array_type, DW_TAG_atomic_type, DW_TAG_base_type,
+    DW_TAG_const_type, DW_TAG_namespace, DW_TAG_pointer_type, DW_TAG_ptr_to_member_type,
+    DW_TAG_reference_type, DW_TAG_restrict_type, DW_TAG_rvalue_reference_type,
+    DW_TAG_subroutine_type, DW_TAG_unspecified_type, DW_TAG_volatile_type,
+};
+use ds_base::{BitRow, NoMemory};
+use dwarf_types::{Analysis, Entries, EntryRef};
+use std::alloc::Global;
+
+/// Rows of an object from which its heads are told.
+#[derive(Drop)]
+pub(crate) struct HeadRows {
+    /// The entries that are tied to their unit.
+    pub(crate) tied: BitRow,
+    /// The entries below which one is tied.
+    pub(crate) tied_below: BitRow,
+    /// The entries that are open namespaces, as are all above them but the unit.
+    pub(crate) namespaces: BitRow,
+    /// The entries with a parameter of a template among their children.
+    pub(crate) template: BitRow,
+}
+
+/// The rows of an object.
+pub(crate) fn rows_of(alloc: Global, entries: &Entries) -> Result<HeadRows, NoMemory>
+    requires few { length entries.now ≤ 2 ^ 24 }
+    requires parents { ParentsStandBefore entries.now }
+    ensures { IfOk result (λ rows. AreRows entries.now rows) }
+{
+    let tied = tied_of(alloc, entries)?;
+    let tied_below = marked_below(alloc, entries, &tied)?;
+    let namespaces = open_of(alloc, entries)?;
+    let template = templates_of(alloc, entries)?;
+    Ok(HeadRows {
+        tied,
+        tied_below,
+        namespaces,
+        template,
+    })
+}
+
+/// Of each entry, whether it is tied to its unit.
+fn tied_of(alloc: Global, entries: &Entries) -> Result<BitRow, NoMemory>
+    requires { length entries.now ≤ 2 ^ 24 }
+    ensures { IfOk result (λ row. IsRow (is_tied_at entries.now) (length entries.now) row) }
+{
+    let mut row = BitRow::new(alloc, entries.len() as u32)?;
+    for i in 0..entries.len() {
+        let tied = is_tied(&entries.entry(i));
+        mark_if(&mut row, i as u32, tied);
+    }
+    Ok(row)
+}
+
+/// Of each entry, whether it and all entries above it but the unit are open namespaces.
+fn open_of(alloc: Global, entries: &Entries) -> Result<BitRow, NoMemory>
+    requires few { length entries.now ≤ 2 ^ 24 }
+    requires parents { ParentsStandBefore entries.now }
+    ensures { IfOk result (λ row. IsRow (is_open_at entries.now) (length entries.now) row) }
+{
+    let mut row = BitRow::new(alloc, entries.len() as u32)?;
+    for i in 0..entries.len() {
+        let open = is_open(&entries.entry(i), &row);
+        mark_if(&mut row, i as u32, open);
+    }
+    Ok(row)
+}
+
+/// Whether an entry is a unit, or an open namespace in entries that are open.
+fn is_open(entry: &EntryRef, row: &BitRow) -> bool
+    requires { ForSome entry.now.parent (λ p. p < length row.now) }
+    ensures { result ≡ option_map_or (λ p. is_marked row.now p && is_open_namespace entry.now) entry.now.parent true }
+{
+    match entry.parent() {
+        Some(p) => row.get(p) && is_open_namespace(entry),
+        None => true,
+    }
+}
+
+/// Whether an entry is a named namespace that is not tied to its unit.
+fn is_open_namespace(entry: &EntryRef) -> bool
+    ensures { result ≡ is_open_namespace entry.now }
+{
+    entry.tag() == DW_TAG_namespace && name_of(entry).is_some() && !has_field(entry)
+}
+
+/// Of each entry, whether a child of it is a parameter of a template.
+fn templates_of(alloc: Global, entries: &Entries) -> Result<BitRow, NoMemory>
+    requires few { length entries.now ≤ 2 ^ 24 }
+    requires parents { ParentsStandBefore entries.now }
+    ensures { IfOk result (λ row. HasParametersTo entries.now row (length entries.now)) }
+{
+    let mut row = BitRow::new(alloc, entries.len() as u32)?;
+    for i in 0..entries.len() {
+        mark(&mut row, template_of(&entries.entry(i)));
+    }
+    Ok(row)
+}
+
+/// The template of which an entry is a parameter.
+fn template_of(entry: &EntryRef) -> Option<u32>
+    ensures { result ≡ template_of entry.now }
+{
+    if is_template_parameter(entry.tag()) {
+        entry.parent()
+    } else {
+        None
+    }
+}
+
+/// Whether no entry of a subtree is tied to its unit.
+pub(crate) fn is_clean(seen: &Analysis, live: &BitRow, rows: &HeadRows, k: u32) -> bool
+    requires place { k < length seen.now.entries }
+    requires parents { ParentsStandBefore seen.now.entries }
+    requires rows { AreRows seen.now.entries rows.now }
+    ensures { result ≡ is_clean (object_of seen.now live.now) k }
+{
+    !is_spoilt(rows, k)
+}
+
+/// Whether an entry is tied to its unit, or one below it.
+fn is_spoilt(rows: &HeadRows, k: u32) -> bool
+    requires { (k < length rows.now.tied) × (k < length rows.now.tied_below) }
+    ensures { result ≡ (is_marked rows.now.tied k || is_marked rows.now.tied_below k) }
+{
+    rows.tied.get(k) || rows.tied_below.get(k)
+}
+
+/// Of each entry, whether it is a named head.
+pub(crate) fn named_heads(
+    alloc: Global,
+    seen: &Analysis,
+    live: &BitRow,
+    rows: &HeadRows,
+) -> Result<BitRow, NoMemory>
+    requires few { length seen.now.entries ≤ 2 ^ 24 }
+    requires live { length live.now ≡ length seen.now.entries }
+    requires parents { ParentsStandBefore seen.now.entries }
+    requires rows { AreRows seen.now.entries rows.now }
+    ensures { IfOk result (λ row. IsRow (is_named_head (object_of seen.now live.now)) (length seen.now.entries) row) }
+{
+    let mut row = BitRow::new(alloc, seen.entries.len() as u32)?;
+    for i in 0..seen.entries.len() {
+        let head = is_named_head(seen, live, rows, i as u32);
+        mark_if(&mut row, i as u32, head);
+    }
+    Ok(row)
+}
+
+/// Whether an entry is a named head: a type that is told by its name and by namespaces alone.
+#[tactic(auto, unfolding(crate::specs::Heads::is_named_head))]
+fn is_named_head(seen: &Analysis, live: &BitRow, rows: &HeadRows, k: u32) -> bool
+    requires place { k < length seen.now.entries }
+    requires live { length live.now ≡ length seen.now.entries }
+    requires parents { ParentsStandBefore seen.now.entries }
+    requires rows { AreRows seen.now.entries rows.now }
+    ensures { result ≡ is_named_head (object_of seen.now live.now) k }
+{
+    let entry = seen.entries.entry(k as usize);
+    takes_part(seen, live, k, &entry)
+        && is_type(entry.tag())
+        && is_told(seen, live, rows, k, &entry)
+        && is_reached(seen, rows, k, &entry)
+        && is_clean(seen, live, rows, k)
+}
+
+/// Whether an entry is live, and its unit takes part in merging.
+pub(crate) fn takes_part(seen: &Analysis, live: &BitRow, k: u32, entry: &EntryRef) -> bool
+    requires { k < length live.now }
+    ensures { result ≡ takes_part (object_of seen.now live.now) k entry.now }
+{
+    live.get(k) && is_in_merged_unit(seen, entry)
+}
+
+/// Whether the unit of an entry takes part in merging.
+fn is_in_merged_unit(seen: &Analysis, entry: &EntryRef) -> bool
+    ensures { result ≡ option_map_or (λ unit. has_one_definition unit.language) (slice_get seen.now.units entry.now.unit) false }
+{
+    match seen.units.get(entry.unit() as usize) {
+        Some(unit) => has_one_definition(unit.language),
+        None => false,
+    }
+}
+
+/// Whether the types of a language have one definition in the whole program: C++ and Objective-C++.
+fn has_one_definition(language: u16) -> bool
+    ensures { result ≡ has_one_definition language }
+{
+    matches!(
+        language,
+        DW_LANG_C_plus_plus
+            | DW_LANG_ObjC_plus_plus
+            | DW_LANG_C_plus_plus_03
+            | DW_LANG_C_plus_plus_11
+            | DW_LANG_C_plus_plus_14
+    )
+}
+
+/// Whether an entry can be told by its name.
+fn is_told(seen: &Analysis, live: &BitRow, rows: &HeadRows, k: u32, entry: &EntryRef) -> bool
+    requires place { k < length seen.now.entries }
+    requires rows { AreRows seen.now.entries rows.now }
+    ensures { result ≡ option_map_or (tells (object_of seen.now live.now) k) (name_of entry.now) false }
+{
+    match name_of(entry) {
+        Some(name) => tells(seen, live, rows, k, name),
+        None => false,
+    }
+}
+
+/// Whether a type can be told by a name. A template is told by a name with its arguments alone.
+fn tells(seen: &Analysis, live: &BitRow, rows: &HeadRows, k: u32, name: &[u8]) -> bool
+    requires place { k < length seen.now.entries }
+    requires rows { AreRows seen.now.entries rows.now }
+    ensures { result ≡ tells (object_of seen.now live.now) k name.now }
+{
+    !is_made_up(name) && (holds(b"<", name) || !has_template_parameter(&seen.entries, rows, k))
+}
+
+/// Whether a child of an entry is a parameter of a template.
+fn has_template_parameter(entries: &Entries, rows: &HeadRows, k: u32) -> bool
+    requires place { k < length entries.now }
+    requires rows { AreRows entries.now rows.now }
+    ensures { result ≡ has_template_parameter entries.now k }
+{
+    rows.template.get(k)
+}
+
+/// Whether the parent of an entry is the unit, or is reached by open namespaces alone.
+fn is_reached(seen: &Analysis, rows: &HeadRows, k: u32, entry: &EntryRef) -> bool
+    requires stands { slice_get seen.now.entries k ≡ Some entry.now }
+    requires parents { ParentsStandBefore seen.now.entries }
+    requires rows { AreRows seen.now.entries rows.now }
+    ensures { result ≡ is_reached seen.now.entries k entry.now }
+{
+    match entry.parent() {
+        Some(p) => rows.namespaces.get(p),
+        None => false,
+    }
+}
+
+/// Of each entry, whether it is a type that means the same in every object.
+pub(crate) fn common_of(
+    alloc: Global,
+    seen: &Analysis,
+    live: &BitRow,
+    in_named: &BitRow,
+) -> Result<BitRow, NoMemory>
+    requires few { length seen.now.entries ≤ 2 ^ 24 }
+    requires named { IsRow (is_in_named_head (object_of seen.now live.now)) (length seen.now.entries) in_named.now }
+    ensures { IfOk result (λ row. IsRow (is_common (object_of seen.now live.now)) (length seen.now.entries) row) }
+{
+    let mut row = BitRow::new(alloc, seen.entries.len() as u32)?;
+    for i in 0..seen.entries.len() {
+        let common = is_common(seen, live, in_named, i as u32);
+        mark_if(&mut row, i as u32, common);
+    }
+    Ok(row)
+}
+
+/// Whether an entry is a type that means the same in every object.
+fn is_common(seen: &Analysis, live: &BitRow, in_named: &BitRow, k: u32) -> bool
+    requires place { k < length seen.now.entries }
+    requires named { IsRow (is_in_named_head (object_of seen.now live.now)) (length seen.now.entries) in_named.now }
+    ensures { result ≡ is_common (object_of seen.now live.now) k }
+{
+    let entry = seen.entries.entry(k as usize);
+    entry.tag() == DW_TAG_base_type
+        || entry.tag() == DW_TAG_unspecified_type
+        || (is_named_type(&entry) && in_named.get(k))
+        || is_plain_derived(&seen.entries, &entry)
+}
+
+/// Whether an entry is a derived type below its unit of which nothing else is told.
+fn is_plain_derived(entries: &Entries, entry: &EntryRef) -> bool
+    ensures { result ≡ is_plain_derived entries.now entry.now }
+{
+    is_derived_at_top(entries, entry) && has_derived_attributes(entry)
+}
+
+/// Whether an entry is a derived type whose parent is the unit.
+pub(crate) fn is_derived_at_top(entries: &Entries, entry: &EntryRef) -> bool
+    ensures { result ≡ is_derived_at_top entries.now entry.now }
+{
+    is_derived(entry.tag()) && is_at_top(entries, entry)
+}
+
+/// Whether the tag is that of a type that is made of others.
+fn is_derived(tag: u16) -> bool
+    ensures { result ≡ is_derived tag }
+{
+    is_made(tag)
+        || tag == DW_TAG_ptr_to_member_type
+        || tag == DW_TAG_array_type
+        || tag == DW_TAG_subroutine_type
+}
+
+/// Whether the tag is that of a type that is made of one other.
+fn is_made(tag: u16) -> bool
+    ensures { result ≡ is_some (made_by tag) }
+{
+    match tag {
+        DW_TAG_pointer_type => true,
+        DW_TAG_reference_type => true,
+        DW_TAG_rvalue_reference_type => true,
+        DW_TAG_const_type => true,
+        DW_TAG_volatile_type => true,
+        DW_TAG_restrict_type => true,
+        DW_TAG_atomic_type => true,
+        _ => false,
+    }
+}
+
+/// Whether the parent of an entry is its unit.
+fn is_at_top(entries: &Entries, entry: &EntryRef) -> bool
+    ensures { result ≡ is_at_top entries.now entry.now }
+{
+    match entry.parent() {
+        Some(p) => is_root(entries, p),
+        None => false,
+    }
+}
+
+/// Whether an entry is a unit.
+fn is_root(entries: &Entries, k: u32) -> bool
+    ensures { result ≡ (is_some (slice_get entries.now k) && not (is_some (parent_of entries.now k))) }
+{
+    match entries.get(k as usize) {
+        Some(entry) => entry.parent().is_none(),
+        None => false,
+    }
+}
+
+/// Whether an entry has no attributes but those that every derived type may have.
+fn has_derived_attributes(entry: &EntryRef) -> bool
+    ensures { result ≡ list_all (λ a. is_derived_attribute a.name) entry.now.attrs }
+{
+    for j in 0..entry.len() {
+        if !is_derived_attribute(entry.attr(j).name) {
+            return false;
+        }
+    }
+    true
+}
+
+/// Whether every derived type may have an attribute of this name.
+fn is_derived_attribute(name: u16) -> bool
+    ensures { result ≡ is_derived_attribute name }
+{
+    matches!(
+        name,
+        DW_AT_sibling | DW_AT_byte_size | DW_AT_containing_type | DW_AT_prototyped | DW_AT_type
+    )
+}

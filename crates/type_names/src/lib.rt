@@ -1,0 +1,25 @@
+//! Names of types: which entries of an object are merged with those of other objects, and how types are spelled.
+//!
+//! Layer: names. The definitions stand in `specs/`: the trees of entries (`Tree`), what an entry says of itself
+//! (`Entries`), spelled types (`Spell`), heads and pooled entries (`Heads`), paths (`Paths`), names with their bids
+//! (`Names`) and where the search for a path starts (`Start`). [`type_names`] tells of an object which entries are pooled,
+//! and the spelled texts of their pieces (`pooled`; what it answers stands in `specs/Pooled.antt`). It goes over the
+//! entries a fixed number of times: rows tell what heads ask of each entry (`heads`), marks go down and up the trees by
+//! parents alone (`tree`), and a table leads from an entry to its children (`children`). Types are spelled with at most
+//! 64 of them open and up to 4,096 bytes (`spell`), and nothing recurses deeper; the texts lie in one row of bytes
+//! ([`TextTable`]).
+#![tactic(auto)]
+
+mod children;
+mod entries;
+mod heads;
+mod pooled;
+mod rows;
+mod spell;
+mod text_table;
+mod tree;
+
+pub use entries::{is_declaration, is_named_type, is_type, linkage_of, name_of};
+pub use pooled::{TypeNames, is_overloaded, type_names};
+pub use text_table::TextTable;
+pub use tree::{in_marked, marked_below};
