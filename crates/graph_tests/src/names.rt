@@ -19,7 +19,7 @@ use ds_base::dwarf::{
 };
 use dwarf_types::Analysis;
 use liveness::live;
-use odr_names::{PathBook, book, count, number, occurrence, winners_plain};
+use odr_names::{BookError, PathBook, book, count, number, occurrence, winners_plain};
 use std::alloc::Global;
 use std::process::Abort;
 
@@ -56,20 +56,26 @@ fn names_of(alloc: Global, names: &PathBook) -> Result<Vec<u8>, NoMemory> {
     Ok(line)
 }
 
-/// The names of two objects, in words.
-fn both(alloc: Global, odr: bool, first: Analysis, second: Analysis) -> Result<Vec<u8>, NoMemory>
+/// The names of two objects, in words; none where there are too many of them.
+fn both(
+    alloc: Global,
+    odr: bool,
+    first: Analysis,
+    second: Analysis,
+) -> Result<Option<Vec<u8>>, NoMemory>
     requires first { IsSound first }
     requires second { IsSound second }
 {
     let live = [live(alloc, &first)?, live(alloc, &second)?];
     let seen = [first, second];
-    let Ok(names) = book(alloc, &seen, &live, odr) else {
-        return Err(NoMemory);
-    };
-    names_of(alloc, &names)
+    match book(alloc, &seen, &live, odr) {
+        Ok(names) => Ok(Some(names_of(alloc, &names)?)),
+        Err(BookError::Pooled) => Ok(None),
+        Err(BookError::NoMemory) => Err(NoMemory),
+    }
 }
 
-/// The names of two analyses, where they are sound.
+/// The names of two analyses; none where one isn't sound, or there are too many.
 fn named(
     alloc: Global,
     odr: bool,
@@ -81,7 +87,7 @@ fn named(
     if !is_sound(&first) || !is_sound(&second) {
         return Ok(None);
     }
-    Ok(Some(both(alloc, odr, first, second)?))
+    both(alloc, odr, first, second)
 }
 
 fn assert_names(
@@ -91,7 +97,7 @@ fn assert_names(
     wanted: &[u8],
 ) {
     let Ok(Some(line)) = named else {
-        panic!(rt; "{label}: not sound, or no memory");
+        panic!(rt; "{label}: not sound, too many, or no memory");
     };
     assert_eq!(rt; line.as_slice(), wanted, "{label}");
 }

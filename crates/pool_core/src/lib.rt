@@ -1,6 +1,6 @@
 //! The shared pool of names as a plain machine: cells that names are put into, and a least word for each cell.
 //!
-//! Layer: choosing. A [`Step`] puts a name into a cell, where that is empty, or lowers a cell's least word to the minimum
+//! Layer: sharing. A [`Step`] puts a name into a cell, where that is empty, or lowers a cell's least word to the minimum
 //! of itself and a number. [`step`] does one and answers the word that stood there, [`run`] a list of them. Whatever the
 //! list, a filled cell keeps its name, an empty one gets the first name that is brought to it, and a least word becomes
 //! the minimum of itself and all numbers that are brought to it (`specs/Machine.antt`), so the order of the numbers does
