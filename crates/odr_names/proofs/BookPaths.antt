@@ -106,6 +106,19 @@ bid_at_names objects rows x row at = rw (name_is objects rows x row at) refl
 pub hash_at_names : (objects : List Object) (rows : List Row) (x : ℕ) (row : Row) → AreRows objects rows → slice_get rows x ≡ Some row → row.hash ≡ path_hash (path_at (map (row_name objects) rows) x)
 hash_at_names objects rows x row sound at = hash_is objects rows x row sound at ∙ ap path_hash (sym (path_at_names objects rows x (slice_get_within rows x row at)))
 
+-- the path of a name is that of the row above, and a piece
+pub above_in_names : (objects : List Object) (rows : List Row) (x : ℕ) (row : Row) → AreRows objects rows → slice_get rows x ≡ Some row
+    → (piece : Piece) × (path_at (map (row_name objects) rows) x ≡ option_map_or (path_at (map (row_name objects) rows)) row.parent [] ++ piece ∷ [])
+above_in_names objects rows x row sound at =
+    let it = sound.linked x row at in (
+      it.piece,
+      path_at_names objects rows x (slice_get_within rows x row at) ∙ path_of_row objects rows x row sound at
+          ∙ ap (λ (path : List Piece). path ++ it.piece ∷ []) (go row.parent (above_in objects rows x row sound at)),
+    ) where
+      go : (parent : Option ℕ) → ForSome parent (λ p. p < length rows) → path_above objects rows parent ≡ option_map_or (path_at (map (row_name objects) rows)) parent []
+      go None within = refl
+      go (Some p) within = sym (path_at_names objects rows p (within p refl))
+
 -- ---- lists that grow
 
 pub get_before : {X : Type 0} (xs ys : List X) (x : ℕ) → x < length xs → slice_get (xs ++ ys) x ≡ slice_get xs x

@@ -122,7 +122,8 @@ found_all names ranks winners i ranked whole found = record {
 
 -- ---- the order
 
-told : (a b c e : ℕ) → is_lt (ordering_then (nat_cmp b a) (nat_cmp e c)) ≡ false → (a < b) ⊎ ((a ≡ b) × (c ≤ e))
+-- the order by two numbers
+pub told : (a b c e : ℕ) → is_lt (ordering_then (nat_cmp b a) (nat_cmp e c)) ≡ false → (a < b) ⊎ ((a ≡ b) × (c ≤ e))
 told a b c e not_below = elim (cases_lt a b) [
   | inl lt ↦ inl lt
   | inr ge ↦ elim (cases_lt b a) [

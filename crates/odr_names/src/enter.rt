@@ -26,7 +26,7 @@ use std::alloc::Global;
 use type_names::{TypeNames, is_declaration};
 
 /// The number of entries from which on no book is made.
-const MOST_POOLED: usize = 1 << 25;
+pub const MOST_POOLED: usize = 1 << 25;
 
 /// Enters an entry, where it is pooled, and gives the number of its row.
 pub(crate) fn enter_entry(

@@ -20,9 +20,10 @@ mod piece;
 mod winners;
 
 pub use book_error::BookError;
+pub use enter::MOST_POOLED;
 pub use entry_place::Occurrence;
 pub use path_book::{
-    Objects, PathBook, Row, book, count, number, occurrence, path_equal, path_start,
+    Objects, PathBook, Row, above, book, count, number, occurrence, path_equal, path_start,
 };
 pub use piece::{PartsRef, PieceRef, Private};
 pub use winners::{Ranked, winners_plain};

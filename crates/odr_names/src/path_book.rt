@@ -1,8 +1,8 @@
 //! The book of names.
 
-ghost use Rattle.std.specs.Prelude.{◌≡◌, ◌<◌, ◌≤◌, ◌-◌, ◌/◌, ◌%◌, ◌^◌, ◌↔◌, ℕ, length, slice_get, IsTrue, Some, Err, IfOk};
+ghost use Rattle.std.specs.Prelude.{◌≡◌, ◌<◌, ◌≤◌, ◌-◌, ◌/◌, ◌%◌, ◌^◌, ◌↔◌, ℕ, [], ◌∷◌, ◌++◌, length, slice_get, IsTrue, Some, Err, IfOk};
 ghost use Rattle.std.specs.List.{All};
-ghost use Rattle.std.specs.Option.{ForSome, option_map};
+ghost use Rattle.std.specs.Option.{ForSome, option_map, option_map_or};
 ghost use Rattle.dwarf_types.specs.Sound.{IsSound};
 ghost use Rattle.odr_names.specs.declared.book_error.BookError.TheVariants as errors;
 ghost use Rattle.odr_names.specs.Book.{AreRows, AreTold, IsBook, IsRowOf, SamePath, bid_at, objects_in, objects_of, path_at, path_in, row_bid, row_piece};
@@ -10,6 +10,7 @@ ghost use Rattle.odr_names.specs.Making.{AreLiveRows, merged};
 ghost use Rattle.odr_names.specs.Pieces.{piece_seen};
 ghost use Rattle.odr_names.specs.declared.path_book.Row.{Row as ARow};
 ghost use Rattle.type_names.specs.Names.{Named, names};
+ghost use Rattle.type_names.specs.Paths.{Piece};
 ghost use Rattle.type_names.specs.Start.{path_hash, start_of};
 
 use crate::book_error::BookError;
@@ -133,6 +134,15 @@ pub fn number(names: &PathBook, x: u32) -> u64
     ensures { result ≡ bid_at names.now x }
 {
     bid_of(row_at(&names.rows, x))
+}
+
+/// The name whose path is that of name `x` without its last piece, if that has more pieces than one.
+pub fn above(names: &PathBook, x: u32) -> Option<u32>
+    requires { x < length names.now }
+    ensures before { ForSome result (λ p. p < x) }
+    ensures path { (piece : Piece) × (path_at names.now x ≡ option_map_or (path_at names.now) result [] ++ piece ∷ []) }
+{
+    row_at(&names.rows, x).parent
 }
 
 /// Whether two names have the same path.
