@@ -1,13 +1,12 @@
 -- What is cloned by the root of a unit's nodes is the unit of the linked graph.
 use Rattle.std.proofs.Common.{◌≡◌, ℕ, ◌+◌, ◌-◌, ◌<◌, Bool, true, false, cond, eqb, List, [], ◌∷◌, ◌++◌, length, map, get_or, slice_get, Option, Some, None, is_some, inl, inr, refl, sym, ap, subst, ◌∙◌, arith}
 use Rattle.std.proofs.Math.Path.{fun_ext}
-use Rattle.std.specs.List.{All, cons_option, enumerate_from, filter_map, position}
+use Rattle.std.specs.List.{All, cons_option, filter_map}
 use Rattle.std.specs.Option.{option_and_then, option_map}
 use Rattle.std.proofs.lemmas.Bool.{and_parts, eqb-false, eqb-true, ne_eqb}
 use Rattle.std.proofs.lemmas.List.Elements.{All-filter, All-head, All-tail, filter_passes}
-use Rattle.std.proofs.lemmas.Option.{get_or_from_slice_get, same_Some, slice_get-get_or, slice_get-map, slice_get_cases, slice_get_past, slice_get_within}
+use Rattle.std.proofs.lemmas.Option.{get_or_from_slice_get, same_Some, slice_get-get_or, slice_get-map, slice_get_cases, slice_get_within}
 use Rattle.std.proofs.lemmas.List.{length-map}
-use Rattle.std.proofs.lemmas.List.FromFn.{length-enumerate_from}
 use Rattle.clone_values.specs.Images.{image_at}
 use Rattle.dwarf_types.specs.declared.address.Span.{Span}
 use Rattle.dwarf_types.specs.declared.analysis.Analysis.{Analysis}
@@ -19,42 +18,25 @@ use Rattle.dwarf_types.specs.declared.graph.Target.{Target}
 use Rattle.dwarf_types.specs.declared.shape.Origin.{Origin}
 use Rattle.dwarf_types.specs.declared.shape.Shape.{Shape}
 use Rattle.dwarf_types.specs.declared.shape.ShapeUnit.{ShapeUnit}
-use Rattle.dwarf_types.specs.LinkedGraph.{closing, code_of_unit, linked, node_of, unit_written}
-use Rattle.dwarf_types.specs.LinkedShape.{IsShape, images_in, marks_in, objects_in, origin_of, plain_in}
-use Rattle.dwarf_types.specs.LinkedUnits.{Object, Source, plain_target, kept_entries, node_number, numbered, parent_node, same_source, sources}
+use Rattle.dwarf_types.specs.LinkedGraph.{closing, code_of_unit, node_of, unit_written}
+use Rattle.dwarf_types.specs.LinkedShape.{marks_in, objects_in, origin_of, plain_in}
+use Rattle.dwarf_types.specs.LinkedUnits.{Object, Source, kept_entries, numbered, parent_node}
 use Rattle.dwarf_types.specs.LinkedValues.{attrs_written}
-use Rattle.dwarf_types.specs.Live.{Stands}
-use Rattle.link_graph.proofs.Gathered.{All-enumerate, enumerate_at}
+use Rattle.link_graph.specs.Graph.{IsShape, graph_in, image_of}
+use Rattle.link_graph.proofs.Gathered.{All-enumerate}
 use Rattle.link_graph.proofs.Shapes.{Parts, object_parts}
-use Rattle.link_graph.proofs.Stretches.{numbered_at, numbered_length}
 use Rattle.clone_units.specs.Nodes.{IsNamed, node_at, number_of_object}
 use Rattle.clone_units.specs.Pieces.{object_in}
-use Rattle.clone_units.specs.Units.{AreThere, IsUnitOf, Names, unit_with}
+use Rattle.clone_units.specs.Units.{AreThere, IsUnitOf, Names, object_of, unit_with}
 use Rattle.clone_units.proofs.Named.{node_made}
+use Rattle.clone_units.proofs.Placed.{IsBehind}
 use Rattle.clone_units.proofs.Sources.{IsFrom, unit_from}
 
 -- ---- where the entries went
 
-numbers_at : (o : Object) (k : ℕ) (e : Entry) → Stands o.seen.entries k e → slice_get (numbered o) k ≡ Some (k, e)
-numbers_at o k e at =
-    let within : k < length o.seen.entries = slice_get_within o.seen.entries k e at in
-    slice_get-get_or (numbered o) k (k, e) (omega (arith, numbered_length o)) ∙ ap (λ (x : ℕ × Entry). Some x) (numbered_at o k (k, e) within ∙ ap (λ (x : Entry). (k, x)) (get_or_from_slice_get o.seen.entries k e e at))
-
--- the images of an object tell where its entries went
-images_tell : (objects : List Object) (i : ℕ) (o : Object) (images : List (Option Target)) → slice_get objects i ≡ Some o → images ≡ images_in objects (i, o) → image_at images ≡ plain_target 0 objects i
-images_tell objects i o images at are = fun_ext (λ k.
-    ap (λ (xs : List (Option Target)). image_at xs k) are ∙ ap (option_and_then (λ (image : Option Target). image)) (slice_get-map (λ (e : ℕ × Entry). plain_target 0 objects i e.0) (numbered o) k) ∙ elim (slice_get_cases o.seen.entries k).1 [
-      | inl w ↦ ap (λ (x : Option (ℕ × Entry)). option_and_then (λ (image : Option Target). image) (option_map (λ (e : ℕ × Entry). plain_target 0 objects i e.0) x)) (numbers_at o k w.0 w.2)
-      | inr w ↦ ap (λ (x : Option (ℕ × Entry)). option_and_then (λ (image : Option Target). image) (option_map (λ (e : ℕ × Entry). plain_target 0 objects i e.0) x)) (slice_get_past (numbered o) k (omega (arith, w.0, numbered_length o)))
-          ∙ sym (nowhere k w.1)
-    ])
-  where
-    nowhere : (k : ℕ) → slice_get o.seen.entries k ≡ None → plain_target 0 objects i k ≡ None
-    nowhere k none =
-        ap (option_and_then (λ (o : Object). option_and_then (λ (e : Entry). option_and_then (λ unit. option_map (λ node. record { unit = 0 + unit; node = node }) (node_number o e.unit k))
-        (position (same_source (record { object = i; unit = e.unit })) (sources objects))) (slice_get o.seen.entries k))) at
-        ∙ ap (option_and_then (λ (e : Entry). option_and_then (λ unit. option_map (λ node. record { unit = 0 + unit; node = node }) (node_number o e.unit k))
-        (position (same_source (record { object = i; unit = e.unit })) (sources objects)))) none
+-- the row of an object tells where its entries went
+images_tell : (shape : Shape) (i : ℕ) (row : List (Option Target)) → slice_get shape.images i ≡ Some row → image_at row ≡ image_of shape i
+images_tell shape i row at = sym (fun_ext (λ k. ap (option_and_then (λ (images : List (Option Target)). option_and_then (λ (image : Option Target). image) (slice_get images k))) at))
 
 -- ---- nodes
 
@@ -71,11 +53,11 @@ gather_each f origin made (x ∷ xs) each =
     let here : f (origin x) ≡ Some (made x) = All-head (λ y. f (origin y) ≡ Some (made y)) x xs each in
     ap (λ o. cons_option o (filter_map f (map origin xs))) here ∙ ap (λ ys. made x ∷ ys) (gather_each f origin made xs (All-tail (λ y. f (origin y) ≡ Some (made y)) x xs each))
 
-nodes_are : (objects : List Object) (seen : List Analysis) (images : List (List (Option Target))) (i : ℕ) (o : Object) (u : ℕ) (row : List (Option Target)) → slice_get seen i ≡ Some o.seen → slice_get images i ≡ Some row
-    → image_at row ≡ plain_target 0 objects i
-    → filter_map (node_at seen images (code_of_unit o u)) (map (origin_of i o u) (kept_entries o u)) ≡ map (node_of (plain_target 0 objects i) o u) (kept_entries o u)
-nodes_are objects seen images i o u row there its tell =
-    gather_each (node_at seen images spans) (origin_of i o u) (node_of (plain_target 0 objects i) o u) (kept_entries o u) (λ k d lt. each (get_or (kept_entries o u) k d) (kept_stand o u k d lt))
+nodes_are : (image : ℕ → ℕ → Option Target) (seen : List Analysis) (images : List (List (Option Target))) (i : ℕ) (o : Object) (u : ℕ) (row : List (Option Target)) → slice_get seen i ≡ Some o.seen → slice_get images i ≡ Some row
+    → image_at row ≡ image i
+    → filter_map (node_at seen images (code_of_unit o u)) (map (origin_of i o u) (kept_entries o u)) ≡ map (node_of (image i) o u) (kept_entries o u)
+nodes_are image seen images i o u row there its tell =
+    gather_each (node_at seen images spans) (origin_of i o u) (node_of (image i) o u) (kept_entries o u) (λ k d lt. each (get_or (kept_entries o u) k d) (kept_stand o u k d lt))
   where
     spans : List Span
     spans = code_of_unit o u
@@ -83,7 +65,7 @@ nodes_are objects seen images i o u row there its tell =
     made : ℕ × Entry → (ℕ → Option Target) → Node
     made e image = record { parent = parent_node o u e.1; tag = e.1.tag; attrs = attrs_written image None e.1 ++ closing e.1 spans }
 
-    each : (e : ℕ × Entry) → slice_get o.seen.entries e.0 ≡ Some e.1 → node_at seen images spans (origin_of i o u e) ≡ Some (node_of (plain_target 0 objects i) o u e)
+    each : (e : ℕ × Entry) → slice_get o.seen.entries e.0 ≡ Some e.1 → node_at seen images spans (origin_of i o u e) ≡ Some (node_of (image i) o u e)
     each e at = node_made seen images spans (origin_of i o u e) i o.seen row e.1 (number_back i) there its at ∙ ap (λ (image : ℕ → Option Target). Some (made e image)) tell
 
 -- ---- the unit
@@ -111,14 +93,14 @@ object_is o seen plain a b = ap (λ (s : Analysis). made s o.kept) a ∙ ap (mad
     made : Analysis → List Bool → Object
     made s m = record { seen = s; kept = m }
 
-unit_is : (objects : List Object) (seen : List Analysis) (images : List (List (Option Target))) (s : Source) (o : Object) (unit : InUnit) (plain : List (Option ℕ)) (row : List (Option Target)) (entry : Entry) (unit' : InUnit) (origins : List Origin)
-    → o ≡ object_in o.seen plain → slice_get seen s.object ≡ Some o.seen → slice_get images s.object ≡ Some row → image_at row ≡ plain_target 0 objects s.object
+unit_is : (image : ℕ → ℕ → Option Target) (seen : List Analysis) (images : List (List (Option Target))) (s : Source) (o : Object) (unit : InUnit) (plain : List (Option ℕ)) (row : List (Option Target)) (entry : Entry) (unit' : InUnit) (origins : List Origin)
+    → o ≡ object_in o.seen plain → slice_get seen s.object ≡ Some o.seen → slice_get images s.object ≡ Some row → image_at row ≡ image s.object
     → entry.unit ≡ s.unit → unit' ≡ unit → origins ≡ map (origin_of s.object o s.unit) (kept_entries o s.unit)
-    → unit_with seen images o.seen plain entry.unit unit' origins ≡ unit_written (plain_target 0 objects s.object) o s.unit unit
-unit_is objects seen images s o unit plain row entry unit' origins same there its tell u units are =
+    → unit_with seen images o.seen plain entry.unit unit' origins ≡ unit_written (image s.object) o s.unit unit
+unit_is image seen images s o unit plain row entry unit' origins same there its tell u units are =
     ap (λ (v : ℕ). unit_with seen images o.seen plain v unit' origins) u ∙ ap (λ (w : InUnit). unit_with seen images o.seen plain s.unit w origins) units ∙ ap (unit_with seen images o.seen plain s.unit unit) are
     ∙ ap (λ (x : Object). made (filter_map (node_at seen images (code_of_unit x s.unit)) (map (origin_of s.object o s.unit) (kept_entries o s.unit))) (code_of_unit x s.unit)) (sym same)
-    ∙ ap (λ (ns : List Node). made ns (code_of_unit o s.unit)) (nodes_are objects seen images s.object o s.unit row there its tell)
+    ∙ ap (λ (ns : List Node). made ns (code_of_unit o s.unit)) (nodes_are image seen images s.object o s.unit row there its tell)
   where
     made : List Node → List Span → OutUnit
     made nodes spans = record { version = unit.version; nodes = nodes; lines = unit.lines; ranges = spans }
@@ -130,12 +112,12 @@ counted_by k object true t e = absurd cc
 counted_by k object false t e = omega (arith, same_Some (k - 1) object e, eqb-false k 0 t)
 
 -- the unit of a shape is one of an object, for whose entries all its nodes stand
-module _ (all : List Analysis) (shape : Shape) (n : ℕ) (unit : ShapeUnit) (is : IsShape all shape) (at : slice_get shape.units n ≡ Some unit) where
+module _ (all : List Analysis) (shape : Shape) (n : ℕ) (unit : ShapeUnit) (is : IsShape all shape) (at : slice_get shape.units n ≡ Some unit) (behind : IsBehind all shape n unit) where
   abbrev objects : List Object
   objects = objects_in all shape
 
-  pub from : IsFrom objects n unit
-  from = unit_from objects n unit (sym (ap (λ (x : Shape). slice_get x.units n) is.is) ∙ at)
+  pub from : IsFrom (image_of shape) objects behind.place unit
+  from = unit_from (image_of shape) objects behind.place unit behind.at
 
   abbrev i : ℕ
   i = from.source.object
@@ -152,18 +134,11 @@ module _ (all : List Analysis) (shape : Shape) (n : ℕ) (unit : ShapeUnit) (is 
   pub parts : Parts all (marks_in shape) i o
   parts = object_parts all (marks_in shape) i o is.marked.each from.is.at
 
-  within : i < length objects
-  within = slice_get_within objects i o from.is.at
-
-  object_at : slice_get (enumerate_from 0 objects) i ≡ Some (i, o)
-  object_at = slice_get-get_or (enumerate_from 0 objects) i (i, o) (omega (arith, within, length-enumerate_from 0 objects))
-      ∙ ap (λ (x : ℕ × Object). Some x) (enumerate_at objects i (i, o) within ∙ ap (λ (x : Object). (i, x)) (get_or_from_slice_get objects i o o from.is.at))
-
-  pub images_there : slice_get shape.images i ≡ Some (images_in objects (i, o))
-  images_there = ap (λ (x : Shape). slice_get x.images i) is.is ∙ slice_get-map (images_in objects) (enumerate_from 0 objects) i ∙ ap (option_map (images_in objects)) object_at
+  images_there : (row : List (Option Target)) × (slice_get shape.images i ≡ Some row)
+  images_there = elim (slice_get_cases shape.images i).1 [ inl w ↦ (w.0, w.2) | inr w ↦ absurd (omega (arith, w.0, is.rows, slice_get_within all i o.seen parts.analysis)) ]
 
   pub plain_there : slice_get shape.plain i ≡ Some (plain_in o)
-  plain_there = ap (λ (x : Shape). slice_get x.plain i) is.is ∙ slice_get-map plain_in objects i ∙ ap (option_map plain_in) from.is.at
+  plain_there = ap (λ (rows : List (List (Option ℕ))). slice_get rows i) is.plain ∙ slice_get-map plain_in objects i ∙ ap (option_map plain_in) from.is.at
 
   kept_is : o.kept ≡ map is_some (plain_in o)
   kept_is = same_Some o.kept (map is_some (plain_in o)) (sym parts.marked ∙ slice_get-map (map is_some) shape.plain i ∙ ap (option_map (map is_some)) plain_there)
@@ -190,6 +165,18 @@ module _ (all : List Analysis) (shape : Shape) (n : ℕ) (unit : ShapeUnit) (is 
       let from_entry = node_from k origin there in
       record { unit = unit; its = at; node = k; origin = origin; stands = there; number = ap number_of_object from_entry.2 ∙ number_back i }
 
+  has_root : 0 < length unit.nodes
+  has_root = omega (arith, ap length origins, length-map (kept_entries o u) (origin_of i o u), eqb-false (length (kept_entries o u)) 0 from.is.some)
+
+  pub object_within : i < length all
+  object_within = slice_get_within all i o.seen parts.analysis
+
+  pub its_object : object_of shape n ≡ Some i
+  its_object =
+      let root = slice_get-get_or unit.nodes 0 (record { object = 0; entry = 0; parent = None }) has_root in
+      let from_entry = node_from 0 (get_or unit.nodes 0 (record { object = 0; entry = 0; parent = None })) root in
+      ap (option_and_then (λ (x : ShapeUnit). option_and_then number_of_object (slice_get x.nodes 0))) at ∙ ap (option_and_then number_of_object) root ∙ ap number_of_object from_entry.2 ∙ number_back i
+
   module _ (seen : List Analysis) (there : AreThere shape n all seen) where
     its_seen : (k : ℕ) (origin : Origin) → slice_get unit.nodes k ≡ Some origin → slice_get seen i ≡ Some o.seen
     its_seen k origin stands = there i (names_it k origin stands) ∙ parts.analysis
@@ -205,7 +192,7 @@ module _ (all : List Analysis) (shape : Shape) (n : ℕ) (unit : ShapeUnit) (is 
           analysis = o.seen;
           stands = its_seen k origin stands;
           inside = subst (λ (x : Origin). x.entry < length o.seen.entries) (sym e.2) (slice_get_within o.seen.entries e.0.0 e.0.1 entry_is);
-          row = slice_get_within shape.images i (images_in objects (i, o)) images_there;
+          row = slice_get_within shape.images i images_there.0 images_there.1;
         }
 
     pub all_named : All (IsNamed seen shape.images) unit.nodes
@@ -231,11 +218,8 @@ module _ (all : List Analysis) (shape : Shape) (n : ℕ) (unit : ShapeUnit) (is 
           plain = ap (slice_get shape.plain) (sym same) ∙ plain_there;
         }
 
-    pub has_root : 0 < length unit.nodes
-    has_root = omega (arith, ap length origins, length-map (kept_entries o u) (origin_of i o u), eqb-false (length (kept_entries o u)) 0 from.is.some)
-
-    pub cloned : (root : Origin) (it : OutUnit) → slice_get unit.nodes 0 ≡ Some root → IsUnitOf seen shape.images o.seen (plain_in o) root.entry unit.nodes it → slice_get (linked objects).units n ≡ Some it
-    cloned root it first of = from.linked_is ∙ ap (λ (made : OutUnit). Some made) (sym whole)
+    pub cloned : (root : Origin) (it : OutUnit) → slice_get unit.nodes 0 ≡ Some root → IsUnitOf seen shape.images o.seen (plain_in o) root.entry unit.nodes it → slice_get (graph_in all shape).units n ≡ Some it
+    cloned root it first of = behind.in_graph ∙ from.linked_is ∙ ap (λ (made : OutUnit). Some made) (sym whole)
       where
         root_is : IsRootOf i o u root
         root_is = root_of i o u root (kept_entries o u) (kept_stand o u) (kept_units o u) (sym (ap (λ (os : List Origin). slice_get os 0) origins) ∙ first)
@@ -249,7 +233,7 @@ module _ (all : List Analysis) (shape : Shape) (n : ℕ) (unit : ShapeUnit) (is 
         its_unit : of.unit ≡ from.is.unit
         its_unit = same_Some of.unit from.is.unit (sym of.its_unit ∙ ap (slice_get o.seen.units) its_number ∙ from.is.is)
 
-        whole : it ≡ unit_written (plain_target 0 objects i) o u from.is.unit
+        whole : it ≡ unit_written (image_of shape i) o u from.is.unit
         whole = of.is
-            ∙ unit_is objects seen shape.images from.source o from.is.unit (plain_in o) (images_in objects (i, o)) of.entry of.unit unit.nodes (object_is o o.seen (plain_in o) refl kept_is) (its_seen 0 root first) images_there
-            (images_tell objects i o (images_in objects (i, o)) from.is.at refl) its_number its_unit origins
+            ∙ unit_is (image_of shape) seen shape.images from.source o from.is.unit (plain_in o) images_there.0 of.entry of.unit unit.nodes (object_is o o.seen (plain_in o) refl kept_is) (its_seen 0 root first) images_there.1
+            (images_tell shape i images_there.0 images_there.1) its_number its_unit origins

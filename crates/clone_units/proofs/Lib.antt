@@ -2,7 +2,12 @@ pub mod Pieces
 pub mod Spans
 pub mod SpansInOrder
 pub mod Sources
+pub mod Placed
 pub mod Named
 pub mod Cloned
 pub mod Rooted
+pub mod Merged
 pub mod Order
+pub mod FirstUses
+pub mod Numbered
+pub mod Pooled

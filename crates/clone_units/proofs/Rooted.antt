@@ -1,7 +1,7 @@
--- The unit of a root, as it is read of a shape.
-use Rattle.std.proofs.Common.{◌≡◌, ◌<◌, ℕ, List, length, slice_get, Option, Some, None, refl, sym, ap, subst, ◌∙◌, arith}
+-- The unit of an object, as it is read of a shape.
+use Rattle.std.proofs.Common.{◌≡◌, ◌<◌, ◌⊎◌, ℕ, ◌-◌, cond, eqb, List, length, slice_get, Option, Some, None, inl, inr, refl, sym, ap, subst, ◌∙◌, arith}
 use Rattle.std.specs.List.{All}
-use Rattle.std.specs.Option.{option_map}
+use Rattle.std.specs.Option.{option_and_then, option_map}
 use Rattle.std.proofs.lemmas.Option.{get_or_from_slice_get, same_Some, slice_get_within}
 use Rattle.dwarf_types.specs.declared.analysis.Analysis.{Analysis}
 use Rattle.dwarf_types.specs.declared.graph.OutUnit.{OutUnit}
@@ -11,9 +11,11 @@ use Rattle.dwarf_types.specs.declared.shape.Shape.{Shape}
 use Rattle.dwarf_types.specs.declared.shape.ShapeUnit.{ShapeUnit}
 use Rattle.dwarf_types.specs.LinkedShape.{plain_in}
 use Rattle.dwarf_types.specs.Sound.{IsSound}
+use Rattle.link_graph.specs.Graph.{IsShape}
 use Rattle.clone_units.specs.Nodes.{IsNamed, number_of_object}
-use Rattle.clone_units.specs.Units.{Holds, IsUnitIn, IsUnitOf}
-use Rattle.clone_units.proofs.Cloned.{all_named, cloned, has_root, o, rooted}
+use Rattle.clone_units.specs.Units.{Holds, IsUnitIn, IsUnitOf, object_of}
+use Rattle.clone_units.proofs.Cloned.{all_named, cloned, o, rooted}
+use Rattle.clone_units.proofs.Placed.{IsBehind, IsFirst, placed}
 
 -- the nodes of a unit as they are read
 pub record Reads (shape : Shape) (n : ℕ) (nodes : List Origin) : Type 0 where
@@ -28,15 +30,41 @@ reads shape n nodes its = by (slice_get shape.units n) refl its
     by None is its = absurd cc
     by (Some unit) is its = record { unit = unit; at = is; same = sym (same_Some unit.nodes nodes its) }
 
-module _ (seen : List Analysis) (shape : Shape) (n : ℕ) (nodes : List Origin) (holds : Holds seen shape n) (r : Reads shape n nodes) where
+-- ---- the root of an object's unit
+
+pub record HasRoot (nodes : List Origin) (object : ℕ) : Type 0 where
+  pub root : Origin
+  pub first : slice_get nodes 0 ≡ Some root
+  pub number : number_of_object root ≡ Some object
+
+has_root : (nodes : List Origin) (object : ℕ) (found : Option Origin) → slice_get nodes 0 ≡ found → option_and_then number_of_object found ≡ Some object → HasRoot nodes object
+has_root nodes object None is its = absurd cc
+has_root nodes object (Some root) is its = record { root = root; first = is; number = its }
+
+-- it is no root of merged entries
+pub behind_of : (all : List Analysis) (shape : Shape) (n : ℕ) (unit : ShapeUnit) (object : ℕ) → HasRoot unit.nodes object → IsBehind all shape n unit ⊎ IsFirst all shape n unit → IsBehind all shape n unit
+behind_of all shape n unit object root (inl behind) = behind
+behind_of all shape n unit object root (inr first) =
+    let pooled = first.pooled in
+    let same : pooled.root ≡ root.root = same_Some pooled.root root.root (ap (λ (os : List Origin). slice_get os 0) (sym pooled.nodes) ∙ root.first) in
+    let none : number_of_object root.root ≡ None = ap number_of_object (sym same) ∙ ap (λ (k : ℕ). cond (eqb k 0) None (Some (k - 1))) pooled.is_root in
+    absurd (let e : None ≡ Some object = sym none ∙ root.number in cc)
+
+module _ (seen : List Analysis) (shape : Shape) (n : ℕ) (nodes : List Origin) (holds : Holds seen shape n) (r : Reads shape n nodes) (object : ℕ) (its : object_of shape n ≡ Some object) where
+  its_root : HasRoot r.unit.nodes object
+  its_root = has_root r.unit.nodes object (slice_get r.unit.nodes 0) refl (ap (option_and_then (λ (u : ShapeUnit). option_and_then number_of_object (slice_get u.nodes 0))) (sym r.at) ∙ its)
+
+  behind : (all : List Analysis) → IsShape all shape → IsBehind all shape n r.unit
+  behind all is = behind_of all shape n r.unit object its_root (placed all shape is n r.unit r.at)
+
   pub some_nodes : 0 < length nodes
-  some_nodes = omega (arith, ap length r.same, has_root holds.all shape n r.unit holds.is_shape r.at seen holds.there)
+  some_nodes = omega (arith, ap length r.same, slice_get_within r.unit.nodes 0 its_root.root its_root.first)
 
   pub are_named : All (IsNamed seen shape.images) nodes
-  are_named = subst (All (IsNamed seen shape.images)) (sym r.same) (all_named holds.all shape n r.unit holds.is_shape r.at seen holds.there)
+  are_named = subst (All (IsNamed seen shape.images)) (sym r.same) (all_named holds.all shape n r.unit holds.is_shape r.at (behind holds.all holds.is_shape) seen holds.there)
 
   -- its object, and what that has
-  pub record AtRoot (root : Origin) (object : ℕ) : Type 0 where
+  pub record AtRoot (root : Origin) : Type 0 where
     pub own : Analysis
     pub its_own : slice_get seen object ≡ Some own
     pub sound : IsSound own
@@ -45,11 +73,13 @@ module _ (seen : List Analysis) (shape : Shape) (n : ℕ) (nodes : List Origin) 
     pub its_plain : slice_get shape.plain object ≡ Some plain
     pub done : (it : OutUnit) → IsUnitOf seen shape.images own plain root.entry nodes it → IsUnitIn seen shape n it
 
-  pub at_root : (root : Origin) (object : ℕ) → slice_get nodes 0 ≡ Some root → number_of_object root ≡ Some object → AtRoot root object
-  at_root root object first number =
+  pub at_root : (root : Origin) → slice_get nodes 0 ≡ Some root → AtRoot root
+  at_root root first =
       let first_of = sym (ap (λ (os : List Origin). slice_get os 0) r.same) ∙ first in
-      let h = rooted holds.all shape n r.unit holds.is_shape r.at seen holds.there root object first_of number in
-      let own = o holds.all shape n r.unit holds.is_shape r.at in
+      let same : its_root.root ≡ root = same_Some its_root.root root (sym its_root.first ∙ first_of) in
+      let number = ap number_of_object (sym same) ∙ its_root.number in
+      let h = rooted holds.all shape n r.unit holds.is_shape r.at (behind holds.all holds.is_shape) seen holds.there root object first_of number in
+      let own = o holds.all shape n r.unit holds.is_shape r.at (behind holds.all holds.is_shape) in
       record {
         own = own.seen;
         its_own = h.own;
@@ -58,22 +88,22 @@ module _ (seen : List Analysis) (shape : Shape) (n : ℕ) (nodes : List Origin) 
         plain = plain_in own;
         its_plain = h.plain;
         done = λ it of all is there.
-            let h' = rooted all shape n r.unit is r.at seen there root object first_of number in
-            let own' = o all shape n r.unit is r.at in
+            let h' = rooted all shape n r.unit is r.at (behind all is) seen there root object first_of number in
+            let own' = o all shape n r.unit is r.at (behind all is) in
             let same : own.seen ≡ own'.seen = same_Some own.seen own'.seen (sym h.own ∙ h'.own) in
             let plain : plain_in own ≡ plain_in own' = same_Some (plain_in own) (plain_in own') (sym h.plain ∙ h'.plain) in
             let of_unit = subst (λ (os : List Origin). IsUnitOf seen shape.images own.seen (plain_in own) root.entry os it) r.same of in
             let of_own = subst (λ (a : Analysis). IsUnitOf seen shape.images a (plain_in own) root.entry r.unit.nodes it) same of_unit in
-            cloned all shape n r.unit is r.at seen there root it first_of (subst (λ (p : List (Option ℕ)). IsUnitOf seen shape.images own'.seen p root.entry r.unit.nodes it) plain of_own);
+            cloned all shape n r.unit is r.at (behind all is) seen there root it first_of (subst (λ (p : List (Option ℕ)). IsUnitOf seen shape.images own'.seen p root.entry r.unit.nodes it) plain of_own);
       }
 
   -- as they are read
-  pub inside_of : (root : Origin) (object : ℕ) (own : Analysis) → AtRoot root object → slice_get seen object ≡ Some own → root.entry < length own.entries
-  inside_of root object own h its = subst (λ (a : Analysis). root.entry < length a.entries) (same_Some h.own own (sym h.its_own ∙ its)) h.inside
+  pub inside_of : (root : Origin) (own : Analysis) → AtRoot root → slice_get seen object ≡ Some own → root.entry < length own.entries
+  inside_of root own h its = subst (λ (a : Analysis). root.entry < length a.entries) (same_Some h.own own (sym h.its_own ∙ its)) h.inside
 
-  pub done_of : (root : Origin) (object : ℕ) (images : List (List (Option Target))) (own : Analysis) (plain : List (Option ℕ)) (it : OutUnit) → AtRoot root object → images ≡ shape.images → slice_get seen object ≡ Some own
+  pub done_of : (root : Origin) (images : List (List (Option Target))) (own : Analysis) (plain : List (Option ℕ)) (it : OutUnit) → AtRoot root → images ≡ shape.images → slice_get seen object ≡ Some own
       → slice_get shape.plain object ≡ Some plain → IsUnitOf seen images own plain root.entry nodes it → IsUnitIn seen shape n it
-  done_of root object images own plain it h rows its its_plain of =
+  done_of root images own plain it h rows its its_plain of =
       let of_rows = subst (λ (r : List (List (Option Target))). IsUnitOf seen r own plain root.entry nodes it) rows of in
       let of_plain = subst (λ (p : List (Option ℕ)). IsUnitOf seen shape.images own p root.entry nodes it) (same_Some plain h.plain (sym its_plain ∙ h.its_plain)) of_rows in
       h.done it (subst (λ (a : Analysis). IsUnitOf seen shape.images a h.plain root.entry nodes it) (same_Some own h.own (sym its ∙ h.its_own)) of_plain)

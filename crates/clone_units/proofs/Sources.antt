@@ -1,14 +1,15 @@
--- The units of a shape and those of the linked graph have the same sources.
+-- The units of objects in a shape and those in the graph have the same sources.
 use Rattle.std.proofs.Common.{◌≡◌, ℕ, zero, suc, Bool, true, false, cond, eqb, List, [], ◌∷◌, length, get_or, slice_get, Option, Some, None, is_some, inl, inr, refl, sym, ap, subst, ◌∙◌}
 use Rattle.std.specs.List.{All, cons_option, enumerate_from, filter_map}
 use Rattle.std.specs.Option.{option_and_then, option_map}
 use Rattle.std.proofs.lemmas.List.Elements.{All-head, All-tail, All-weaker}
 use Rattle.std.proofs.lemmas.Option.{same_Some, slice_get_cases}
 use Rattle.dwarf_types.specs.declared.entry.InUnit.{InUnit}
+use Rattle.dwarf_types.specs.declared.graph.Target.{Target}
 use Rattle.dwarf_types.specs.declared.shape.ShapeUnit.{ShapeUnit}
-use Rattle.dwarf_types.specs.LinkedGraph.{linked, unit_written, written}
+use Rattle.dwarf_types.specs.LinkedGraph.{unit_written, written}
 use Rattle.dwarf_types.specs.LinkedShape.{shape_in, unit_shape}
-use Rattle.dwarf_types.specs.LinkedUnits.{Object, Source, kept_entries, plain_target, sources, sources_in}
+use Rattle.dwarf_types.specs.LinkedUnits.{Object, Source, kept_entries, sources, sources_in}
 use Rattle.link_graph.proofs.Gathered.{All-enumerate, All-filter_map, All-flat_map}
 
 -- ---- gathered from a list that gives something at each element
@@ -61,21 +62,21 @@ all_same n o =
 shape_of_source : (objects : List Object) (s : Source) (h : IsSource objects s) → shape_in objects s ≡ Some (unit_shape s h.object h.unit)
 shape_of_source objects s h = ap (option_and_then (λ (x : Object). option_map (unit_shape s x) (slice_get x.seen.units s.unit))) h.at ∙ ap (option_map (unit_shape s h.object)) h.is
 
-written_of_source : (objects : List Object) (s : Source) (h : IsSource objects s) → written (plain_target 0 objects) objects s ≡ Some (unit_written (plain_target 0 objects s.object) h.object s.unit h.unit)
-written_of_source objects s h = ap (option_and_then (λ (x : Object). option_map (unit_written (plain_target 0 objects s.object) x s.unit) (slice_get x.seen.units s.unit))) h.at ∙ ap (option_map (unit_written (plain_target 0 objects s.object) h.object s.unit)) h.is
+written_of_source : (image : ℕ → ℕ → Option Target) (objects : List Object) (s : Source) (h : IsSource objects s) → written image objects s ≡ Some (unit_written (image s.object) h.object s.unit h.unit)
+written_of_source image objects s h = ap (option_and_then (λ (x : Object). option_map (unit_written (image s.object) x s.unit) (slice_get x.seen.units s.unit))) h.at ∙ ap (option_map (unit_written (image s.object) h.object s.unit)) h.is
 
 -- ---- one unit
 
--- the source of a unit of the shape, and the unit of the graph
-pub record IsFrom (objects : List Object) (n : ℕ) (shape : ShapeUnit) : Type 0 where
+-- the source of a unit of the shape, and the unit of the graph, by where references lead
+pub record IsFrom (image : ℕ → ℕ → Option Target) (objects : List Object) (n : ℕ) (shape : ShapeUnit) : Type 0 where
   pub source : Source
   pub at : slice_get (sources objects) n ≡ Some source
   pub is : IsSource objects source
   pub shape_is : shape ≡ unit_shape source is.object is.unit
-  pub linked_is : slice_get (linked objects).units n ≡ Some (unit_written (plain_target 0 objects source.object) is.object source.unit is.unit)
+  pub linked_is : slice_get (filter_map (written image objects) (sources objects)) n ≡ Some (unit_written (image source.object) is.object source.unit is.unit)
 
-pub unit_from : (objects : List Object) (n : ℕ) (shape : ShapeUnit) → slice_get (filter_map (shape_in objects) (sources objects)) n ≡ Some shape → IsFrom objects n shape
-unit_from objects n shape at = elim (slice_get_cases (sources objects) n).1 [
+pub unit_from : (image : ℕ → ℕ → Option Target) (objects : List Object) (n : ℕ) (shape : ShapeUnit) → slice_get (filter_map (shape_in objects) (sources objects)) n ≡ Some shape → IsFrom image objects n shape
+unit_from image objects n shape at = elim (slice_get_cases (sources objects) n).1 [
   | inl w ↦ (let s = w.0 in
       let h : IsSource objects s = subst (IsSource objects) w.3 (all_sources objects n s w.1) in
       let found : Some shape ≡ Some (unit_shape s h.object h.unit) = sym at ∙ shapes ∙ ap (option_and_then (shape_in objects)) w.2 ∙ shape_of_source objects s h in
@@ -84,7 +85,7 @@ unit_from objects n shape at = elim (slice_get_cases (sources objects) n).1 [
         at = w.2;
         is = h;
         shape_is = same_Some shape (unit_shape s h.object h.unit) found;
-        linked_is = units ∙ ap (option_and_then (written (plain_target 0 objects) objects)) w.2 ∙ written_of_source objects s h;
+        linked_is = units ∙ ap (option_and_then (written image objects)) w.2 ∙ written_of_source image objects s h;
       })
   | inr w ↦ absurd (let none : None ≡ Some shape = sym (shapes ∙ ap (option_and_then (shape_in objects)) w.1) ∙ at in cc)
 ]
@@ -92,5 +93,5 @@ unit_from objects n shape at = elim (slice_get_cases (sources objects) n).1 [
     shapes : slice_get (filter_map (shape_in objects) (sources objects)) n ≡ option_and_then (shape_in objects) (slice_get (sources objects) n)
     shapes = filter_map_at (shape_in objects) (sources objects) (All-weaker (IsSource objects) (λ s. is_some (shape_in objects s) ≡ true) (λ s h. ap is_some (shape_of_source objects s h)) (sources objects) (all_sources objects)) n
 
-    units : slice_get (filter_map (written (plain_target 0 objects) objects) (sources objects)) n ≡ option_and_then (written (plain_target 0 objects) objects) (slice_get (sources objects) n)
-    units = filter_map_at (written (plain_target 0 objects) objects) (sources objects) (All-weaker (IsSource objects) (λ s. is_some (written (plain_target 0 objects) objects s) ≡ true) (λ s h. ap is_some (written_of_source objects s h)) (sources objects) (all_sources objects)) n
+    units : slice_get (filter_map (written image objects) (sources objects)) n ≡ option_and_then (written image objects) (slice_get (sources objects) n)
+    units = filter_map_at (written image objects) (sources objects) (All-weaker (IsSource objects) (λ s. is_some (written image objects s) ≡ true) (λ s h. ap is_some (written_of_source image objects s h)) (sources objects) (all_sources objects)) n

@@ -1,3 +1,4 @@
 pub mod Pieces
 pub mod Nodes
 pub mod Units
+pub mod Sourced

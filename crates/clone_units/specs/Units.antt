@@ -12,10 +12,10 @@ use Rattle.dwarf_types.specs.declared.graph.Target.{Target}
 use Rattle.dwarf_types.specs.declared.shape.Origin.{Origin}
 use Rattle.dwarf_types.specs.declared.shape.Shape.{Shape}
 use Rattle.dwarf_types.specs.declared.shape.ShapeUnit.{ShapeUnit}
-use Rattle.dwarf_types.specs.LinkedGraph.{code_of_unit, linked}
-use Rattle.dwarf_types.specs.LinkedShape.{IsShape, objects_in}
+use Rattle.dwarf_types.specs.LinkedGraph.{code_of_unit}
 use Rattle.dwarf_types.specs.Live.{Stands}
 use Rattle.dwarf_types.specs.Sound.{IsSound}
+use Rattle.link_graph.specs.Graph.{IsShape, graph_in}
 
 -- unit u of an object, the nodes of whose entries are known
 abbrev pub unit_with : List Analysis → List (List (Option Target)) → Analysis → List (Option ℕ) → ℕ → InUnit → List Origin → OutUnit
@@ -35,7 +35,7 @@ pub record IsUnitOf (seen : List Analysis) (images : List (List (Option Target))
   pub its_unit : slice_get own.units entry.unit ≡ Some unit
   pub is : it ≡ unit_with seen images own plain entry.unit unit origins
 
--- the object of a unit of a shape, which its root names
+-- the object of a unit of a shape, which its root names; the root of the unit of merged entries names none
 abbrev pub object_of : Shape → ℕ → Option ℕ
 object_of shape u = option_and_then (λ unit. option_and_then number_of_object (slice_get unit.nodes 0)) (slice_get shape.units u)
 
@@ -59,6 +59,6 @@ pub record Holds (seen : List Analysis) (shape : Shape) (u : ℕ) : Type 0 where
   pub sound : All IsSound all
   pub there : AreThere shape u all seen
 
--- unit u of what is linked of all analyses, whichever the others are
+-- unit u of the graph of all analyses, whichever the others are
 abbrev pub IsUnitIn : List Analysis → Shape → ℕ → OutUnit → Type 0
-IsUnitIn seen shape u it = (all : List Analysis) → IsShape all shape → AreThere shape u all seen → slice_get (linked (objects_in all shape)).units u ≡ Some it
+IsUnitIn seen shape u it = (all : List Analysis) → IsShape all shape → AreThere shape u all seen → slice_get (graph_in all shape).units u ≡ Some it

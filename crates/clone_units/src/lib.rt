@@ -1,15 +1,22 @@
 //! The units of the linked graph, each cloned from its entries.
 //!
-//! Layer: output graph. [`clone_unit`] gives one unit of `linked` (`dwarf_types/specs/LinkedGraph.antt`) for a shape of
-//! the objects: its nodes with what their entries say (`nodes`, by `clone_values`), a copy of its line table (`lines`),
-//! and the addresses of its code in order, each once (`ranges`). Units are cloned each for itself, in any order, and of
-//! the analyses only those need be there whose entries the unit's nodes stand for: [`object_of`] names the object of a
-//! unit's root.
+//! Layer: output graph. [`clone_unit`] gives one unit of `graph_in` (`link_graph/specs/Graph.antt`) for a shape of the
+//! objects. An object's unit has nodes that say what their entries say (`nodes`, by `clone_values`), a copy of its line
+//! table (`lines`), and the addresses of its code in order, each once (`ranges`). The unit of merged entries (`pool`) has
+//! nodes of entries of many objects (`entry_sources`). The files that these name, by first use (`source_files`), make its line
+//! table (`file_table`), and their numbers there take the place of those in each unit's own (`source_numbers`).
+//! Units are cloned each for itself, in any order, and of the analyses only those need be there whose entries the unit's
+//! nodes stand for: [`object_of`] names the object of a unit's root.
 #![tactic(auto)]
 
+mod entry_sources;
+mod file_table;
 mod lines;
 mod nodes;
+mod pool;
 mod ranges;
+mod source_files;
+mod source_numbers;
 mod unit;
 
 pub use unit::{clone_unit, object_of};

@@ -55,7 +55,7 @@ fn node_of(
 }
 
 /// The number of a node's object, counted from 0.
-pub(crate) fn object_named(origin: Origin) -> usize
+fn object_named(origin: Origin) -> usize
     requires { IsSome (number_of_object origin) }
     ensures { number_of_object origin ≡ Some result }
 {

@@ -1,6 +1,6 @@
 //! One unit of the linked graph.
 
-ghost use Rattle.std.specs.Prelude.{◌≡◌, ◌<◌, length, slice_get, Some, IsSome, IfOk};
+ghost use Rattle.std.specs.Prelude.{◌≡◌, ◌<◌, length, slice_get, None, Some, IfOk};
 ghost use Rattle.std.specs.List.{All};
 ghost use Rattle.std.specs.Option.{option_map};
 ghost use Rattle.clone_units.specs.Nodes.{IsNamed, number_of_object};
@@ -8,7 +8,8 @@ ghost use Rattle.clone_units.specs.Units.{Holds, IsUnitIn, IsUnitOf, object_of, 
 ghost use Rattle.dwarf_types.specs.Sound.{IsSound};
 
 use crate::lines::copy_of_lines;
-use crate::nodes::{analysis_of, entry_of, nodes_of, object_named, row_of};
+use crate::nodes::{analysis_of, entry_of, nodes_of, row_of};
+use crate::pool::pool_unit;
 use crate::ranges::ranges_of;
 use ds_base::{List, NoMemory};
 use dwarf_types::{Analysis, InUnit, Origin, OutUnit, Shape, Target};
@@ -16,9 +17,10 @@ use std::alloc::Global;
 
 /// A unit of the linked graph, by its number in a shape of the objects.
 ///
-/// Its nodes say what their entries say, moved to the linked program; its line table is its object's; its ranges are
-/// the pieces of its subprograms' code, in order and each once. Of the analyses only those need be there whose entries
-/// its nodes stand for.
+/// The nodes of an object's unit say what their entries say, moved to the linked program; its line table is its object's;
+/// its ranges are the pieces of its subprograms' code, in order and each once. The unit of merged entries has a root of
+/// its own, nodes that say what the entries say for which they stand, and a line table with the source files that those
+/// name. Of the analyses only those need be there whose entries the unit's nodes stand for.
 pub fn clone_unit(
     alloc: Global,
     seen: &[Analysis],
@@ -29,18 +31,52 @@ pub fn clone_unit(
     requires holds { Holds seen.now shape.now unit }
     ensures { IfOk result (IsUnitIn seen.now shape.now unit) }
 {
+    match object_of(shape, unit) {
+        Some(object) => unit_of_object(alloc, seen, shape, unit, object as usize),
+        None => unit_of_pool(alloc, seen, shape, unit),
+    }
+}
+
+/// A unit of one object.
+fn unit_of_object(
+    alloc: Global,
+    seen: &[Analysis],
+    shape: &Shape,
+    unit: u32,
+    object: usize,
+) -> Result<OutUnit, NoMemory>
+    requires unit { unit < length shape.now.units }
+    requires holds { Holds seen.now shape.now unit }
+    requires object { object_of shape.now unit ≡ Some object }
+    ensures { IfOk result (IsUnitIn seen.now shape.now unit) }
+{
     let nodes = nodes_in(shape, unit);
-    let root = nodes[0];
-    let object = object_named(root);
     let made = unit_of_entry(
         alloc,
         seen,
         shape.images.as_slice(),
         analysis_of(seen, object),
         row_of(shape.plain.as_slice(), object),
-        root.entry,
+        nodes[0].entry,
         nodes,
     )?;
+    Ok(made)
+}
+
+/// The unit of merged entries.
+fn unit_of_pool(
+    alloc: Global,
+    seen: &[Analysis],
+    shape: &Shape,
+    unit: u32,
+) -> Result<OutUnit, NoMemory>
+    requires unit { unit < length shape.now.units }
+    requires holds { Holds seen.now shape.now unit }
+    requires pool { object_of shape.now unit ≡ None }
+    ensures { IfOk result (IsUnitIn seen.now shape.now unit) }
+{
+    let nodes = nodes_in(shape, unit);
+    let made = pool_unit(alloc, seen, shape.images.as_slice(), nodes)?;
     Ok(made)
 }
 
@@ -52,7 +88,7 @@ fn nodes_in(shape: &Shape, unit: u32) -> &[Origin]
     shape.units.as_slice()[unit as usize].nodes.as_slice()
 }
 
-/// The number of a unit's object among those of its shape, counted from 0. Each unit of a shape has one.
+/// The number of a unit's object among those of its shape, counted from 0; none of the unit of merged entries.
 pub fn object_of(shape: &Shape, unit: u32) -> Option<u32>
     ensures { result ≡ object_of shape.now unit }
 {

@@ -99,7 +99,7 @@ fn file_said(
 }
 
 /// The number of a source file, where the output unit's line table has the file.
-fn file_written(numbers: &[Option<u32>], attr: &AttrRef) -> Option<OutValue>
+fn file_written(numbers: &[Option<u64>], attr: &AttrRef) -> Option<OutValue>
     ensures { (image : ℕ → Option Node) (e : Entry) → result ≡ file_written image (Some (number_in numbers.now)) e (attr_seen attr.now) (attr_seen attr.now).value }
 {
     match attr.value {

@@ -14,21 +14,21 @@ pub enum Files<'a> {
     /// As the entry's own unit does: it has that unit's line table.
     Own,
     /// By other numbers, each at the number that the entry's unit has; none where its line table lacks that file.
-    Others(&'a [Option<u32>]),
+    Others(&'a [Option<u64>]),
 }
 
 /// A number of a source file, where it has another.
-pub(crate) fn renumbered(numbers: &[Option<u32>], n: u64) -> Option<OutValue>
+pub(crate) fn renumbered(numbers: &[Option<u64>], n: u64) -> Option<OutValue>
     ensures { result ≡ option_map (λ m. out.Number DW_FORM_udata m) (number_in numbers.now n) }
 {
     let number = number_in(numbers, n)?;
     Some(OutValue::Number {
         form: DW_FORM_udata,
-        bits: u64::from(number),
+        bits: number,
     })
 }
 
-fn number_in(numbers: &[Option<u32>], n: u64) -> Option<u32>
+fn number_in(numbers: &[Option<u64>], n: u64) -> Option<u64>
     ensures { result ≡ number_in numbers.now n }
 {
     let index = usize::try_from(n).ok()?;

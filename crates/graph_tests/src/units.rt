@@ -21,6 +21,7 @@ use ds_base::dwarf::{
 use ds_base::{BitRow, NoMemory};
 use dwarf_types::{Analysis, CodeRange, Node, OutAttr, OutLines, OutUnit, OutValue, Span};
 use link_graph::build;
+use odr_names::{book, winners_plain};
 use std::alloc::Global;
 use std::process::Abort;
 
@@ -119,7 +120,7 @@ fn put_unit(line: &mut Vec<u8>, unit: &OutUnit) -> Result<(), NoMemory> {
 
 // ---- units
 
-/// The units that are linked of two objects, in words.
+/// The units that are linked of two objects of which no entries are merged, in words.
 fn both(
     alloc: Global,
     first: Analysis,
@@ -134,7 +135,11 @@ fn both(
 {
     let seen = [first, second];
     let live = [first_live, second_live];
-    let shape = build(alloc, &seen, &live)?;
+    let Ok(names) = book(alloc, &seen[..0], &live[..0], false) else {
+        return Err(NoMemory);
+    };
+    let winners = winners_plain(alloc, &names)?;
+    let shape = build(alloc, &seen, &live, &names, &winners)?;
     let mut line = Vec::new(alloc);
     let Ok(count) = u32::try_from(shape.units.len()) else {
         return Err(NoMemory);

@@ -1,11 +1,11 @@
 -- What is gathered from a list, element by element.
-use Rattle.std.proofs.Common.{◌≡◌, ℕ, ◌+◌, ◌<◌, List, [], ◌∷◌, ◌++◌, length, map, take, drop, get_or, slice_get, Option, Some, None, is_some, refl, sym, ap, subst, ◌∙◌, arith, length-append}
+use Rattle.std.proofs.Common.{◌≡◌, ℕ, ◌+◌, ◌<◌, ◌≤◌, List, [], ◌∷◌, ◌++◌, length, map, take, drop, get_or, slice_get, Option, Some, None, is_some, refl, sym, ap, subst, ◌∙◌, arith, append-nil, length-append}
 use Rattle.std.specs.List.{All, cons_option, enumerate_from, filter_map, flat_map}
 use Rattle.std.specs.Option.{option_and_then, option_to_list}
-use Rattle.std.proofs.lemmas.List.{drop-take, take-append-drop, take-take}
+use Rattle.std.proofs.lemmas.List.{drop-take, drop_all, drop_more, get_or-drop, get_or-take, length-drop, length-take, take-append-drop, take-take, take_all, take_more}
 use Rattle.std.proofs.lemmas.List.Elements.{All-append, All-cons, All-head, All-nil, All-tail, filter_map-append}
 use Rattle.std.proofs.lemmas.List.FromFn.{get_or-enumerate_from, length-enumerate_from}
-use Rattle.std.proofs.lemmas.Option.{slice_get-get_or}
+use Rattle.std.proofs.lemmas.Option.{get_or_from_slice_get, slice_get-get_or, slice_get_within}
 
 pub map_same : {A B : Type 0} (f g : A → B) (xs : List A) → All (λ x. f x ≡ g x) xs → map f xs ≡ map g xs
 map_same f g [] h = refl
@@ -96,3 +96,36 @@ All-enumerate {A} xs i d lt =
     let within : i < length xs = omega (arith, lt, length-enumerate_from 0 xs) in
     let P : ℕ × A → Type 0 = λ e. slice_get xs e.0 ≡ Some e.1 in
     subst P (sym (enumerate_at xs i d within)) (slice_get-get_or xs i d.1 within)
+
+pub parts_at : {A : Type 0} (xs : List A) (i : ℕ) (x : A) → slice_get xs i ≡ Some x → enumerate_from 0 xs ≡ take i (enumerate_from 0 xs) ++ (i, x) ∷ drop (i + 1) (enumerate_from 0 xs)
+parts_at xs i x at =
+    let within : i < length xs = slice_get_within xs i x at in
+    sym (take-append-drop i (enumerate_from 0 xs))
+    ∙ ap (λ ys. take i (enumerate_from 0 xs) ++ ys) (drop_more (enumerate_from 0 xs) i (i, x) (omega (arith, length-enumerate_from 0 xs))
+    ∙ ap (λ y. y ∷ drop (i + 1) (enumerate_from 0 xs)) (enumerate_at xs i (i, x) within ∙ ap (λ y. (i, y)) (get_or_from_slice_get xs i x x at)))
+
+pub numbers_below : {A : Type 0} (xs : List A) (i : ℕ) → All (λ e. e.0 < i) (take i (enumerate_from 0 xs))
+numbers_below xs i j d lt =
+    let below : j < i = omega (arith, lt, length-take i (enumerate_from 0 xs)) in
+    let within : j < length xs = omega (arith, lt, length-take i (enumerate_from 0 xs), length-enumerate_from 0 xs) in
+    subst (λ (n : ℕ). n < i) (sym (ap (λ e. e.0) (get_or-take i (enumerate_from 0 xs) j d below ∙ enumerate_at xs j d within))) below
+
+pub numbers_behind : {A : Type 0} (n : ℕ) (xs : List A) (i : ℕ) → All (λ e. n + i ≤ e.0) (drop i (enumerate_from n xs))
+numbers_behind n xs i j d lt =
+    let within : i + j < length xs = omega (arith, lt, length-drop i (enumerate_from n xs), length-enumerate_from n xs) in
+    let number : (get_or (drop i (enumerate_from n xs)) j d).0 ≡ n + (i + j) = ap (λ e. e.0) (get_or-drop i (enumerate_from n xs) j d ∙ get_or-enumerate_from n xs (i + j) d within) in
+    omega (arith, number)
+
+pub enumerate_more : {A : Type 0} (xs : List A) (i : ℕ) (x : A) → slice_get xs i ≡ Some x → take (i + 1) (enumerate_from 0 xs) ≡ take i (enumerate_from 0 xs) ++ (i, x) ∷ []
+enumerate_more xs i x at =
+    let within : i < length xs = slice_get_within xs i x at in
+    take_more (enumerate_from 0 xs) i (i, x) (omega (arith, length-enumerate_from 0 xs))
+    ∙ ap (λ y. take i (enumerate_from 0 xs) ++ y ∷ []) (enumerate_at xs i (i, x) within ∙ ap (λ y. (i, y)) (get_or_from_slice_get xs i x x at))
+
+-- ---- lent lists
+
+-- a list that comes back as long as it was
+pub lent_all : {A : Type 0} (became was : List A) → length became ≡ length was → take (length was) (became ++ drop (length became) was) ≡ became
+lent_all {A} became was same =
+    ap (λ (rest : List A). take (length was) (became ++ rest)) (drop_all (length became) was (omega (arith, same)))
+    ∙ ap (take (length was)) (append-nil became) ∙ take_all (length was) became (omega (arith, same))

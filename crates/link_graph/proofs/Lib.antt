@@ -5,4 +5,14 @@ pub mod Nodes
 pub mod Rows
 pub mod Gathered
 pub mod Objects
+pub mod Merging
+pub mod KeptRows
 pub mod Shapes
+pub mod Joined
+pub mod Rising
+pub mod PoolPaths
+pub mod PoolTrees
+pub mod Families
+pub mod PoolRuns
+pub mod PoolNodes
+pub mod LinkedApart

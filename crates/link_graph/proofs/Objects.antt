@@ -104,6 +104,9 @@ images_all before object o u images le so_far =
     let all : length images ≡ length o.seen.entries = subst (λ (us : List InUnit). AreUnits (length images) us (length o.seen.entries)) (drop_all u o.seen.units le) so_far.left in
     so_far.are ∙ ap (map (image_behind before object o)) (take_all (length images) (numbered o) (omega (arith, numbered_length o)))
 
+pub images_length : (before object : ℕ) (o : Object) → length (images_of before object o) ≡ length o.seen.entries
+images_length before object o = length-map (numbered o) (image_behind before object o) ∙ numbered_length o
+
 -- ---- as the loop has them
 
 pub units_next : (object : ℕ) (o : Object) (u : ℕ) → u < length o.seen.units → units_below object o (u + 1) ≡ units_below object o u ++ option_to_list (unit_at object o u)

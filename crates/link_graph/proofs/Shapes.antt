@@ -1,27 +1,26 @@
 -- The shape of all objects, object by object.
-use Rattle.std.proofs.Common.{◌≡◌, ℕ, ◌+◌, ◌<◌, ◌≤◌, ◌-◌, Bool, true, false, cond, eqb, List, [], ◌∷◌, ◌++◌, length, map, take, drop, get_or, slice_get, Option, Some, None, is_some, inl, inr, refl, sym, ap, subst, ◌∙◌, arith, append_assoc, append-nil, length-append}
+use Rattle.std.proofs.Common.{◌≡◌, ℕ, ◌+◌, ◌<◌, ◌-◌, Bool, true, false, cond, eqb, List, [], ◌∷◌, ◌++◌, length, map, take, drop, get_or, slice_get, Option, Some, None, is_some, inl, inr, refl, sym, ap, subst, ◌∙◌, arith, append_assoc, append-nil, length-append}
 use Rattle.std.specs.List.{All, cons_option, enumerate_from, filter_map, flat_map, position, zip}
 use Rattle.std.specs.Option.{option_and_then, option_map}
 use Rattle.std.proofs.lemmas.Bool.{and_from, and_left, and_right, eq-eqb, ne_eqb}
 use Rattle.std.proofs.lemmas.Grind.{flat_map-append}
-use Rattle.std.proofs.lemmas.List.{get_or_default, map-append, drop_more, get_or-take, length-map, length-take, take-append-drop, take_all, take_more, same_lists, get_or-map}
+use Rattle.std.proofs.lemmas.List.{get_or_default, map-append, length-map, take_all, take_more, same_lists, get_or-map}
 use Rattle.std.proofs.lemmas.List.Elements.{All-append, All-weaker, filter_map-append}
 use Rattle.std.proofs.lemmas.List.FromFn.{length-enumerate_from}
 use Rattle.std.proofs.lemmas.Simd.{map-map}
-use Rattle.std.proofs.lemmas.Option.{get_or_from_slice_get, same_Some, slice_get_cases, slice_get_read, slice_get-get_or, slice_get-map, slice_get_within}
+use Rattle.std.proofs.lemmas.Option.{get_or_from_slice_get, same_Some, slice_get_cases, slice_get-get_or, slice_get-map, slice_get_within}
 use Rattle.std.proofs.lemmas.Slice.Zip.{get_or-zip, length-zip}
 use Rattle.dwarf_types.specs.declared.analysis.Analysis.{Analysis}
 use Rattle.dwarf_types.specs.declared.entry.Entry.{Entry}
 use Rattle.dwarf_types.specs.declared.entry.InUnit.{InUnit}
 use Rattle.dwarf_types.specs.declared.graph.Target.{Target}
-use Rattle.dwarf_types.specs.declared.shape.Shape.{Shape}
 use Rattle.dwarf_types.specs.declared.shape.ShapeUnit.{ShapeUnit}
 use Rattle.dwarf_types.specs.Live.{Stands}
-use Rattle.dwarf_types.specs.LinkedShape.{AreMarked, IsShape, images_in, marks_in, objects_of, plain_in, shape_in, shaped, unit_shape}
+use Rattle.dwarf_types.specs.LinkedShape.{AreMarked, objects_of, plain_in, shape_in, unit_shape}
 use Rattle.dwarf_types.specs.LinkedUnits.{Object, Source, plain_target, is_kept, kept_entries, node_number, numbered, same_source, sources, sources_in}
 use Rattle.dwarf_types.specs.Sound.{IsSound}
-use Rattle.link_graph.specs.Passes.{image_behind, images_before, images_of, node_in, plain_before, unit_in, units_before, units_below, units_of}
-use Rattle.link_graph.proofs.Gathered.{All-enumerate, All-filter_map, All-flat_map, as_many, as_many_in_all, enumerate_at, filter_map_same, filter_map_then, flat_map_gives, map_same}
+use Rattle.link_graph.specs.Passes.{image_behind, images_of, node_in, plain_before, unit_in, units_before, units_below, units_of}
+use Rattle.link_graph.proofs.Gathered.{All-enumerate, All-filter_map, All-flat_map, as_many, as_many_in_all, enumerate_more, filter_map_same, filter_map_then, flat_map_gives, map_same, numbers_below, parts_at}
 use Rattle.link_graph.proofs.Nodes.{kept_read, number_of_entry}
 use Rattle.link_graph.proofs.Positions.{position_found}
 use Rattle.link_graph.proofs.Rows.{node_back}
@@ -72,19 +71,6 @@ units_shaped objects =
     ∙ ap (flat_map (λ (o : ℕ × Object). units_of o.0 o.1)) (sym (take_all (length objects) (enumerate_from 0 objects) (omega (arith, length-enumerate_from 0 objects))))
 
 -- ---- the number of a unit
-
-parts_at : {A : Type 0} (xs : List A) (i : ℕ) (x : A) → slice_get xs i ≡ Some x → enumerate_from 0 xs ≡ take i (enumerate_from 0 xs) ++ (i, x) ∷ drop (i + 1) (enumerate_from 0 xs)
-parts_at xs i x at =
-    let within : i < length xs = slice_get_within xs i x at in
-    sym (take-append-drop i (enumerate_from 0 xs))
-    ∙ ap (λ ys. take i (enumerate_from 0 xs) ++ ys) (drop_more (enumerate_from 0 xs) i (i, x) (omega (arith, length-enumerate_from 0 xs))
-    ∙ ap (λ y. y ∷ drop (i + 1) (enumerate_from 0 xs)) (enumerate_at xs i (i, x) within ∙ ap (λ y. (i, y)) (get_or_from_slice_get xs i x x at)))
-
-numbers_below : {A : Type 0} (xs : List A) (i : ℕ) → All (λ e. e.0 < i) (take i (enumerate_from 0 xs))
-numbers_below xs i j d lt =
-    let below : j < i = omega (arith, lt, length-take i (enumerate_from 0 xs)) in
-    let within : j < length xs = omega (arith, lt, length-take i (enumerate_from 0 xs), length-enumerate_from 0 xs) in
-    subst (λ (n : ℕ). n < i) (sym (ap (λ e. e.0) (get_or-take i (enumerate_from 0 xs) j d below ∙ enumerate_at xs j d within))) below
 
 -- a unit that is written stands behind the units before it
 pub source_position : (objects : List Object) (i : ℕ) (o : Object) (u : ℕ) (unit : InUnit) → slice_get objects i ≡ Some o → slice_get o.seen.units u ≡ Some unit → eqb (length (kept_entries o u)) 0 ≡ false
@@ -144,52 +130,30 @@ some_there p (x ∷ xs) n e = ne_eqb (length (x ∷ xs)) 0 (λ same. omega (arit
 abbrev images_of_nodes : Option ℕ → ℕ → Option Target
 images_of_nodes node unit = option_map (λ n. record { unit = unit; node = n }) node
 
-image_found : (node unit : Option ℕ) (number : ℕ) → ((n : ℕ) → node ≡ Some n → unit ≡ Some number) → option_and_then (λ u. images_of_nodes node (0 + u)) unit ≡ images_of_nodes node number
-image_found None None number h = refl
-image_found None (Some u) number h = refl
-image_found (Some n) unit number h =
-    let same : 0 + number ≡ number = omega arith in
-    ap (option_and_then (λ u. images_of_nodes (Some n) (0 + u))) (h n refl) ∙ ap (images_of_nodes (Some n)) same
+image_found : (node unit : Option ℕ) (first number : ℕ) → ((n : ℕ) → node ≡ Some n → unit ≡ Some number) → option_and_then (λ u. images_of_nodes node (first + u)) unit ≡ images_of_nodes node (first + number)
+image_found None None first number h = refl
+image_found None (Some u) first number h = refl
+image_found (Some n) unit first number h = ap (option_and_then (λ u. images_of_nodes (Some n) (first + u))) (h n refl)
 
-image_is : (objects : List Object) (i : ℕ) (o : Object) (k : ℕ) (e : Entry) → slice_get objects i ≡ Some o → Stands o.seen.entries k e → IsSound o.seen → plain_target 0 objects i k ≡ image_behind (length (units_before objects i)) i o (k, e)
-image_is objects i o k e at stands sound =
-    ap (option_and_then (λ (o : Object). option_and_then (λ (e : Entry). option_and_then (λ unit. option_map (λ node. record { unit = 0 + unit; node = node }) (node_number o e.unit k))
+-- the image of an entry's own node, where the units of the objects stand behind so many others
+pub image_is : (first : ℕ) (objects : List Object) (i : ℕ) (o : Object) (k : ℕ) (e : Entry) → slice_get objects i ≡ Some o → Stands o.seen.entries k e → IsSound o.seen
+    → plain_target first objects i k ≡ image_behind (first + length (units_before objects i)) i o (k, e)
+image_is first objects i o k e at stands sound =
+    let place : first + (length (units_before objects i) + length (units_below i o e.unit)) ≡ first + length (units_before objects i) + length (units_below i o e.unit) = omega arith in
+    ap (option_and_then (λ (o : Object). option_and_then (λ (e : Entry). option_and_then (λ unit. option_map (λ node. record { unit = first + unit; node = node }) (node_number o e.unit k))
     (position (same_source (record { object = i; unit = e.unit })) (sources objects))) (slice_get o.seen.entries k))) at
-    ∙ ap (option_and_then (λ (e : Entry). option_and_then (λ unit. option_map (λ node. record { unit = 0 + unit; node = node }) (node_number o e.unit k))
+    ∙ ap (option_and_then (λ (e : Entry). option_and_then (λ unit. option_map (λ node. record { unit = first + unit; node = node }) (node_number o e.unit k))
     (position (same_source (record { object = i; unit = e.unit })) (sources objects)))) stands
-    ∙ image_found (node_number o e.unit k) (position (same_source (record { object = i; unit = e.unit })) (sources objects)) (length (units_before objects i) + length (units_below i o e.unit))
+    ∙ image_found (node_number o e.unit k) (position (same_source (record { object = i; unit = e.unit })) (sources objects)) first (length (units_before objects i) + length (units_below i o e.unit))
     (λ n is. source_position objects i o e.unit (sound.entries k e stands).unit at (sound.entries k e stands).its_unit (some_there (λ x. eqb x.0 k) (kept_entries o e.unit) n is))
-
-abbrev images_at : List Object → ℕ × Object → List (Option Target)
-images_at objects o = images_of (length (units_before objects o.0)) o.0 o.1
-
--- the images of the shape are those of the objects
-images_each : (objects : List Object) → ((i : ℕ) (o : Object) → slice_get objects i ≡ Some o → IsSound o.seen) → map (images_in objects) (enumerate_from 0 objects) ≡ map (images_at objects) (enumerate_from 0 objects)
-images_each objects sound = map_same (images_in objects) (images_at objects) (enumerate_from 0 objects)
-    (All-weaker (λ (x : ℕ × Object). slice_get objects x.0 ≡ Some x.1) (λ x. images_in objects x ≡ images_at objects x)
-    (λ x at. map_same (λ e. plain_target 0 objects x.0 e.0) (image_behind (length (units_before objects x.0)) x.0 x.1) (numbered x.1)
-    (All-weaker (λ (e : ℕ × Entry). slice_get x.1.seen.entries e.0 ≡ Some e.1) (λ e. plain_target 0 objects x.0 e.0 ≡ image_behind (length (units_before objects x.0)) x.0 x.1 e)
-    (λ e stands. image_is objects x.0 x.1 e.0 e.1 at stands (sound x.0 x.1 at)) (numbered x.1) (All-enumerate x.1.seen.entries)))
-    (enumerate_from 0 objects) (All-enumerate objects))
-
-pub images_shaped : (objects : List Object) → ((i : ℕ) (o : Object) → slice_get objects i ≡ Some o → IsSound o.seen) → map (images_in objects) (enumerate_from 0 objects) ≡ images_before objects (length objects)
-images_shaped objects sound = images_each objects sound ∙ ap (map (images_at objects)) (sym (take_all (length objects) (enumerate_from 0 objects) (omega (arith, length-enumerate_from 0 objects))))
+    ∙ ap (images_of_nodes (node_number o e.unit k)) place
 
 -- ---- one object more
-
-enumerate_more : {A : Type 0} (xs : List A) (i : ℕ) (x : A) → slice_get xs i ≡ Some x → take (i + 1) (enumerate_from 0 xs) ≡ take i (enumerate_from 0 xs) ++ (i, x) ∷ []
-enumerate_more xs i x at =
-    let within : i < length xs = slice_get_within xs i x at in
-    take_more (enumerate_from 0 xs) i (i, x) (omega (arith, length-enumerate_from 0 xs))
-    ∙ ap (λ y. take i (enumerate_from 0 xs) ++ y ∷ []) (enumerate_at xs i (i, x) within ∙ ap (λ y. (i, y)) (get_or_from_slice_get xs i x x at))
 
 pub units_before_more : (objects : List Object) (i : ℕ) (o : Object) → slice_get objects i ≡ Some o → units_before objects (i + 1) ≡ units_before objects i ++ units_of i o
 units_before_more objects i o at =
     ap (flat_map (λ (o : ℕ × Object). units_of o.0 o.1)) (enumerate_more objects i o at) ∙ flat_map-append (λ (o : ℕ × Object). units_of o.0 o.1) (take i (enumerate_from 0 objects)) ((i, o) ∷ [])
     ∙ ap (λ (us : List ShapeUnit). units_before objects i ++ us) (append-nil (units_of i o))
-
-pub images_before_more : (objects : List Object) (i : ℕ) (o : Object) → slice_get objects i ≡ Some o → images_before objects (i + 1) ≡ images_before objects i ++ images_of (length (units_before objects i)) i o ∷ []
-images_before_more objects i o at = ap (map (images_at objects)) (enumerate_more objects i o at) ∙ map-append (images_at objects) (take i (enumerate_from 0 objects)) ((i, o) ∷ [])
 
 -- ---- which entries have a node
 
@@ -205,7 +169,7 @@ plain_where_kept o k e at sound =
     let node = number_of_entry o e.unit s.unit (k - s.unit.first) sound s.its_unit (omega (arith, s.lies.from_first, s.lies.before_end)) in
     ap (λ (n : ℕ). is_some (node_number o e.unit n)) (sym place) ∙ ap is_some node ∙ some_if (is_kept o (s.unit.first + (k - s.unit.first))) _ ∙ ap (is_kept o) place
 
-marks_of : (o : Object) → IsSound o.seen → length o.kept ≡ length o.seen.entries → map is_some (plain_in o) ≡ o.kept
+pub marks_of : (o : Object) → IsSound o.seen → length o.kept ≡ length o.seen.entries → map is_some (plain_in o) ≡ o.kept
 marks_of o sound whole =
     let f : ℕ × Entry → Option ℕ = λ e. node_number o e.1.unit e.0 in
     let long : length (plain_in o) ≡ length o.seen.entries = length-map (numbered o) f ∙ numbered_length o in
@@ -235,10 +199,6 @@ object_at seen marks k s m at is =
     (slice_get-get_or (zip seen marks) k (s, m) (omega (arith, length-zip seen marks))
     ∙ ap (λ (x : Analysis × List Bool). Some x) (get_or-zip seen marks k (s, m) in_seen in_marks ∙ cc (get_or_from_slice_get seen k s s at, get_or_from_slice_get marks k m m is)))
 
-pub object_read : (seen : List Analysis) (marks : List (List Bool)) (k : ℕ) (s : Analysis) (m : List Bool) → k < length seen → k < length marks → s ≡ get_or seen k s → m ≡ get_or marks k m
-    → slice_get (objects_of seen marks) k ≡ Some (record { seen = s; kept = m })
-object_read seen marks k s m lt lt' is is' = object_at seen marks k s m (slice_get_read seen _ k s refl lt is) (slice_get_read marks _ k m refl lt' is')
-
 -- each object is one of the analyses with its marks
 pub record Parts (seen : List Analysis) (marks : List (List Bool)) (k : ℕ) (o : Object) : Type 0 where
   pub analysis : slice_get seen k ≡ Some o.seen
@@ -267,59 +227,7 @@ marks_whole seen marks i s m marked lt is is' =
     let both : get_or (zip seen marks) i (s, m) ≡ (s, m) = get_or-zip seen marks i (s, m) lt (omega (arith, marked.each)) ∙ cc (is, is') in
     subst (λ (x : Analysis × List Bool). length x.1 ≡ length x.0.entries) both (marked.whole i (s, m) (omega (arith, length-zip seen marks, marked.each)))
 
--- the shape tells the marks again
-pub marks_shaped : (seen : List Analysis) (marks : List (List Bool)) → AreMarked seen marks → All IsSound seen → marks_in (shaped (objects_of seen marks)) ≡ marks
-marks_shaped seen marks marked sound = same_lists (map (map is_some) plain) marks (length-map plain (map is_some) ∙ long ∙ sym marked.each) each
-  where
-    objects : List Object
-    objects = objects_of seen marks
-
-    are_sound : (i : ℕ) (o : Object) → slice_get objects i ≡ Some o → IsSound o.seen
-    are_sound = objects_sound seen marks marked.each sound
-
-    plain : List (List (Option ℕ))
-    plain = map plain_in objects
-
-    long : length plain ≡ length seen
-    long = length-map objects plain_in ∙ objects_long seen marks marked.each
-
-    here : (k : ℕ) (d : List Bool) (o : Object) → slice_get objects k ≡ Some o → k < length seen → get_or (map (map is_some) plain) k d ≡ get_or marks k d
-    here k d o at within =
-        let parts = object_parts seen marks k o marked.each at in
-        let in_objects = slice_get_within objects k o at in
-        get_or-map (map is_some) plain k [] d (omega (arith, within, long))
-        ∙ ap (map is_some) (get_or-map plain_in objects k o [] in_objects ∙ ap plain_in (get_or_from_slice_get objects k o o at))
-        ∙ marks_of o (are_sound k o at) (marks_whole seen marks k o.seen o.kept marked within (sym (get_or_from_slice_get seen k o.seen o.seen parts.analysis)) (sym (get_or_from_slice_get marks k o.kept o.kept parts.marked)))
-        ∙ sym (get_or_from_slice_get marks k o.kept d parts.marked)
-
-    each : (k : ℕ) (d : List Bool) → k < length (map (map is_some) plain) → get_or (map (map is_some) plain) k d ≡ get_or marks k d
-    each k d lt =
-        let within : k < length seen = omega (arith, lt, length-map plain (map is_some), long) in
-        elim (slice_get_cases objects k).1 [ inl w ↦ here k d w.0 w.2 within | inr w ↦ absurd (omega (arith, w.0, objects_long seen marks marked.each)) ]
-
-pub shape_is : (seen : List Analysis) (marks : List (List Bool)) (shape : Shape) → AreMarked seen marks → All IsSound seen → shape ≡ shaped (objects_of seen marks) → IsShape seen shape
-shape_is seen marks shape marked sound is =
-    let back : marks_in shape ≡ marks = ap marks_in is ∙ marks_shaped seen marks marked sound in
-    record {
-      marked = subst (AreMarked seen) (sym back) marked;
-      is = is ∙ ap (λ (ms : List (List Bool)). shaped (objects_of seen ms)) (sym back);
-    }
-
 pub plain_before_more : (objects : List Object) (i : ℕ) (o : Object) → slice_get objects i ≡ Some o → plain_before objects (i + 1) ≡ plain_before objects i ++ plain_in o ∷ []
 plain_before_more objects i o at =
     let within : i < length objects = slice_get_within objects i o at in
     ap (map plain_in) (take_more objects i o within ∙ ap (λ (x : Object). take i objects ++ x ∷ []) (get_or_from_slice_get objects i o o at)) ∙ map-append plain_in (take i objects) (o ∷ [])
-
-pub shape_whole : (seen : List Analysis) (marks : List (List Bool)) (i : ℕ) (units : List ShapeUnit) (plain : List (List (Option ℕ))) (images : List (List (Option Target))) → AreMarked seen marks → All IsSound seen
-    → length seen ≤ i → i ≤ length seen → units ≡ units_before (objects_of seen marks) i → plain ≡ plain_before (objects_of seen marks) i → images ≡ images_before (objects_of seen marks) i
-    → record { units = units; plain = plain; images = images } ≡ shaped (objects_of seen marks)
-shape_whole seen marks i units plain images marked sound ge le these nodes those =
-    let objects = objects_of seen marks in
-    let all : i ≡ length objects = omega (arith, objects_long seen marks marked.each) in
-    let a : units ≡ filter_map (shape_in objects) (sources objects) = these ∙ ap (units_before objects) all ∙ sym (units_shaped objects) in
-    let b : plain ≡ map plain_in objects = nodes ∙ ap (plain_before objects) all ∙ ap (map plain_in) (take_all (length objects) objects (omega arith)) in
-    let c : images ≡ map (images_in objects) (enumerate_from 0 objects) = those ∙ ap (images_before objects) all ∙ sym (images_shaped objects (objects_sound seen marks marked.each sound)) in
-    ap (λ (us : List ShapeUnit). made us plain images) a ∙ ap (λ (rows : List (List (Option ℕ))). made (filter_map (shape_in objects) (sources objects)) rows images) b ∙ ap (made (filter_map (shape_in objects) (sources objects)) (map plain_in objects)) c
-  where
-    made : List ShapeUnit → List (List (Option ℕ)) → List (List (Option Target)) → Shape
-    made us rows ims = record { units = us; plain = rows; images = ims }

@@ -1,1 +1,6 @@
+pub mod Graph
+pub mod Merged
 pub mod Passes
+pub mod Pool
+pub mod PoolFiles
+pub mod PoolOrder

@@ -1,6 +1,6 @@
 -- What passing over one object gives: its units that are written, the nodes of its entries, and where references to them lead.
-use Rattle.std.specs.Prelude.{ℕ, ◌+◌, ◌==◌, Bool, List, [], ◌∷◌, map, take, drop, length, slice_get, Option, Some, None, if◌then◌else◌}
-use Rattle.std.specs.List.{enumerate_from, filter, filter_map, flat_map}
+use Rattle.std.specs.Prelude.{ℕ, ◌+◌, ◌-◌, ◌==◌, Bool, true, false, List, [], ◌∷◌, map, take, drop, length, replicate, slice_get, slice_set, Option, Some, None, if◌then◌else◌}
+use Rattle.std.specs.List.{enumerate_from, filter, filter_map, flat_map, take_while}
 use Rattle.std.specs.Option.{option_and_then, option_map, option_map_or}
 use Rattle.dwarf_types.specs.declared.analysis.Analysis.{Analysis}
 use Rattle.dwarf_types.specs.declared.entry.Entry.{Entry}
@@ -8,8 +8,11 @@ use Rattle.dwarf_types.specs.declared.entry.InUnit.{InUnit}
 use Rattle.dwarf_types.specs.declared.graph.Target.{Target}
 use Rattle.dwarf_types.specs.declared.shape.Origin.{Origin}
 use Rattle.dwarf_types.specs.declared.shape.ShapeUnit.{ShapeUnit}
+use Rattle.dwarf_types.specs.Kept.{kept_of}
 use Rattle.dwarf_types.specs.LinkedShape.{origin_of, plain_in}
 use Rattle.dwarf_types.specs.LinkedUnits.{Object, is_kept, kept_entries, node_number, numbered}
+use Rattle.type_names.specs.Names.{Named}
+use Rattle.link_graph.specs.Pool.{node_of_path}
 
 -- an analysis with its marks
 abbrev pub marked : Analysis → List Bool → Object
@@ -95,6 +98,29 @@ units_before objects i = flat_map (λ o. units_of o.0 o.1) (take i (enumerate_fr
 abbrev pub plain_before : List Object → ℕ → List (List (Option ℕ))
 plain_before objects i = map plain_in (take i objects)
 
--- where references to them lead
-abbrev pub images_before : List Object → ℕ → List (List (Option Target))
-images_before objects i = map (λ o. images_of (length (units_before objects o.0)) o.0 o.1) (take i (enumerate_from 0 objects))
+-- ---- merged entries
+
+-- the names from one on up to another
+abbrev pub names_between : List Named → ℕ → ℕ → List Named
+names_between names from end = take (end - from) (drop from names)
+
+-- the names at the front that are of an object
+abbrev pub names_first : ℕ → List Named → List Named
+names_first object names = take_while (λ w. w.object == object) names
+
+-- something is put at the entry of each of these names
+abbrev pub put_each : {A : Type 0} → (Named → A) → List Named → List A → List A
+put_each f [] xs = xs
+put_each f (w ∷ ws) xs = put_each f ws (slice_set xs w.entry (f w))
+
+-- a row for so many entries that marks those of these names
+abbrev pub merged_by : ℕ → List Named → List Bool
+merged_by entries ws = put_each (λ w. true) ws (replicate entries false)
+
+-- which entries of an object have a node in their own unit, where those of these names are merged
+abbrev pub kept_with : Analysis → List Bool → List Named → Object
+kept_with seen live ws = marked seen (kept_of seen.entries live (merged_by (length seen.entries) ws))
+
+-- the node of a name's path in the first unit
+abbrev pub path_target : List Named → Named → Option Target
+path_target names w = target_in 0 (node_of_path names w.path)

@@ -1,33 +1,55 @@
 //! All objects: the shape of what is linked of them.
 
-ghost use Rattle.std.specs.Prelude.{◌≡◌, ◌<◌, ◌^◌, length, All, IfOk};
-ghost use Rattle.dwarf_types.specs.LinkedShape.{AreMarked, IsShape, objects_of, shaped};
+ghost use Rattle.std.specs.Prelude.{◌≡◌, ◌<◌, ◌^◌, Bool, length, All, IfOk};
+ghost use Rattle.dwarf_types.specs.LinkedShape.{AreMarked};
 ghost use Rattle.dwarf_types.specs.Sound.{IsSound};
+ghost use Rattle.odr_names.specs.Winners.{AreWinners};
+ghost use Rattle.link_graph.specs.Graph.{IsShape};
+ghost use Rattle.link_graph.specs.Merged.{linked_names, shape_of};
 
-use crate::object::add_object;
+use crate::merged::{add_kept, lead_to_paths, names_end};
+use crate::pool::pool_of;
 use ds_base::{BitRow, List, NoMemory};
 use dwarf_types::{Analysis, Shape};
+use odr_names::PathBook;
 use std::alloc::Global;
 
-/// The shape of what is linked of some objects: of each unit with a live entry its live entries in document order, the
-/// node of each entry, and where a reference to it leads, which is that node.
+/// The shape of what is linked of some objects: the pool's unit, if entries are merged; of each unit with a kept entry its
+/// kept entries in document order; the node of each entry, and where a reference to it leads.
 ///
-/// A row of marks tells of each object which of its entries are live, each at its number. An entry keeps the unit in
-/// which it stands, and units keep the order of the objects and of their places there.
-pub fn build(alloc: Global, seen: &[Analysis], live: &[BitRow]) -> Result<Shape, NoMemory>
+/// A row tells of each object which of its entries are live. The entries that `names` names are merged: of the names
+/// of one path the winner stands in the pool's unit, and references to all of them lead there. Kept are the live entries
+/// that are not merged, and merged namespaces above them. A kept entry keeps the unit in which it stands, and units keep
+/// the order of the objects and of their places there.
+pub fn build(
+    alloc: Global,
+    seen: &[Analysis],
+    live: &[BitRow],
+    names: &PathBook,
+    winners: &[u32],
+) -> Result<Shape, NoMemory>
     requires sound { All IsSound seen.now }
     requires marked { AreMarked seen.now live.now }
     requires few { length seen.now < 2 ^ 16 }
-    ensures exact { IfOk result (λ shape. shape ≡ shaped (objects_of seen.now live.now)) }
+    requires book { (odr : Bool) × (names.now ≡ linked_names odr seen.now live.now) }
+    requires winners { AreWinners names.now winners.now }
+    ensures exact { IfOk result (λ shape. (odr : Bool) → names.now ≡ linked_names odr seen.now live.now → shape ≡ shape_of odr seen.now live.now) }
     ensures is { IfOk result (λ shape. IsShape seen.now shape) }
 {
-    let mut units = List::new(alloc);
+    let pool = pool_of(alloc, names, winners)?;
+    let mut units = pool.units;
     let mut plain = List::new(alloc);
     let mut images = List::new(alloc);
+    let mut from = 0;
     for (i, object) in seen.iter().enumerate() {
-        let rows = add_object(alloc, i as u32, object, &live[i], &mut units)?;
+        let end = names_end(names, i as u32 + 1, from);
+        let mut rows = add_kept(
+            alloc, i as u32, object, &live[i], names, from, end, &mut units,
+        )?;
+        lead_to_paths(rows.images.as_mut_slice(), names, &pool.nodes, from, end);
         plain.push(rows.plain)?;
         images.push(rows.images)?;
+        from = end;
     }
     Ok(Shape {
         units,

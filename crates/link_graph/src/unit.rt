@@ -1,6 +1,6 @@
 //! One unit of an object: the nodes of its entries.
 
-ghost use Rattle.std.specs.Prelude.{◌≡◌, ◌<◌, ◌≤◌, ◌^◌, ◌++◌, drop, length, map, slice_get, IfSome, OnOk, IfOk};
+ghost use Rattle.std.specs.Prelude.{◌≡◌, ◌<◌, ◌≤◌, ◌^◌, ◌++◌, ◌↔◌, drop, length, map, slice_get, IfSome, IsErr, OnOk, IfOk};
 ghost use Rattle.std.specs.Option.{option_to_list};
 ghost use Rattle.dwarf_types.specs.Sound.{IsSound};
 ghost use Rattle.link_graph.specs.Passes.{entries_of, images_in_unit, marked, node_in, nodes_in, plain_in_unit, target_in, unit_at};
@@ -62,7 +62,7 @@ fn add_images(
 }
 
 /// A node of the unit of a number.
-fn target_in(unit: u32, node: Option<u32>) -> Option<Target>
+pub(crate) fn target_in(unit: u32, node: Option<u32>) -> Option<Target>
     ensures { result ≡ target_in unit node }
 {
     let node = node?;
@@ -102,9 +102,10 @@ fn nodes_in(
     Ok(nodes)
 }
 
-/// A count as a number, which 32 bits hold where memory holds what is counted.
+/// A count as a number, unless it passes 32 bits.
 fn number_of(count: usize) -> Result<u32, NoMemory>
-    ensures { IfOk result (λ number. number ≡ count) }
+    ensures number { IfOk result (λ number. number ≡ count) }
+    ensures full { IsErr result ↔ (2 ^ 32 ≤ count) }
 {
     match u32::try_from(count) {
         Ok(number) => Ok(number),

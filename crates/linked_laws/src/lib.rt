@@ -9,4 +9,6 @@
 
 mod laws;
 
-pub use laws::{linked_is_well, lists_end_by_ancestors, live_entries_are_closed};
+pub use laws::{
+    linked_behind_is_well, linked_is_well, lists_end_by_ancestors, live_entries_are_closed,
+};

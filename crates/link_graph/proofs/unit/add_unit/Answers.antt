@@ -31,7 +31,7 @@ returns-in_ok-push-clause-images c =
     let images = c.args.rows.now.images in
     let plain = c.in_ok-nodes.ensures.plain ∙ ap (λ (xs : List (Option ℕ)). xs ++ plain_in_unit o c.args.u es) c.requires.same in
     images_added (length c.args.units.now) o c.args.u es images c.add_images.new.images c.nodes_in.new.plain plain
-    (images_read c.in_ok-number.number (length c.args.units.now) c.len-begun.result images c.add_images.new.images c.as_slice.result.now c.nodes_in.new.plain (c.in_ok-number.ensures ∙ c.len.ensures) c.len-begun.ensures c.as_slice.ensures c.in_ok-add_images.ensures)
+    (images_read c.in_ok-number.number (length c.args.units.now) c.len-begun.result images c.add_images.new.images c.as_slice.result.now c.nodes_in.new.plain (c.in_ok-number.ensures.number ∙ c.len.ensures) c.len-begun.ensures c.as_slice.ensures c.in_ok-add_images.ensures)
 
 pub returns-in_ok-push-clause-same : goal.returns-in_ok-push-clause-same
 returns-in_ok-push-clause-same c =
@@ -40,7 +40,7 @@ returns-in_ok-push-clause-same c =
     let images = c.args.rows.now.images in
     let plain = c.in_ok-nodes.ensures.plain ∙ ap (λ (xs : List (Option ℕ)). xs ++ plain_in_unit o c.args.u es) c.requires.same in
     plain_added (length c.args.units.now) (plain_in_unit o c.args.u es) images c.add_images.new.images c.nodes_in.new.plain plain
-    (images_read c.in_ok-number.number (length c.args.units.now) c.len-begun.result images c.add_images.new.images c.as_slice.result.now c.nodes_in.new.plain (c.in_ok-number.ensures ∙ c.len.ensures) c.len-begun.ensures c.as_slice.ensures c.in_ok-add_images.ensures)
+    (images_read c.in_ok-number.number (length c.args.units.now) c.len-begun.result images c.add_images.new.images c.as_slice.result.now c.nodes_in.new.plain (c.in_ok-number.ensures.number ∙ c.len.ensures) c.len-begun.ensures c.as_slice.ensures c.in_ok-add_images.ensures)
 
 pub returns-else-not-is_empty-clause-images : goal.returns-else-not-is_empty-clause-images
 returns-else-not-is_empty-clause-images c =
@@ -49,7 +49,7 @@ returns-else-not-is_empty-clause-images c =
     let images = c.args.rows.now.images in
     let plain = c.in_ok-nodes.ensures.plain ∙ ap (λ (xs : List (Option ℕ)). xs ++ plain_in_unit o c.args.u es) c.requires.same in
     images_added (length c.args.units.now) o c.args.u es images c.add_images.new.images c.nodes_in.new.plain plain
-    (images_read c.in_ok-number.number (length c.args.units.now) c.len-begun.result images c.add_images.new.images c.as_slice.result.now c.nodes_in.new.plain (c.in_ok-number.ensures ∙ c.len.ensures) c.len-begun.ensures c.as_slice.ensures c.in_ok-add_images.ensures)
+    (images_read c.in_ok-number.number (length c.args.units.now) c.len-begun.result images c.add_images.new.images c.as_slice.result.now c.nodes_in.new.plain (c.in_ok-number.ensures.number ∙ c.len.ensures) c.len-begun.ensures c.as_slice.ensures c.in_ok-add_images.ensures)
 
 pub returns-else-not-is_empty-clause-same : goal.returns-else-not-is_empty-clause-same
 returns-else-not-is_empty-clause-same c =
@@ -58,4 +58,4 @@ returns-else-not-is_empty-clause-same c =
     let images = c.args.rows.now.images in
     let plain = c.in_ok-nodes.ensures.plain ∙ ap (λ (xs : List (Option ℕ)). xs ++ plain_in_unit o c.args.u es) c.requires.same in
     plain_added (length c.args.units.now) (plain_in_unit o c.args.u es) images c.add_images.new.images c.nodes_in.new.plain plain
-    (images_read c.in_ok-number.number (length c.args.units.now) c.len-begun.result images c.add_images.new.images c.as_slice.result.now c.nodes_in.new.plain (c.in_ok-number.ensures ∙ c.len.ensures) c.len-begun.ensures c.as_slice.ensures c.in_ok-add_images.ensures)
+    (images_read c.in_ok-number.number (length c.args.units.now) c.len-begun.result images c.add_images.new.images c.as_slice.result.now c.nodes_in.new.plain (c.in_ok-number.ensures.number ∙ c.len.ensures) c.len-begun.ensures c.as_slice.ensures c.in_ok-add_images.ensures)

@@ -1,0 +1,15 @@
+use Rattle.clone_units.specs.Sourced.{source_seen}
+use Rattle.clone_units.proofs.Pooled.{has_numbers, has_row, node_is}
+use Rattle.clone_units.proofs.pool.node_in_pool.Goals as goal
+
+pub row_of-row-requires : goal.row_of-row-requires
+row_of-row-requires c = has_row c.args.seen.now c.args.images.now c.args.origin (source_seen c.in-Some.source) c.requires.pooled c.in-Some.ensures
+
+pub numbers_at-requires : goal.numbers_at-requires
+numbers_at-requires c =
+    has_numbers c.args.seen.now c.args.images.now c.args.origin (source_seen c.in-Some.source) c.requires.pooled c.in-Some.ensures c.args.numbers.now c.requires.numbers.0 c.requires.numbers.1 c.unit-unit.result c.unit-unit.ensures
+
+pub returns : goal.returns
+returns c files are =
+    node_is c.args.seen.now c.args.images.now c.args.origin (source_seen c.in-Some.source) c.requires.pooled c.in-Some.ensures c.args.numbers.now files are c.unit-unit.result c.unit-unit.ensures
+    c.row_of-row.result.now c.numbers_at.result.now c.tag.result c.in_ok-attrs.attrs c.row_of-row.ensures c.numbers_at.ensures c.tag.ensures c.in_ok-attrs.ensures

@@ -1,0 +1,10 @@
+use Rattle.std.proofs.Common.{◌≡◌, ◌++◌, drop, map}
+use Rattle.clone_units.specs.Sourced.{files_seen, number_of}
+use Rattle.link_graph.specs.PoolFiles.{listed_file}
+use Rattle.clone_units.proofs.source_numbers.add_numbers.Given as goal
+
+-- the numbers so far and those that are left
+abbrev pub invariant-loop-file : goal.invariant-loop-file
+invariant-loop-file l =
+    l.numbers ++ map (λ file. number_of (files_seen l.files) (listed_file l.seen l.unit l.lines file)) (drop l.file-index l.file-items)
+    ≡ l.fn.numbers ++ map (λ file. number_of (files_seen l.files) (listed_file l.seen l.unit l.lines file)) l.file-items

@@ -1,0 +1,74 @@
+-- The entries of merged nodes, and the source files that they name: where names stand, and how files are numbered.
+use Rattle.std.specs.Prelude.{◌≡◌, ◌<◌, ℕ, ◌+◌, List, [], ◌∷◌, map, length, slice_get, Option, Some, None, if◌then◌else◌, ◌==◌}
+use Rattle.std.specs.List.{position}
+use Rattle.std.specs.Option.{option_and_then, option_map, option_map_or}
+use denote.Ref.{Bor}
+use Rattle.indexmap.specs.IndexSet.{IndexSet}
+use Rattle.clone_units.specs.declared.source_files.FileRef.{FileRef}
+use Rattle.clone_units.specs.declared.entry_sources.SourceRef.{SourceRef}
+use Rattle.clone_values.specs.Images.{image_at}
+use Rattle.dwarf_types.specs.declared.analysis.Analysis.{Analysis}
+use Rattle.dwarf_types.specs.declared.entry.InUnit.{InUnit}
+use Rattle.dwarf_types.specs.declared.graph.Target.{Target}
+use Rattle.dwarf_types.specs.declared.lines.OutLines.{OutLines}
+use Rattle.dwarf_types.specs.declared.shape.Origin.{Origin}
+use Rattle.link_graph.specs.Graph.{Source, source_of}
+use Rattle.link_graph.specs.PoolFiles.{SourceFile, files_named, listed_file, same_file}
+
+-- ---- what is borrowed, as values
+
+abbrev pub source_seen : SourceRef → Source
+source_seen s = record { object = s.object; seen = s.seen.now; entry = s.entry }
+
+abbrev pub file_seen : FileRef → SourceFile
+file_seen f = record { dir = f.dir.now; name = f.name.now }
+
+module _ {S : Type 0} where
+  abbrev pub files_seen : IndexSet FileRef S → List SourceFile
+  files_seen files = map file_seen files.keys
+
+  abbrev pub dirs_seen : IndexSet (Bor (List ℕ)) S → List (List ℕ)
+  dirs_seen dirs = map (λ dir. dir.now) dirs.keys
+
+-- ---- files
+
+-- the files that the entry of a node names
+abbrev pub uses_of : List Analysis → Origin → List SourceFile
+uses_of all origin = option_map_or (λ source. files_named source.seen source.entry) (source_of all origin) []
+
+-- the directory of a file, unless it is empty
+abbrev pub some_dir : SourceFile → Option (List ℕ)
+some_dir file = if length file.dir == 0 then None else Some file.dir
+
+-- the file at a place of a unit's table, counted from 0
+abbrev pub file_at : Analysis → InUnit → ℕ → Option SourceFile
+file_at seen unit i = option_and_then (λ lines. option_map (listed_file seen unit lines) (slice_get lines.files i)) unit.lines
+
+-- ---- their numbers
+
+-- the number of a file among others, which are counted from 1
+abbrev pub number_of : List SourceFile → SourceFile → Option ℕ
+number_of files file = option_map (λ i. i + 1) (position (same_file file) files)
+
+abbrev pub numbers_listed : List SourceFile → Analysis → InUnit → OutLines → List (Option ℕ)
+numbers_listed files seen unit lines = map (λ file. number_of files (listed_file seen unit lines file)) lines.files
+
+-- at each number that a unit has, the number of that file among others
+abbrev pub numbers_of_unit : List SourceFile → Analysis → InUnit → List (Option ℕ)
+numbers_of_unit files seen unit = Some 0 ∷ option_map_or (numbers_listed files seen unit) unit.lines []
+
+abbrev pub numbers_in : List SourceFile → Analysis → List (List (Option ℕ))
+numbers_in files seen = map (numbers_of_unit files seen) seen.units
+
+abbrev pub numbers_of_all : List SourceFile → List Analysis → List (List (List (Option ℕ)))
+numbers_of_all files all = map (numbers_in files) all
+
+-- ---- nodes
+
+-- where a reference leads, by the rows of all objects
+abbrev pub image_in : List (List (Option Target)) → ℕ → ℕ → Option Target
+image_in images object k = option_and_then (λ row. image_at row k) (slice_get images object)
+
+-- the entry of a node has what its references and its source file need
+abbrev pub IsPooled : List Analysis → List (List (Option Target)) → Origin → Type 0
+IsPooled all images origin = (source : Source) → source_of all origin ≡ Some source → (source.object < length images) × (source.entry.unit < length source.seen.units)

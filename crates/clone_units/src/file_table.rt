@@ -1,0 +1,105 @@
+//! The line table of the pool's unit, which has files and no rows.
+
+ghost use Rattle.std.specs.Prelude.{◌≡◌, map, OnOk, IfOk};
+ghost use Rattle.std.specs.Str.{bytes_eq};
+ghost use Rattle.clone_units.specs.Sourced.{dirs_seen, file_seen, files_seen};
+ghost use Rattle.indexmap.specs.IndexSet.{insert_key};
+ghost use Rattle.link_graph.specs.PoolFiles.{directories, file_written, number_of_directory, table_of};
+
+use crate::source_files::FileRef;
+use ds_base::{Bytes, List, NoMemory};
+use dwarf_types::{FileName, OutLines};
+use indexmap::IndexSet;
+use std::alloc::Global;
+
+/// The table of some files: their directories by first use, and each file with the number of its directory.
+pub(crate) fn table_of(alloc: Global, files: &IndexSet<FileRef<'_>>) -> Result<OutLines, NoMemory>
+    ensures { IfOk result (λ lines. lines ≡ table_of (files_seen files.now)) }
+{
+    let dirs = directories(alloc, files)?;
+    Ok(OutLines {
+        dirs: texts_of(alloc, &dirs)?,
+        files: files_written(alloc, &dirs, files)?,
+        sequences: List::new(alloc),
+    })
+}
+
+/// The directories of files by first use, each once, but for the empty one.
+fn directories<'a>(
+    alloc: Global,
+    files: &IndexSet<FileRef<'a>>,
+) -> Result<IndexSet<&'a [u8]>, NoMemory>
+    ensures { IfOk result (λ dirs. dirs_seen dirs ≡ directories (files_seen files.now)) }
+{
+    let mut dirs = IndexSet::new(alloc);
+    for file in files.as_slice() {
+        if !file.dir.is_empty() {
+            add_dir(&mut dirs, file.dir)?;
+        }
+    }
+    Ok(dirs)
+}
+
+/// Puts a directory last, unless it is there.
+fn add_dir<'a>(dirs: &mut IndexSet<&'a [u8]>, dir: &'a [u8]) -> Result<(), NoMemory>
+    ensures { OnOk result (dirs_seen dirs.new ≡ insert_key bytes_eq (dirs_seen dirs.old) dir.now) }
+{
+    dirs.insert(dir)?;
+    Ok(())
+}
+
+/// The names of directories.
+fn texts_of(alloc: Global, dirs: &IndexSet<&[u8]>) -> Result<List<Bytes>, NoMemory>
+    ensures { IfOk result (λ texts. texts ≡ dirs_seen dirs.now) }
+{
+    let mut texts = List::with_capacity(alloc, dirs.len())?;
+    for dir in dirs.as_slice() {
+        texts.push(Bytes::from_slice(alloc, dir)?)?;
+    }
+    Ok(texts)
+}
+
+/// The files as they are written.
+fn files_written<'a>(
+    alloc: Global,
+    dirs: &IndexSet<&'a [u8]>,
+    files: &IndexSet<FileRef<'a>>,
+) -> Result<List<FileName>, NoMemory>
+    ensures { IfOk result (λ written. written ≡ map (file_written (dirs_seen dirs.now)) (files_seen files.now)) }
+{
+    let mut written = List::with_capacity(alloc, files.len())?;
+    for file in files.as_slice() {
+        written.push(file_written(alloc, dirs, *file)?)?;
+    }
+    Ok(written)
+}
+
+/// A file as it is written.
+fn file_written<'a>(
+    alloc: Global,
+    dirs: &IndexSet<&'a [u8]>,
+    file: FileRef<'a>,
+) -> Result<FileName, NoMemory>
+    ensures { IfOk result (λ written. written ≡ file_written (dirs_seen dirs.now) (file_seen file.entry)) }
+{
+    Ok(FileName {
+        name: Bytes::from_slice(alloc, file.name)?,
+        dir: number_of_directory(dirs, file.dir),
+        time: 0,
+        size: 0,
+        digest: None,
+    })
+}
+
+/// The number of a directory. Directories are counted from 1, and the empty one has 0.
+fn number_of_directory<'a>(dirs: &IndexSet<&'a [u8]>, dir: &'a [u8]) -> u64
+    ensures { result ≡ number_of_directory (dirs_seen dirs.now) dir.now }
+{
+    match dirs.get_index_of(dir) {
+        Some(index) => {
+            prove!(index < dirs.len());
+            index as u64 + 1
+        }
+        None => 0,
+    }
+}

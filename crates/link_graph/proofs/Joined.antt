@@ -1,0 +1,295 @@
+-- The whole shape: the pool's unit and the objects, one by one.
+use Rattle.std.proofs.Common.{◌≡◌, ◌⊎◌, inl, inr, ℕ, zero, suc, ◌+◌, ◌-◌, ◌<◌, ◌≤◌, ◌&&◌, not, Bool, true, false, cond, List, [], ◌∷◌, ◌++◌, length, map, take, get_or, slice_get, Option, Some, None, is_some, refl, sym, ap, subst, ◌∙◌, arith, append_assoc, append-nil, length-append}
+use Rattle.std.specs.List.{All, enumerate_from, filter, filter_map, flat_map, zip}
+use Rattle.std.specs.Option.{option_and_then, option_map}
+use Rattle.std.proofs.lemmas.Bool.{ne_eqb}
+use Rattle.std.specs.Prelude.{nat_lt}
+use Rattle.std.proofs.lemmas.List.{get_or-map, length-map, map-append, same_lists, take_all}
+use Rattle.std.proofs.lemmas.List.Elements.{All-cons, All-filter, All-head, All-map, All-nil, All-tail, All-weaker}
+use Rattle.std.proofs.lemmas.List.FromFn.{length-enumerate_from}
+use Rattle.std.proofs.lemmas.Option.{get_or_from_slice_get, slice_get_cases, slice_get-get_or, slice_get-map, slice_get_within}
+use Rattle.std.proofs.lemmas.Simd.{map-map}
+use Rattle.dwarf_types.specs.declared.analysis.Analysis.{Analysis}
+use Rattle.dwarf_types.specs.declared.entry.Entry.{Entry}
+use Rattle.dwarf_types.specs.declared.graph.Target.{Target}
+use Rattle.dwarf_types.specs.declared.shape.Origin.{Origin}
+use Rattle.dwarf_types.specs.declared.shape.Shape.{Shape}
+use Rattle.dwarf_types.specs.declared.shape.ShapeUnit.{ShapeUnit}
+use Rattle.dwarf_types.specs.LinkedShape.{AreMarked, marks_in, objects_in, plain_in, shape_in}
+use Rattle.dwarf_types.specs.LinkedShape as shapes
+use Rattle.dwarf_types.specs.LinkedUnits.{Object, numbered, plain_target, sources}
+use Rattle.dwarf_types.specs.Sound.{IsSound}
+use Rattle.odr_names.specs.Book.{objects_of}
+use Rattle.odr_names.proofs.MakingBooks.{length_objects}
+use Rattle.odr_names.proofs.ObjectLists.{object_parts}
+use Rattle.type_names.specs.Heads.{entries_of, is_pooled}
+use Rattle.type_names.specs.Heads as heads
+use Rattle.type_names.specs.Names.{Named, named_of}
+use Rattle.type_names.specs.Objects.{object_of}
+use Rattle.type_names.specs.Paths.{Piece, path_of}
+use Rattle.link_graph.specs.Graph.{IsPool, IsShape, Source, source_of}
+use Rattle.link_graph.specs.Merged.{image_in, images_in, kept_object, kept_objects, linked_names, pool_origin, pool_root, pool_units, shape_of}
+use Rattle.link_graph.specs.Passes.{image_behind, images_of, kept_with, path_target, plain_before, put_each, units_before, units_of}
+use Rattle.link_graph.specs.Pool.{by_bids, children_of, is_child, is_outbid, node_of_path, pool_names, preorder, winners, with_bid}
+use Rattle.link_graph.proofs.Gathered.{All-flat_map, enumerate_at, enumerate_more, map_same}
+use Rattle.link_graph.proofs.KeptRows.{kept_is, kept_length}
+use Rattle.link_graph.proofs.Merging.{IsNameOf, are_names_of, named_in, names_begin, one_on, put_length, put_named}
+use Rattle.link_graph.proofs.Shapes.{image_is, marks_of, plain_before_more, units_before_more, units_shaped}
+use Rattle.link_graph.proofs.Stretches.{numbered_at, numbered_length}
+
+-- ---- objects
+
+pub object_sound : (seen : List Analysis) (live : List (List Bool)) (i : ℕ) (o : heads.Object) → All IsSound seen → slice_get (objects_of seen live) i ≡ Some o → IsSound o.seen
+object_sound seen live i o sound at =
+    let there = (object_parts seen live i o at).0 in
+    subst IsSound (get_or_from_slice_get seen i o.seen o.seen there) (sound i o.seen (slice_get_within seen i o.seen there))
+
+pub kept_there : (odr : Bool) (seen : List Analysis) (live : List (List Bool)) (i : ℕ) (o : heads.Object) → slice_get (objects_of seen live) i ≡ Some o → slice_get (kept_objects odr seen live) i ≡ Some (kept_object odr o)
+kept_there odr seen live i o at = slice_get-map (kept_object odr) (objects_of seen live) i ∙ ap (option_map (kept_object odr)) at
+
+-- ---- images
+
+image_cases : (b : Bool) (f g : Option Target) (x y : Option Target) → f ≡ g → x ≡ y → cond b f x ≡ cond b g y
+image_cases true f g x y e h = e
+image_cases false f g x y e h = h
+
+-- where references to the entries of an object lead, behind the pool's unit and the units of the objects before
+pub images_are : (odr : Bool) (seen : List Analysis) (live : List (List Bool)) (i before : ℕ) (o : heads.Object) → slice_get (objects_of seen live) i ≡ Some o → IsSound o.seen
+    → before ≡ length (pool_units (linked_names odr seen live)) + length (units_before (kept_objects odr seen live) i)
+    → put_each (path_target (linked_names odr seen live)) (named_in odr (i + 1) o) (images_of before i (kept_object odr o)) ≡ images_in odr seen live (i, o)
+images_are odr seen live i before o at sound place =
+    same_lists (put_each f ws own) (images_in odr seen live (i, o)) (put_length f ws own ∙ own_long ∙ sym all_long)
+    (λ k d lt. elim (slice_get_cases (entries_of o) k).1 [
+      | inl w ↦ here k d w.0 w.2 w.1
+      | inr w ↦ absurd (omega (arith, w.0, lt, put_length f ws own, own_long))
+    ])
+  where
+    names : List Named
+    names = linked_names odr seen live
+
+    f : Named → Option Target
+    f = path_target names
+
+    ws : List Named
+    ws = named_in odr (i + 1) o
+
+    own : List (Option Target)
+    own = images_of before i (kept_object odr o)
+
+    own_long : length own ≡ length (entries_of o)
+    own_long = length-map (numbered (kept_object odr o)) (image_behind before i (kept_object odr o)) ∙ numbered_length (kept_object odr o)
+
+    image : ℕ × Entry → Option Target
+    image e = image_in odr seen live (i, o) e.0
+
+    all_long : length (images_in odr seen live (i, o)) ≡ length (entries_of o)
+    all_long = length-map (enumerate_from 0 (entries_of o)) image ∙ length-enumerate_from 0 (entries_of o)
+
+    here : (k : ℕ) (d : Option Target) (e : Entry) → slice_get (entries_of o) k ≡ Some e → k < length (entries_of o) → get_or (put_each f ws own) k d ≡ get_or (images_in odr seen live (i, o)) k d
+    here k d e stands within =
+        let own_there : get_or own k d ≡ plain_target (length (pool_units names)) (kept_objects odr seen live) i k =
+        get_or-map (image_behind before i (kept_object odr o)) (numbered (kept_object odr o)) k (k, e) d (omega (arith, within, numbered_length (kept_object odr o)))
+        ∙ ap (image_behind before i (kept_object odr o)) (numbered_at (kept_object odr o) k (k, e) within ∙ ap (λ (x : Entry). (k, x)) (get_or_from_slice_get (entries_of o) k e e stands))
+        ∙ ap (λ (n : ℕ). image_behind n i (kept_object odr o) (k, e)) place
+        ∙ sym (image_is (length (pool_units names)) (kept_objects odr seen live) i (kept_object odr o) k e (kept_there odr seen live i o at) stands sound) in
+        put_named f odr (i + 1) o own k e d stands (omega (arith, within, own_long))
+        ∙ image_cases (odr && is_pooled o k) (f (named_of (i + 1) o k e)) (option_map (λ node. record { unit = 0; node = node }) (node_of_path names (path_of (i + 1) o k))) (get_or own k d) _ refl own_there
+        ∙ sym (get_or-map image (enumerate_from 0 (entries_of o)) k (k, e) d (omega (arith, within, length-enumerate_from 0 (entries_of o)))
+        ∙ ap image (enumerate_at (entries_of o) k (k, e) within ∙ ap (λ (x : Entry). (k, x)) (get_or_from_slice_get (entries_of o) k e e stands)))
+
+-- ---- the shape so far
+
+-- the units and rows of the objects below i
+pub record IsShapedTo (odr : Bool) (seen : List Analysis) (live : List (List Bool)) (units : List ShapeUnit) (plain : List (List (Option ℕ))) (images : List (List (Option Target))) (i : ℕ) : Type 0 where
+  pub are_units : units ≡ pool_units (linked_names odr seen live) ++ units_before (kept_objects odr seen live) i
+  pub are_plain : plain ≡ plain_before (kept_objects odr seen live) i
+  pub are_images : images ≡ map (images_in odr seen live) (take i (enumerate_from 0 (objects_of seen live)))
+
+pub shaped_begin : (odr : Bool) (seen : List Analysis) (live : List (List Bool)) (names : List Named) (units : List ShapeUnit) → names ≡ linked_names odr seen live → units ≡ pool_units names → IsShapedTo odr seen live units [] [] 0
+shaped_begin odr seen live names units same is = record {
+  are_units = is ∙ ap pool_units same ∙ sym (append-nil (pool_units (linked_names odr seen live)));
+  are_plain = refl;
+  are_images = refl;
+}
+
+pub shaped_more : (odr : Bool) (seen : List Analysis) (live : List (List Bool)) (names ws : List Named) (i : ℕ) (o : heads.Object) (units later : List ShapeUnit) (plain : List (List (Option ℕ))) (images : List (List (Option Target))) (nodes : List (Option ℕ)) (leading : List (Option Target))
+    → slice_get (objects_of seen live) i ≡ Some o → IsSound o.seen → names ≡ linked_names odr seen live → ws ≡ named_in odr (i + 1) o
+    → later ≡ units ++ units_of i (kept_with o.seen o.live ws) → nodes ≡ plain_in (kept_with o.seen o.live ws) → leading ≡ put_each (path_target names) ws (images_of (length units) i (kept_with o.seen o.live ws))
+    → IsShapedTo odr seen live units plain images i → IsShapedTo odr seen live later (plain ++ nodes ∷ []) (images ++ leading ∷ []) (i + 1)
+shaped_more odr seen live names ws i o units later plain images nodes leading at sound same own units_are nodes_are leading_are so_far = record {
+  are_units = units_are ∙ ap (λ (k : Object). units ++ units_of i k) kept ∙ ap (λ (us : List ShapeUnit). us ++ units_of i (kept_object odr o)) so_far.are_units
+      ∙ append_assoc (pool_units (linked_names odr seen live)) (units_before objects i) (units_of i (kept_object odr o))
+      ∙ ap (λ (us : List ShapeUnit). pool_units (linked_names odr seen live) ++ us) (sym (units_before_more objects i (kept_object odr o) there));
+  are_plain = ap (λ (row : List (Option ℕ)). plain ++ row ∷ []) (nodes_are ∙ ap plain_in kept) ∙ ap (λ (rows : List (List (Option ℕ))). rows ++ plain_in (kept_object odr o) ∷ []) so_far.are_plain
+      ∙ sym (plain_before_more objects i (kept_object odr o) there);
+  are_images = ap (λ (row : List (Option Target)). images ++ row ∷ []) led ∙ ap (λ (rows : List (List (Option Target))). rows ++ images_in odr seen live (i, o) ∷ []) so_far.are_images
+      ∙ sym (ap (map (images_in odr seen live)) (enumerate_more (objects_of seen live) i o at) ∙ map-append (images_in odr seen live) (take i (enumerate_from 0 (objects_of seen live))) ((i, o) ∷ []));
+}
+  where
+    objects : List Object
+    objects = kept_objects odr seen live
+
+    there : slice_get objects i ≡ Some (kept_object odr o)
+    there = kept_there odr seen live i o at
+
+    kept : kept_with o.seen o.live ws ≡ kept_object odr o
+    kept = ap (kept_with o.seen o.live) own ∙ kept_is odr (i + 1) o
+
+    led : leading ≡ images_in odr seen live (i, o)
+    led = leading_are
+        ∙ ap (λ (ns : List Named). put_each (path_target ns) ws (images_of (length units) i (kept_with o.seen o.live ws))) same
+        ∙ ap (λ (k : Object). put_each (path_target (linked_names odr seen live)) ws (images_of (length units) i k)) kept
+        ∙ ap (λ (vs : List Named). put_each (path_target (linked_names odr seen live)) vs (images_of (length units) i (kept_object odr o))) own
+        ∙ images_are odr seen live i (length units) o at sound (ap length so_far.are_units ∙ length-append (pool_units (linked_names odr seen live)) (units_before objects i))
+
+-- all objects make the shape
+pub shape_whole : (odr : Bool) (seen : List Analysis) (live : List (List Bool)) (i : ℕ) (units : List ShapeUnit) (plain : List (List (Option ℕ))) (images : List (List (Option Target))) → length live ≡ length seen → length seen ≤ i
+    → IsShapedTo odr seen live units plain images i → record { units = units; plain = plain; images = images } ≡ shape_of odr seen live
+shape_whole odr seen live i units plain images each le is =
+    let objects = kept_objects odr seen live in
+    let long : length objects ≡ length seen = length-map (objects_of seen live) (kept_object odr) ∙ length_objects seen live each in
+    let pool = pool_units (linked_names odr seen live) in
+    let a : units ≡ pool ++ filter_map (shape_in objects) (sources objects) = is.are_units ∙ ap (λ (us : List ShapeUnit). pool ++ us) (units_all objects i (omega (arith, le, long)) ∙ sym (units_shaped objects)) in
+    let b : plain ≡ map plain_in objects = is.are_plain ∙ ap (map plain_in) (take_all i objects (omega (arith, le, long))) in
+    let c : images ≡ map (images_in odr seen live) (enumerate_from 0 (objects_of seen live)) =
+    is.are_images ∙ ap (map (images_in odr seen live)) (take_all i (enumerate_from 0 (objects_of seen live)) (omega (arith, le, length-enumerate_from 0 (objects_of seen live), length_objects seen live each))) in
+    ap (λ (us : List ShapeUnit). made us plain images) a ∙ ap (λ (rows : List (List (Option ℕ))). made (pool ++ filter_map (shape_in objects) (sources objects)) rows images) b
+    ∙ ap (made (pool ++ filter_map (shape_in objects) (sources objects)) (map plain_in objects)) c
+  where
+    made : List ShapeUnit → List (List (Option ℕ)) → List (List (Option Target)) → Shape
+    made us rows ims = record { units = us; plain = rows; images = ims }
+
+    units_all : (objects : List Object) (i : ℕ) → length objects ≤ i → units_before objects i ≡ units_before objects (length objects)
+    units_all objects i le =
+        let long = length-enumerate_from 0 objects in
+        ap (flat_map (λ (o : ℕ × Object). units_of o.0 o.1)) (take_all i (enumerate_from 0 objects) (omega (arith, le, long)) ∙ sym (take_all (length objects) (enumerate_from 0 objects) (omega (arith, long))))
+
+-- ---- the objects of the shape
+
+all_sound : (seen : List Analysis) (live : List (List Bool)) → All IsSound seen → All (λ (o : heads.Object). IsSound o.seen) (objects_of seen live)
+all_sound seen live sound i o lt = object_sound seen live i (get_or (objects_of seen live) i o) sound (slice_get-get_or (objects_of seen live) i o lt)
+
+rows_again : (odr : Bool) (seen : List Analysis) (live : List (List Bool)) → All IsSound seen → marks_in (shape_of odr seen live) ≡ map (λ (o : Object). o.kept) (kept_objects odr seen live)
+rows_again odr seen live sound =
+    map-map (map is_some) plain_in (kept_objects odr seen live)
+    ∙ map_same (λ (o : Object). map is_some (plain_in o)) (λ (o : Object). o.kept) (kept_objects odr seen live)
+    (All-map (λ (o : Object). map is_some (plain_in o) ≡ o.kept) (kept_object odr) (objects_of seen live)
+    (All-weaker (λ (o : heads.Object). IsSound o.seen) (λ o. map is_some (plain_in (kept_object odr o)) ≡ (kept_object odr o).kept)
+    (λ o is. marks_of (kept_object odr o) is (kept_length (entries_of o) o.live _)) (objects_of seen live) (all_sound seen live sound)))
+
+objects_again : (odr : Bool) (seen : List Analysis) (live : List (List Bool)) → shapes.objects_of seen (map (λ (o : Object). o.kept) (kept_objects odr seen live)) ≡ kept_objects odr seen live
+objects_again odr [] live = refl
+objects_again odr (s ∷ seen) [] = refl
+objects_again odr (s ∷ seen) (l ∷ live) = ap (λ (os : List Object). kept_object odr (object_of s l) ∷ os) (objects_again odr seen live)
+
+-- rows of objects are as long as these have entries
+rows_long : {A : Type 0} (f : heads.Object → List A) (seen : List Analysis) (live : List (List Bool)) → ((o : heads.Object) → length (f o) ≡ length (entries_of o)) → All (λ row. length row.1 ≡ length row.0.entries) (zip seen (map f (objects_of seen live)))
+rows_long f [] live long = All-nil (λ row. length row.1 ≡ length row.0.entries)
+rows_long f (s ∷ seen) [] long = All-nil (λ row. length row.1 ≡ length row.0.entries)
+rows_long {A} f (s ∷ seen) (l ∷ live) long =
+    let first : Analysis × List A = (s, f (object_of s l)) in
+    All-cons (λ (row : Analysis × List A). length row.1 ≡ length row.0.entries) first (zip seen (map f (objects_of seen live))) (long (object_of s l)) (rows_long f seen live long)
+
+images_long : (f : ℕ × heads.Object → List (Option Target)) (n : ℕ) (seen : List Analysis) (live : List (List Bool)) → ((o : ℕ × heads.Object) → length (f o) ≡ length (entries_of o.1)) → All (λ row. length row.1 ≡ length row.0.entries) (zip seen (map f (enumerate_from n (objects_of seen live))))
+images_long f n [] live long = All-nil (λ row. length row.1 ≡ length row.0.entries)
+images_long f n (s ∷ seen) [] long = All-nil (λ row. length row.1 ≡ length row.0.entries)
+images_long f n (s ∷ seen) (l ∷ live) long =
+    let first : Analysis × List (Option Target) = (s, f (n, object_of s l)) in
+    All-cons (λ (row : Analysis × List (Option Target)). length row.1 ≡ length row.0.entries) first (zip seen (map f (enumerate_from (n + 1) (objects_of seen live)))) (long (n, object_of s l)) (images_long f (n + 1) seen live long)
+
+-- ---- the pool's unit
+
+with_bid_all : (P : Named → Type 0) (w : Named) (vs : List Named) → P w → All P vs → All P (with_bid w vs)
+with_bid_all P w [] here rest = All-cons P w [] here rest
+with_bid_all P w (v ∷ vs) here rest = both (nat_lt v.bid w.bid) (with_bid_all P w vs here (All-tail P v vs rest))
+  where
+    both : (b : Bool) → All P (with_bid w vs) → All P (cond b (v ∷ with_bid w vs) (w ∷ v ∷ vs))
+    both true later = All-cons P v (with_bid w vs) (All-head P v vs rest) later
+    both false later = All-cons P w (v ∷ vs) here rest
+
+by_bids_all : (P : Named → Type 0) (ws : List Named) → All P ws → All P (by_bids ws)
+by_bids_all P [] all = All-nil P
+by_bids_all P (w ∷ ws) all = with_bid_all P w (by_bids ws) (All-head P w ws all) (by_bids_all P ws (All-tail P w ws all))
+
+preorder_all : (P : Named → Type 0) (levels : ℕ) (names : List Named) (path : List Piece) → All P names → All P (preorder levels names path)
+unfolding preorder
+preorder_all P zero names path all = All-nil P
+preorder_all P (suc levels) names path all =
+    All-flat_map P (λ w. w ∷ preorder levels names w.path) (children_of names path)
+    (All-weaker P (λ w. All P (w ∷ preorder levels names w.path)) (λ w is. All-cons P w (preorder levels names w.path) is (preorder_all P levels names w.path all))
+    (children_of names path) (by_bids_all P (filter (is_child path) (winners names)) (All-filter (is_child path) P (winners names) (All-filter (λ w. not (is_outbid names w)) P names all))))
+
+-- the entry of a name is there
+abbrev IsSourced : List Analysis → Named → Type 0
+IsSourced all w = (source : Source) × (source_of all (record { object = w.object; entry = w.entry; parent = None }) ≡ Some source)
+
+sourced : (seen : List Analysis) (live : List (List Bool)) (n : ℕ) (o : heads.Object) (w : Named) → 1 ≤ n → slice_get (objects_of seen live) (n - 1) ≡ Some o → IsNameOf n o w → IsSourced seen w
+sourced seen live n o w counted at is = (
+  record { object = w.object - 1; seen = o.seen; entry = is.entry },
+  ap (λ (b : Bool). cond b None (option_and_then found (slice_get seen (w.object - 1)))) (ne_eqb w.object 0 (λ zero_is. omega (arith, counted, is.of_object, zero_is)))
+      ∙ ap (λ (n : ℕ). option_and_then found (slice_get seen (n - 1))) is.of_object
+      ∙ ap (option_and_then found) (object_parts seen live (n - 1) o at).0
+      ∙ ap (option_map (λ (e : Entry). made o.seen e)) is.stands,
+)
+  where
+    made : Analysis → Entry → Source
+    made a e = record { object = w.object - 1; seen = a; entry = e }
+
+    found : Analysis → Option Source
+    found a = option_map (λ e. made a e) (slice_get a.entries w.entry)
+
+names_sourced : (odr : Bool) (seen : List Analysis) (live : List (List Bool)) → All (IsSourced seen) (linked_names odr seen live)
+names_sourced odr seen live =
+    subst (All (IsSourced seen)) (sym (names_begin odr seen live))
+    (All-flat_map (IsSourced seen) (λ o. named_in odr o.0 o.1) (enumerate_from 1 (objects_of seen live))
+    (All-weaker (λ (x : ℕ × heads.Object). (1 ≤ x.0) × (slice_get (objects_of seen live) (x.0 - 1) ≡ Some x.1)) (λ x. All (IsSourced seen) (named_in odr x.0 x.1))
+    (λ x at. All-weaker (IsNameOf x.0 x.1) (IsSourced seen) (λ w is. sourced seen live x.0 x.1 w at.0 at.1 is) (named_in odr x.0 x.1) (are_names_of odr x.0 x.1))
+    (enumerate_from 1 (objects_of seen live)) (one_on (objects_of seen live))))
+
+pool_is : (all : List Analysis) (shape : Shape) (names : List Named) → All (IsSourced all) names → (pool_units names ≡ []) ⊎ ((unit : ShapeUnit) × (pool_units names ≡ unit ∷ []) × IsPool all shape unit)
+pool_is all shape [] are = inl refl
+pool_is all shape (n ∷ names) are =
+    let unit : ShapeUnit = record { version = 4; nodes = pool_root ∷ map (pool_origin (n ∷ names)) (pool_names (n ∷ names)) } in
+    inr (
+      unit,
+      refl,
+      record {
+        root = pool_root;
+        below = map (pool_origin (n ∷ names)) (pool_names (n ∷ names));
+        nodes = refl;
+        is_root = refl;
+        version = refl;
+        each = All-map (λ (origin : Origin). (source : Source) × (source_of all origin ≡ Some source)) (pool_origin (n ∷ names)) (pool_names (n ∷ names)) (preorder_all (IsSourced all) (length (n ∷ names)) (n ∷ names) [] are);
+      },
+    )
+
+-- ---- the shape
+
+shape_marks : (odr : Bool) (seen : List Analysis) (live : List (List Bool)) (shape : Shape) → All IsSound seen → shape ≡ shape_of odr seen live → marks_in shape ≡ map (λ (o : Object). o.kept) (kept_objects odr seen live)
+shape_marks odr seen live shape sound is = ap marks_in is ∙ rows_again odr seen live sound
+
+-- the objects that it tells are those with their kept entries
+pub shape_objects : (odr : Bool) (seen : List Analysis) (live : List (List Bool)) (shape : Shape) → All IsSound seen → shape ≡ shape_of odr seen live → objects_in seen shape ≡ kept_objects odr seen live
+shape_objects odr seen live shape sound is = ap (shapes.objects_of seen) (shape_marks odr seen live shape sound is) ∙ objects_again odr seen live
+
+pub shape_is : (odr : Bool) (seen : List Analysis) (live : List (List Bool)) (shape : Shape) → All IsSound seen → length live ≡ length seen → shape ≡ shape_of odr seen live → IsShape seen shape
+shape_is odr seen live shape sound each is = record {
+  marked = subst (AreMarked seen) (sym (shape_marks odr seen live shape sound is)) (record {
+    each = length-map objects (λ (o : Object). o.kept) ∙ length-map (objects_of seen live) (kept_object odr) ∙ length_objects seen live each;
+    whole = subst (λ (ms : List (List Bool)). All (λ object. length object.1 ≡ length object.0.entries) (zip seen ms)) (sym (map-map (λ (o : Object). o.kept) (kept_object odr) (objects_of seen live)))
+        (rows_long (λ (o : heads.Object). (kept_object odr o).kept) seen live (λ o. kept_length (entries_of o) o.live _));
+  });
+  plain = ap (λ (s : Shape). s.plain) is ∙ ap (map plain_in) (sym same);
+  images = subst (λ (ims : List (List (Option Target))). All (λ row. length row.1 ≡ length row.0.entries) (zip seen ims)) (sym (ap (λ (s : Shape). s.images) is))
+      (images_long (images_in odr seen live) 0 seen live (λ o. length-map (enumerate_from 0 (entries_of o.1)) _ ∙ length-enumerate_from 0 (entries_of o.1)));
+  rows = ap (λ (s : Shape). length s.images) is ∙ length-map (enumerate_from 0 (objects_of seen live)) (images_in odr seen live) ∙ length-enumerate_from 0 (objects_of seen live) ∙ length_objects seen live each;
+  pool = pool_units (linked_names odr seen live);
+  is_pool = pool_is seen shape (linked_names odr seen live) (names_sourced odr seen live);
+  units = ap (λ (s : Shape). s.units) is ∙ ap (λ (os : List Object). pool_units (linked_names odr seen live) ++ filter_map (shape_in os) (sources os)) (sym same);
+}
+  where
+    objects : List Object
+    objects = kept_objects odr seen live
+
+    same : objects_in seen shape ≡ objects
+    same = shape_objects odr seen live shape sound is

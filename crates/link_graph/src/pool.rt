@@ -1,0 +1,288 @@
+//! The nodes of merged entries: one for each path of the names of a link.
+//!
+//! The winners are put in order by what stands above them and then by their bids, so those right below a path are one
+//! run. The runs are gone over in preorder with a stack of the runs that are not yet done.
+
+ghost use Rattle.std.specs.Prelude.{◌≡◌, ◌<◌, ◌≤◌, ◌+◌, ◌^◌, ℕ, ◌∷◌, None, length, map, slice_index_or, IfOk};
+ghost use Rattle.std.specs.List.{All};
+ghost use Rattle.std.specs.List.Sorted.{IsNonDecreasingBy, IsPartitionPoint, IsPermutation};
+ghost use Rattle.std.specs.Option.{ForSome};
+ghost use Rattle.odr_names.specs.Book.{path_at};
+ghost use Rattle.odr_names.specs.Winners.{AreWinners};
+ghost use Rattle.link_graph.specs.Merged.{pool_origin, pool_root, pool_units};
+ghost use Rattle.link_graph.specs.Pool.{node_above, node_of_path, pool_names};
+ghost use Rattle.link_graph.specs.PoolOrder.{AreApart, AreChildrenTo, AreInOrder, AreNodes, AreNodesFrom, IsFamily, IsLinkedUp, IsPreorder, IsRunOf, key_of, name_at};
+
+use ds_base::{List, NoMemory};
+use dwarf_types::{Origin, ShapeUnit};
+use odr_names::{PathBook, above, count, number, occurrence};
+use std::alloc::Global;
+
+/// The nodes of merged entries.
+#[derive(Drop)]
+pub(crate) struct Pool {
+    /// The unit that they stand in, if any entry is merged.
+    pub(crate) units: List<ShapeUnit>,
+    /// The node of each name's path.
+    pub(crate) nodes: Vec<Option<u32>>,
+}
+
+/// A winner, and what stands above it.
+#[derive(Clone, Copy)]
+pub(crate) struct Child {
+    /// 1 more than the winner of the path above, or 0 where that has no piece.
+    pub(crate) parent: u32,
+    pub(crate) bid: u64,
+    pub(crate) name: u32,
+}
+
+/// Children of one parent, which stand one after the other.
+#[derive(Clone, Copy)]
+pub(crate) struct Run {
+    pub(crate) next: usize,
+    pub(crate) end: usize,
+}
+
+/// The winners of a book's names, by what stands above them and then by their bids.
+#[derive(Drop)]
+pub(crate) struct Tree<'a, 'b> {
+    pub(crate) names: &'a PathBook<'b>,
+    pub(crate) winners: &'a [u32],
+    pub(crate) children: Vec<Child>,
+}
+
+/// The nodes of merged entries: of each path the winner has one, in preorder, siblings by their bids.
+pub(crate) fn pool_of(alloc: Global, names: &PathBook, winners: &[u32]) -> Result<Pool, NoMemory>
+    requires apart { AreApart names.now }
+    requires winners { AreWinners names.now winners.now }
+    ensures units { IfOk result (λ pool. pool.units ≡ pool_units names.now) }
+    ensures nodes { IfOk result (λ pool. (length pool.nodes.items ≡ length names.now) × ((x : ℕ) → x < length names.now → slice_index_or pool.nodes.items x None ≡ node_of_path names.now (path_at names.now x))) }
+{
+    let mut children = children_of(alloc, names, winners)?;
+    sort_children(&mut children);
+    let tree = Tree {
+        names,
+        winners,
+        children,
+    };
+    let order = order_of(alloc, &tree)?;
+    let nodes = nodes_of(alloc, names, winners, &order)?;
+    let units = units_of(alloc, names, &order, &nodes)?;
+    Ok(Pool { units, nodes })
+}
+
+/// The winners, as they stand.
+fn children_of(alloc: Global, names: &PathBook, winners: &[u32]) -> Result<Vec<Child>, NoMemory>
+    requires apart { AreApart names.now }
+    requires winners { AreWinners names.now winners.now }
+    ensures few { IfOk result (λ children. length names.now < 2 ^ 32) }
+    ensures all { IfOk result (λ children. AreChildrenTo names.now winners.now children.items (length names.now)) }
+{
+    let mut children = Vec::new(alloc);
+    for x in 0..count(names) {
+        let parent = key_of(winners, above(names, x));
+        if winners[x as usize] == x {
+            children.push(Child {
+                parent,
+                bid: number(names, x),
+                name: x,
+            })?;
+        }
+    }
+    Ok(children)
+}
+
+/// The parent of a child, by a name of the path above it: 1 more than the winner of that path, or 0 where it has no piece.
+fn key_of(winners: &[u32], above: Option<u32>) -> u32
+    requires { ForSome above (λ p. (p < length winners.now) × (slice_index_or winners.now p 0 + 1 < 2 ^ 32)) }
+    ensures { result ≡ key_of winners.now above }
+{
+    match above {
+        Some(p) => winners[p as usize] + 1,
+        None => 0,
+    }
+}
+
+/// Puts winners in order: by what stands above them, and then by bid.
+fn sort_children(children: &mut Vec<Child>)
+    ensures same { IsPermutation children.old.items children.new.items }
+    ensures order { AreInOrder children.new.items }
+{
+    children.sort_unstable_by_key(|c| (c.parent, c.bid));
+}
+
+/// The winners that have nodes, in preorder.
+fn order_of(alloc: Global, tree: &Tree) -> Result<Vec<u32>, NoMemory>
+    requires few { length tree.now.names.now < 2 ^ 32 }
+    requires apart { AreApart tree.now.names.now }
+    requires winners { AreWinners tree.now.names.now tree.now.winners.now }
+    requires family { IsFamily tree.now.names.now tree.now.winners.now tree.now.children.items }
+    ensures { IfOk result (λ order. IsPreorder tree.now.names.now tree.now.winners.now order.items) }
+{
+    let children = tree.children.as_slice();
+    let mut order = Vec::new(alloc);
+    let mut open = Vec::new(alloc);
+    open.push(run_of(children, 0))?;
+    while let Some(run) = open.pop() {
+        if run.next >= run.end {
+            continue;
+        }
+        let name = children[run.next].name;
+        order.push(name)?;
+        open.push(Run {
+            next: run.next + 1,
+            end: run.end,
+        })?;
+        open.push(run_of(children, name + 1))?;
+    }
+    Ok(order)
+}
+
+/// The run of the children of a parent.
+fn run_of(children: &[Child], parent: u32) -> Run
+    requires { IsNonDecreasingBy (λ c. c.parent) children.now }
+    ensures { IsRunOf children.now parent result }
+{
+    Run {
+        next: count_below(children, parent),
+        end: count_up_to(children, parent),
+    }
+}
+
+/// How many children have a lower parent.
+fn count_below(children: &[Child], parent: u32) -> usize
+    requires { IsNonDecreasingBy (λ c. c.parent) children.now }
+    ensures within { result ≤ length children.now }
+    ensures parted { IsPartitionPoint (λ c. c.parent < parent) (λ c. parent ≤ c.parent) children.now result }
+{
+    children.partition_point(|c| c.parent < parent)
+}
+
+/// How many children have this parent or a lower one.
+fn count_up_to(children: &[Child], parent: u32) -> usize
+    requires { IsNonDecreasingBy (λ c. c.parent) children.now }
+    ensures within { result ≤ length children.now }
+    ensures parted { IsPartitionPoint (λ c. c.parent ≤ parent) (λ c. parent < c.parent) children.now result }
+{
+    children.partition_point(|c| c.parent <= parent)
+}
+
+/// The node of each name's path.
+fn nodes_of(
+    alloc: Global,
+    names: &PathBook,
+    winners: &[u32],
+    order: &[u32],
+) -> Result<Vec<Option<u32>>, NoMemory>
+    requires apart { AreApart names.now }
+    requires winners { AreWinners names.now winners.now }
+    requires order { IsPreorder names.now winners.now order.now }
+    requires linked { (x : ℕ) → x < length names.now → IsLinkedUp names.now x }
+    ensures { IfOk result (λ nodes. AreNodes names.now nodes.items) }
+{
+    let first = first_nodes(alloc, count(names) as usize, order)?;
+    let nodes = nodes_by(alloc, winners, &first)?;
+    Ok(nodes)
+}
+
+/// Of each of so many names the node: 1 more than the first place at which it stands in preorder.
+fn first_nodes(alloc: Global, count: usize, order: &[u32]) -> Result<Vec<Option<u32>>, NoMemory>
+    requires few { length order.now < 2 ^ 32 }
+    requires within { All (λ w. w < count) order.now }
+    ensures { IfOk result (λ nodes. AreNodesFrom order.now nodes.items count 0) }
+{
+    let mut nodes = vec![in alloc; None; count]?;
+    let mut i = order.len();
+    while i > 0 {
+        nodes[order[i - 1] as usize] = Some(i as u32);
+        i -= 1;
+    }
+    Ok(nodes)
+}
+
+/// Of each name the node of its winner.
+fn nodes_by(
+    alloc: Global,
+    winners: &[u32],
+    first: &[Option<u32>],
+) -> Result<Vec<Option<u32>>, NoMemory>
+    requires within { All (λ w. w < length first.now) winners.now }
+    ensures { IfOk result (λ nodes. nodes.items ≡ map (λ w. slice_index_or first.now w None) winners.now) }
+{
+    let mut nodes = Vec::with_capacity(alloc, winners.len())?;
+    for winner in winners {
+        nodes.push(first[*winner as usize])?;
+    }
+    Ok(nodes)
+}
+
+/// The unit of merged entries, if there is any.
+fn units_of(
+    alloc: Global,
+    names: &PathBook,
+    order: &[u32],
+    nodes: &[Option<u32>],
+) -> Result<List<ShapeUnit>, NoMemory>
+    requires within { All (λ w. w < length names.now) order.now }
+    requires order { map (name_at names.now) order.now ≡ pool_names names.now }
+    requires nodes { AreNodes names.now nodes.now }
+    ensures { IfOk result (λ units. units ≡ pool_units names.now) }
+{
+    let mut units = List::new(alloc);
+    if count(names) > 0 {
+        units.push(ShapeUnit {
+            version: 4,
+            nodes: origins_of(alloc, names, order, nodes)?,
+        })?;
+    }
+    Ok(units)
+}
+
+/// The nodes of that unit: its root, and behind it those of the winners.
+fn origins_of(
+    alloc: Global,
+    names: &PathBook,
+    order: &[u32],
+    nodes: &[Option<u32>],
+) -> Result<List<Origin>, NoMemory>
+    requires within { All (λ w. w < length names.now) order.now }
+    requires nodes { AreNodes names.now nodes.now }
+    ensures { IfOk result (λ origins. origins ≡ pool_root ∷ map (λ w. pool_origin names.now (name_at names.now w)) order.now) }
+{
+    let mut origins = List::new(alloc);
+    origins.push(Origin {
+        object: 0,
+        entry: 0,
+        parent: None,
+    })?;
+    for name in order {
+        origins.push(origin_of(names, nodes, *name))?;
+    }
+    Ok(origins)
+}
+
+/// The node of a winner.
+fn origin_of(names: &PathBook, nodes: &[Option<u32>], x: u32) -> Origin
+    requires within { x < length names.now }
+    requires nodes { AreNodes names.now nodes.now }
+    ensures { result ≡ pool_origin names.now (name_at names.now x) }
+{
+    let place = occurrence(names, x);
+    Origin {
+        object: place.object,
+        entry: place.entry,
+        parent: node_above(names, nodes, x),
+    }
+}
+
+/// The node of the path above that of a name.
+fn node_above(names: &PathBook, nodes: &[Option<u32>], x: u32) -> Option<u32>
+    requires within { x < length names.now }
+    requires nodes { AreNodes names.now nodes.now }
+    ensures { result ≡ node_above names.now (path_at names.now x) }
+{
+    match above(names, x) {
+        Some(p) => nodes[p as usize],
+        None => Some(0),
+    }
+}
