@@ -1,0 +1,16 @@
+pub mod Marks
+pub mod Told
+pub mod Unmerged
+pub mod Plain
+pub mod Members
+pub mod Names
+pub mod Bids
+pub mod PathTree
+pub mod Nodes
+pub mod PoolOrder
+pub mod OpenAbove
+pub mod Untied
+pub mod Files
+pub mod PoolUnit
+pub mod Whole
+pub mod FilesFew

@@ -1,0 +1,9 @@
+-- How many source files merged entries may name.
+use Rattle.std.specs.Prelude.{◌<◌, ◌^◌, List, length, IfSome}
+use Rattle.dwarf_types.specs.declared.analysis.Analysis.{Analysis}
+use Rattle.dwarf_types.specs.declared.shape.Shape.{Shape}
+use Rattle.link_graph.specs.Graph.{files_of, pool_of}
+
+-- the source files that merged entries name have numbers of 64 bits
+abbrev pub FilesFit : List Analysis → Shape → Type 0
+FilesFit all shape = IfSome (pool_of shape) (λ origins. length (files_of all origins) < 2 ^ 64)

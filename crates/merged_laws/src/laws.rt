@@ -1,0 +1,36 @@
+//! What is linked where entries are merged with others of their name.
+
+ghost use Rattle.std.specs.Prelude.{◌≡◌, ◌<◌, ◌^◌, ℕ, Bool as Choice, false, List as Listed, length, Some};
+ghost use Rattle.std.specs.List.{All, AllPairs};
+ghost use Rattle.dwarf_types.specs.declared.analysis.Analysis.{Analysis};
+ghost use Rattle.dwarf_types.specs.LinkedGraph.{linked};
+ghost use Rattle.dwarf_types.specs.LinkedShape.{AreMarked, objects_of};
+ghost use Rattle.dwarf_types.specs.Sound.{IsSound};
+ghost use Rattle.dwarf_types.specs.Well.{IsWell};
+ghost use Rattle.link_graph.specs.Graph.{graph_in};
+ghost use Rattle.link_graph.specs.Merged.{linked_names, shape_of};
+ghost use Rattle.link_graph.specs.Pool.{node_of_path, pool_names};
+ghost use Rattle.linked_laws.specs.Given.{IsGiven};
+ghost use Rattle.merged_laws.specs.Files.{FilesFit};
+ghost use Rattle.odr_names.specs.Making.{AreLiveRows};
+
+/// What is linked with merged entries is well.
+///
+/// The objects' analyses are sound and say what the bytes of an object can say; the live entries of each are marked.
+pub fn merged_is_well()
+    ensures { (odr : Choice) (seen : Listed Analysis) (live : Listed (Listed Choice)) → All IsSound seen → All IsGiven seen → AreLiveRows seen live → length seen < 2 ^ 16 → FilesFit seen (shape_of odr seen live)
+        → IsWell (graph_in seen (shape_of odr seen live)) }
+{}
+
+/// Where nothing is merged, what is linked is the graph of the live entries alone.
+pub fn nothing_merged_is_linked()
+    ensures { (seen : Listed Analysis) (live : Listed (Listed Choice)) → AreMarked seen live → graph_in seen (shape_of false seen live) ≡ linked (objects_of seen live) }
+{}
+
+/// Each name of a link has a node, that of its path, and no two nodes are of one path.
+pub fn every_path_has_a_node()
+    ensures node { (odr : Choice) (seen : Listed Analysis) (live : Listed (Listed Choice)) → All IsSound seen → AreLiveRows seen live
+        → All (λ name. (node : ℕ) × (node_of_path (linked_names odr seen live) name.path ≡ Some node)) (linked_names odr seen live) }
+    ensures one { (odr : Choice) (seen : Listed Analysis) (live : Listed (Listed Choice)) → length seen < 2 ^ 16 → All IsSound seen → AreLiveRows seen live
+        → AllPairs (λ a b. a.path ≡ b.path → ⊥) (pool_names (linked_names odr seen live)) }
+{}
