@@ -1,0 +1,87 @@
+-- The files of the generated objects are short.
+use Rattle.std.proofs.Common.{◌≡◌, ◌≤◌, ◌<◌, ◌^◌, ◌+◌, ◌*◌, ℕ, zero, suc, List, [], ◌∷◌, ◌++◌, length, map, arith, refl, ap, length-append}
+use Rattle.std.specs.List.{All, AllByRecursion, range_with_len}
+use Rattle.std.proofs.lemmas.List.{length-map}
+use Rattle.std.proofs.lemmas.List.Elements.{All-map}
+use Rattle.std.proofs.lemmas.List.FromFn.{get_or-range_with_len, length-range_with_len}
+use Rattle.dsym_write.specs.Bundle.{contents, strings_bytes, symbols_bytes, with_places}
+use Rattle.dsym_write.proofs.KeptSymbols.{length-nlists, length-placed}
+use Rattle.macho_read.specs.ImageSpelling.{commands_bytes, header_fields}
+use Rattle.macho_read.specs.Spelling.{spelled}
+use Rattle.reloc_table.specs.declared.relocation.Reloc.{Reloc}
+use Rattle.sample_objects.specs.declared.spec.ObjectSpec.{ObjectSpec}
+use Rattle.sample_objects.specs.GeneratedProgram.{generated_program, reloc_of, spec_of, symbol_of}
+use Rattle.sample_objects.specs.GeneratedUnit.{all_numbers}
+use Rattle.sample_objects.specs.ObjectFile.{file_of, graph_of, line_relocs, object_bytes, relocs_bytes, sections_of}
+use Rattle.sample_objects.proofs.PlacedSymbols.{texts_are, texts_few}
+use Rattle.sample_objects.proofs.Short.{contents_few, sections_few}
+use Rattle.sample_objects.proofs.ShortNames.{symbol_short}
+use Rattle.sample_objects.proofs.Specs.{spec_short}
+use Rattle.sample_objects.proofs.TheFile.{commands_length}
+
+length-relocs : (relocs : List Reloc) → length (relocs_bytes relocs) ≡ 8 * length relocs
+length-relocs [] = refl
+length-relocs (r ∷ relocs) = let h = length-relocs relocs in omega (arith, h)
+
+length-header : (spec : ObjectSpec) → length (spelled (header_fields (file_of spec))) ≡ 32
+length-header spec = refl
+
+pub file_len : (spec : ObjectSpec) → length (object_bytes spec)
+    ≡ 32 + (length (commands_bytes (file_of spec)) + (length (contents (sections_of spec)) + (length (relocs_bytes spec.relocs) + (length (relocs_bytes (line_relocs spec.unit)) + (length (symbols_bytes spec.symbols) + length (strings_bytes spec.symbols))))))
+unfolding object_bytes
+file_len spec =
+    let header = spelled (header_fields (file_of spec)) in
+    let commands = commands_bytes (file_of spec) in
+    let sections = contents (sections_of spec) in
+    let relocs = relocs_bytes spec.relocs in
+    let moved = relocs_bytes (line_relocs spec.unit) in
+    let symbols = symbols_bytes spec.symbols in
+    let strings = strings_bytes spec.symbols in
+    omega (
+      arith,
+      length-append header (commands ++ (sections ++ (relocs ++ (moved ++ (symbols ++ strings))))),
+      length-append commands (sections ++ (relocs ++ (moved ++ (symbols ++ strings)))),
+      length-append sections (relocs ++ (moved ++ (symbols ++ strings))),
+      length-append relocs (moved ++ (symbols ++ strings)),
+      length-append moved (symbols ++ strings),
+      length-append symbols strings,
+      length-header spec,
+    )
+
+short_symbols : (i : ℕ) → i ≤ 1000 → (n a : ℕ) → a + n ≤ 100 → AllByRecursion (λ s. length s.name ≤ 12) (map (symbol_of i) (range_with_len a n))
+short_symbols i object zero a fits = tt
+short_symbols i object (suc n) a fits = (symbol_short i a object (omega (arith, fits)), short_symbols i object n (a + 1) (omega (arith, fits)))
+
+names_short : (i : ℕ) → i ≤ 1000 → AllByRecursion (λ s. length s.name ≤ 12) (spec_of i).symbols
+unfolding all_numbers
+names_short i object = short_symbols i object 100 0 (omega arith)
+
+numbers_len : length all_numbers ≡ 100
+unfolding all_numbers
+numbers_len = length-range_with_len 0 100
+
+pub object_short : (i : ℕ) → i ≤ 1000 → length (object_bytes (spec_of i)) < 2 ^ 32
+object_short i object =
+    let spec = spec_of i in
+    omega (
+      arith,
+      file_len spec,
+      commands_length spec,
+      sections_few (graph_of spec.unit),
+      contents_few (graph_of spec.unit) (spec_short i object),
+      length-relocs spec.relocs,
+      length-map all_numbers (reloc_of i),
+      length-nlists (with_places 1 spec.symbols),
+      length-placed spec.symbols 1,
+      length-map all_numbers (symbol_of i),
+      ap length (texts_are spec.symbols),
+      texts_few spec.symbols (names_short i object),
+      numbers_len,
+    )
+
+pub files_short : (count : ℕ) → count ≤ 1000 → All (λ file. length file < 2 ^ 32) (generated_program count).files
+files_short count few =
+    All-map (λ (file : List ℕ). length file < 2 ^ 32) (λ i. object_bytes (spec_of i)) (range_with_len 1 count) (λ k d lt.
+    let len = length-range_with_len 1 count in
+    let within : k < count = omega (arith, lt, len) in
+    let at = get_or-range_with_len 1 count k d within in object_short _ (omega (arith, at, within, few)))

@@ -1,0 +1,13 @@
+pub mod FileLength
+pub mod LineSizes
+pub mod LowPlaces
+pub mod Modest
+pub mod PlacedSymbols
+pub mod Ranges
+pub mod Short
+pub mod ShortNames
+pub mod SmallNodes
+pub mod SoundProgram
+pub mod Specs
+pub mod TheFile
+pub mod Told

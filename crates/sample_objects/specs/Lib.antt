@@ -1,0 +1,6 @@
+pub mod GeneratedProgram
+pub mod GeneratedUnit
+pub mod Lines
+pub mod ObjectFile
+pub mod Sized
+pub mod Symbols

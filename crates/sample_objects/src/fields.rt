@@ -1,0 +1,47 @@
+//! Fields of records, put behind bytes, the lowest byte first.
+
+ghost use Rattle.std.specs.Prelude.{◌≡◌, ◌++◌, OnOk};
+ghost use Rattle.std.specs.List.{flat_map};
+ghost use Rattle.byteorder.specs.Endian.{little_bytes};
+
+use appending::append_u64;
+use ds_base::{Bytes, NoMemory};
+
+/// How many bytes a word has.
+const WORD_SIZE: usize = 4;
+
+/// Puts numbers of four bytes last; of a greater number than they hold, the lowest four.
+pub(crate) fn append_words(out: &mut Bytes, words: &[u64]) -> Result<(), NoMemory>
+    ensures { OnOk result (out.new ≡ out.old ++ flat_map (little_bytes 4) words.now) }
+{
+    for word in words {
+        append_word(out, *word)?;
+    }
+    Ok(())
+}
+
+fn append_word(out: &mut Bytes, word: u64) -> Result<(), NoMemory>
+    ensures { OnOk result (out.new ≡ out.old ++ little_bytes 4 word) }
+{
+    let bytes = word.to_le_bytes();
+    out.extend(&bytes[..WORD_SIZE])?;
+    Ok(())
+}
+
+/// Puts a number of one byte last.
+pub(crate) fn append_byte(out: &mut Bytes, n: u8) -> Result<(), NoMemory>
+    ensures { OnOk result (out.new ≡ out.old ++ little_bytes 1 n) }
+{
+    out.push(n)?;
+    Ok(())
+}
+
+/// Puts numbers of eight bytes last.
+pub(crate) fn append_longs(out: &mut Bytes, longs: &[u64]) -> Result<(), NoMemory>
+    ensures { OnOk result (out.new ≡ out.old ++ flat_map (little_bytes 8) longs.now) }
+{
+    for long in longs {
+        append_u64(out, *long)?;
+    }
+    Ok(())
+}

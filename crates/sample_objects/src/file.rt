@@ -1,0 +1,84 @@
+//! The file of an object.
+
+ghost use Rattle.std.specs.Prelude.{◌≡◌, ◌<◌, ◌^◌, IfOk, None};
+ghost use Rattle.std.specs.List.{All};
+ghost use Rattle.dsym_write.specs.Bundle;
+ghost use Rattle.layout.specs.Laid.{long_section, long_unit};
+ghost use Rattle.sample_objects.specs.ObjectFile;
+ghost use Rattle.sample_objects.specs.ObjectFile.{graph_of, object_bytes, sections_of, sized_of};
+
+use crate::commands::{append_header, append_segment, append_symtab};
+use crate::lines::line_relocs;
+use crate::places::places_of;
+use crate::relocation::append_relocs;
+use crate::sections::{contents_of, layout_of, sized_sections};
+use crate::spec::ObjectSpec;
+use crate::symbols::{append_symbols, strings_of};
+use ds_base::{Bytes, NoMemory, Part};
+use layout::section_size;
+use reloc_table::Reloc;
+use std::alloc::Global;
+
+/// How many bytes the section of the code has.
+pub const TEXT_SIZE: u32 = 0x1_0000;
+
+/// Its ordinal among the sections.
+pub const TEXT_SECTION: u8 = 1;
+
+/// The file of an object with one unit (mach-o/loader.h).
+///
+/// Its one segment has the section `__text`, whose bytes are not in the file, and the debug sections of the unit that
+/// are not empty. `__debug_info` has the relocations of the specification, and `__debug_line` one for the address of each
+/// sequence, which counts from `__text`. Offsets and sizes have 32 bits; in a file that is longer they keep the lowest.
+pub fn object(alloc: Global, spec: &ObjectSpec) -> Result<Bytes, NoMemory>
+    requires unit { long_unit (graph_of spec.now.unit) ≡ None }
+    requires sections { long_section (graph_of spec.now.unit) ≡ None }
+    requires symbols { All (λ r. r.symbol < 2 ^ 24) spec.now.relocs }
+    ensures { IfOk result (λ bytes. bytes ≡ object_bytes spec.now) }
+{
+    let layout = layout_of(alloc, &spec.unit)?;
+    let sized = sized_sections(alloc, &layout)?;
+    let contents = contents_of(alloc, &layout, sized.as_slice())?;
+    let moved = line_relocs(alloc, &spec.unit, section_size(&layout, Part::Line))?;
+    object_of(
+        alloc,
+        spec,
+        sized.as_slice(),
+        contents.as_slice(),
+        moved.as_slice(),
+    )
+}
+
+/// The file of an object with these debug sections and these relocations of the line table.
+fn object_of(
+    alloc: Global,
+    spec: &ObjectSpec,
+    sized: &[(Part, u64)],
+    contents: &[u8],
+    moved: &[Reloc],
+) -> Result<Bytes, NoMemory>
+    requires sized { sized.now ≡ sized_of (sections_of spec.now) }
+    requires contents { contents.now ≡ Bundle.contents (sections_of spec.now) }
+    requires moved { moved.now ≡ ObjectFile.line_relocs spec.now.unit }
+    requires symbols { All (λ r. r.symbol < 2 ^ 24) spec.now.relocs }
+    ensures { IfOk result (λ bytes. bytes ≡ object_bytes spec.now) }
+{
+    let strings = strings_of(alloc, &spec.symbols)?;
+    let places = places_of(
+        spec,
+        sized.len(),
+        contents.len(),
+        moved.len(),
+        strings.len(),
+    )?;
+    let mut out = Bytes::new(alloc);
+    append_header(&mut out, spec.cpu, places.commands)?;
+    append_segment(&mut out, places, sized)?;
+    append_symtab(&mut out, places)?;
+    out.extend(contents)?;
+    append_relocs(&mut out, spec.relocs.as_slice())?;
+    append_relocs(&mut out, moved)?;
+    append_symbols(&mut out, &spec.symbols)?;
+    out.extend(strings.as_slice())?;
+    Ok(out)
+}

@@ -1,0 +1,135 @@
+//! The relocations of a line table.
+
+ghost use Rattle.std.specs.Prelude.{◌≡◌, ◌≤◌, ◌<◌, ◌+◌, ◌^◌, [], ◌∷◌, length, map, IfOk};
+ghost use Rattle.std.specs.List.{All, sum_by};
+ghost use Rattle.dwarf_types.specs.LineProgram.{sequence_bytes};
+ghost use Rattle.dwarf_types.specs.LineTable.{line_table_bytes, lines_bytes};
+ghost use Rattle.sample_objects.specs.Lines.{places_by};
+ghost use Rattle.sample_objects.specs.ObjectFile;
+ghost use Rattle.sample_objects.specs.ObjectFile.{counts_from_text, operands_of};
+
+use crate::file::TEXT_SECTION;
+use crate::sums::plus;
+use ds_base::{Bytes, List, NoMemory};
+use dwarf_types::{OutLines, OutUnit, Row, Sequence};
+use line_write::append_lines;
+use reloc_table::Reloc;
+use std::alloc::Global;
+
+/// The size of a table without directories, files and sequences.
+const EMPTY_TABLE_SIZE: u64 = 30;
+
+/// Where the operand of a set_address stands, from its first byte on.
+const OPERAND_OFFSET: u32 = 3;
+
+/// A relocation for the address of each sequence of a unit's line table, which has so many bytes.
+pub(crate) fn line_relocs(alloc: Global, unit: &OutUnit, size: u64) -> Result<List<Reloc>, NoMemory>
+    requires size { size ≡ length (lines_bytes unit.now) }
+    requires small { size < 2 ^ 32 }
+    ensures { IfOk result (λ relocs. relocs ≡ ObjectFile.line_relocs unit.now) }
+{
+    match &unit.lines {
+        Some(lines) => relocs_of_table(alloc, lines, size),
+        None => Ok(List::new(alloc)),
+    }
+}
+
+fn relocs_of_table(alloc: Global, lines: &OutLines, size: u64) -> Result<List<Reloc>, NoMemory>
+    requires size { size ≡ length (line_table_bytes lines.now) }
+    requires small { size < 2 ^ 32 }
+    ensures { IfOk result (λ relocs. relocs ≡ map counts_from_text (operands_of lines.now)) }
+{
+    let sizes = sizes_of(alloc, lines.sequences.as_slice())?;
+    let program = total(sizes.as_slice())?;
+    let relocs = relocs_from(alloc, sizes.as_slice(), size - program)?;
+    Ok(relocs)
+}
+
+/// The sizes of sequences in bytes.
+fn sizes_of(alloc: Global, sequences: &[Sequence]) -> Result<List<u64>, NoMemory>
+    ensures { IfOk result (λ sizes. sizes ≡ map (λ s. length (sequence_bytes s)) sequences.now) }
+{
+    let mut sizes = List::new(alloc);
+    for sequence in sequences {
+        let size = size_of(alloc, sequence)?;
+        sizes.push(size)?;
+    }
+    Ok(sizes)
+}
+
+/// The size of a sequence: that of a table which has it alone, but for the header.
+fn size_of(alloc: Global, sequence: &Sequence) -> Result<u64, NoMemory>
+    ensures { IfOk result (λ size. size ≡ length (sequence_bytes sequence.now)) }
+{
+    let table = table_of(alloc, sequence)?;
+    let mut bytes = Bytes::new(alloc);
+    append_lines(&mut bytes, &table)?;
+    Ok(bytes.len() as u64 - EMPTY_TABLE_SIZE)
+}
+
+/// A table of a copy of one sequence.
+fn table_of(alloc: Global, sequence: &Sequence) -> Result<OutLines, NoMemory>
+    ensures { IfOk result (λ lines. lines ≡ record { dirs = []; files = []; sequences = sequence.now ∷ [] }) }
+{
+    let rows = copy_of(alloc, sequence.rows.as_slice())?;
+    let copy = Sequence {
+        rows,
+        end: sequence.end,
+    };
+    let mut sequences = List::new(alloc);
+    sequences.push(copy)?;
+    let dirs = List::new(alloc);
+    let files = List::new(alloc);
+    Ok(OutLines {
+        dirs,
+        files,
+        sequences,
+    })
+}
+
+fn copy_of(alloc: Global, rows: &[Row]) -> Result<List<Row>, NoMemory>
+    ensures { IfOk result (λ copy. copy ≡ rows.now) }
+{
+    let mut copy = List::new(alloc);
+    for row in rows {
+        copy.push(*row)?;
+    }
+    Ok(copy)
+}
+
+fn total(sizes: &[u64]) -> Result<u64, NoMemory>
+    ensures { IfOk result (λ size. size ≡ sum_by (λ n. n) sizes.now) }
+{
+    let mut total = 0;
+    for size in sizes {
+        total = plus(total, *size)?;
+    }
+    Ok(total)
+}
+
+/// The relocations of sequences of these sizes, the first at a place.
+fn relocs_from(alloc: Global, sizes: &[u64], start: u64) -> Result<List<Reloc>, NoMemory>
+    requires each { All (λ n. 11 ≤ n) sizes.now }
+    requires small { start + sum_by (λ n. n) sizes.now < 2 ^ 32 }
+    ensures { IfOk result (λ relocs. relocs ≡ map counts_from_text (places_by start sizes.now)) }
+{
+    let mut relocs = List::new(alloc);
+    let mut at = start;
+    for size in sizes {
+        let reloc = reloc_at(at as u32 + OPERAND_OFFSET);
+        relocs.push(reloc)?;
+        at += *size;
+    }
+    Ok(relocs)
+}
+
+/// The relocation of an address in the section of the code.
+fn reloc_at(place: u32) -> Reloc
+    ensures { result ≡ counts_from_text place }
+{
+    Reloc {
+        place,
+        symbol: u32::from(TEXT_SECTION),
+        outer: false,
+    }
+}

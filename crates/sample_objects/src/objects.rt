@@ -1,0 +1,120 @@
+//! What the files of the generated objects are made of.
+
+ghost use Rattle.std.specs.Prelude.{◌≡◌, ◌<◌, ◌≤◌, ◌+◌, ◌++◌, ◌∷◌, [], IfOk, OnOk, map, length, slice_index};
+ghost use Rattle.abbrev_write.specs.Table.{unit_table};
+ghost use Rattle.unit_draft.specs.Drafted.{IsDraft};
+ghost use Rattle.sample_objects.specs.GeneratedProgram;
+ghost use Rattle.sample_objects.specs.GeneratedProgram.{reloc_of, spec_of, symbol_of};
+ghost use Rattle.sample_objects.specs.GeneratedUnit;
+ghost use Rattle.sample_objects.specs.GeneratedUnit.{all_numbers};
+
+use crate::file::TEXT_SECTION;
+use crate::functions::function_name;
+use crate::spec::ObjectSpec;
+use crate::texts::SYMBOL;
+use crate::unit::{FUNCTION_SIZE, STRUCTURES, function_node, unit_of};
+use abbrev_write::{AbbrevTable, code_of, table};
+use ds_base::macho::{CPU_TYPE_ARM64, N_EXT, N_SECT};
+use ds_base::{Bytes, List, NoMemory, uleb_len};
+use dwarf_types::OutUnit;
+use macho_read::Symbols;
+use reloc_table::Reloc;
+use std::alloc::Global;
+use unit_draft::{Draft, DraftError, draft_unit};
+
+/// How many bytes the place of a text has.
+const TEXT_PLACE_SIZE: u32 = 4;
+
+/// What the file of an object is made of.
+pub(crate) fn spec_for(alloc: Global, i: u32) -> Result<ObjectSpec, NoMemory>
+    requires { i ≤ 1000 }
+    ensures { IfOk result (λ spec. spec ≡ spec_of i) }
+{
+    let unit = unit_of(alloc, i)?;
+    let symbols = symbols_for(alloc, i)?;
+    let relocs = relocs_for(alloc, &unit, i)?;
+    Ok(ObjectSpec {
+        cpu: CPU_TYPE_ARM64,
+        unit,
+        symbols,
+        relocs,
+    })
+}
+
+/// A symbol for each function.
+fn symbols_for(alloc: Global, i: u32) -> Result<Symbols, NoMemory>
+    requires { i ≤ 1000 }
+    ensures { IfOk result (λ symbols. symbols ≡ map (symbol_of i) all_numbers) }
+{
+    let mut symbols = Symbols::new(alloc);
+    for j in 0..STRUCTURES {
+        add_symbol(alloc, &mut symbols, i, j)?;
+    }
+    Ok(symbols)
+}
+
+fn add_symbol(alloc: Global, symbols: &mut Symbols, i: u32, j: u32) -> Result<(), NoMemory>
+    requires object { i ≤ 1000 }
+    requires number { j < 100 }
+    ensures { OnOk result (symbols.new ≡ symbols.old ++ symbol_of i j ∷ []) }
+{
+    let name = symbol_name(alloc, i, j)?;
+    let value = u64::from(FUNCTION_SIZE * j);
+    symbols.push(name.as_slice(), N_SECT | N_EXT, TEXT_SECTION, 0, value)
+}
+
+/// The name of the symbol of a function.
+pub(crate) fn symbol_name(alloc: Global, i: u32, j: u32) -> Result<Bytes, NoMemory>
+    ensures { IfOk result (λ name. name ≡ GeneratedProgram.symbol_name i j) }
+{
+    let mut name = Bytes::from_slice(alloc, &SYMBOL)?;
+    let function = function_name(alloc, i, j)?;
+    name.extend(function.as_slice())?;
+    Ok(name)
+}
+
+/// A relocation for the low_pc of each function.
+fn relocs_for(alloc: Global, unit: &OutUnit, i: u32) -> Result<List<Reloc>, NoMemory>
+    requires object { i ≤ 1000 }
+    requires unit { unit.now ≡ GeneratedUnit.unit_of i }
+    ensures { IfOk result (λ relocs. relocs ≡ map (reloc_of i) all_numbers) }
+{
+    let table = table(alloc, unit, 0)?;
+    let draft = draft_of(alloc, unit, i)?;
+    let mut relocs = List::new(alloc);
+    for j in 0..STRUCTURES {
+        let reloc = reloc_for(&draft, &table, i, j);
+        relocs.push(reloc)?;
+    }
+    Ok(relocs)
+}
+
+/// The draft of the unit, which tells where its entries stand.
+fn draft_of(alloc: Global, unit: &OutUnit, i: u32) -> Result<Draft, NoMemory>
+    requires object { i ≤ 1000 }
+    requires unit { unit.now ≡ GeneratedUnit.unit_of i }
+    ensures { IfOk result (IsDraft 0 (GeneratedUnit.unit_of i)) }
+{
+    match draft_unit(alloc, unit, 0) {
+        Ok(draft) => Ok(draft),
+        Err(DraftError::NoMemory) => Err(NoMemory),
+        Err(DraftError::Unit) => unreachable!(),
+    }
+}
+
+/// The relocation of the low_pc of function `j`, by the draft of its unit and by the codes of the unit's entries.
+fn reloc_for(draft: &Draft, table: &AbbrevTable, i: u32, j: u32) -> Reloc
+    requires number { j < 100 }
+    requires draft { IsDraft 0 (GeneratedUnit.unit_of i) draft.now }
+    requires table { table.now ≡ unit_table 0 (GeneratedUnit.unit_nodes i) }
+    ensures { result ≡ reloc_of i j }
+{
+    let node = function_node(j);
+    let code_len = uleb_len(u64::from(code_of(table, node)));
+    let entry = draft.places.as_slice()[node as usize];
+    Reloc {
+        place: entry + code_len as u32 + TEXT_PLACE_SIZE,
+        symbol: u32::from(TEXT_SECTION),
+        outer: false,
+    }
+}

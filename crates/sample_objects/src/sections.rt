@@ -1,0 +1,132 @@
+//! The debug sections of a unit: their sizes, and their bytes.
+
+ghost use Rattle.std.specs.Prelude.{◌≡◌, ◌↔◌, true, None, Ok, map, IfOk, length};
+ghost use Rattle.std.specs.List.{filter, sum_by};
+ghost use Rattle.dsym_write.specs.Bundle.{contents};
+ghost use Rattle.dwarf_types.specs.declared.graph.Graph.{Graph};
+ghost use Rattle.dwarf_types.specs.Encode.{encode};
+ghost use Rattle.layout.specs.Laid.{AreDrafts, IsMeasured, Measures, long_section, long_unit};
+ghost use Rattle.sample_objects.specs.ObjectFile.{graph_of, sized_of};
+ghost use Rattle.sample_objects.specs.Sized.{has_size, with_size};
+ghost use Rattle.unit_draft.specs.Drafted.{IsDraft};
+
+use crate::sums::plus;
+use ds_base::{Bytes, List, NoMemory, Part};
+use dwarf_types::{OutFrames, OutUnit};
+use layout::{Layout, LayoutError, place_drafts, section_size};
+use section_write::emit_sections;
+use std::alloc::Global;
+use unit_draft::{Draft, DraftError, draft_unit};
+
+/// The parts that may have a section, in the order of the file.
+pub const PARTS: [Part; 8] = [
+    Part::Abbrev,
+    Part::Info,
+    Part::Str,
+    Part::Line,
+    Part::Ranges,
+    Part::Loc,
+    Part::Aranges,
+    Part::Frame,
+];
+
+/// Whether a unit and its sections are short enough for a file.
+///
+/// The unit has less than 2^28 bytes, and each section less than 2^32 - 1.
+pub fn is_within_limits(alloc: Global, unit: &OutUnit) -> Result<bool, NoMemory>
+    ensures { IfOk result (λ within. (within ≡ true) ↔ ((long_unit (graph_of unit.now) ≡ None) × (long_section (graph_of unit.now) ≡ None))) }
+{
+    match measure_unit(alloc, unit) {
+        Ok(_) => Ok(true),
+        Err(LayoutError::NoMemory) => Err(NoMemory),
+        Err(LayoutError::Unit { .. }) => Ok(false),
+        Err(LayoutError::Section { .. }) => Ok(false),
+    }
+}
+
+/// The layout of the graph of one unit, which is within the limits.
+pub(crate) fn layout_of(alloc: Global, unit: &OutUnit) -> Result<Layout, NoMemory>
+    requires unit { long_unit (graph_of unit.now) ≡ None }
+    requires sections { long_section (graph_of unit.now) ≡ None }
+    ensures { IfOk result (λ layout. Measures (graph_of unit.now) (Ok layout)) }
+{
+    match measure_unit(alloc, unit) {
+        Ok(layout) => Ok(layout),
+        Err(LayoutError::NoMemory) => Err(NoMemory),
+        Err(LayoutError::Unit { .. }) => unreachable!(),
+        Err(LayoutError::Section { .. }) => unreachable!(),
+    }
+}
+
+/// The layout of the graph of one unit, or the limit that it reaches.
+fn measure_unit(alloc: Global, unit: &OutUnit) -> Result<Layout, LayoutError>
+    ensures { Measures (graph_of unit.now) result }
+{
+    let draft = match draft_unit(alloc, unit, 0) {
+        Ok(draft) => draft,
+        Err(DraftError::NoMemory) => return Err(LayoutError::NoMemory),
+        Err(DraftError::Unit) => return Err(LayoutError::Unit { unit: 0 }),
+    };
+    let drafts = drafts_of(alloc, unit, draft)?;
+    let frames = OutFrames::new(alloc);
+    place_drafts(alloc, drafts, &frames)
+}
+
+/// The list of the draft of the one unit.
+fn drafts_of(alloc: Global, unit: &OutUnit, draft: Draft) -> Result<List<Draft>, NoMemory>
+    requires { IsDraft 0 unit.now draft }
+    ensures { IfOk result (AreDrafts (graph_of unit.now)) }
+{
+    let mut drafts = List::new(alloc);
+    drafts.push(draft)?;
+    Ok(drafts)
+}
+
+/// The sections that have bytes, each with its size.
+pub(crate) fn sized_sections(alloc: Global, layout: &Layout) -> Result<List<(Part, u64)>, NoMemory>
+    ensures { IfOk result (λ sized. (graph : Graph) → Measures graph (Ok layout.now) → sized ≡ sized_of (encode graph)) }
+{
+    let sized = with_bytes(alloc, layout, &PARTS)?;
+    Ok(sized)
+}
+
+/// Those of some parts that have bytes, each with its size.
+fn with_bytes(alloc: Global, layout: &Layout, parts: &[Part]) -> Result<List<(Part, u64)>, NoMemory>
+    ensures { IfOk result (λ sized. sized ≡ filter has_size (map (with_size layout.now.sizes) parts.now)) }
+{
+    let mut sized = List::new(alloc);
+    for part in parts {
+        let size = section_size(layout, *part);
+        if size != 0 {
+            sized.push((*part, size))?;
+        }
+    }
+    Ok(sized)
+}
+
+/// The bytes of the sections, one behind the other.
+pub(crate) fn contents_of(
+    alloc: Global,
+    layout: &Layout,
+    sized: &[(Part, u64)],
+) -> Result<Bytes, NoMemory>
+    requires measured { IsMeasured layout.now }
+    requires sized { (graph : Graph) → Measures graph (Ok layout.now) → sized.now ≡ sized_of (encode graph) }
+    ensures { IfOk result (λ bytes. (graph : Graph) → Measures graph (Ok layout.now) → bytes ≡ contents (encode graph)) }
+{
+    let size = total_size(sized)?;
+    let mut bytes = Bytes::zeros(alloc, size as usize)?;
+    emit_sections(layout, bytes.as_mut_slice());
+    Ok(bytes)
+}
+
+/// The size of all sections.
+fn total_size(sized: &[(Part, u64)]) -> Result<u64, NoMemory>
+    ensures { IfOk result (λ size. size ≡ sum_by (λ s. s.1) sized.now) }
+{
+    let mut total = 0;
+    for (_, size) in sized {
+        total = plus(total, *size)?;
+    }
+    Ok(total)
+}

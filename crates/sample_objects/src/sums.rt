@@ -1,0 +1,25 @@
+//! Sums of sizes.
+
+ghost use Rattle.std.specs.Prelude.{◌≡◌, ◌+◌, ◌*◌, IfOk};
+
+use ds_base::NoMemory;
+
+/// A sum of sizes, which 64 bits hold of all that memory holds.
+pub(crate) fn plus(a: u64, b: u64) -> Result<u64, NoMemory>
+    ensures { IfOk result (λ sum. sum ≡ a + b) }
+{
+    match a.checked_add(b) {
+        Some(sum) => Ok(sum),
+        None => Err(NoMemory),
+    }
+}
+
+/// A product of sizes, the same.
+pub(crate) fn times(a: u64, b: u64) -> Result<u64, NoMemory>
+    ensures { IfOk result (λ product. product ≡ a * b) }
+{
+    match a.checked_mul(b) {
+        Some(product) => Ok(product),
+        None => Err(NoMemory),
+    }
+}
