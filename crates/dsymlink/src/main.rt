@@ -1,7 +1,7 @@
 //! `dsymlink EXE`: links the debugging information of a program into its dSYM bundle.
 //!
-//! Layer: top. The program reads its words, hands the system's files to [`link_main`] and ends with the code of the
-//! status. It writes no message yet.
+//! Layer: top. The program reads its words, hands the system's files and standard output to [`link_main`] and ends with
+//! the code of the status.
 #![tactic(auto)]
 
 ghost use Rattle.std.specs.Prelude.{◌≡◌, ◌≢◌, IfOk, drop};

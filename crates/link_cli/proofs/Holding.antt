@@ -1,5 +1,5 @@
--- The files of a link in their table, and one more read.
-use Rattle.std.proofs.Common.{◌≡◌, ℕ, ◌+◌, ◌-◌, ◌≤◌, Bool, true, false, is_some, List, [], ◌∷◌, ◌++◌, length, map, drop, Option, Some, None, Result, Ok, Err, Bor, refl, sym, ap, subst, ◌∙◌}
+-- The files of a link in their tables, and one more object.
+use Rattle.std.proofs.Common.{◌≡◌, inl, inr, ℕ, ◌+◌, ◌≤◌, Bool, true, false, is_some, List, [], ◌∷◌, ◌++◌, length, map, drop, Option, Some, None, Result, Ok, Err, Bor, refl, sym, ap, subst, ◌∙◌}
 use Rattle.std.specs.HashMap.{HashMap, get_by}
 use Rattle.std.specs.Map.{lookup}
 use Rattle.std.specs.Str.{bytes_eq}
@@ -10,8 +10,12 @@ use Rattle.ds_files.specs.declared.files.FileError.{FileError}
 use Rattle.stab_map.specs.declared.object.MapObject.{MapObject}
 use Rattle.link_core.specs.declared.status.Status.{Status}
 use Rattle.link_core.specs.declared.status.Status.TheVariants as statuses
-use Rattle.link_cli.specs.Files.{World, world, HeldFile, content_in, ReadsFile, ReadsFiles, all_held, is_held, is_read, is_unread, is_not_kept, unread_status}
-use Rattle.link_cli.specs.Seen.{held_seen}
+use Rattle.link_cli.specs.declared.files.HeldFiles.{HeldFiles}
+use Rattle.link_cli.specs.declared.files.Stopped.{Stopped}
+use Rattle.link_cli.specs.Files.{World, world, Held, HeldFile, IsNew, IsUnwritten, MissesFile, content_in, is_gone, lets_go, with_file, with_warning, ReadsFiles, all_held, is_held, was_let_go, is_read, is_let_go, is_unread, ran_out}
+use Rattle.link_cli.specs.Holding.{Becomes, LetsGo, held_of}
+use Rattle.link_cli.specs.Seen.{gone_seen, held_seen}
+use Rattle.link_cli.proofs.Later.{unwritten_same}
 
 abbrev pub file_seen : Bor (List ℕ) × List ℕ → HeldFile
 file_seen e = record { name = e.0.now; bytes = e.1 }
@@ -28,60 +32,111 @@ content_lookup (e ∷ es) name = by (bytes_eq name e.0.now) refl (content_lookup
 pub content_is : {S : Type 0} (held : HashMap (Bor (List ℕ)) (List ℕ) S) (name : List ℕ) → content_in (held_seen held) name ≡ get_by (λ k. bytes_eq name k.now) held
 content_is held name = content_lookup held.entries name
 
--- ---- the file of an object, by whether it is held
+gone_lookup : {V : Type 0} (es : List (Bor (List ℕ) × V)) (name : List ℕ) → is_gone (map (λ (e : Bor (List ℕ) × V). e.0.now) es) name ≡ is_some (lookup (λ k. bytes_eq name k.now) es)
+gone_lookup [] name = refl
+gone_lookup {V} (e ∷ es) name = by (bytes_eq name e.0.now) refl (gone_lookup es name)
+  where
+    by : (b : Bool) → bytes_eq name e.0.now ≡ b → is_gone (map (λ (x : Bor (List ℕ) × V). x.0.now) es) name ≡ is_some (lookup (λ k. bytes_eq name k.now) es)
+        → is_gone (map (λ (x : Bor (List ℕ) × V). x.0.now) (e ∷ es)) name ≡ is_some (lookup (λ k. bytes_eq name k.now) (e ∷ es))
+    by true is more = rw is refl
+    by false is more = rw is more
 
-module _ (number : ℕ) (object : MapObject) (held : List HeldFile) (most : ℕ) where
-  pub goes_on : (before : World) → is_some (content_in held object.file) ≡ true → (objects : List MapObject) (after : World) (answer : Result (List HeldFile) Status)
-      → ReadsFiles (number + 1) objects held most before after answer → ReadsFiles number (object ∷ objects) held most before after answer
-  goes_on before some objects after answer rest = by (content_in held object.file) refl some
+-- a look-up finds that a file was let go
+pub gone_is : {S V : Type 0} (gone : HashMap (Bor (List ℕ)) V S) (name : List ℕ) → is_gone (gone_seen gone) name ≡ is_some (get_by (λ k. bytes_eq name k.now) gone)
+gone_is gone name = gone_lookup gone.entries name
+
+-- nothing is found
+pub none_of : {A : Type 0} (o : Option A) → is_some o ≡ false → o ≡ None
+none_of None is = refl
+none_of (Some x) is = absurd (cc)
+
+-- ---- one more object, by whether its file is held
+
+module _ (keep_going : Bool) (number : ℕ) (object : MapObject) (old : Held) where
+  pub goes_on : (before : World) → is_some (content_in old.files object.file) ≡ true → (objects : List MapObject) (after : World) (answer : Result Held Stopped)
+      → ReadsFiles keep_going (number + 1) objects old before after answer → ReadsFiles keep_going number (object ∷ objects) old before after answer
+  goes_on before some objects after answer rest = by (content_in old.files object.file) refl some
     where
-      by : (o : Option (List ℕ)) → content_in held object.file ≡ o → is_some o ≡ true → ReadsFiles number (object ∷ objects) held most before after answer
+      by : (o : Option (List ℕ)) → content_in old.files object.file ≡ o → is_some o ≡ true → ReadsFiles keep_going number (object ∷ objects) old before after answer
       by None e s = absurd (cc)
-      by (Some bytes) e s = is_held number object objects held most before after bytes answer e rest
+      by (Some bytes) e s = is_held number object objects old before after bytes answer e rest
 
-  new_file : is_some (content_in held object.file) ≡ false → content_in held object.file ≡ None
-  new_file none = by (content_in held object.file) refl none
+  module _ (new : HeldFiles) where
+    -- what comes of the objects behind it comes of it and them; or it ends here
+    abbrev pub Goes : World → World → Result (Unit {0}) Status → Type 0
+    Goes before middle (Ok ok) =
+        (objects : List MapObject) (after : World) (answer : Result Held Stopped) → ReadsFiles keep_going (number + 1) objects (held_of new) middle after answer
+        → ReadsFiles keep_going number (object ∷ objects) old before after answer
+    Goes before middle (Err status) = (objects : List MapObject) → ReadsFiles keep_going number (object ∷ objects) old before middle (Err (record { status = status; warnings = new.warnings }))
+
+    pub out_of_memory : (status : Status) (before middle : World) → IsUnwritten before middle → status ≡ statuses.NoMemory → Goes before middle (Err status)
+    out_of_memory status before middle unwritten is objects =
+        subst (λ (s : Status). ReadsFiles keep_going number (object ∷ objects) old before middle (Err (record { status = s; warnings = new.warnings }))) (sym is)
+        (ran_out number (object ∷ objects) old before middle new.warnings unwritten)
+
+    pub goes_gone : (now : World) → content_in old.files object.file ≡ None → is_gone old.gone object.file ≡ true → (result : Result (Unit {0}) Status) → Becomes (with_warning old object) new result
+        → Goes now now result
+    goes_gone now none gone (Ok ok) is = λ objects after answer rest.
+        was_let_go number object objects old now after answer none gone (subst (λ (h : Held). ReadsFiles keep_going (number + 1) objects h now after answer) is rest)
+    goes_gone now none gone (Err status) is = out_of_memory status now now (unwritten_same now) is
+
+    pub goes_read : (path name bytes : List ℕ) (o m : Option Contents) (before middle : Counts) → IsNew old object → path ≡ object.file → name ≡ object.file
+        → (length bytes ≤ old.left) × Told o (λ files. fin.get files path ≡ Some bytes) → m ≡ o → IsLater before middle → (result : Result (Unit {0}) Status) → Becomes (with_file old name bytes) new result
+        → Goes (world o before) (world m middle) result
+    goes_read path name bytes o m before middle is_new is_path is_name found same later (Ok ok) is = λ objects after answer rest.
+        is_read number object objects old (world o before) (world m middle) after bytes answer is_new
+        (record { few = found.0; told = subst (λ (n : List ℕ). Told o (λ files. fin.get files n ≡ Some bytes)) is_path found.1; same = same; later = later })
+        (subst (λ (h : Held). ReadsFiles keep_going (number + 1) objects h (world m middle) after answer) (is ∙ ap (λ (n : List ℕ). with_file old n bytes) is_name) rest)
+    goes_read path name bytes o m before middle is_new is_path is_name found same later (Err status) is =
+        out_of_memory status (world o before) (world m middle) (record { same = same; later = later }) is
+
+module _ (keep_going : Bool) (number : ℕ) (object : MapObject) (was new : HeldFiles) where
+  module _ (path : List ℕ) (error : FileError) (o m : Option Contents) (before middle : Counts) (is_new : IsNew (held_of was) object) (is_path : path ≡ object.file)
+      (fails : ReadFails o path was.left before middle error) (same : m ≡ o) (later : IsLater before middle)
     where
-      by : (o : Option (List ℕ)) → content_in held object.file ≡ o → is_some o ≡ false → content_in held object.file ≡ None
-      by None e s = e
-      by (Some bytes) e s = absurd (cc)
+      misses : MissesFile object.file was.left error (world o before) (world m middle)
+      misses = record { cause = subst (λ (n : List ℕ). ReadFails o n was.left before middle error) is_path fails; same = same; later = later }
 
-  reads_as : (path bytes : List ℕ) (old mid : Option Contents) (before middle : Counts) → path ≡ object.file → (length bytes ≤ most) × Told old (λ m. fin.get m path ≡ Some bytes) → mid ≡ old
-      → IsLater before middle → ReadsFile object.file most bytes (world old before) (world mid middle)
-  reads_as path bytes old mid before middle is_path found same later =
-      record { few = found.0; told = subst (λ (n : List ℕ). Told old (λ m. fin.get m n ≡ Some bytes)) is_path found.1; same = same; later = later }
+      pub goes_missed : (result : Result (Unit {0}) Status) → LetsGo keep_going number object error was new result → Goes keep_going number object (held_of was) new (world o before) (world m middle) result
+      goes_missed (Ok ok) is = λ objects after answer rest.
+          is_let_go number object objects (held_of was) (world o before) (world m middle) after error answer is_new misses is.0
+          (subst (λ (h : Held). ReadsFiles keep_going (number + 1) objects h (world m middle) after answer) is.1 rest)
+      goes_missed (Err status) (inl is) = λ objects.
+          subst (λ (s : Stopped). ReadsFiles keep_going number (object ∷ objects) (held_of was) (world o before) (world m middle) (Err s)) (sym (λ i. record { status = is.1 i; warnings = is.2 i }))
+          (is_unread number object objects (held_of was) (world o before) (world m middle) error is_new misses is.0)
+      goes_missed (Err status) (inr memory) =
+          out_of_memory keep_going number object (held_of was) new status (world o before) (world m middle) (record { same = same; later = later }) memory
 
-  pub stops_unread : (path : List ℕ) (old new : Option Contents) (before now : Counts) (error : FileError) (status : Status) → is_some (content_in held object.file) ≡ false → path ≡ object.file
-      → status ≡ unread_status number error → ReadFails old path most before now error → new ≡ old → IsLater before now
-      → (objects : List MapObject) → ReadsFiles number (object ∷ objects) held most (world old before) (world new now) (Err status)
-  stops_unread path old new before now error status none is_path is_status fails same later objects =
-      subst (λ (s : Status). ReadsFiles number (object ∷ objects) held most (world old before) (world new now) (Err s)) (sym is_status)
-      (is_unread number object objects held most (world old before) (world new now) error (new_file none)
-      (record { cause = subst (λ (n : List ℕ). ReadFails old n most before now error) is_path fails; same = same; later = later }))
+-- ---- tables
 
-  pub stops_unkept : (path bytes : List ℕ) (old mid : Option Contents) (before middle : Counts) → is_some (content_in held object.file) ≡ false → path ≡ object.file
-      → (length bytes ≤ most) × Told old (λ m. fin.get m path ≡ Some bytes) → mid ≡ old → IsLater before middle
-      → (objects : List MapObject) → ReadsFiles number (object ∷ objects) held most (world old before) (world mid middle) (Err statuses.NoMemory)
-  stops_unkept path bytes old mid before middle none is_path found same later objects =
-      is_not_kept number object objects held most (world old before) (world mid middle) bytes (new_file none) (reads_as path bytes old mid before middle is_path found same later)
-
-  pub reads_one : (path bytes : List ℕ) (grown : List HeldFile) (left : ℕ) (old mid : Option Contents) (before middle : Counts) → is_some (content_in held object.file) ≡ false → path ≡ object.file
-      → (length bytes ≤ most) × Told old (λ m. fin.get m path ≡ Some bytes) → mid ≡ old → IsLater before middle
-      → grown ≡ held ++ record { name = object.file; bytes = bytes } ∷ [] → left ≡ most - length bytes
-      → (objects : List MapObject) (after : World) (answer : Result (List HeldFile) Status) → ReadsFiles (number + 1) objects grown left (world mid middle) after answer
-      → ReadsFiles number (object ∷ objects) held most (world old before) after answer
-  reads_one path bytes grown left old mid before middle none is_path found same later is_grown is_left objects after answer rest =
-      is_read number object objects held most (world old before) (world mid middle) after bytes answer (new_file none)
-      (reads_as path bytes old mid before middle is_path found same later)
-      (subst (λ (l : ℕ). ReadsFiles (number + 1) objects (held ++ record { name = object.file; bytes = bytes } ∷ []) l (world mid middle) after answer) is_left
-      (subst (λ (h : List HeldFile). ReadsFiles (number + 1) objects h left (world mid middle) after answer) is_grown rest))
+abbrev one : List ℕ → List ℕ → List HeldFile
+one name bytes = record { name = name; bytes = bytes } ∷ []
 
 -- the table with one more file
-pub held_more : {S : Type 0} (old new : HashMap (Bor (List ℕ)) (List ℕ) S) (key : Bor (List ℕ)) (name bytes : List ℕ) → key.now ≡ name → new.entries ≡ old.entries ++ (key, bytes) ∷ []
-    → held_seen new ≡ held_seen old ++ record { name = name; bytes = bytes } ∷ []
-held_more old new key name bytes is grown =
-    ap (map file_seen) grown ∙ map_push file_seen old.entries (key, bytes) ∙ ap (λ (n : List ℕ). held_seen old ++ record { name = n; bytes = bytes } ∷ []) is
+pub held_more : {S : Type 0} (old new : HashMap (Bor (List ℕ)) (List ℕ) S) (key : Bor (List ℕ)) (bytes : List ℕ) → new.entries ≡ old.entries ++ (key, bytes) ∷ []
+    → held_seen new ≡ held_seen old ++ one key.now bytes
+held_more old new key bytes grown = ap (map file_seen) grown ∙ map_push file_seen old.entries (key, bytes)
+
+-- the table with one more name
+pub gone_more : {S V : Type 0} (old new : HashMap (Bor (List ℕ)) V S) (key : Bor (List ℕ)) (value : V) → new.entries ≡ old.entries ++ (key, value) ∷ []
+    → gone_seen new ≡ gone_seen old ++ key.now ∷ []
+gone_more {S} {V} old new key value grown =
+    ap (map (λ (e : Bor (List ℕ) × V). e.0.now)) grown ∙ map_push (λ (e : Bor (List ℕ) × V). e.0.now) old.entries (key, value)
+
+-- a file was let go, and its object told
+pub let_go_as : (keep_going : Bool) (number : ℕ) (object : MapObject) (error : FileError) (old new : HeldFiles) (gone : List (List ℕ)) (result : Result (Unit {0}) Status) → lets_go keep_going error ≡ true
+    → gone ≡ gone_seen old.gone ++ object.file ∷ [] → Becomes (with_warning (record (held_of old) { gone = gone }) object) new result → LetsGo keep_going number object error old new result
+let_go_as keep_going number object error old new gone (Ok ok) goes more is = (goes, is ∙ ap (λ (names : List (List ℕ)). with_warning (record (held_of old) { gone = names }) object) more)
+let_go_as keep_going number object error old new gone (Err status) goes more is = inr is
 
 -- no object is left
-pub ends_held : (number k : ℕ) (objects : List MapObject) (held : List HeldFile) (most : ℕ) (now : World) → length objects ≤ k → ReadsFiles number (drop k objects) held most now now (Ok held)
-ends_held number k objects held most now le = subst (λ (left : List MapObject). ReadsFiles number left held most now now (Ok held)) (sym (drop_all k objects le)) (all_held number held most now)
+pub ends_held : (keep_going : Bool) (number k : ℕ) (objects : List MapObject) (held : Held) (now : World) → length objects ≤ k → ReadsFiles keep_going number (drop k objects) held now now (Ok held)
+ends_held keep_going number k objects held now le =
+    subst (λ (left : List MapObject). ReadsFiles keep_going number left held now now (Ok held)) (sym (drop_all k objects le)) (all_held number held now)
+
+-- reading ends at an object
+pub stops_here : (keep_going : Bool) (number k : ℕ) (objects : List MapObject) (object : MapObject) (held : Held) (before middle : World) (stopped : Stopped)
+    → drop k objects ≡ object ∷ drop (k + 1) objects → ((behind : List MapObject) → ReadsFiles keep_going number (object ∷ behind) held before middle (Err stopped))
+    → ReadsFiles keep_going number (drop k objects) held before middle (Err stopped)
+stops_here keep_going number k objects object held before middle stopped is ends =
+    subst (λ (left : List MapObject). ReadsFiles keep_going number left held before middle (Err stopped)) (sym is) (ends (drop (k + 1) objects))

@@ -1,14 +1,17 @@
--- No count falls in a link.
-use Rattle.std.proofs.Common.{◌≡◌, ℕ, List, Result, refl, sym, subst, arith}
+-- No count falls.
+use Rattle.std.proofs.Common.{◌≡◌, ℕ, Bool, List, Result, refl, sym, subst, ◌∙◌, arith}
 use Rattle.ds_files.specs.Outside.{Counts, IsLater}
 use Rattle.stab_map.specs.declared.object.MapObject.{MapObject}
 use Rattle.link_core.specs.declared.bundle.Linked.{Linked}
-use Rattle.link_core.specs.declared.status.Status.{Status}
+use Rattle.link_cli.specs.declared.ending.Ending.{Ending}
+use Rattle.link_cli.specs.declared.files.Stopped.{Stopped}
+use Rattle.link_cli.specs.declared.plan.Mode.{Mode}
 use Rattle.link_cli.specs.declared.program.Program.{Program}
-use Rattle.link_cli.specs.Files.{World, HeldFile, ReadsFiles, all_held, is_held, is_read, is_unread, is_not_kept}
-use Rattle.link_cli.specs.Answer.{Writes, not_made, plist_unwritten, image_unwritten, written, LinksSources, refused, bundled, LinksObjects, file_unread, files_read, LinksProgram, program_unread, program_unknown, program_refused, program_found, Links, usage, named}
+use Rattle.link_cli.specs.Files.{World, Held, IsUnwritten, ReadsFiles, all_held, is_held, was_let_go, is_read, is_let_go, is_unread, ran_out}
+use Rattle.link_cli.specs.Plan.{Planned}
+use Rattle.link_cli.specs.Answer.{Writes, not_made, plist_unwritten, image_unwritten, written, LinksSources, refused, untold, bundled, LinksObjects, file_unread, files_untold, files_read, Does, links, tells_map, map_untold, RunsProgram, program_unread, program_untold, program_refused, program_found, Runs, generates, reads_exe, Ends, usage, no_plan, planned}
 
-later_trans : (a b c : Counts) → IsLater a b → IsLater b c → IsLater a c
+pub later_trans : (a b c : Counts) → IsLater a b → IsLater b c → IsLater a c
 later_trans a b c first next =
     let f0 = first.0 in
     let t0 = next.0 in
@@ -18,40 +21,74 @@ later_trans a b c first next =
     let t2 = next.2 in
     (omega (arith, f0, t0), omega (arith, f1, t1), omega (arith, f2, t2))
 
-later_same : (before after : World) → after ≡ before → IsLater before.counts after.counts
+pub later_same : (before after : World) → after ≡ before → IsLater before.counts after.counts
 later_same before after same = subst (λ (w : World). IsLater before.counts w.counts) (sym same) (omega arith, omega arith, omega arith)
 
-pub reads_later : {number : ℕ} {objects : List MapObject} {held : List HeldFile} {most : ℕ} {before after : World} {answer : Result (List HeldFile) Status}
-    → ReadsFiles number objects held most before after answer → IsLater before.counts after.counts
-reads_later (all_held number held most now) = later_same now now refl
-reads_later (is_held number object objects held most before after bytes answer is rest) = reads_later rest
-reads_later (is_read number object objects held most before middle after bytes answer is reads rest) =
-    later_trans before.counts middle.counts after.counts reads.later (reads_later rest)
-reads_later (is_unread number object objects held most before after error is misses) = misses.later
-reads_later (is_not_kept number object objects held most before after bytes is reads) = reads.later
+-- nothing was done
+pub unwritten_same : (now : World) → IsUnwritten now now
+unwritten_same now = record { same = refl; later = later_same now now refl }
 
-module _ {exe : List ℕ} where
-  pub writes_later : (before after : World) {linked : Linked} {status : Status} → Writes exe linked before after status → IsLater before.counts after.counts
+pub reads_later : {keep_going : Bool} {number : ℕ} {objects : List MapObject} {held : Held} {before after : World} {answer : Result Held Stopped}
+    → ReadsFiles keep_going number objects held before after answer → IsLater before.counts after.counts
+reads_later (all_held number held now) = later_same now now refl
+reads_later (is_held number object objects held before after bytes answer is rest) = reads_later rest
+reads_later (was_let_go number object objects held before after answer none gone rest) = reads_later rest
+reads_later (is_read number object objects held before middle after bytes answer new reads rest) = later_trans before.counts middle.counts after.counts reads.later (reads_later rest)
+reads_later (is_let_go number object objects held before middle after error answer new misses goes rest) =
+    later_trans before.counts middle.counts after.counts misses.later (reads_later rest)
+reads_later (is_unread number object objects held before after error new misses stays) = misses.later
+reads_later (ran_out number objects held before after warnings unwritten) = unwritten.later
+
+-- no file is written where files are read
+pub reads_same : {keep_going : Bool} {number : ℕ} {objects : List MapObject} {held : Held} {before after : World} {answer : Result Held Stopped}
+    → ReadsFiles keep_going number objects held before after answer → after.files ≡ before.files
+reads_same (all_held number held now) = refl
+reads_same (is_held number object objects held before after bytes answer is rest) = reads_same rest
+reads_same (was_let_go number object objects held before after answer none gone rest) = reads_same rest
+reads_same (is_read number object objects held before middle after bytes answer new reads rest) = reads_same rest ∙ reads.same
+reads_same (is_let_go number object objects held before middle after error answer new misses goes rest) = reads_same rest ∙ misses.same
+reads_same (is_unread number object objects held before after error new misses stays) = misses.same
+reads_same (ran_out number objects held before after warnings unwritten) = unwritten.same
+
+pub reads_unwritten : {keep_going : Bool} {number : ℕ} {objects : List MapObject} {held : Held} {before after : World} {answer : Result Held Stopped}
+    → ReadsFiles keep_going number objects held before after answer → IsUnwritten before after
+reads_unwritten reads = record { same = reads_same reads; later = reads_later reads }
+
+module _ {plan : Planned} where
+  pub writes_later : (before after : World) {objects : List MapObject} {warnings : List ℕ} {linked : Linked} {ending : Ending} → Writes plan objects warnings linked before after ending
+      → IsLater before.counts after.counts
   writes_later before after (not_made same) = later_same before after same
   writes_later before after (plist_unwritten error fails) = fails.later
   writes_later before after (image_unwritten middle error first fails) = later_trans before.counts middle.counts after.counts first.later fails.later
   writes_later before after (written middle first second) = later_trans before.counts middle.counts after.counts first.later second.later
 
-  pub sources_later : (before after : World) {program : Program} {held : List HeldFile} {status : Status} → LinksSources exe program held before after status → IsLater before.counts after.counts
+  pub sources_later : (before after : World) {program : Program} {held : Held} {ending : Ending} → LinksSources plan program held before after ending → IsLater before.counts after.counts
   sources_later before after (refused refusal same why) = later_same before after same
-  sources_later before after (bundled linked status why writes) = writes_later before after writes
+  sources_later before after (untold same) = later_same before after same
+  sources_later before after (bundled linked ending why writes) = writes_later before after writes
 
-  pub objects_later : (before after : World) {program : Program} {most : ℕ} {status : Status} → LinksObjects exe program most before after status → IsLater before.counts after.counts
-  objects_later before after (file_unread status reads) = reads_later reads
-  objects_later before after (files_read held middle status reads links) = later_trans before.counts middle.counts after.counts (reads_later reads) (sources_later middle after links)
+  pub objects_later : (before after : World) {program : Program} {most : ℕ} {ending : Ending} → LinksObjects plan program most before after ending → IsLater before.counts after.counts
+  objects_later before after (file_unread stopped reads) = reads_later reads
+  objects_later before after (files_untold unwritten) = unwritten.later
+  objects_later before after (files_read held middle ending reads sources) = later_trans before.counts middle.counts after.counts (reads_later reads) (sources_later middle after sources)
 
-  pub program_later : (before after : World) {status : Status} → LinksProgram exe before after status → IsLater before.counts after.counts
+  pub does_later : (before after : World) {program : Program} {most : ℕ} {mode : Mode} {ending : Ending} → Does plan program most before after mode ending → IsLater before.counts after.counts
+  does_later before after (links ending objects) = objects_later before after objects
+  does_later before after (tells_map same) = later_same before after same
+  does_later before after (map_untold same) = later_same before after same
+
+  pub program_later : (before after : World) {ending : Ending} → RunsProgram plan before after ending → IsLater before.counts after.counts
   program_later before after (program_unread error misses) = misses.later
-  program_later before after (program_unknown bytes reads) = reads.later
+  program_later before after (program_untold unwritten) = unwritten.later
   program_later before after (program_refused bytes refusal reads why) = reads.later
-  program_later before after (program_found bytes middle program status reads why links) =
-      later_trans before.counts middle.counts after.counts reads.later (objects_later middle after links)
+  program_later before after (program_found bytes middle program ending reads why does) =
+      later_trans before.counts middle.counts after.counts reads.later (does_later middle after does)
 
-pub links_later : (before after : World) {words : List (List ℕ)} {status : Status} → Links words before after status → IsLater before.counts after.counts
-links_later before after (usage none same) = later_same before after same
-links_later before after (named exe status is links) = program_later before after links
+  pub runs_later : (before after : World) {ending : Ending} → Runs plan before after ending → IsLater before.counts after.counts
+  runs_later before after (generates count ending is same made) = later_same before after same
+  runs_later before after (reads_exe ending is runs) = program_later before after runs
+
+pub ends_later : (before after : World) {words : List (List ℕ)} {ending : Ending} → Ends words before after ending → IsLater before.counts after.counts
+ends_later before after (usage none same) = later_same before after same
+ends_later before after (no_plan same) = later_same before after same
+ends_later before after (planned plan ending is runs) = runs_later before after runs

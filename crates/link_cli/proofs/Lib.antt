@@ -1,7 +1,10 @@
+pub mod Generating
 pub mod Holding
-pub mod LastPart
 pub mod Later
 pub mod LinkSteps
+pub mod Numbers
+pub mod Plans
 pub mod Sources
+pub mod Telling
 pub mod Told
 pub mod ToldSteps

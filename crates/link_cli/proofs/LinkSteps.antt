@@ -1,23 +1,36 @@
 -- The steps of a link, from what the outside answered.
-use Rattle.std.proofs.Common.{◌≡◌, ℕ, ◌-◌, ◌^◌, ◌≤◌, List, length, Option, Some, Result, Ok, Err, refl, sym, ap, subst, ◌∙◌}
+use Rattle.std.proofs.Common.{◌≡◌, ℕ, inl, inr, ◌-◌, ◌^◌, List, [], length, Option, Result, Ok, Err, refl, sym, ap, subst, ◌∙◌}
 use Rattle.std.specs.Option.{option_map}
 use Rattle.std.specs.FinMap as map
 use Rattle.std.specs.Result.{IsErrAnd}
-use Rattle.macho_read.specs.declared.image.Image.{Image}
-use Rattle.ds_files.specs.Outside.{Contents, Counts, IsLater, Told, ReadFails, ReplaceFails}
+use Rattle.ds_files.specs.Outside.{Contents, Counts, IsLater, ReplaceFails}
 use Rattle.ds_files.specs.declared.files.FileError.{FileError}
+use Rattle.stab_map.specs.declared.object.MapObject.{MapObject}
 use Rattle.link_core.specs.declared.bundle.Linked.{Linked}
 use Rattle.link_core.specs.declared.refusal.Refusal.{Refusal}
 use Rattle.link_core.specs.declared.refusal.Refusal.TheVariants as refusals
+use Rattle.link_core.specs.Names.{image_name, last_part, plist_name}
 use Rattle.link_core.specs.Statuses.{refused_status}
-use Rattle.link_core.specs.Linked.{Bundles, Source, no_memory}
+use Rattle.link_core.specs.Linked as linked
+use Rattle.link_core.specs.Linked.{Bundles, Source}
 use Rattle.link_core.specs.declared.status.Status.{Status}
 use Rattle.link_core.specs.declared.status.Status.TheVariants as statuses
+use Rattle.link_cli.specs.declared.ending.Ending.{Ending}
+use Rattle.link_cli.specs.declared.files.Stopped.{Stopped}
+use Rattle.link_cli.specs.declared.plan.Mode.{Mode}
+use Rattle.link_cli.specs.declared.plan.Mode.TheVariants as modes
 use Rattle.link_cli.specs.declared.program.Program.{Program}
-use Rattle.link_cli.specs.Words.{image_name, last_part, plist_name}
-use Rattle.link_cli.specs.Files.{World, world, most_input, HeldFile, ReadsFile, ReadsProgram}
+use Rattle.link_cli.specs.Endings.{Tells, done_message, map_ending, no_memory, refused_ending, refusal_message, unwritten_ending}
+use Rattle.link_cli.specs.Files.{World, world, most_input, Held, none_held, ReadsFile, ReadsFiles, ReadsProgram}
+use Rattle.link_cli.specs.Plan.{Planned}
 use Rattle.link_cli.specs.Refusals.{Answers, program_of}
-use Rattle.link_cli.specs.Answer.{Replaces, NotReplaced, Writes, plist_unwritten, image_unwritten, written, unwritten_status, sources_in, LinksSources, refused, bundled, LinksObjects, LinksProgram, program_unread, program_unknown, program_refused, program_found}
+use Rattle.link_cli.specs.Answer.{Replaces, NotReplaced, Writes, plist_unwritten, image_unwritten, written, sources_in, Makes, LinksSources, refused, untold, bundled, LinksObjects, file_unread, files_untold, files_read, Does, links, tells_map, map_untold, RunsProgram, program_unread, program_untold, program_refused, program_found}
+use Rattle.link_cli.proofs.Later.{reads_unwritten}
+
+-- this is told, or memory ran out
+pub told_or : (P : Ending → Type 0) (wanted ending : Ending) → Tells wanted ending → P wanted → P no_memory → P ending
+told_or P wanted ending (inl is) good bad = subst P (sym is) good
+told_or P wanted ending (inr is) good bad = subst P (sym is) bad
 
 -- ---- the bundle
 
@@ -35,56 +48,117 @@ not_replaced_as : (name made : List ℕ) (error : FileError) (old new : Option C
 not_replaced_as name made error old new before now is_name fails later =
     record { cause = subst (λ (n : List ℕ). ReplaceFails old new n before now error) is_name fails; later = later }
 
-module _ (exe : List ℕ) (linked : Linked) where
-  pub plist_unwritten_as : (made : List ℕ) (old new : Option Contents) (before now : Counts) (error : FileError) (status : Status) → made ≡ plist_name exe → status ≡ unwritten_status 0 error
-      → ReplaceFails old new made before now error → IsLater before now → Writes exe linked (world old before) (world new now) status
-  plist_unwritten_as made old new before now error status is_name is_status fails later =
-      subst (λ (s : Status). Writes exe linked (world old before) (world new now) s) (sym is_status)
-      (plist_unwritten error (not_replaced_as (plist_name exe) made error old new before now is_name fails later))
+module _ (plan : Planned) (objects : List MapObject) (warnings : List ℕ) (made_of : Linked) where
+  pub plist_unwritten_as : (made message : List ℕ) (old new : Option Contents) (before now : Counts) (error : FileError) (ending : Ending) → made ≡ plist_name plan.out
+      → message ≡ refusal_message plan objects warnings (statuses.WriteFault 0) → ending ≡ unwritten_ending 0 error message
+      → ReplaceFails old new made before now error → IsLater before now → Writes plan objects warnings made_of (world old before) (world new now) ending
+  plist_unwritten_as made message old new before now error ending is_name is_message is_ending fails later =
+      subst (λ (e : Ending). Writes plan objects warnings made_of (world old before) (world new now) e) (sym (is_ending ∙ ap (unwritten_ending 0 error) is_message))
+      (plist_unwritten error (not_replaced_as (plist_name plan.out) made error old new before now is_name fails later))
 
-  pub image_unwritten_as : (made : List ℕ) (old mid new : Option Contents) (before middle now : Counts) (error : FileError) (status : Status) → made ≡ image_name exe → status ≡ unwritten_status 1 error
-      → Replaces (plist_name exe) linked.plist (world old before) (world mid middle) → ReplaceFails mid new made middle now error → IsLater middle now
-      → Writes exe linked (world old before) (world new now) status
-  image_unwritten_as made old mid new before middle now error status is_name is_status first fails later =
-      subst (λ (s : Status). Writes exe linked (world old before) (world new now) s) (sym is_status)
-      (image_unwritten (world mid middle) error first (not_replaced_as (image_name exe) made error mid new middle now is_name fails later))
+  pub image_unwritten_as : (made message : List ℕ) (old mid new : Option Contents) (before middle now : Counts) (error : FileError) (ending : Ending) → made ≡ image_name plan.out plan.exe
+      → message ≡ refusal_message plan objects warnings (statuses.WriteFault 1) → ending ≡ unwritten_ending 1 error message
+      → Replaces (plist_name plan.out) made_of.plist (world old before) (world mid middle) → ReplaceFails mid new made middle now error → IsLater middle now
+      → Writes plan objects warnings made_of (world old before) (world new now) ending
+  image_unwritten_as made message old mid new before middle now error ending is_name is_message is_ending first fails later =
+      subst (λ (e : Ending). Writes plan objects warnings made_of (world old before) (world new now) e) (sym (is_ending ∙ ap (unwritten_ending 1 error) is_message))
+      (image_unwritten (world mid middle) error first (not_replaced_as (image_name plan.out plan.exe) made error mid new middle now is_name fails later))
 
-  pub written_as : (made shown : List ℕ) (old mid new : Option Contents) (before middle now : Counts) → Replaces (plist_name exe) linked.plist (world old before) (world mid middle)
-      → made ≡ image_name exe → shown ≡ linked.image → new ≡ option_map (λ m. map.insert m made shown) mid → IsLater middle now
-      → Writes exe linked (world old before) (world new now) statuses.Done
-  written_as made shown old mid new before middle now first is_name is_image second later =
-      written (world mid middle) first (replaces_as (image_name exe) made linked.image shown mid new middle now is_name is_image second later)
+  pub written_as : (made shown message : List ℕ) (old mid new : Option Contents) (before middle now : Counts) → Replaces (plist_name plan.out) made_of.plist (world old before) (world mid middle)
+      → made ≡ image_name plan.out plan.exe → shown ≡ made_of.image → message ≡ done_message plan warnings made_of.counts
+      → new ≡ option_map (λ m. map.insert m made shown) mid → IsLater middle now
+      → Writes plan objects warnings made_of (world old before) (world new now) (record { status = statuses.Done; message = message })
+  written_as made shown message old mid new before middle now first is_name is_image is_message second later =
+      subst (λ (m : List ℕ). Writes plan objects warnings made_of (world old before) (world new now) (record { status = statuses.Done; message = m })) (sym is_message)
+      (written (world mid middle) first (replaces_as (image_name plan.out plan.exe) made made_of.image shown mid new middle now is_name is_image second later))
 
 -- ---- the objects
 
-pub bundles_as : (program : Image) (name : List ℕ) (given sources : List Source) (answer : Result Linked Refusal) → given ≡ sources → Bundles program name given answer → Bundles program name sources answer
-bundles_as program name given sources answer is bundles = subst (λ (s : List Source). Bundles program name s answer) is bundles
+module _ (plan : Planned) (program : Program) where
+  pub makes_as : (name : List ℕ) (given sources : List Source) (answer : Result Linked Refusal) → name ≡ last_part plan.exe → given ≡ sources → Bundles plan.odr program.image name given answer
+      → Makes plan program sources answer
+  makes_as name given sources answer is_name is bundles =
+      subst (λ (s : List Source). Makes plan program s answer) is (subst (λ (n : List ℕ). Bundles plan.odr program.image n given answer) is_name bundles)
 
-pub wants_memory : (program : Image) (name : List ℕ) (sources : List Source) (answer : Result Linked Refusal) → IsErrAnd answer (λ refusal. refusal ≡ refusals.NoMemory) → Bundles program name sources answer
-wants_memory program name sources (Ok linked) h = absurd h
-wants_memory program name sources (Err refusal) h = subst (λ (r : Refusal). Bundles program name sources (Err r)) (sym h) no_memory
+  pub wants_memory : (sources : List Source) (answer : Result Linked Refusal) → IsErrAnd answer (λ refusal. refusal ≡ refusals.NoMemory) → Makes plan program sources answer
+  wants_memory sources (Ok made) h = absurd h
+  wants_memory sources (Err refusal) h = subst (λ (r : Refusal). Makes plan program sources (Err r)) (sym h) linked.no_memory
 
-module _ (exe name : List ℕ) (program : Program) (held : List HeldFile) (is_name : name ≡ last_part exe) where
-  pub refused_as : (refusal : Refusal) (now : World) → Bundles program.image name (sources_in held program.objects) (Err refusal) → LinksSources exe program held now now (refused_status refusal)
-  refused_as refusal now why = refused refusal refl (subst (λ (n : List ℕ). Bundles program.image n (sources_in held program.objects) (Err refusal)) is_name why)
+  module _ (objects : List MapObject) (is_objects : objects ≡ program.objects) where
+    refused_so : (warnings : List ℕ) (status wanted : Status) (ending : Ending) → status ≡ wanted → Tells (refused_ending plan objects warnings status) ending
+        → Tells (refused_ending plan program.objects warnings wanted) ending
+    refused_so warnings status wanted ending is_status told =
+        subst (λ (s : Status). Tells (refused_ending plan program.objects warnings s) ending) is_status
+        (subst (λ (o : List MapObject). Tells (refused_ending plan o warnings status) ending) is_objects told)
 
-  pub bundled_as : (linked : Linked) (before after : World) (status : Status) → Bundles program.image name (sources_in held program.objects) (Ok linked) → Writes exe linked before after status
-      → LinksSources exe program held before after status
-  bundled_as linked before after status why writes =
-      bundled linked status (subst (λ (n : List ℕ). Bundles program.image n (sources_in held program.objects) (Ok linked)) is_name why) writes
+    pub sources_refused : (held : Held) (now : World) (refusal : Refusal) (status : Status) (ending : Ending) → status ≡ refused_status refusal
+        → Makes plan program (sources_in held.files program.objects) (Err refusal) → Tells (refused_ending plan objects held.warnings status) ending
+        → LinksSources plan program held now now ending
+    sources_refused held now refusal status ending is_status makes told =
+        told_or (λ (e : Ending). LinksSources plan program held now now e) (refused_ending plan program.objects held.warnings (refused_status refusal)) ending
+        (refused_so held.warnings status (refused_status refusal) ending is_status told) (refused refusal refl makes) (untold refl)
+
+    pub sources_bundled : (held : Held) (before after : World) (made : Linked) (ending : Ending) → Makes plan program (sources_in held.files program.objects) (Ok made)
+        → Writes plan objects held.warnings made before after ending → LinksSources plan program held before after ending
+    sources_bundled held before after made ending makes writes =
+        bundled made ending makes (subst (λ (o : List MapObject). Writes plan o held.warnings made before after ending) is_objects writes)
+
+    pub objects_refused : (most : ℕ) (before after : World) (stopped : Stopped) (ending : Ending) → ReadsFiles plan.keep_going 1 objects (none_held most) before after (Err stopped)
+        → Tells (refused_ending plan objects stopped.warnings stopped.status) ending → LinksObjects plan program most before after ending
+    objects_refused most before after stopped ending reads told =
+        told_or (λ (e : Ending). LinksObjects plan program most before after e) (refused_ending plan program.objects stopped.warnings stopped.status) ending
+        (refused_so stopped.warnings stopped.status stopped.status ending refl told)
+        (file_unread stopped (subst (λ (o : List MapObject). ReadsFiles plan.keep_going 1 o (none_held most) before after (Err stopped)) is_objects reads))
+        (files_untold (reads_unwritten reads))
+
+    pub objects_read : (most : ℕ) (before middle after : World) (held : Held) (ending : Ending) → ReadsFiles plan.keep_going 1 objects (none_held most) before middle (Ok held)
+        → LinksSources plan program held middle after ending → LinksObjects plan program most before after ending
+    objects_read most before middle after held ending reads sources =
+        files_read held middle ending (subst (λ (o : List MapObject). ReadsFiles plan.keep_going 1 o (none_held most) before middle (Ok held)) is_objects reads) sources
 
 -- ---- the program
 
-pub program_missed : (exe : List ℕ) (before after : World) (status : Status) → ReadsProgram exe before after (Err status) → LinksProgram exe before after status
-program_missed exe before after status h = subst (LinksProgram exe before after) (sym h.1) (program_unread h.0 h.2)
+module _ (plan : Planned) where
+  pub program_missed : (exe warnings : List ℕ) (objects : List MapObject) (before after : World) (status : Status) (ending : Ending) → exe ≡ plan.exe → objects ≡ [] → warnings ≡ []
+      → ReadsProgram exe before after (Err status) → Tells (refused_ending plan objects warnings status) ending → RunsProgram plan before after ending
+  program_missed exe warnings objects before after status ending is_exe no_objects no_warnings h told =
+      let none : Tells (refused_ending plan [] [] status) ending = subst (λ (w : List ℕ). Tells (refused_ending plan [] w status) ending) no_warnings
+      (subst (λ (o : List MapObject). Tells (refused_ending plan o warnings status) ending) no_objects told) in
+      let misses = subst (λ (n : List ℕ). ReadsProgram n before after (Err status)) is_exe h in
+      told_or (λ (e : Ending). RunsProgram plan before after e) (refused_ending plan [] [] status) ending none
+      (subst (λ (s : Status). RunsProgram plan before after (refused_ending plan [] [] s)) (sym misses.1) (program_unread misses.0 misses.2))
+      (program_untold (record { same = misses.2.same; later = misses.2.later }))
 
-module _ (exe : List ℕ) (before middle : World) (bytes : List ℕ) (read : ReadsFile exe most_input bytes before middle) where
-  pub program_as : (shown : List ℕ) (most : ℕ) (program : Program) (after : World) (status : Status) → shown ≡ bytes → most ≡ 2 ^ 29 - length bytes → program_of shown ≡ Ok program
-      → LinksObjects exe program most middle after status → LinksProgram exe before after status
-  program_as shown most program after status is_bytes is_most reads links =
-      program_found bytes middle program status read (ap program_of (sym is_bytes) ∙ reads) (subst (λ (m : ℕ). LinksObjects exe program m middle after status) is_most links)
+  module _ (before middle : World) (exe bytes shown : List ℕ) (is_exe : exe ≡ plan.exe) (is_bytes : shown ≡ bytes) (reads : ReadsFile exe most_input bytes before middle) where
+    read : ReadsFile plan.exe most_input bytes before middle
+    read = subst (λ (n : List ℕ). ReadsFile n most_input bytes before middle) is_exe reads
 
-  pub program_refused_as : (shown : List ℕ) (refusal : Refusal) → shown ≡ bytes → Answers (λ (p : Program). p) (Err refusal) (program_of shown) → LinksProgram exe before middle (refused_status refusal)
-  program_refused_as shown (refusals.Faulty file fault) is_bytes why = program_refused bytes (refusals.Faulty file fault) read (ap program_of (sym is_bytes) ∙ why)
-  program_refused_as shown (refusals.Limit which number) is_bytes why = program_refused bytes (refusals.Limit which number) read (ap program_of (sym is_bytes) ∙ why)
-  program_refused_as shown refusals.NoMemory is_bytes why = program_unknown bytes read
+    was_refused : (refusal : Refusal) → Answers (λ (p : Program). p) (Err refusal) (program_of shown) → RunsProgram plan before middle (refused_ending plan [] [] (refused_status refusal))
+    was_refused (refusals.Faulty file fault) why = program_refused bytes (refusals.Faulty file fault) read (ap program_of (sym is_bytes) ∙ why)
+    was_refused (refusals.Limit which number) why = program_refused bytes (refusals.Limit which number) read (ap program_of (sym is_bytes) ∙ why)
+    was_refused refusals.NoMemory why = program_untold (record { same = read.same; later = read.later })
+
+    pub program_refused_as : (warnings : List ℕ) (objects : List MapObject) (refusal : Refusal) (status : Status) (ending : Ending) → objects ≡ [] → warnings ≡ [] → status ≡ refused_status refusal
+        → Answers (λ (p : Program). p) (Err refusal) (program_of shown) → Tells (refused_ending plan objects warnings status) ending → RunsProgram plan before middle ending
+    program_refused_as warnings objects refusal status ending no_objects no_warnings is_status why told =
+        let none : Tells (refused_ending plan [] [] (refused_status refusal)) ending = subst (λ (s : Status). Tells (refused_ending plan [] [] s) ending) is_status
+        (subst (λ (w : List ℕ). Tells (refused_ending plan [] w status) ending) no_warnings
+        (subst (λ (o : List MapObject). Tells (refused_ending plan o warnings status) ending) no_objects told)) in
+        told_or (λ (e : Ending). RunsProgram plan before middle e) (refused_ending plan [] [] (refused_status refusal)) ending none (was_refused refusal why)
+        (program_untold (record { same = read.same; later = read.later }))
+
+    module _ (program : Program) (is_program : program_of shown ≡ Ok program) (mode : Mode) (is_mode : plan.mode ≡ mode) where
+      does : (most : ℕ) (after : World) (ending : Ending) → most ≡ 2 ^ 29 - length bytes → Does plan program most middle after mode ending → RunsProgram plan before after ending
+      does most after ending is_most done =
+          program_found bytes middle program ending read (ap program_of (sym is_bytes) ∙ is_program)
+          (subst (λ (m : Mode). Does plan program (most_input - length bytes) middle after m ending) (sym is_mode)
+          (subst (λ (n : ℕ). Does plan program n middle after mode ending) is_most done))
+
+    pub program_linked : (program : Program) (most : ℕ) (after : World) (ending : Ending) → program_of shown ≡ Ok program → plan.mode ≡ modes.Link → most ≡ 2 ^ 29 - length bytes
+        → LinksObjects plan program most middle after ending → RunsProgram plan before after ending
+    program_linked program most after ending is_program is_mode is_most objects = does program is_program modes.Link is_mode most after ending is_most (links ending objects)
+
+    pub program_told : (program : Program) (ending : Ending) → program_of shown ≡ Ok program → plan.mode ≡ modes.Map → Tells (map_ending program) ending → RunsProgram plan before middle ending
+    program_told program ending is_program is_mode told =
+        does program is_program modes.Map is_mode (most_input - length bytes) middle ending refl
+        (told_or (λ (e : Ending). Does plan program (most_input - length bytes) middle middle modes.Map e) (map_ending program) ending told (tells_map refl) (map_untold refl))

@@ -9,9 +9,9 @@ use Rattle.std.specs.Str.{bytes_eq}
 use Rattle.std.proofs.lemmas.List.Elements.{All-cons, All-map, All-nil, All-push}
 use Rattle.stab_map.specs.declared.object.MapObject.{MapObject}
 use Rattle.link_core.specs.Linked.{Source, sources_of}
-use Rattle.link_core.specs.declared.status.Status.{Status}
+use Rattle.link_cli.specs.declared.files.Stopped.{Stopped}
 use Rattle.link_cli.specs.Answer.{sources_in}
-use Rattle.link_cli.specs.Files.{World, HeldFile, content_in, ReadsFiles, all_held, is_held, is_read, is_unread, is_not_kept}
+use Rattle.link_cli.specs.Files.{World, Held, HeldFile, none_held, content_in, ReadsFiles, all_held, is_held, was_let_go, is_read, is_let_go, is_unread, ran_out}
 use Rattle.link_cli.specs.Seen.{AreSmall, held_seen, number_in}
 use Rattle.link_cli.proofs.Holding.{file_seen}
 
@@ -88,27 +88,37 @@ module _ {S : Type 0} (held : HashMap (Bor (List ℕ)) (List ℕ) S) (contents :
 -- ---- how many, and sizes
 
 -- no more files are held than objects name
-pub held_few : {number : ℕ} {objects : List MapObject} {held : List HeldFile} {most : ℕ} {before after : World} {answer : Result (List HeldFile) Status}
-    → ReadsFiles number objects held most before after answer → IfOk answer (λ all. length all ≤ length held + length objects)
-held_few (all_held number held most now) = omega arith
-held_few (is_held number object objects held most before after bytes answer is rest) = by answer (held_few rest)
+pub held_few : {keep_going : Bool} {number : ℕ} {objects : List MapObject} {held : Held} {before after : World} {answer : Result Held Stopped}
+    → ReadsFiles keep_going number objects held before after answer → IfOk answer (λ all. length all.files ≤ length held.files + length objects)
+held_few (all_held number held now) = omega arith
+held_few (is_held number object objects held before after bytes answer is rest) = one_more answer (held_few rest)
   where
-    by : (a : Result (List HeldFile) Status) → IfOk a (λ all. length all ≤ length held + length objects) → IfOk a (λ all. length all ≤ length held + suc (length objects))
-    by (Ok all) few = omega (arith, few)
-    by (Err status) few = tt
-held_few (is_read number object objects held most before middle after bytes answer is reads rest) = by answer (held_few rest)
+    one_more : (a : Result Held Stopped) → IfOk a (λ all. length all.files ≤ length held.files + length objects) → IfOk a (λ all. length all.files ≤ length held.files + suc (length objects))
+    one_more (Ok all) few = omega (arith, few)
+    one_more (Err stopped) few = tt
+held_few (was_let_go number object objects held before after answer none gone rest) = one_more answer (held_few rest)
   where
-    more : List HeldFile
-    more = record { name = object.file; bytes = bytes } ∷ []
+    one_more : (a : Result Held Stopped) → IfOk a (λ all. length all.files ≤ length held.files + length objects) → IfOk a (λ all. length all.files ≤ length held.files + suc (length objects))
+    one_more (Ok all) few = omega (arith, few)
+    one_more (Err stopped) few = tt
+held_few (is_read number object objects held before middle after bytes answer new reads rest) = one_more answer (held_few rest)
+  where
+    file : List HeldFile
+    file = record { name = object.file; bytes = bytes } ∷ []
 
-    by : (a : Result (List HeldFile) Status) → IfOk a (λ all. length all ≤ length (held ++ more) + length objects) → IfOk a (λ all. length all ≤ length held + suc (length objects))
-    by (Ok all) few = omega (arith, few, length-append held more)
-    by (Err status) few = tt
-held_few (is_unread number object objects held most before after error is misses) = tt
-held_few (is_not_kept number object objects held most before after bytes is reads) = tt
+    one_more : (a : Result Held Stopped) → IfOk a (λ all. length all.files ≤ length (held.files ++ file) + length objects) → IfOk a (λ all. length all.files ≤ length held.files + suc (length objects))
+    one_more (Ok all) few = omega (arith, few, length-append held.files file)
+    one_more (Err stopped) few = tt
+held_few (is_let_go number object objects held before middle after error answer new misses goes rest) = one_more answer (held_few rest)
+  where
+    one_more : (a : Result Held Stopped) → IfOk a (λ all. length all.files ≤ length held.files + length objects) → IfOk a (λ all. length all.files ≤ length held.files + suc (length objects))
+    one_more (Ok all) few = omega (arith, few)
+    one_more (Err stopped) few = tt
+held_few (is_unread number object objects held before after error new misses stays) = tt
+held_few (ran_out number objects held before after warnings unwritten) = tt
 
-pub few_files : {number : ℕ} {objects : List MapObject} {most : ℕ} {before after : World} {all : List HeldFile}
-    → ReadsFiles number objects [] most before after (Ok all) → length objects < 2 ^ 16 → length all < 2 ^ 16
+pub few_files : {keep_going : Bool} {number : ℕ} {objects : List MapObject} {most : ℕ} {before after : World} {all : Held}
+    → ReadsFiles keep_going number objects (none_held most) before after (Ok all) → length objects < 2 ^ 16 → length all.files < 2 ^ 16
 few_files reads few = let many = held_few reads in omega (arith, many, few)
 
 bytes_seen : (es : List (Bor (List ℕ) × List ℕ)) → map (λ (f : HeldFile). f.bytes) (map file_seen es) ≡ values_of es
@@ -121,16 +131,18 @@ contents_small held contents is small =
     subst (λ (files : List (List ℕ)). All (λ file. length file < 2 ^ 32) files) (bytes_seen held.entries ∙ sym is)
     (All-map (λ (file : List ℕ). length file < 2 ^ 32) (λ (f : HeldFile). f.bytes) (held_seen held) small)
 
-pub none_held : AreSmall []
-none_held = All-nil (λ (f : HeldFile). length f.bytes < 2 ^ 32)
+pub none_small : AreSmall []
+none_small = All-nil (λ (f : HeldFile). length f.bytes < 2 ^ 32)
 
 -- files that have at most 2 ^ 29 bytes together are small
-pub held_small : {number : ℕ} {objects : List MapObject} {held : List HeldFile} {most : ℕ} {before after : World} {answer : Result (List HeldFile) Status}
-    → ReadsFiles number objects held most before after answer → most ≤ 2 ^ 29 → AreSmall held → IfOk answer AreSmall
-held_small (all_held number held most now) bound small = small
-held_small (is_held number object objects held most before after bytes answer is rest) bound small = held_small rest bound small
-held_small (is_read number object objects held most before middle after bytes answer is reads rest) bound small =
+pub held_small : {keep_going : Bool} {number : ℕ} {objects : List MapObject} {held : Held} {before after : World} {answer : Result Held Stopped}
+    → ReadsFiles keep_going number objects held before after answer → held.left ≤ 2 ^ 29 → AreSmall held.files → IfOk answer (λ all. AreSmall all.files)
+held_small (all_held number held now) bound small = small
+held_small (is_held number object objects held before after bytes answer is rest) bound small = held_small rest bound small
+held_small (was_let_go number object objects held before after answer none gone rest) bound small = held_small rest bound small
+held_small (is_read number object objects held before middle after bytes answer new reads rest) bound small =
     let few = reads.few in
-    held_small rest (omega arith) (All-push (λ (f : HeldFile). length f.bytes < 2 ^ 32) held (record { name = object.file; bytes = bytes }) small (omega arith))
-held_small (is_unread number object objects held most before after error is misses) bound small = tt
-held_small (is_not_kept number object objects held most before after bytes is reads) bound small = tt
+    held_small rest (omega arith) (All-push (λ (f : HeldFile). length f.bytes < 2 ^ 32) held.files (record { name = object.file; bytes = bytes }) small (omega arith))
+held_small (is_let_go number object objects held before middle after error answer new misses goes rest) bound small = held_small rest bound small
+held_small (is_unread number object objects held before after error new misses stays) bound small = tt
+held_small (ran_out number objects held before after warnings unwritten) bound small = tt

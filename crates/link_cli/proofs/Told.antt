@@ -1,105 +1,148 @@
--- A link of files that tell their contents, without a failing call.
-use Rattle.std.proofs.Common.{◌≡◌, ℕ, ◌-◌, ◌⊎◌, inl, inr, List, [], length, Option, Some, None, Ok, Err, refl, sym, ap, subst, ◌∙◌, arith}
+-- The command over files that tell their contents, without a failing call.
+use Rattle.std.proofs.Common.{◌≡◌, ℕ, ◌-◌, ◌⊎◌, inl, inr, true≢false, List, [], ◌++◌, length, Option, Some, None, Ok, Err, refl, sym, ap, subst, ◌∙◌, false}
 use Rattle.std.specs.FinMap as fin
 use Rattle.std.proofs.lemmas.Bool.{le-ltb}
-use Rattle.ds_files.specs.Outside.{Contents}
+use Rattle.ds_files.specs.Outside.{Contents, Rose}
 use Rattle.ds_files.specs.declared.files.FileError.{FileError}
 use Rattle.ds_files.specs.declared.files.FileError.TheVariants as errors
+use Rattle.sample_objects.specs.declared.program.Generated.{Generated}
+use Rattle.sample_objects.specs.GeneratedProgram.{generated_program}
 use Rattle.link_core.specs.declared.bundle.Linked.{Linked}
 use Rattle.link_core.specs.Statuses.{refused_status}
-use Rattle.link_core.specs.Linked.{Bundles, HasNoRefusal, Source}
+use Rattle.link_core.specs.Linked.{HasNoRefusal, Source}
+use Rattle.link_core.specs.Names.{image_name, plist_name}
 use Rattle.link_core.proofs.Refusing.{ok_is_no_err, ok_is_one, refused_for_memory, some_is_not_none}
 use Rattle.link_core.specs.declared.status.Status.{Status}
 use Rattle.link_core.specs.declared.status.Status.TheVariants as statuses
+use Rattle.link_cli.specs.declared.ending.Ending.{Ending}
+use Rattle.link_cli.specs.declared.files.Stopped.{Stopped}
+use Rattle.link_cli.specs.declared.plan.Mode.{Mode}
+use Rattle.link_cli.specs.declared.plan.Mode.TheVariants as modes
 use Rattle.link_cli.specs.declared.program.Program.{Program}
-use Rattle.link_cli.specs.Files.{World, HeldFile, ReadsFile, most_input}
-use Rattle.link_cli.specs.Answer.{Writes, not_made, plist_unwritten, image_unwritten, written, NotReplaced, LinksSources, LinksObjects, LinksProgram, Links, sources_in, unwritten_status}
+use Rattle.link_cli.specs.Files.{World, Held, ReadsFile, lets_go, most_input}
+use Rattle.link_cli.specs.Answer.{Writes, not_made, plist_unwritten, image_unwritten, written, NotReplaced, Makes, LinksSources, LinksObjects, Does, RunsProgram, Runs, Ends, Links, LinksGenerated, sources_in, sources_made, unwritten}
 use Rattle.link_cli.specs.Answer as answer
+use Rattle.link_cli.specs.Endings.{Puts, Said, no_memory, refused_ending}
+use Rattle.link_cli.specs.Endings as endings
+use Rattle.link_cli.specs.Plan.{Planned, is_generated}
 use Rattle.link_cli.specs.Refusals.{program_of}
-use Rattle.link_cli.specs.Words.{last_part, plist_name}
-use Rattle.link_cli.specs.Told.{NoFault, file_refusal, first_unread, sources_at, with_plist, AnswersObjects, unread, refused, done, no_memory, no_memory_between, AnswersProgram, program_unread, program_refused, program_found, program_no_memory, AnswersWords, usage, named, IsLinkable}
+use Rattle.link_cli.specs.Told.{NoFault, file_refusal, unread_of, warnings_of, sources_at, with_plist, AnswersObjects, unread, refused, done, no_memory_before, no_memory_between, AnswersMode, linked, map_told, map_no_memory, AnswersProgram, program_unread, program_refused, program_found, program_no_memory, AnswersPlan, of_generated, of_program, AnswersWords, usage, words_no_memory, planned, Answers, AreLinkable, HasProgram, CanBeDone, clean_made, clean_program, IsAnswerable}
 use Rattle.link_cli.proofs.Later.{reads_later, sources_later}
-use Rattle.link_cli.proofs.ToldSteps.{all_read, misses_told, none_told, quiet_before, quiet_behind, reads_told, told_some}
+use Rattle.link_cli.proofs.ToldSteps.{all_read, misses_told, none_so, quiet_before, quiet_behind, reads_told, told_some}
 
 -- the files are told after it, and this is answered
 abbrev Tells : World → (Contents → Type 0) → Type 0
 Tells after fact = (now : Contents) × (after.files ≡ Some now) × fact now
 
 -- a file that no failing call kept from being replaced is as before, since memory ran out
-unreplaced : (files : Contents) (name : List ℕ) (number : ℕ) (error : FileError) (before after : World) → NotReplaced name error before after → before.files ≡ Some files → NoFault before.counts after.counts
-    → (after.files ≡ Some files) × (unwritten_status number error ≡ statuses.NoMemory)
-unreplaced files name number errors.Missing before after fails told quiet = absurd fails.cause
-unreplaced files name number errors.Failed before after fails told quiet = absurd (quiet fails.cause.0)
-unreplaced files name number errors.TooLong before after fails told quiet = absurd fails.cause
-unreplaced files name number errors.NoMemory before after fails told quiet = (fails.cause.0 ∙ told, refl)
+unreplaced : (files : Contents) (name : List ℕ) (number : ℕ) (error : FileError) (message : List ℕ) (before after : World) → NotReplaced name error before after → before.files ≡ Some files → NoFault before.counts after.counts
+    → (after.files ≡ Some files) × (endings.unwritten_ending number error message ≡ no_memory)
+unreplaced files name number errors.Missing message before after fails told quiet = absurd fails.cause
+unreplaced files name number errors.Failed message before after fails told quiet = absurd (quiet fails.cause.0)
+unreplaced files name number errors.TooLong message before after fails told quiet = absurd fails.cause
+unreplaced files name number errors.NoMemory message before after fails told quiet = (fails.cause.0 ∙ told, refl)
 
-module _ (exe : List ℕ) (files : Contents) where
-  module _ (program : Program) (most : ℕ) (read : first_unread files 1 [] most program.objects ≡ None) where
-    writes_told : (linked : Linked) (before after : World) {status : Status} → Bundles program.image (last_part exe) (sources_at files program.objects) (Ok linked) → Writes exe linked before after status
-        → before.files ≡ Some files → NoFault before.counts after.counts → Tells after (AnswersObjects exe program most files status)
-    writes_told linked before after bundles (not_made same) told quiet = (files, ap (λ (w : World). w.files) same ∙ told, no_memory)
-    writes_told linked before after bundles (plist_unwritten error fails) told quiet =
-        let kept = unreplaced files (plist_name exe) 0 error before after fails told quiet in
-        (files, kept.0, subst (λ (s : Status). AnswersObjects exe program most files s files) (sym kept.1) no_memory)
-    writes_told linked before after bundles (image_unwritten middle error first fails) told quiet =
-        let between : middle.files ≡ Some (with_plist exe linked files) = rw told at first.files in
-        let kept = unreplaced (with_plist exe linked files) _ 1 error middle after fails between (quiet_behind before.counts middle.counts after.counts first.later quiet) in
-        (with_plist exe linked files, kept.0, subst (λ (s : Status). AnswersObjects exe program most files s (with_plist exe linked files)) (sym kept.1) (no_memory_between linked read bundles))
-    writes_told linked before after bundles (written middle first second) told quiet =
-        let between : middle.files ≡ Some (with_plist exe linked files) = rw told at first.files in
-        (_, rw between at second.files, done linked read bundles)
+module _ (plan : Planned) (files : Contents) where
+  module _ (program : Program) (most : ℕ) (read : unread_of plan program most files ≡ None) where
+    writes_told : (made : Linked) (before after : World) {ending : Ending} → Makes plan program (sources_at files program.objects) (Ok made)
+        → Writes plan program.objects (warnings_of plan program most files) made before after ending
+        → before.files ≡ Some files → NoFault before.counts after.counts → Tells after (AnswersObjects plan program most files ending)
+    writes_told made before after makes (not_made same) told quiet = (files, ap (λ (w : World). w.files) same ∙ told, no_memory_before)
+    writes_told made before after makes (plist_unwritten error fails) told quiet =
+        let kept = unreplaced files (plist_name plan.out) 0 error _ before after fails told quiet in
+        (files, kept.0, subst (λ (e : Ending). AnswersObjects plan program most files e files) (sym kept.1) no_memory_before)
+    writes_told made before after makes (image_unwritten middle error first fails) told quiet =
+        let between : middle.files ≡ Some (with_plist plan made files) = rw told at first.files in
+        let kept = unreplaced (with_plist plan made files) (image_name plan.out plan.exe) 1 error _ middle after fails between (quiet_behind before.counts middle.counts after.counts first.later quiet) in
+        (with_plist plan made files, kept.0, subst (λ (e : Ending). AnswersObjects plan program most files e (with_plist plan made files)) (sym kept.1) (no_memory_between made read makes))
+    writes_told made before after makes (written middle first second) told quiet =
+        let between : middle.files ≡ Some (with_plist plan made files) = rw told at first.files in
+        (_, rw between at second.files, done made read makes)
 
-    sources_told : (held : List HeldFile) (before after : World) {status : Status} → sources_in held program.objects ≡ sources_at files program.objects → LinksSources exe program held before after status
-        → before.files ≡ Some files → NoFault before.counts after.counts → Tells after (AnswersObjects exe program most files status)
-    sources_told held before after are (answer.refused refusal same why) told quiet =
-        (files, ap (λ (w : World). w.files) same ∙ told, refused refusal read (subst (λ (s : List Source). Bundles program.image (last_part exe) s (Err refusal)) are why))
-    sources_told held before after are (answer.bundled linked status why writes) told quiet =
-        writes_told linked before after (subst (λ (s : List Source). Bundles program.image (last_part exe) s (Ok linked)) are why) writes told quiet
+    sources_told : (held : Held) (before after : World) {ending : Ending} → sources_in held.files program.objects ≡ sources_at files program.objects → held.warnings ≡ warnings_of plan program most files
+        → LinksSources plan program held before after ending → before.files ≡ Some files → NoFault before.counts after.counts → Tells after (AnswersObjects plan program most files ending)
+    sources_told held before after are warn (answer.refused refusal same why) told quiet = (
+      files,
+      ap (λ (w : World). w.files) same ∙ told,
+      subst (λ (w : List ℕ). AnswersObjects plan program most files (refused_ending plan program.objects w (refused_status refusal)) files) (sym warn)
+          (refused refusal read (subst (λ (s : List Source). Makes plan program s (Err refusal)) are why)),
+    )
+    sources_told held before after are warn (answer.untold same) told quiet = (files, ap (λ (w : World). w.files) same ∙ told, no_memory_before)
+    sources_told held before after are warn (answer.bundled made ending why writes) told quiet =
+        writes_told made before after (subst (λ (s : List Source). Makes plan program s (Ok made)) are why)
+        (subst (λ (w : List ℕ). Writes plan program.objects w made before after ending) warn writes) told quiet
 
-  objects_told : (program : Program) (most : ℕ) (before after : World) {status : Status} → LinksObjects exe program most before after status → before.files ≡ Some files
-      → NoFault before.counts after.counts → Tells after (AnswersObjects exe program most files status)
-  objects_told program most before after (answer.file_unread status reads) told quiet =
-      let some = reads_told files before after reads told quiet (none_told files) in (
-        files,
-        some.same,
-        elim (some.why) [
-          | inl why ↦ unread status why
-          | inr memory ↦ subst (λ (s : Status). AnswersObjects exe program most files s files) (sym memory) no_memory
-        ],
-      )
-  objects_told program most before after (answer.files_read held middle status reads links) told quiet =
-      let all = reads_told files before middle reads told (quiet_before before.counts middle.counts after.counts (sources_later middle after links) quiet) (none_told files) in
-      sources_told program most all.unread held middle after all.sources links all.same (quiet_behind before.counts middle.counts after.counts (reads_later reads) quiet)
+  module _ (program : Program) (most : ℕ) where
+    stopped_told : (stopped : Stopped) → ((unread_of plan program most files ≡ Some stopped.status) × (stopped.warnings ≡ [] ++ warnings_of plan program most files)) ⊎ (stopped.status ≡ statuses.NoMemory)
+        → AnswersObjects plan program most files (refused_ending plan program.objects stopped.warnings stopped.status) files
+    stopped_told stopped (inl why) =
+        subst (λ (w : List ℕ). AnswersObjects plan program most files (refused_ending plan program.objects w stopped.status) files) (sym why.1) (unread stopped.status why.0)
+    stopped_told stopped (inr memory) =
+        subst (λ (s : Status). AnswersObjects plan program most files (refused_ending plan program.objects stopped.warnings s) files) (sym memory) no_memory_before
 
-  got : (before after : World) (bytes : List ℕ) → ReadsFile exe most_input bytes before after → before.files ≡ Some files → fin.get files exe ≡ Some bytes
-  got before after bytes reads told = told_some before.files files (λ m. fin.get m exe ≡ Some bytes) told reads.told
+    objects_told : (before after : World) {ending : Ending} → LinksObjects plan program most before after ending → before.files ≡ Some files
+        → NoFault before.counts after.counts → Tells after (AnswersObjects plan program most files ending)
+    objects_told before after (answer.file_unread stopped reads) told quiet =
+        let some = reads_told plan.keep_going files [] before after reads told quiet (none_so files most) in (files, some.same, stopped_told stopped some.why)
+    objects_told before after (answer.files_untold unwritten) told quiet = (files, unwritten.same ∙ told, no_memory_before)
+    objects_told before after (answer.files_read held middle ending reads links) told quiet =
+        let all = reads_told plan.keep_going files [] before middle reads told (quiet_before before.counts middle.counts after.counts (sources_later middle after links) quiet) (none_so files most) in
+        sources_told program most all.unread held middle after all.sources all.warnings links all.same (quiet_behind before.counts middle.counts after.counts (reads_later reads) quiet)
 
-  fits : (before after : World) (bytes : List ℕ) → ReadsFile exe most_input bytes before after → file_refusal 0 most_input (Some bytes) ≡ None
+    does_told : (before after : World) {mode : Mode} {ending : Ending} → Does plan program most before after mode ending → before.files ≡ Some files
+        → NoFault before.counts after.counts → Tells after (AnswersMode plan program most files mode ending)
+    does_told before after (answer.links ending objects) told quiet =
+        let now = objects_told before after objects told quiet in (now.0, now.1, linked ending now.0 now.2)
+    does_told before after (answer.tells_map same) told quiet = (files, ap (λ (w : World). w.files) same ∙ told, map_told)
+    does_told before after (answer.map_untold same) told quiet = (files, ap (λ (w : World). w.files) same ∙ told, map_no_memory)
+
+  got : (before after : World) (bytes : List ℕ) → ReadsFile plan.exe most_input bytes before after → before.files ≡ Some files → fin.get files plan.exe ≡ Some bytes
+  got before after bytes reads told = told_some before.files files (λ m. fin.get m plan.exe ≡ Some bytes) told reads.told
+
+  fits : (before after : World) (bytes : List ℕ) → ReadsFile plan.exe most_input bytes before after → file_refusal false 0 most_input (Some bytes) ≡ None
   fits before after bytes reads = rw (le-ltb most_input (length bytes) reads.few) refl
 
-  program_told : (before after : World) {status : Status} → LinksProgram exe before after status → before.files ≡ Some files → NoFault before.counts after.counts
-      → Tells after (AnswersProgram exe files status)
+  none_goes : (error : FileError) → lets_go false error ≡ false
+  none_goes errors.Missing = refl
+  none_goes errors.Failed = refl
+  none_goes errors.TooLong = refl
+  none_goes errors.NoMemory = refl
+
+  program_told : (before after : World) {ending : Ending} → RunsProgram plan before after ending → before.files ≡ Some files → NoFault before.counts after.counts
+      → Tells after (AnswersProgram plan files ending)
   program_told before after (answer.program_unread error misses) told quiet = (
     files,
     misses.same ∙ told,
-    elim (misses_told files 0 exe most_input error before after misses told quiet) [
+    elim (misses_told false files 0 plan.exe most_input error before after misses told quiet (none_goes error)) [
       | inl why ↦ program_unread _ why
-      | inr memory ↦ subst (λ (s : Status). AnswersProgram exe files s files) (sym memory) program_no_memory
+      | inr memory ↦ subst (λ (s : Status). AnswersProgram plan files (refused_ending plan [] [] s) files) (sym memory) program_no_memory
     ],
   )
-  program_told before after (answer.program_unknown bytes reads) told quiet = (files, reads.same ∙ told, program_no_memory)
+  program_told before after (answer.program_untold unwritten) told quiet = (files, unwritten.same ∙ told, program_no_memory)
   program_told before after (answer.program_refused bytes refusal reads why) told quiet =
       (files, reads.same ∙ told, program_refused bytes refusal (got before after bytes reads told) (fits before after bytes reads) why)
-  program_told before after (answer.program_found bytes middle program status reads why links) told quiet =
-      let now = objects_told program (most_input - length bytes) middle after links (reads.same ∙ told) (quiet_behind before.counts middle.counts after.counts reads.later quiet) in
-      (now.0, now.1, program_found bytes program status now.0 (got before middle bytes reads told) (fits before middle bytes reads) why now.2)
+  program_told before after (answer.program_found bytes middle program ending reads why does) told quiet =
+      let now = does_told program (most_input - length bytes) middle after does (reads.same ∙ told) (quiet_behind before.counts middle.counts after.counts reads.later quiet) in
+      (now.0, now.1, program_found bytes program ending now.0 (got before middle bytes reads told) (fits before middle bytes reads) why now.2)
 
-pub links_told : (words : List (List ℕ)) (before after : World) (status : Status) (files : Contents) → Links words before after status → before.files ≡ Some files → NoFault before.counts after.counts
-    → (now : Contents) × (after.files ≡ Some now) × AnswersWords words files status now
-links_told words before after status files (answer.usage none same) told quiet = (files, ap (λ (w : World). w.files) same ∙ told, usage none)
-links_told words before after status files (answer.named exe s is links) told quiet =
-    let now = program_told exe files before after links told quiet in
-    (now.0, now.1, named exe s now.0 is now.2)
+  runs_told : (before after : World) {ending : Ending} → Runs plan before after ending → before.files ≡ Some files → NoFault before.counts after.counts
+      → Tells after (AnswersPlan plan files ending)
+  runs_told before after (answer.generates count ending is same made) told quiet = (files, ap (λ (w : World). w.files) same ∙ told, of_generated count ending is made)
+  runs_told before after (answer.reads_exe ending is runs) told quiet = let now = program_told before after runs told quiet in (now.0, now.1, of_program ending now.0 is now.2)
+
+ends_told : (words : List (List ℕ)) (before after : World) (ending : Ending) (files : Contents) → Ends words before after ending → before.files ≡ Some files → NoFault before.counts after.counts
+    → Tells after (AnswersWords words files ending)
+ends_told words before after ending files (answer.usage none same) told quiet = (files, ap (λ (w : World). w.files) same ∙ told, usage none)
+ends_told words before after ending files (answer.no_plan same) told quiet = (files, ap (λ (w : World). w.files) same ∙ told, words_no_memory)
+ends_told words before after ending files (answer.planned plan e is runs) told quiet =
+    let now = runs_told plan files before after runs told quiet in
+    (now.0, now.1, planned plan e now.0 is now.2)
+
+pub links_told : (words : List (List ℕ)) (before after : World) (silent heard : Said) (status : Status) (files : Contents) → Links words before after silent heard status → before.files ≡ Some files
+    → NoFault before.counts after.counts → (now : Contents) × (after.files ≡ Some now) × Answers words files now silent heard status
+links_told words before after silent heard status files links told quiet =
+    let now = ends_told words before after links.ending files links.ends told quiet in
+    (now.0, now.1, record { ending = links.ending; answers = now.2; puts = links.puts })
 
 -- ---- what can be linked
 
@@ -110,44 +153,76 @@ some_is_one {A} x y is = ap (or_first x) is
     or_first x (Some y) = y
     or_first x None = x
 
-objects_done : (exe : List ℕ) (program : Program) (most : ℕ) (files now : Contents) (status : Status) → AnswersObjects exe program most files status now → first_unread files 1 [] most program.objects ≡ None
-    → HasNoRefusal program.image (sources_at files program.objects) → (status ≡ statuses.Done) ⊎ (status ≡ statuses.NoMemory)
-objects_done exe program most files now status (unread s why) read clean = absurd (some_is_not_none s (sym why ∙ read))
-objects_done exe program most files now status (refused refusal r bundles) read clean = inr (ap refused_status (refused_for_memory clean bundles))
-objects_done exe program most files now status (done linked r bundles) read clean = inl refl
-objects_done exe program most files now status no_memory read clean = inr refl
-objects_done exe program most files now status (no_memory_between linked r bundles) read clean = inr refl
+-- how many objects are generated
+abbrev count_in : Mode → ℕ
+count_in (modes.Generate count) = count
+count_in modes.Link = 0
+count_in modes.Map = 0
 
-module _ (words : List (List ℕ)) (files : Contents) (can : IsLinkable words files) where
-  program_done : (now : Contents) (status : Status) → AnswersProgram can.exe files status now → (status ≡ statuses.Done) ⊎ (status ≡ statuses.NoMemory)
-  program_done now status (program_unread s why) =
-      let few = can.few in
-      let fits : file_refusal 0 most_input (Some can.bytes) ≡ None = rw (le-ltb most_input (length can.bytes) (omega (arith, few))) refl in
-      absurd (some_is_not_none s (sym why ∙ (rw can.held fits)))
-  program_done now status (program_refused bytes refusal is fits why) =
-      let same : can.bytes ≡ bytes = some_is_one can.bytes bytes (sym can.held ∙ is) in
-      absurd (ok_is_no_err can.program refusal (sym can.reads ∙ (ap program_of same ∙ why)))
-  program_done now status (program_found bytes program s now2 is fits why answers) =
-      let same : can.bytes ≡ bytes = some_is_one can.bytes bytes (sym can.held ∙ is) in
-      let one : can.program ≡ program = ok_is_one can.program program (sym can.reads ∙ (ap program_of same ∙ why)) in
-      let few = can.few in
-      let read : first_unread files 1 [] (most_input - length can.bytes) can.program.objects ≡ None =
-      all_read files 1 [] (most_input - length can.bytes) can.program.objects can.there (omega (arith, few)) in
-      let now_read : first_unread files 1 [] (most_input - length bytes) program.objects ≡ None =
-      subst (λ (p : Program). first_unread files 1 [] (most_input - length bytes) p.objects ≡ None) one
-      (subst (λ (b : List ℕ). first_unread files 1 [] (most_input - length b) can.program.objects ≡ None) same read) in
-      objects_done can.exe program (most_input - length bytes) files now status answers now_read
-      (subst (λ (p : Program). HasNoRefusal p.image (sources_at files p.objects)) one can.clean)
-  program_done now status program_no_memory = inr refl
+abbrev IsDone : Status → Type 0
+IsDone status = (status ≡ statuses.Done) ⊎ (status ≡ statuses.NoMemory)
 
-  words_done : (now : Contents) (status : Status) → AnswersWords words files status now → (status ≡ statuses.Done) ⊎ (status ≡ statuses.NoMemory)
-  words_done now status (usage none) = absurd (some_is_not_none can.exe (sym can.named ∙ none))
-  words_done now status (named exe s now2 is answers) =
-      let same : exe ≡ can.exe = some_is_one exe can.exe (sym is ∙ can.named) in
-      program_done now status (subst (λ (e : List ℕ). AnswersProgram e files status now) same answers)
+objects_done : (plan : Planned) (program : Program) (most : ℕ) (files now : Contents) (ending : Ending) → AnswersObjects plan program most files ending now → AreLinkable plan program most files
+    → IsDone ending.status
+objects_done plan program most files now ending (unread s why) can =
+    let read : unread_of plan program most files ≡ None = all_read plan.keep_going files 1 [] most program.objects can.there can.few in
+    absurd (some_is_not_none s (sym why ∙ read))
+objects_done plan program most files now ending (refused refusal r makes) can = inr (ap refused_status (refused_for_memory can.clean makes))
+objects_done plan program most files now ending (done made r makes) can = inl refl
+objects_done plan program most files now ending no_memory_before can = inr refl
+objects_done plan program most files now ending (no_memory_between made r makes) can = inr refl
 
-pub linkable_done : (words : List (List ℕ)) (before after : World) (status : Status) (files : Contents) → Links words before after status → before.files ≡ Some files
-    → NoFault before.counts after.counts → IsLinkable words files → (status ≡ statuses.Done) ⊎ (status ≡ statuses.NoMemory)
-linkable_done words before after status files links told quiet can =
-    let now = links_told words before after status files links told quiet in
-    words_done words files can now.0 status now.2
+mode_done : (plan : Planned) (program : Program) (most : ℕ) (files now : Contents) (mode : Mode) (ending : Ending) → AnswersMode plan program most files mode ending now
+    → (mode ≡ modes.Link → AreLinkable plan program most files) → IsDone ending.status
+mode_done plan program most files now mode ending (linked e n objects) can = objects_done plan program most files now ending objects (can refl)
+mode_done plan program most files now mode ending map_told can = inl refl
+mode_done plan program most files now mode ending map_no_memory can = inr refl
+
+module _ (plan : Planned) (files : Contents) where
+  program_done : HasProgram plan files → (now : Contents) (ending : Ending) → AnswersProgram plan files ending now → IsDone ending.status
+  program_done has now ending (program_unread s why) =
+      let fits : file_refusal false 0 most_input (Some has.bytes) ≡ None = rw (le-ltb most_input (length has.bytes) has.few) refl in
+      absurd (some_is_not_none s (sym why ∙ (rw has.held fits)))
+  program_done has now ending (program_refused bytes refusal is fits why) =
+      let same : has.bytes ≡ bytes = some_is_one has.bytes bytes (sym has.held ∙ is) in
+      absurd (ok_is_no_err has.program refusal (sym has.reads ∙ (ap program_of same ∙ why)))
+  program_done has now ending (program_found bytes program e n is fits why mode) =
+      let same : has.bytes ≡ bytes = some_is_one has.bytes bytes (sym has.held ∙ is) in
+      let one : has.program ≡ program = ok_is_one has.program program (sym has.reads ∙ (ap program_of same ∙ why)) in
+      mode_done plan program (most_input - length bytes) files now plan.mode ending mode
+      (subst (λ (p : Program). plan.mode ≡ modes.Link → AreLinkable plan p (most_input - length bytes) files) one
+      (subst (λ (b : List ℕ). plan.mode ≡ modes.Link → AreLinkable plan has.program (most_input - length b) files) same has.linkable))
+  program_done has now ending program_no_memory = inr refl
+
+  generated_done : (count : ℕ) (made : Generated) (ending : Ending) → HasNoRefusal plan.odr made.program (sources_made count made) → LinksGenerated plan count made ending → IsDone ending.status
+  generated_done count made ending clean (answer.made_refused refusal makes) = inr (ap refused_status (refused_for_memory clean makes))
+  generated_done count made ending clean (answer.made_counted bundle makes) = inl refl
+  generated_done count made ending clean answer.made_untold = inr refl
+
+  plan_done : CanBeDone plan files → (now : Contents) (ending : Ending) → AnswersPlan plan files ending now → IsDone ending.status
+  plan_done (clean_made count is clean) now ending (of_generated n e mode made) =
+      let same : count ≡ n = ap count_in (sym is ∙ mode) in
+      generated_done n (generated_program n) ending (subst (λ (m : ℕ). HasNoRefusal plan.odr (generated_program m).program (sources_made m (generated_program m))) same clean) made
+  plan_done (clean_made count is clean) now ending (of_program e n stands answers) = absurd (true≢false (sym (ap is_generated is) ∙ stands))
+  plan_done (clean_program stands has) now ending (of_generated n e mode made) = absurd (true≢false (sym (ap is_generated mode) ∙ stands))
+  plan_done (clean_program stands has) now ending (of_program e n s answers) = program_done has now ending answers
+
+module _ (words : List (List ℕ)) (files : Contents) (can : IsAnswerable words files) where
+  words_done : (now : Contents) (ending : Ending) → AnswersWords words files ending now → IsDone ending.status
+  words_done now ending (usage none) = absurd (some_is_not_none can.plan (sym can.given ∙ none))
+  words_done now ending words_no_memory = inr refl
+  words_done now ending (planned plan e n is answers) =
+      let same : plan ≡ can.plan = some_is_one plan can.plan (sym is ∙ can.given) in
+      plan_done can.plan files can.can now ending (subst (λ (p : Planned). AnswersPlan p files ending now) same answers)
+
+-- what is put out is the status, where the sink doesn't fail
+put_done : (ending : Ending) (silent heard : Said) (status : Status) → Puts ending silent heard status → (Rose silent.faults heard.faults → ⊥) → IsDone ending.status → IsDone status
+put_done ending silent heard status (endings.nothing empty same) quiet is = is
+put_done ending silent heard status (endings.put some text later) quiet is = is
+put_done ending silent heard status (endings.failed some rose prefix) quiet is = absurd (quiet rose)
+
+pub linkable_done : (words : List (List ℕ)) (before after : World) (silent heard : Said) (status : Status) (files : Contents) → Links words before after silent heard status → before.files ≡ Some files
+    → NoFault before.counts after.counts → (Rose silent.faults heard.faults → ⊥) → IsAnswerable words files → (status ≡ statuses.Done) ⊎ (status ≡ statuses.NoMemory)
+linkable_done words before after silent heard status files links told quiet heard_well can =
+    let now = ends_told words before after links.ending files links.ends told quiet in
+    put_done links.ending silent heard status links.puts heard_well (words_done words files can now.0 links.ending now.2)

@@ -1,7 +1,7 @@
 -- Reading the files of a link, and what was read.
-use Rattle.std.specs.Prelude.{◌≡◌, ℕ, ◌+◌, ◌-◌, ◌^◌, ◌≤◌, List, [], ◌∷◌, ◌++◌, length, Option, Some, None, Result, Ok, Err}
+use Rattle.std.specs.Prelude.{◌≡◌, ℕ, ◌+◌, ◌-◌, ◌^◌, ◌≤◌, Bool, false, true, List, [], ◌∷◌, ◌++◌, length, Option, Some, None, Result, Ok, Err}
 use Rattle.std.specs.Option.{option_map}
-use Rattle.std.specs.List.{find}
+use Rattle.std.specs.List.{find, list_any}
 use Rattle.std.specs.Str.{bytes_eq}
 use Rattle.std.specs.FinMap as map
 use Rattle.ds_files.specs.Outside.{Contents, Counts, IsLater, Told, ReadFails}
@@ -11,6 +11,8 @@ use Rattle.stab_map.specs.declared.object.MapObject.{MapObject}
 use Rattle.link_core.specs.declared.status.Status.{Status}
 use Rattle.link_core.specs.declared.status.Status.TheVariants as statuses
 use Rattle.link_core.specs.declared.refusal.LimitKind.TheVariants as limits
+use Rattle.link_cli.specs.declared.files.Stopped.{Stopped}
+use Rattle.link_cli.specs.Texts.{warning}
 
 -- the files, where they are told, and what went wrong so far
 pub record World : Type 0 where
@@ -58,15 +60,65 @@ pub record HeldFile : Type 0 where
 abbrev pub content_in : List HeldFile → List ℕ → Option (List ℕ)
 content_in held name = option_map (λ f. f.bytes) (find (λ f. bytes_eq name f.name) held)
 
--- The files of objects are read in the order of the objects, which have numbers from one on, each file once; those that are held are not read again. All files that are still to be read have at most so many bytes together. The answer is what is held then, or why a file is not: it was not read, or memory ran out when it was to be kept.
-pub data ReadsFiles : (number : ℕ) → List MapObject → List HeldFile → (most : ℕ) → (before after : World) → Result (List HeldFile) Status → Type 0 where
-  all_held : (number : ℕ) (held : List HeldFile) (most : ℕ) (now : World) → ReadsFiles number [] held most now now (Ok held)
-  is_held : (number : ℕ) (object : MapObject) (objects : List MapObject) (held : List HeldFile) (most : ℕ) (before after : World) (bytes : List ℕ) (answer : Result (List HeldFile) Status)
-      → content_in held object.file ≡ Some bytes → ReadsFiles (number + 1) objects held most before after answer → ReadsFiles number (object ∷ objects) held most before after answer
-  is_read : (number : ℕ) (object : MapObject) (objects : List MapObject) (held : List HeldFile) (most : ℕ) (before middle after : World) (bytes : List ℕ) (answer : Result (List HeldFile) Status)
-      → content_in held object.file ≡ None → ReadsFile object.file most bytes before middle
-      → ReadsFiles (number + 1) objects (held ++ record { name = object.file; bytes = bytes } ∷ []) (most - length bytes) middle after answer → ReadsFiles number (object ∷ objects) held most before after answer
-  is_unread : (number : ℕ) (object : MapObject) (objects : List MapObject) (held : List HeldFile) (most : ℕ) (before after : World) (error : FileError)
-      → content_in held object.file ≡ None → MissesFile object.file most error before after → ReadsFiles number (object ∷ objects) held most before after (Err (unread_status number error))
-  is_not_kept : (number : ℕ) (object : MapObject) (objects : List MapObject) (held : List HeldFile) (most : ℕ) (before after : World) (bytes : List ℕ)
-      → content_in held object.file ≡ None → ReadsFile object.file most bytes before after → ReadsFiles number (object ∷ objects) held most before after (Err statuses.NoMemory)
+-- ---- the files of objects
+
+-- The files that are held, the names of those that were let go, how many bytes the others may have together, and the warnings so far.
+pub record Held : Type 0 where
+  pub files : List HeldFile
+  pub gone : List (List ℕ)
+  pub left : ℕ
+  pub warnings : List ℕ
+
+abbrev pub none_held : ℕ → Held
+none_held most = record { files = []; gone = []; left = most; warnings = [] }
+
+-- a file of this name was let go
+abbrev pub is_gone : List (List ℕ) → List ℕ → Bool
+is_gone gone name = list_any (bytes_eq name) gone
+
+-- one more file is held
+abbrev pub with_file : Held → List ℕ → List ℕ → Held
+with_file held name bytes = record held { files = held.files ++ record { name = name; bytes = bytes } ∷ []; left = held.left - length bytes }
+
+-- an object is told whose file was let go
+abbrev pub with_warning : Held → MapObject → Held
+with_warning held object = record held { warnings = held.warnings ++ warning object }
+
+-- the file of an object is let go
+abbrev pub with_gone : Held → MapObject → Held
+with_gone held object = record held { gone = held.gone ++ object.file ∷ []; warnings = held.warnings ++ warning object }
+
+-- a missing file is let go where that is asked
+abbrev pub lets_go : Bool → FileError → Bool
+lets_go keep_going errors.Missing = keep_going
+lets_go keep_going _ = false
+
+-- nothing was written, and no count fell
+pub record IsUnwritten (before after : World) : Type 0 where
+  pub same : after.files ≡ before.files
+  pub later : IsLater before.counts after.counts
+
+-- the file of an object was neither read nor let go before
+pub record IsNew (held : Held) (object : MapObject) : Type 0 where
+  pub unread : content_in held.files object.file ≡ None
+  pub kept : is_gone held.gone object.file ≡ false
+
+-- The files of objects are read in the order of the objects, which have numbers from one on, each file once. The answer is what is held then, or why reading ended, with the warnings so far: a file was not read and not let go, or memory ran out.
+pub data ReadsFiles (keep_going : Bool) : (number : ℕ) → List MapObject → Held → (before after : World) → Result Held Stopped → Type 0 where
+  all_held : (number : ℕ) (held : Held) (now : World) → ReadsFiles keep_going number [] held now now (Ok held)
+  is_held : (number : ℕ) (object : MapObject) (objects : List MapObject) (held : Held) (before after : World) (bytes : List ℕ) (answer : Result Held Stopped)
+      → content_in held.files object.file ≡ Some bytes → ReadsFiles keep_going (number + 1) objects held before after answer → ReadsFiles keep_going number (object ∷ objects) held before after answer
+  was_let_go : (number : ℕ) (object : MapObject) (objects : List MapObject) (held : Held) (before after : World) (answer : Result Held Stopped)
+      → content_in held.files object.file ≡ None → is_gone held.gone object.file ≡ true → ReadsFiles keep_going (number + 1) objects (with_warning held object) before after answer
+      → ReadsFiles keep_going number (object ∷ objects) held before after answer
+  is_read : (number : ℕ) (object : MapObject) (objects : List MapObject) (held : Held) (before middle after : World) (bytes : List ℕ) (answer : Result Held Stopped)
+      → IsNew held object → ReadsFile object.file held.left bytes before middle → ReadsFiles keep_going (number + 1) objects (with_file held object.file bytes) middle after answer
+      → ReadsFiles keep_going number (object ∷ objects) held before after answer
+  is_let_go : (number : ℕ) (object : MapObject) (objects : List MapObject) (held : Held) (before middle after : World) (error : FileError) (answer : Result Held Stopped)
+      → IsNew held object → MissesFile object.file held.left error before middle → lets_go keep_going error ≡ true
+      → ReadsFiles keep_going (number + 1) objects (with_gone held object) middle after answer → ReadsFiles keep_going number (object ∷ objects) held before after answer
+  is_unread : (number : ℕ) (object : MapObject) (objects : List MapObject) (held : Held) (before after : World) (error : FileError)
+      → IsNew held object → MissesFile object.file held.left error before after → lets_go keep_going error ≡ false
+      → ReadsFiles keep_going number (object ∷ objects) held before after (Err (record { status = unread_status number error; warnings = held.warnings }))
+  ran_out : (number : ℕ) (objects : List MapObject) (held : Held) (before after : World) (warnings : List ℕ) → IsUnwritten before after
+      → ReadsFiles keep_going number objects held before after (Err (record { status = statuses.NoMemory; warnings = warnings }))

@@ -1,19 +1,38 @@
--- A station between the code and the definitions: one more file is held.
-use Rattle.std.specs.Prelude.{ℕ, ◌+◌, List, ◌∷◌, Result, Ok, Err}
+-- A station between the code and the definitions: one more object's file is held or let go.
+use Rattle.std.specs.Prelude.{◌≡◌, ◌⊎◌, ℕ, ◌+◌, Bool, false, true, List, ◌∷◌, Result, Ok, Err}
+use Rattle.ds_files.specs.declared.files.FileError.{FileError}
 use Rattle.stab_map.specs.declared.object.MapObject.{MapObject}
 use Rattle.link_core.specs.declared.status.Status.{Status}
+use Rattle.link_core.specs.declared.status.Status.TheVariants as statuses
 use Rattle.link_cli.specs.declared.files.HeldFiles.{HeldFiles}
-use Rattle.link_cli.specs.Files.{World, HeldFile, ReadsFiles}
-use Rattle.link_cli.specs.Seen.{held_seen}
+use Rattle.link_cli.specs.declared.files.Stopped.{Stopped}
+use Rattle.link_cli.specs.Files.{World, Held, ReadsFiles, lets_go, unread_status, with_gone}
+use Rattle.link_cli.specs.Seen.{gone_seen, held_seen}
 
--- the files that are held, or why one was not read
-abbrev pub held_answer : Result HeldFiles Status → Result (List HeldFile) Status
-held_answer (Ok held) = Ok (held_seen held.files)
-held_answer (Err status) = Err status
+-- what is held
+abbrev pub held_of : HeldFiles → Held
+held_of held = record { files = held_seen held.files; gone = gone_seen held.gone; left = held.left; warnings = held.warnings }
+
+-- what is held, or why reading ended
+abbrev pub held_answer : Result HeldFiles Stopped → Result Held Stopped
+held_answer (Ok held) = Ok (held_of held)
+held_answer (Err stopped) = Err stopped
 
 -- what comes of the objects behind this one comes of it and them; or it ends here
-abbrev pub Holds : ℕ → MapObject → HeldFiles → HeldFiles → World → World → Result (Unit {0}) Status → Type 0
-Holds number object old new before middle (Ok ok) =
-    (objects : List MapObject) (after : World) (answer : Result (List HeldFile) Status) → ReadsFiles (number + 1) objects (held_seen new.files) new.left middle after answer
-    → ReadsFiles number (object ∷ objects) (held_seen old.files) old.left before after answer
-Holds number object old new before middle (Err status) = (objects : List MapObject) → ReadsFiles number (object ∷ objects) (held_seen old.files) old.left before middle (Err status)
+abbrev pub Holds : Bool → ℕ → MapObject → HeldFiles → HeldFiles → World → World → Result (Unit {0}) Status → Type 0
+Holds keep_going number object old new before middle (Ok ok) =
+    (objects : List MapObject) (after : World) (answer : Result Held Stopped) → ReadsFiles keep_going (number + 1) objects (held_of new) middle after answer
+    → ReadsFiles keep_going number (object ∷ objects) (held_of old) before after answer
+Holds keep_going number object old new before middle (Err status) =
+    (objects : List MapObject) → ReadsFiles keep_going number (object ∷ objects) (held_of old) before middle (Err (record { status = status; warnings = new.warnings }))
+
+-- this is held now, or memory ran out
+abbrev pub Becomes : Held → HeldFiles → Result (Unit {0}) Status → Type 0
+Becomes wanted new (Ok ok) = held_of new ≡ wanted
+Becomes wanted new (Err status) = status ≡ statuses.NoMemory
+
+-- A file that wasn't read is let go, or it is why reading ends; or memory ran out.
+abbrev pub LetsGo : Bool → ℕ → MapObject → FileError → HeldFiles → HeldFiles → Result (Unit {0}) Status → Type 0
+LetsGo keep_going number object error old new (Ok ok) = (lets_go keep_going error ≡ true) × (held_of new ≡ with_gone (held_of old) object)
+LetsGo keep_going number object error old new (Err status) =
+    ((lets_go keep_going error ≡ false) × (status ≡ unread_status number error) × (new.warnings ≡ old.warnings)) ⊎ (status ≡ statuses.NoMemory)

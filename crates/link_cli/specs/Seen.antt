@@ -12,6 +12,10 @@ use Rattle.link_cli.specs.Files.{HeldFile}
 abbrev pub held_seen : {S : Type 0} → HashMap (Bor (List ℕ)) (List ℕ) S → List HeldFile
 held_seen held = map (λ e. record { name = e.0.now; bytes = e.1 }) held.entries
 
+-- the names in a table
+abbrev pub gone_seen : {S V : Type 0} → HashMap (Bor (List ℕ)) V S → List (List ℕ)
+gone_seen gone = map (λ e. e.0.now) gone.entries
+
 -- the names of the objects' files are text
 abbrev pub HaveNames : List MapObject → Type 0
 HaveNames objects = All (λ o. is_utf8 o.file ≡ true) objects

@@ -1,12 +1,13 @@
 //! Reading the files of a link.
 
-ghost use Rattle.std.specs.Prelude.{◌≡◌, ◌+◌, ◌<◌, ◌≤◌, ◌^◌, ◌∷◌, [], true, length, map, IfOk};
+ghost use Rattle.std.specs.Prelude.{◌≡◌, ◌+◌, ◌<◌, ◌≤◌, ◌^◌, ◌∷◌, [], None, false, true, length, map, IfOk};
 ghost use Rattle.std.specs.Str.{is_utf8};
 ghost use Rattle.indexmap.specs.IndexMap.{values};
-ghost use Rattle.link_cli.specs.Files.{world, ReadsFiles, unread_status};
-ghost use Rattle.link_cli.specs.Seen.{HaveNames, held_seen, number_in};
-ghost use Rattle.link_cli.specs.Holding.{held_answer, Holds};
+ghost use Rattle.link_cli.specs.Files.{content_in, is_gone, lets_go as is_let_go, none_held, with_file, with_warning, world, ReadsFiles, unread_status};
+ghost use Rattle.link_cli.specs.Seen.{HaveNames, gone_seen, held_seen, number_in};
+ghost use Rattle.link_cli.specs.Holding.{Becomes, LetsGo, held_answer, held_of, Holds};
 
+use crate::texts::warning;
 use ds_base::{Bytes, List, NoMemory};
 use ds_files::{FileError, Files};
 use indexmap::IndexMap;
@@ -17,57 +18,136 @@ use std::alloc::Global;
 /// The most bytes that all files may have together.
 pub(crate) const MOST_INPUT: u64 = 1 << 29;
 
-/// Files that were read, each by its name, and how many bytes the others may have together.
+/// What is held of the files of objects.
 #[derive(Drop)]
 pub(crate) struct HeldFiles<'a> {
+    /// Those that were read, each by its name.
     pub files: IndexMap<&'a [u8], Bytes>,
+    /// The names of those that are missing and were let go.
+    pub gone: IndexMap<&'a [u8], ()>,
+    /// How many bytes the others may have together.
     pub left: u64,
+    /// A line for each object whose file was let go.
+    pub warnings: Bytes,
 }
 
-/// The files of objects, each read once in the order of the objects. They have at most `most` bytes together.
+/// Why the reading of files ended before its end, and the warnings so far.
+#[derive(Drop)]
+pub(crate) struct Stopped {
+    pub status: Status,
+    pub warnings: Bytes,
+}
+
+/// The files of objects, each read once in the order of the objects. They have at most `most` bytes together. A missing
+/// one is let go where that is asked.
 pub(crate) fn read_files<'a, F: Files>(
     alloc: Global,
     objects: &'a [MapObject],
+    keep_going: bool,
     most: u64,
     files: &mut F,
-) -> Result<HeldFiles<'a>, Status>
+) -> Result<HeldFiles<'a>, Stopped>
     requires names { HaveNames objects.now }
     requires few { length objects.now < 2 ^ 16 }
-    ensures { ReadsFiles 1 objects.now [] most (world (F.files files.old) (F.counts files.old)) (world (F.files files.new) (F.counts files.new)) (held_answer result) }
+    ensures { ReadsFiles keep_going 1 objects.now (none_held most) (world (F.files files.old) (F.counts files.old)) (world (F.files files.new) (F.counts files.new)) (held_answer result) }
 {
     let mut held = HeldFiles {
         files: IndexMap::new(alloc),
+        gone: IndexMap::new(alloc),
         left: most,
+        warnings: Bytes::new(alloc),
     };
     for (k, object) in objects.iter().enumerate() {
-        hold_file(alloc, &mut held, k as u32 + 1, object, files)?;
+        let read = hold_file(alloc, keep_going, &mut held, k as u32 + 1, object, files);
+        if let Err(status) = read {
+            return Err(Stopped {
+                status,
+                warnings: held.warnings,
+            });
+        }
     }
     Ok(held)
 }
 
-/// Reads the file of the object of this number, unless it is held.
+/// Reads the file of the object of this number, unless it is held or was let go.
 fn hold_file<'a, F: Files>(
     alloc: Global,
+    keep_going: bool,
     held: &mut HeldFiles<'a>,
     number: u32,
     object: &'a MapObject,
     files: &mut F,
 ) -> Result<(), Status>
     requires { is_utf8 object.now.file ≡ true }
-    ensures { Holds number object.now held.old held.new (world (F.files files.old) (F.counts files.old)) (world (F.files files.new) (F.counts files.new)) result }
+    ensures { Holds keep_going number object.now held.old held.new (world (F.files files.old) (F.counts files.old)) (world (F.files files.new) (F.counts files.new)) result }
 {
     let name = object.file.as_slice();
     if held.files.contains_key(name) {
         return Ok(());
     }
-    let bytes = match files.read(alloc, file_name(object), held.left) {
-        Ok(bytes) => bytes,
-        Err(error) => return Err(unread(number, error)),
-    };
+    if held.gone.contains_key(name) {
+        return warn(alloc, held, object);
+    }
+    match files.read(alloc, file_name(object), held.left) {
+        Ok(bytes) => keep(held, name, bytes),
+        Err(error) => let_go(alloc, keep_going, held, number, object, error),
+    }
+}
+
+/// Keeps the bytes of a file that wasn't held.
+fn keep<'a>(held: &mut HeldFiles<'a>, name: &'a [u8], bytes: Bytes) -> Result<(), Status>
+    requires few { length bytes ≤ held.old.left }
+    requires new { content_in (held_seen held.old.files) name.now ≡ None }
+    ensures { Becomes (with_file (held_of held.old) name.now bytes) held.new result }
+{
     held.left -= bytes.len() as u64;
     match held.files.insert(name, bytes) {
         Ok(_) => Ok(()),
         Err(_) => Err(Status::NoMemory),
+    }
+}
+
+/// Lets the file of an object go that wasn't read, where it is missing and that is asked; or gives the status for it.
+fn let_go<'a>(
+    alloc: Global,
+    keep_going: bool,
+    held: &mut HeldFiles<'a>,
+    number: u32,
+    object: &'a MapObject,
+    error: FileError,
+) -> Result<(), Status>
+    requires new { is_gone (gone_seen held.old.gone) object.now.file ≡ false }
+    ensures { LetsGo keep_going number object.now error held.old held.new result }
+{
+    if !lets_go(keep_going, error) {
+        return Err(unread(number, error));
+    }
+    match held.gone.insert(object.file.as_slice(), ()) {
+        Ok(_) => warn(alloc, held, object),
+        Err(_) => Err(Status::NoMemory),
+    }
+}
+
+/// Whether a file that wasn't read is let go.
+fn lets_go(keep_going: bool, error: FileError) -> bool
+    ensures { result ≡ is_let_go keep_going error }
+{
+    match error {
+        FileError::Missing => keep_going,
+        _ => false,
+    }
+}
+
+/// Puts the line of an object whose file was let go behind the others.
+fn warn(alloc: Global, held: &mut HeldFiles, object: &MapObject) -> Result<(), Status>
+    ensures { Becomes (with_warning (held_of held.old) object.now) held.new result }
+{
+    let Ok(line) = warning(alloc, object) else {
+        return Err(Status::NoMemory);
+    };
+    match held.warnings.extend(line.as_slice()) {
+        Ok(()) => Ok(()),
+        Err(NoMemory) => Err(Status::NoMemory),
     }
 }
 
@@ -82,14 +162,14 @@ fn file_name(object: &MapObject) -> &str
     }
 }
 
-/// For each object the number of its file, in the order of reading. All are held.
+/// For each object the number of its file, in the order of reading, where it is held.
 pub(crate) fn numbers_of(
     alloc: Global,
     objects: &[MapObject],
-    held: &HeldFiles,
+    held: &IndexMap<&[u8], Bytes>,
 ) -> Result<List<Option<u32>>, NoMemory>
-    requires few { length (held_seen held.now.files) < 2 ^ 16 }
-    ensures { IfOk result (λ numbers. numbers ≡ map (λ o. number_in held.now.files o.file) objects.now) }
+    requires few { length (held_seen held.now) < 2 ^ 16 }
+    ensures { IfOk result (λ numbers. numbers ≡ map (λ o. number_in held.now o.file) objects.now) }
 {
     let mut numbers = List::new(alloc);
     for object in objects {
@@ -99,22 +179,25 @@ pub(crate) fn numbers_of(
 }
 
 /// The number of the file of this name, if it is held.
-fn number_of(held: &HeldFiles, name: &[u8]) -> Option<u32>
-    requires few { length (held_seen held.now.files) < 2 ^ 16 }
-    ensures { result ≡ number_in held.now.files name.now }
+fn number_of(held: &IndexMap<&[u8], Bytes>, name: &[u8]) -> Option<u32>
+    requires few { length (held_seen held.now) < 2 ^ 16 }
+    ensures { result ≡ number_in held.now name.now }
 {
-    match held.files.get_index_of(name) {
+    match held.get_index_of(name) {
         Some(number) => Some(number as u32),
         None => None,
     }
 }
 
 /// The bytes of the files that were read, in the order of reading.
-pub(crate) fn contents_of(alloc: Global, held: HeldFiles) -> Result<List<Bytes>, NoMemory>
-    ensures { IfOk result (λ contents. contents ≡ values held.entry.files) }
+pub(crate) fn contents_of(
+    alloc: Global,
+    held: IndexMap<&[u8], Bytes>,
+) -> Result<List<Bytes>, NoMemory>
+    ensures { IfOk result (λ contents. contents ≡ values held.entry) }
 {
     let mut contents = List::new(alloc);
-    for bytes in held.files.into_values() {
+    for bytes in held.into_values() {
         contents.push(bytes)?;
     }
     Ok(contents)

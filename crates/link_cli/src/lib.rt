@@ -1,20 +1,28 @@
-//! The command: from its words to the two files of the bundle.
+//! The command: from its words to the two files of the bundle, and what it tells.
 //!
-//! Layer: top. [`link_main`] reads a program, its debug map and the files that the map names, links the objects by
-//! `link_core`, and writes Info.plist and the image. Its contract is `specs/Answer.antt`: for each list of words and each
-//! content of the files, the status with its cause, and what stands in the files then. What the program's file refuses is
-//! `specs/Refusals.antt`; what the objects refuse, and the bytes of the bundle, is `link_core/specs/Linked.antt`.
+//! Layer: top. [`plan_of_words`] reads the words by `clap`, as `specs/Plan.antt` says. [`link_main`] does what they ask: it
+//! reads a program, its debug map and the files that the map names, links the objects by `link_core`, and writes
+//! Info.plist and the image; or it tells the debug map, or what was counted of the link of a generated program
+//! (`sample_objects`). Its contract is `specs/Answer.antt`: for each list of words and each content of the files, the
+//! status with its cause, what stands in the files then, and the message (`specs/Endings.antt`, `specs/Texts.antt`). What
+//! the program's file refuses is `specs/Refusals.antt`; what the objects refuse, and the bytes of the bundle, is
+//! `link_core/specs/Linked.antt`.
 //!
-//! Both files and their names are made before the first is replaced, so that a refusal leaves all files as they were. No
-//! message is written yet.
+//! Both files, their names and all messages are made before the first file is replaced, so that a refusal leaves all files
+//! as they were. The message goes out last, by one call.
 #![tactic(auto)]
 
+mod ending;
 mod files;
+mod generate;
 mod laws;
 mod link;
 mod output;
+mod plan;
 mod program;
+mod texts;
 mod words;
 
 pub use laws::{links_answer_what_is_told, what_is_linkable_is_linked};
 pub use link::link_main;
+pub use plan::{Mode, Plan, PlanError, plan_of_words};

@@ -1,30 +1,38 @@
-//! One link, from the words to the bundle.
+//! The command, from its words to the bundle and the message.
 
-ghost use Rattle.std.specs.Prelude.{◌≡◌, ◌<◌, ◌^◌, Ok, length, map};
+ghost use Rattle.std.specs.Prelude.{◌≡◌, ◌<◌, ◌≤◌, ◌^◌, false, Ok, length, map};
 ghost use Rattle.std.specs.String.{string_bytes};
 ghost use Rattle.ds_files.specs.Outside.{IsLater};
 ghost use Rattle.macho_read.specs.declared.kind.Role.TheVariants as roles;
 ghost use Rattle.macho_read.specs.Kind.{kind_of};
 ghost use Rattle.macho_read.specs.Sound.{IsSound as IsSoundImage};
-ghost use Rattle.link_core.specs.Linked.{Bundles};
-ghost use Rattle.link_core.specs.Statuses.{ended};
-ghost use Rattle.link_cli.specs.Answer.{Links, LinksProgram, sources_in};
+ghost use Rattle.link_cli.specs.Answer.{Ends, Links, LinksObjects, LinksSources, Makes, Runs, RunsProgram, sources_in};
+ghost use Rattle.link_cli.specs.Endings.{Tells, map_ending, said};
 ghost use Rattle.link_cli.specs.Files.{ReadsProgram, world};
-ghost use Rattle.link_cli.specs.Seen.{AreSmall, held_seen};
+ghost use Rattle.link_cli.specs.Holding.{held_of};
+ghost use Rattle.link_cli.specs.Plan.{HasCount, HasWorkers, is_generated};
+ghost use Rattle.link_cli.specs.Plans.{plan_seen};
+ghost use Rattle.link_cli.specs.Seen.{AreSmall, HaveNames, held_seen};
 
+use crate::ending::Ending;
 use crate::files::{HeldFiles, MOST_INPUT, contents_of, numbers_of, read_files, unread};
+use crate::generate::link_generated;
 use crate::output::write_bundle;
+use crate::plan::{Mode, Plan, PlanError, plan_of_words};
 use crate::program::{Program, read_program};
-use crate::words::{last_part, program_named};
-use ds_base::Bytes;
+use crate::texts::map_text;
+use ds_base::{Bytes, NoMemory};
 use ds_files::{Files, Gate, Sink};
-use link_core::{Linked, Options, Refusal, Status, link_objects};
+use indexmap::IndexMap;
+use link_core::{Linked, Options, Refusal, Status, last_part, link_objects};
 use std::alloc::Global;
 
-/// Links a program with its objects and writes the program's bundle: Info.plist and the image.
+/// Does what the command's words ask: links a program with its objects and writes the program's bundle, Info.plist and
+/// the image; or tells its debug map; or links a generated program, whatever the files are, and tells what was counted.
+/// The words are without the program's own name.
 ///
-/// The words are one, the program's name. Files are numbered: 0 is the program, and its objects follow from 1 in the
-/// order of its debug map.
+/// Files are numbered: 0 is the program, and its objects follow from 1 in the order of its debug map. All that is told
+/// goes out last, by one call.
 pub fn link_main<F: Files, S: Sink, G: Gate + Sync>(
     alloc: Global,
     words: &[String],
@@ -32,38 +40,65 @@ pub fn link_main<F: Files, S: Sink, G: Gate + Sync>(
     messages: &mut S,
     gate: &G,
 ) -> Status
-    ensures exact { Links (map string_bytes words.now) (world (F.files files.old) (F.counts files.old)) (world (F.files files.new) (F.counts files.new)) result }
+    ensures exact { Links (map string_bytes words.now) (world (F.files files.old) (F.counts files.old)) (world (F.files files.new) (F.counts files.new)) (said (S.text messages.old) (S.faults messages.old)) (said (S.text messages.new) (S.faults messages.new)) result }
     ensures later { IsLater (F.counts files.old) (F.counts files.new) }
-
-    // No message is put.
-    ensures text { S.text messages.new ≡ S.text messages.old }
-    ensures silent { S.faults messages.new ≡ S.faults messages.old }
 {
-    let _ = messages;
-    let Some(exe) = program_named(words) else {
-        return Status::Usage;
-    };
-    match link_program(alloc, exe, files, gate) {
-        Ok(()) => Status::Done,
-        Err(status) => status,
+    let ending = run(alloc, words, files, gate);
+    ending.put(messages)
+}
+
+/// Does what the command's words ask.
+fn run<F: Files, G: Gate + Sync>(alloc: Global, words: &[String], files: &mut F, gate: &G) -> Ending
+    ensures { Ends (map string_bytes words.now) (world (F.files files.old) (F.counts files.old)) (world (F.files files.new) (F.counts files.new)) result }
+{
+    match plan_of_words(alloc, words) {
+        Ok(plan) => run_plan(alloc, &plan, files, gate),
+        Err(PlanError::Usage) => Ending::usage(alloc),
+        Err(PlanError::NoMemory) => Ending::no_memory(alloc),
     }
 }
 
-/// Links the program of a name: reads it and the files of its objects, and makes and writes its bundle.
-fn link_program<F: Files, G: Gate + Sync>(
+/// Does what a plan asks.
+fn run_plan<F: Files, G: Gate + Sync>(alloc: Global, plan: &Plan, files: &mut F, gate: &G) -> Ending
+    requires workers { HasWorkers plan.now.workers }
+    requires count { HasCount plan.now.mode }
+    ensures { Runs (plan_seen plan.now) (world (F.files files.old) (F.counts files.old)) (world (F.files files.new) (F.counts files.new)) result }
+{
+    match plan.mode {
+        Mode::Link => run_program(alloc, plan, files, gate),
+        Mode::Map => run_program(alloc, plan, files, gate),
+        Mode::Generate(count) => link_generated(alloc, plan, count, gate),
+    }
+}
+
+/// Reads the program of a plan, and does what is to be done with it.
+fn run_program<F: Files, G: Gate + Sync>(
     alloc: Global,
-    exe: &str,
+    plan: &Plan,
     files: &mut F,
     gate: &G,
-) -> Result<(), Status>
-    ensures { LinksProgram exe.now (world (F.files files.old) (F.counts files.old)) (world (F.files files.new) (F.counts files.new)) (ended result) }
+) -> Ending
+    requires workers { HasWorkers plan.now.workers }
+    requires there { is_generated plan.now.mode ≡ false }
+    ensures { RunsProgram (plan_seen plan.now) (world (F.files files.old) (F.counts files.old)) (world (F.files files.new) (F.counts files.new)) result }
 {
-    let bytes = read_exe(alloc, exe, files)?;
-    let program = read_program(alloc, bytes.as_slice())?;
+    let bytes = match read_exe(alloc, plan.exe.as_str(), files) {
+        Ok(bytes) => bytes,
+        Err(status) => return Ending::refused(alloc, plan, &[], Bytes::new(alloc), status),
+    };
+    let program = match read_program(alloc, bytes.as_slice()) {
+        Ok(program) => program,
+        Err(refusal) => {
+            let status = Status::from(refusal);
+            return Ending::refused(alloc, plan, &[], Bytes::new(alloc), status);
+        }
+    };
     let most = MOST_INPUT - bytes.len() as u64;
-    let held = read_files(alloc, program.objects.as_slice(), most, files)?;
-    let linked = bundle(alloc, last_part(exe), &program, held, gate)?;
-    write_bundle(alloc, exe, &linked, files)
+    match plan.mode {
+        Mode::Link => link_program(alloc, plan, &program, most, files, gate),
+        Mode::Map => tell_map(alloc, &program),
+        Mode::Generate(_) => unreachable!(),
+    }
 }
 
 /// The bytes of the program's file.
@@ -76,20 +111,86 @@ fn read_exe<F: Files>(alloc: Global, exe: &str, files: &mut F) -> Result<Bytes, 
     }
 }
 
-/// The bundle of a program of this name with its objects, whose files are held.
-fn bundle<G: Gate + Sync>(
+/// Tells the debug map of a program.
+fn tell_map(alloc: Global, program: &Program) -> Ending
+    requires { length program.now.objects < 2 ^ 16 }
+    ensures { Tells (map_ending program.now) result }
+{
+    match map_text(alloc, program) {
+        Ok(message) => Ending {
+            status: Status::Done,
+            message,
+        },
+        Err(NoMemory) => Ending::no_memory(alloc),
+    }
+}
+
+/// Reads the files of a program's objects, which have at most `most` bytes together, links them and writes the bundle.
+fn link_program<F: Files, G: Gate + Sync>(
     alloc: Global,
-    name: &str,
+    plan: &Plan,
+    program: &Program,
+    most: u64,
+    files: &mut F,
+    gate: &G,
+) -> Ending
+    requires sound { IsSoundImage program.now.image }
+    requires kind { kind_of program.now.image roles.Program ≡ Ok tt }
+    requires few { length program.now.objects < 2 ^ 16 }
+    requires names { HaveNames program.now.objects }
+    requires most { most ≤ 2 ^ 29 }
+    requires workers { HasWorkers plan.now.workers }
+    ensures { LinksObjects (plan_seen plan.now) program.now most (world (F.files files.old) (F.counts files.old)) (world (F.files files.new) (F.counts files.new)) result }
+{
+    let objects = program.objects.as_slice();
+    match read_files(alloc, objects, plan.keep_going, most, files) {
+        Ok(held) => link_held(alloc, plan, program, held, files, gate),
+        Err(stopped) => { Ending::refused(alloc, plan, objects, stopped.warnings, stopped.status) }
+    }
+}
+
+/// Links a program with its objects, whose files are held, and writes the bundle.
+fn link_held<F: Files, G: Gate + Sync>(
+    alloc: Global,
+    plan: &Plan,
     program: &Program,
     held: HeldFiles,
+    files: &mut F,
     gate: &G,
-) -> Result<Linked, Refusal>
+) -> Ending
     requires sound { IsSoundImage program.now.image }
     requires kind { kind_of program.now.image roles.Program ≡ Ok tt }
     requires few { length program.now.objects < 2 ^ 16 }
     requires held { length (held_seen held.files) < 2 ^ 16 }
     requires small { AreSmall (held_seen held.files) }
-    ensures { Bundles program.now.image name.now (sources_in (held_seen held.entry.files) program.now.objects) result }
+    requires workers { HasWorkers plan.now.workers }
+    ensures { LinksSources (plan_seen plan.now) program.now (held_of held.entry) (world (F.files files.old) (F.counts files.old)) (world (F.files files.new) (F.counts files.new)) result }
+{
+    let objects = program.objects.as_slice();
+    match bundle(alloc, plan, program, held.files, gate) {
+        Ok(linked) => write_bundle(alloc, plan, objects, held.warnings, &linked, files),
+        Err(refusal) => {
+            let status = Status::from(refusal);
+            Ending::refused(alloc, plan, objects, held.warnings, status)
+        }
+    }
+}
+
+/// The bundle of a program with its objects, whose files are held.
+fn bundle<G: Gate + Sync>(
+    alloc: Global,
+    plan: &Plan,
+    program: &Program,
+    held: IndexMap<&[u8], Bytes>,
+    gate: &G,
+) -> Result<Linked, Refusal>
+    requires sound { IsSoundImage program.now.image }
+    requires kind { kind_of program.now.image roles.Program ≡ Ok tt }
+    requires few { length program.now.objects < 2 ^ 16 }
+    requires held { length (held_seen held) < 2 ^ 16 }
+    requires small { AreSmall (held_seen held) }
+    requires workers { HasWorkers plan.now.workers }
+    ensures { Makes (plan_seen plan.now) program.now (sources_in (held_seen held.entry) program.now.objects) result }
 {
     let objects = program.objects.as_slice();
     let source = numbers_of(alloc, objects, &held)?;
@@ -97,13 +198,13 @@ fn bundle<G: Gate + Sync>(
     link_objects(
         alloc,
         &program.image,
-        name,
+        last_part(plan.exe.as_str()),
         objects,
         contents.as_slice(),
         source.as_slice(),
         &Options {
-            odr: false,
-            workers: 1,
+            odr: plan.odr,
+            workers: plan.workers,
         },
         gate,
     )

@@ -1,29 +1,16 @@
 -- Objects analysed one after the other.
 use Rattle.std.proofs.Common.{◌≡◌, ◌<◌, ◌≤◌, ◌+◌, ◌^◌, ℕ, List, [], ◌∷◌, ◌++◌, length, drop, get_or, Option, Result, Ok, Err, refl, sym, ap, ◌∙◌, arith, append_assoc, append-nil}
-use Rattle.std.specs.Prelude.{IfOk}
 use Rattle.std.specs.List.{zip}
 use Rattle.std.proofs.lemmas.List.{drop_all, get_or-map, length-map}
 use Rattle.std.proofs.lemmas.Slice.Zip.{get_or-zip, length-zip}
 use Rattle.ds_base.specs.declared.fault.Fault.{Fault}
-use Rattle.ds_base.specs.declared.fault.ReadError.{ReadError}
-use Rattle.ds_base.specs.Reading.{Gives}
 use Rattle.ds_base.proofs.Walking.{drop_one}
 use Rattle.dwarf_types.specs.declared.analysis.Analysis.{Analysis}
-use Rattle.dwarf_types.specs.Spelled.{AreBytes}
 use Rattle.stab_map.specs.declared.object.MapObject.{MapObject}
-use Rattle.linked_laws.specs.Given.{IsGiven}
-use Rattle.object_view.specs.Analysis.{analysis_of}
-use Rattle.object_laws.proofs.Whole.{analysis_given}
 use Rattle.link_core.specs.declared.refusal.Refusal.{Refusal}
 use Rattle.link_core.specs.declared.refusal.Refusal.TheVariants as refusals
 use Rattle.link_core.specs.Linked.{Source, analyses_from, analysis_from, and_then, source_of, sources_of}
 use Rattle.link_core.specs.Passes.{Analyses, Numbered, behind}
-
--- ---- one object
-
-pub given_from : (bytes : List ℕ) (object : MapObject) (cpu : ℕ) (r : Result Analysis ReadError) → length bytes < 2 ^ 32 → AreBytes bytes → Gives (λ it. it) r (analysis_of bytes object cpu) → IfOk r IsGiven
-given_from bytes object cpu (Ok a) small are e = analysis_given bytes object cpu a small are e
-given_from bytes object cpu (Err x) small are e = tt
 
 -- ---- all objects
 

@@ -4,51 +4,59 @@ use Rattle.std.specs.List.{filter, sum_by}
 use Rattle.dwarf_types.specs.declared.analysis.Analysis.{Analysis}
 use Rattle.dwarf_types.specs.declared.graph.Graph.{Graph}
 use Rattle.macho_read.specs.declared.image.Image.{Image}
-use Rattle.dsym_write.specs.Bundle.{image_file}
 use Rattle.dsym_write.specs.Plist.{plist_bytes}
-use Rattle.link_core.specs.declared.bundle.Counts.{Counts}
+use Rattle.link_graph.specs.Graph.{graph_in}
+use Rattle.link_graph.specs.Merged.{linked_names}
+use Rattle.link_core.specs.declared.graph.Shaped.{Shaped}
 use Rattle.link_core.specs.declared.bundle.Linked.{Linked}
 use Rattle.link_core.specs.declared.refusal.Refusal.{Refusal}
 use Rattle.link_core.specs.declared.refusal.Refusal.TheVariants as refusals
 use Rattle.link_core.specs.Linked.{Bundles, MarkLive, Source, analyses_from, bundle, counts_of, fault, first_limit, graph_of, limit, no_memory}
-use Rattle.link_core.specs.Passes.{Analyses, DraftsUnits, Images, Links, Shapes}
+use Rattle.link_core.specs.Passes.{Analyses, DraftsUnits, Images, IsShaped, Links, Shapes}
+use Rattle.link_core.proofs.Graphs.{limit_is}
 
-module _ (program : Image) (name : List ℕ) (seen : List Analysis) (live : List (List Bool)) where
-  pub shape_refused : (r : Refusal) → Shapes seen live (Err r) → Links program name seen live (Err r)
+module _ (odr : Bool) (program : Image) (name : List ℕ) (seen : List Analysis) (live : List (List Bool)) where
+  pub shape_refused : (r : Refusal) → Shapes odr seen live (Err r) → Links odr program name seen live (Err r)
   shape_refused (refusals.Faulty file why) h = absurd h
   shape_refused (refusals.Limit which n) h = h program
   shape_refused refusals.NoMemory h = tt
 
-  pub drafts_refused : (graph : Graph) (r : Refusal) → graph ≡ graph_of seen live → DraftsUnits graph (Err r) → Links program name seen live (Err r)
-  drafts_refused graph (refusals.Faulty file why) is h = absurd h
-  drafts_refused graph (refusals.Limit which n) is h = ap (first_limit program) (sym is) ∙ h program
-  drafts_refused graph refusals.NoMemory is h = tt
+  module _ (shaped : Shaped) (h : IsShaped odr seen live shaped) where
+    pub drafts_refused : (r : Refusal) → DraftsUnits (graph_in seen shaped.shape) (Err r) → Links odr program name seen live (Err r)
+    drafts_refused (refusals.Faulty file why) d = absurd d
+    drafts_refused (refusals.Limit which n) d = limit_is odr seen live h.few_names program ∙ ap (first_limit program) (sym h.graph) ∙ d program
+    drafts_refused refusals.NoMemory d = tt
 
-  pub image_refused : (r : Refusal) → Images program (graph_of seen live) (Err r) → Links program name seen live (Err r)
-  image_refused (refusals.Faulty file why) h = absurd h
-  image_refused (refusals.Limit which n) h = h
-  image_refused refusals.NoMemory h = tt
+    pub image_refused : (r : Refusal) → Images program (graph_of odr seen live) (Err r) → Links odr program name seen live (Err r)
+    image_refused (refusals.Faulty file why) d = absurd d
+    image_refused (refusals.Limit which n) d = limit_is odr seen live h.few_names program ∙ d
+    image_refused refusals.NoMemory d = tt
 
-pub counts_are : (seen : List Analysis) (marks : List (List Bool)) (graph : Graph) (image : List ℕ) (objects entries live nodes bytes : ℕ) → objects ≡ length seen → entries ≡ sum_by (λ object. length object.entries) seen
-    → live ≡ sum_by (λ row. length (filter (λ b. b) row)) marks → nodes ≡ sum_by (λ unit. length unit.nodes) graph.units → bytes ≡ length image
-    → record { objects = objects; entries = entries; live = live; pooled = 0; names = 0; nodes = nodes; bytes = bytes } ≡ counts_of seen marks graph image
-counts_are seen marks graph image objects entries live nodes bytes o e l n b = rw (o, e, l, n, b) refl
+    counts_are : (graph : Graph) (image : List ℕ) (objects entries marked nodes bytes : ℕ) → objects ≡ length seen → entries ≡ sum_by (λ object. length object.entries) seen
+        → marked ≡ sum_by (λ row. length (filter (λ b. b) row)) live → nodes ≡ sum_by (λ unit. length unit.nodes) graph.units → bytes ≡ length image
+        → record { objects = objects; entries = entries; live = marked; pooled = shaped.pooled; names = shaped.names; nodes = nodes; bytes = bytes } ≡ counts_of seen live (linked_names odr seen live) graph image
+    counts_are graph image objects entries marked nodes bytes o e l n b = rw (o, e, l, h.pooled, h.names, n, b) refl
 
-pub links_made : (program : Image) (name : List ℕ) (seen : List Analysis) (marks : List (List Bool)) (graph : Graph) (image plist : List ℕ) (counts : Counts) → graph ≡ graph_of seen marks → Images program graph (Ok image)
-    → plist ≡ plist_bytes name → counts ≡ counts_of seen marks graph image → Links program name seen marks (Ok (record { image = image; plist = plist; counts = counts }))
-links_made program name seen marks graph image plist counts is h text counted =
-    (ap (first_limit program) (sym is) ∙ h.0, h.1 ∙ ap (image_file program) is, text, counted ∙ ap (λ (g : Graph). counts_of seen marks g image) is)
+    pub links_made : (image plist : List ℕ) (objects entries marked nodes bytes : ℕ) → Images program (graph_of odr seen live) (Ok image) → plist ≡ plist_bytes name → objects ≡ length seen
+        → entries ≡ sum_by (λ object. length object.entries) seen → marked ≡ sum_by (λ row. length (filter (λ b. b) row)) live → nodes ≡ sum_by (λ unit. length unit.nodes) (graph_of odr seen live).units → bytes ≡ length image
+        → Links odr program name seen live (Ok (record {
+          image = image;
+          plist = plist;
+          counts = record { objects = objects; entries = entries; live = marked; pooled = shaped.pooled; names = shaped.names; nodes = nodes; bytes = bytes };
+        }))
+    links_made image plist objects entries marked nodes bytes d text o e l n b =
+        (limit_is odr seen live h.few_names program ∙ d.0, d.1, text, counts_are (graph_of odr seen live) image objects entries marked nodes bytes o e l n b)
 
-module _ (program : Image) (name : List ℕ) (sources : List Source) where
-  pub bundle_refused : (r : Refusal) → Analyses (analyses_from program.cpu 1 sources) (Err r) → Bundles program name sources (Err r)
+module _ (odr : Bool) (program : Image) (name : List ℕ) (sources : List Source) where
+  pub bundle_refused : (r : Refusal) → Analyses (analyses_from program.cpu 1 sources) (Err r) → Bundles odr program name sources (Err r)
   bundle_refused (refusals.Faulty file why) h = fault file why h
   bundle_refused (refusals.Limit which n) h = absurd h
   bundle_refused refusals.NoMemory h = no_memory
 
-  pub bundle_full : Bundles program name sources (Err refusals.NoMemory)
+  pub bundle_full : Bundles odr program name sources (Err refusals.NoMemory)
   bundle_full = no_memory
 
-  pub bundle_made : (seen : List Analysis) (marks : List (List Bool)) (r : Result Linked Refusal) → analyses_from program.cpu 1 sources ≡ Ok seen → MarkLive seen marks → Links program name seen marks r → Bundles program name sources r
+  pub bundle_made : (seen : List Analysis) (marks : List (List Bool)) (r : Result Linked Refusal) → analyses_from program.cpu 1 sources ≡ Ok seen → MarkLive seen marks → Links odr program name seen marks r → Bundles odr program name sources r
   bundle_made seen marks (Ok linked) e live h = bundle seen marks linked e live h.0 h.1 h.2 h.3
   bundle_made seen marks (Err (refusals.Faulty file why)) e live h = absurd h
   bundle_made seen marks (Err (refusals.Limit which n)) e live h = limit seen marks (refusals.Limit which n) e live h

@@ -1,11 +1,11 @@
 -- What is refused has its cause.
-use Rattle.std.proofs.Common.{◌≡◌, ℕ, List, Some, None, Result, Ok, Err, is_some, sym, ap, subst, ◌∙◌, refl}
+use Rattle.std.proofs.Common.{◌≡◌, ℕ, Bool, List, Some, None, Result, Ok, Err, is_some, sym, ap, subst, ◌∙◌, refl}
 use Rattle.std.specs.Prelude.{is_ok}
 use Rattle.dwarf_types.specs.declared.analysis.Analysis.{Analysis}
 use Rattle.macho_read.specs.declared.image.Image.{Image}
 use Rattle.link_core.specs.declared.refusal.Refusal.{Refusal}
 use Rattle.link_core.specs.declared.refusal.Refusal.TheVariants as refusals
-use Rattle.link_core.specs.Linked.{Bundles, HasNoRefusal, MarkLive, Source, first_limit, graph_of, fault, limit, no_memory}
+use Rattle.link_core.specs.Linked.{Bundles, HasNoRefusal, MarkLive, Source, fault, limit, limit_of, no_memory}
 
 abbrev the_result : (A E : Type 0) → Result A E → Result A E
 the_result A E r = r
@@ -25,11 +25,11 @@ ok_is_one {A} {E} x y is = ap (or_first x) is
     or_first x (Err e) = x
 
 -- where nothing refuses a link, memory ran out
-pub refused_for_memory : {program : Image} {name : List ℕ} {sources : List Source} {refusal : Refusal} → HasNoRefusal program sources → Bundles program name sources (Err refusal)
+pub refused_for_memory : {odr : Bool} {program : Image} {name : List ℕ} {sources : List Source} {refusal : Refusal} → HasNoRefusal odr program sources → Bundles odr program name sources (Err refusal)
     → refusal ≡ refusals.NoMemory
 refused_for_memory can (fault file why is) = absurd (ok_is_no_err can.seen (refusals.Faulty file why) (sym can.sound ∙ is))
-refused_for_memory {program} can (limit seen marks refusal are marked reached) =
+refused_for_memory {odr} {program} can (limit seen marks refusal are marked reached) =
     let same : can.seen ≡ seen = ok_is_one can.seen seen (sym can.sound ∙ are) in
-    let fits : first_limit program (graph_of seen marks) ≡ None = subst (λ (s : List Analysis). MarkLive s marks → first_limit program (graph_of s marks) ≡ None) same (can.fits marks) marked in
+    let fits : limit_of odr program seen marks ≡ None = subst (λ (s : List Analysis). MarkLive s marks → limit_of odr program s marks ≡ None) same (can.fits marks) marked in
     absurd (some_is_not_none refusal (sym reached ∙ fits))
 refused_for_memory can no_memory = refl

@@ -6,14 +6,16 @@ use Rattle.ds_base.specs.declared.fault.Fault.{Fault}
 use Rattle.ds_base.specs.Reading.{◌>>=◌}
 use Rattle.dwarf_types.specs.declared.analysis.Analysis.{Analysis}
 use Rattle.dwarf_types.specs.declared.graph.Graph.{Graph}
-use Rattle.dwarf_types.specs.Kept.{kept_of}
-use Rattle.dwarf_types.specs.LinkedGraph.{linked}
-use Rattle.dwarf_types.specs.LinkedShape.{AreMarked, objects_of}
+use Rattle.dwarf_types.specs.LinkedShape.{AreMarked}
 use Rattle.dwarf_types.specs.Live.{IsLive}
 use Rattle.macho_read.specs.declared.image.Image.{Image}
 use Rattle.stab_map.specs.declared.object.MapObject.{MapObject}
 use Rattle.ar_read.specs.Archive.{member_of}
 use Rattle.object_view.specs.Analysis.{analysis_of}
+use Rattle.type_names.specs.Names.{Named}
+use Rattle.link_graph.specs.Graph.{graph_in}
+use Rattle.link_graph.specs.Merged.{linked_names, shape_of}
+use Rattle.link_graph.specs.Pool.{pool_names}
 use Rattle.layout.specs.Laid.{long_section, long_unit}
 use Rattle.dsym_write.specs.Bundle.{image_file}
 use Rattle.dsym_write.specs.Plist.{plist_bytes}
@@ -80,13 +82,9 @@ pub record MarkLive (seen : List Analysis) (marks : List (List Bool)) : Type 0 w
   pub marked : AreMarked seen marks
   pub live : All AreLive (zip seen marks)
 
--- the entries of each object that have a node in their own unit, by its live entries; none is merged with others of its name
-abbrev pub kept_in : List Analysis → List (List Bool) → List (List Bool)
-kept_in seen live = map (λ object. kept_of object.0.entries object.1 []) (zip seen live)
-
--- the graph that is linked: in which exactly the live entries stand, each once
-abbrev pub graph_of : List Analysis → List (List Bool) → Graph
-graph_of seen live = linked (objects_of seen (kept_in seen live))
+-- the graph that is linked: in which exactly the live entries stand, each once, or once for all of one name where these are merged
+abbrev pub graph_of : Bool → List Analysis → List (List Bool) → Graph
+graph_of odr seen live = graph_in seen (shape_of odr seen live)
 
 -- ---- limits
 
@@ -94,7 +92,7 @@ graph_of seen live = linked (objects_of seen (kept_in seen live))
 abbrev pub are_many : Graph → Bool
 are_many graph = nat_le (2 ^ 32 - 1) (length graph.units)
 
--- the first limit that is reached: of units, of a unit's bytes, of a section's, of the image's
+-- the first limit that a graph reaches: of units, of a unit's bytes, of a section's, of the image's
 abbrev pub first_limit : Image → Graph → Option Refusal
 first_limit program graph =
     if are_many graph then Some (refusals.Limit limits.Section (2 ^ 32 - 1))
@@ -103,33 +101,38 @@ first_limit program graph =
     else if nat_le (2 ^ 32) (length (image_file program graph)) then Some (refusals.Limit limits.File (2 ^ 32))
     else None
 
+-- what is linked of analyses with their live entries: so many entries are merged that they can't be numbered, or its graph reaches a limit
+abbrev pub limit_of : Bool → Image → List Analysis → List (List Bool) → Option Refusal
+limit_of odr program seen live =
+    if nat_le (2 ^ 25) (length (linked_names odr seen live)) then Some (refusals.Limit limits.Pooled (2 ^ 25)) else first_limit program (graph_of odr seen live)
+
 -- ---- the bundle
 
--- what is counted of a link of this many objects; no name is merged
-abbrev pub counts_of : List Analysis → List (List Bool) → Graph → List ℕ → Counts
-counts_of seen marks graph image =
+-- what is counted of a link: of the names that are merged each entry, and each path once
+abbrev pub counts_of : List Analysis → List (List Bool) → List Named → Graph → List ℕ → Counts
+counts_of seen marks names graph image =
     record {
       objects = length seen;
       entries = sum_by (λ object. length object.entries) seen;
       live = sum_by (λ row. length (filter (λ b. b) row)) marks;
-      pooled = 0;
-      names = 0;
+      pooled = length names;
+      names = length (pool_names names);
       nodes = sum_by (λ unit. length unit.nodes) graph.units;
       bytes = length image;
     }
 
--- What linking a program of a name with its objects answers: the bundle, by the marks of the live entries; or the first fault of the first object that has one; or else the first limit that is reached. Want of memory says nothing.
-pub data Bundles (program : Image) (name : List ℕ) (sources : List Source) : Result Linked Refusal → Type 0 where
+-- What linking a program of a name with its objects answers, where entries of one name are merged or not: the bundle, by the marks of the live entries; or the first fault of the first object that has one; or else the first limit that is reached. Want of memory says nothing.
+pub data Bundles (odr : Bool) (program : Image) (name : List ℕ) (sources : List Source) : Result Linked Refusal → Type 0 where
   bundle : (seen : List Analysis) (marks : List (List Bool)) (linked : Linked) → analyses_from program.cpu 1 sources ≡ Ok seen → MarkLive seen marks
-      → first_limit program (graph_of seen marks) ≡ None → linked.image ≡ image_file program (graph_of seen marks) → linked.plist ≡ plist_bytes name
-      → linked.counts ≡ counts_of seen marks (graph_of seen marks) linked.image → Bundles program name sources (Ok linked)
-  fault : (file : ℕ) (fault : Fault) → analyses_from program.cpu 1 sources ≡ Err (refusals.Faulty file fault) → Bundles program name sources (Err (refusals.Faulty file fault))
+      → limit_of odr program seen marks ≡ None → linked.image ≡ image_file program (graph_of odr seen marks) → linked.plist ≡ plist_bytes name
+      → linked.counts ≡ counts_of seen marks (linked_names odr seen marks) (graph_of odr seen marks) linked.image → Bundles odr program name sources (Ok linked)
+  fault : (file : ℕ) (fault : Fault) → analyses_from program.cpu 1 sources ≡ Err (refusals.Faulty file fault) → Bundles odr program name sources (Err (refusals.Faulty file fault))
   limit : (seen : List Analysis) (marks : List (List Bool)) (refusal : Refusal) → analyses_from program.cpu 1 sources ≡ Ok seen → MarkLive seen marks
-      → first_limit program (graph_of seen marks) ≡ Some refusal → Bundles program name sources (Err refusal)
-  no_memory : Bundles program name sources (Err refusals.NoMemory)
+      → limit_of odr program seen marks ≡ Some refusal → Bundles odr program name sources (Err refusal)
+  no_memory : Bundles odr program name sources (Err refusals.NoMemory)
 
 -- Nothing refuses the link of a program with its objects: none has a fault, and no limit is reached.
-pub record HasNoRefusal (program : Image) (sources : List Source) : Type 0 where
+pub record HasNoRefusal (odr : Bool) (program : Image) (sources : List Source) : Type 0 where
   pub seen : List Analysis
   pub sound : analyses_from program.cpu 1 sources ≡ Ok seen
-  pub fits : (marks : List (List Bool)) → MarkLive seen marks → first_limit program (graph_of seen marks) ≡ None
+  pub fits : (marks : List (List Bool)) → MarkLive seen marks → limit_of odr program seen marks ≡ None

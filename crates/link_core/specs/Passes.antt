@@ -1,15 +1,19 @@
 -- What the passes of a link answer, each to the next. Want of memory says nothing.
-use Rattle.std.specs.Prelude.{◌≡◌, ◌<◌, ◌≤◌, ◌-◌, ℕ, ◌^◌, Bool, List, ◌++◌, length, slice_get, Some, None, Result, Ok, Err}
+use Rattle.std.specs.Prelude.{◌≡◌, ◌<◌, ◌≤◌, ◌-◌, ℕ, ◌^◌, Bool, List, ◌++◌, length, slice_get, Option, Some, None, Result, Ok, Err}
+use Rattle.std.specs.Option.{option_map_or}
 use Rattle.ds_base.specs.declared.fault.Fault.{Fault}
 use Rattle.dwarf_types.specs.declared.analysis.Analysis.{Analysis}
 use Rattle.dwarf_types.specs.declared.frames.OutFrame.{OutFrame}
 use Rattle.dwarf_types.specs.declared.graph.Graph.{Graph}
 use Rattle.dwarf_types.specs.declared.graph.OutUnit.{OutUnit}
-use Rattle.dwarf_types.specs.declared.shape.Shape.{Shape}
 use Rattle.dwarf_types.specs.Entries.{unit_len}
-use Rattle.dwarf_types.specs.LinkedGraph.{linked}
-use Rattle.dwarf_types.specs.LinkedShape.{IsShape, objects_in}
 use Rattle.macho_read.specs.declared.image.Image.{Image}
+use Rattle.link_graph.specs.Graph.{IsShape, graph_in}
+use Rattle.link_graph.specs.Merged.{linked_names, pool_units}
+use Rattle.link_graph.specs.Pool.{pool_names}
+use Rattle.dwarf_types.specs.declared.shape.Shape.{Shape}
+use Rattle.dwarf_types.specs.declared.shape.ShapeUnit.{ShapeUnit}
+use Rattle.type_names.specs.Names.{Named}
 use Rattle.layout.specs.Laid.{AreDrafts, Laid, Measures}
 use Rattle.unit_draft.specs.declared.unit.Draft.{Draft}
 use Rattle.unit_draft.specs.Drafted.{IsDraft}
@@ -19,7 +23,8 @@ use Rattle.link_core.specs.declared.bundle.Linked.{Linked}
 use Rattle.link_core.specs.declared.refusal.LimitKind.TheVariants as limits
 use Rattle.link_core.specs.declared.refusal.Refusal.{Refusal}
 use Rattle.link_core.specs.declared.refusal.Refusal.TheVariants as refusals
-use Rattle.link_core.specs.Linked.{counts_of, first_limit, graph_of}
+use Rattle.link_core.specs.declared.graph.Shaped.{Shaped}
+use Rattle.link_core.specs.Linked.{counts_of, first_limit, graph_of, limit_of}
 
 -- ---- objects
 
@@ -48,12 +53,37 @@ behind seen (Err refusal) = Err refusal
 abbrev pub AreLeft : ℕ → List Analysis → List Analysis → Type 0
 AreLeft from all left = (i : ℕ) → from ≤ i → slice_get left i ≡ slice_get all i
 
--- the shape of the graph of the live entries, or that it has too many units
-abbrev pub Shapes : List Analysis → List (List Bool) → Result Shape Refusal → Type 0
-Shapes seen live (Ok shape) = IsShape seen shape × (linked (objects_in seen shape) ≡ graph_of seen live) × (length shape.units < 2 ^ 32 - 1)
-Shapes seen live (Err (refusals.Faulty file fault)) = ⊥
-Shapes seen live (Err (refusals.Limit which n)) = (program : Image) → first_limit program (graph_of seen live) ≡ Some (refusals.Limit which n)
-Shapes seen live (Err refusals.NoMemory) = Unit {0}
+-- the shape of what is linked of analyses with their live entries, and what is counted of its names
+pub record IsShaped (odr : Bool) (seen : List Analysis) (live : List (List Bool)) (it : Shaped) : Type 0 where
+  pub is_shape : IsShape seen it.shape
+  pub graph : graph_in seen it.shape ≡ graph_of odr seen live
+  pub few : length it.shape.units < 2 ^ 32 - 1
+  pub few_names : length (linked_names odr seen live) < 2 ^ 25
+  pub pooled : it.pooled ≡ length (linked_names odr seen live)
+  pub names : it.names ≡ length (pool_names (linked_names odr seen live))
+
+-- the names of the entries that are merged, or that there are too many
+abbrev pub Names : Bool → List Analysis → List (List Bool) → Result (List Named) Refusal → Type 0
+Names odr seen live (Ok names) = (names ≡ linked_names odr seen live) × (length names < 2 ^ 25)
+Names odr seen live (Err (refusals.Faulty file fault)) = ⊥
+Names odr seen live (Err (refusals.Limit which n)) = (program : Image) → limit_of odr program seen live ≡ Some (refusals.Limit which n)
+Names odr seen live (Err refusals.NoMemory) = Unit {0}
+
+-- where there are names, the first unit has a root and their nodes
+pub record HasPool (shape : Shape) (names : List Named) : Type 0 where
+  pub others : List ShapeUnit
+  pub units : shape.units ≡ pool_units names ++ others
+
+-- such a shape, or that too many entries are merged, or that it has too many units
+abbrev pub Shapes : Bool → List Analysis → List (List Bool) → Result Shaped Refusal → Type 0
+Shapes odr seen live (Ok it) = IsShaped odr seen live it
+Shapes odr seen live (Err (refusals.Faulty file fault)) = ⊥
+Shapes odr seen live (Err (refusals.Limit which n)) = (program : Image) → limit_of odr program seen live ≡ Some (refusals.Limit which n)
+Shapes odr seen live (Err refusals.NoMemory) = Unit {0}
+
+-- the first object whose analysis a unit needs, where those before a number went: its own, or all that are left for a unit of none
+abbrev pub first_needed : Option ℕ → ℕ → ℕ
+first_needed object gone = option_map_or (λ o. o) object gone
 
 -- the draft of unit u of a graph, or that it is too long
 abbrev pub DraftsUnit : Graph → ℕ → Result Draft Refusal → Type 0
@@ -92,10 +122,10 @@ Images program graph (Err (refusals.Limit which n)) = first_limit program graph 
 Images program graph (Err refusals.NoMemory) = Unit {0}
 
 -- the bundle of analyses whose live entries are marked, or the first limit that is reached
-abbrev pub Links : Image → List ℕ → List Analysis → List (List Bool) → Result Linked Refusal → Type 0
-Links program name seen marks (Ok linked) =
-    (first_limit program (graph_of seen marks) ≡ None) × (linked.image ≡ image_file program (graph_of seen marks)) × (linked.plist ≡ plist_bytes name)
-    × (linked.counts ≡ counts_of seen marks (graph_of seen marks) linked.image)
-Links program name seen marks (Err (refusals.Faulty file fault)) = ⊥
-Links program name seen marks (Err (refusals.Limit which n)) = first_limit program (graph_of seen marks) ≡ Some (refusals.Limit which n)
-Links program name seen marks (Err refusals.NoMemory) = Unit {0}
+abbrev pub Links : Bool → Image → List ℕ → List Analysis → List (List Bool) → Result Linked Refusal → Type 0
+Links odr program name seen marks (Ok linked) =
+    (limit_of odr program seen marks ≡ None) × (linked.image ≡ image_file program (graph_of odr seen marks)) × (linked.plist ≡ plist_bytes name)
+    × (linked.counts ≡ counts_of seen marks (linked_names odr seen marks) (graph_of odr seen marks) linked.image)
+Links odr program name seen marks (Err (refusals.Faulty file fault)) = ⊥
+Links odr program name seen marks (Err (refusals.Limit which n)) = limit_of odr program seen marks ≡ Some (refusals.Limit which n)
+Links odr program name seen marks (Err refusals.NoMemory) = Unit {0}

@@ -5,7 +5,7 @@ use ds_base::Bytes;
 /// How a link is to be made.
 #[derive(Clone, Copy, Debug, PartialEq, Eq)]
 pub struct Options {
-    /// Whether types of one name are merged. None is merged yet.
+    /// Whether types of one name are merged, in C++ and Objective-C++.
     pub odr: bool,
     /// How many threads work, from 1 to 64. One does yet.
     pub workers: u32,

@@ -12,11 +12,15 @@ mod graph;
 mod image;
 mod link;
 mod marks;
+mod message;
+mod names;
 mod objects;
 mod refusal;
 mod status;
 
 pub use bundle::{Counts, Linked, Options};
 pub use link::link_objects;
+pub use message::{line, status_text};
+pub use names::{image_name, last_part, plist_name};
 pub use refusal::{LimitKind, Refusal};
 pub use status::{Status, code};

@@ -6,7 +6,6 @@ ghost use Rattle.macho_read.specs.declared.kind.Role.TheVariants as roles;
 ghost use Rattle.macho_read.specs.Kind.{kind_of};
 ghost use Rattle.macho_read.specs.Sound.{IsSound as IsSoundImage};
 ghost use Rattle.dwarf_types.specs.Sound.{IsSound};
-ghost use Rattle.linked_laws.specs.Given.{IsGiven};
 ghost use Rattle.link_core.specs.Linked.{Bundles, MarkLive, sources_of};
 ghost use Rattle.link_core.specs.Passes.{Links};
 
@@ -28,8 +27,9 @@ use std::alloc::Global;
 /// Links the objects of a program to its bundle: the image and Info.plist for a program of this name.
 ///
 /// `source` tells for each object the number of its file among `files`; an object without one has no entries. Faults
-/// come in the order of the objects, which are numbered from 1, and behind them the limits: of units, of a unit's bytes,
-/// of a section's, of the image's. `options` and `gate` aren't looked at: nothing is merged, and one thread works.
+/// come in the order of the objects, which are numbered from 1, and behind them the limits: of merged entries, of
+/// units, of a unit's bytes, of a section's, of the image's. `options` tells whether types of one name are merged. Of the
+/// rest of it and of `gate` nothing is looked at: one thread works.
 pub fn link_objects<G: Gate + Sync>(
     alloc: Global,
     program: &Image,
@@ -47,16 +47,17 @@ pub fn link_objects<G: Gate + Sync>(
     requires held { All (λ k. IfSome k (λ n. n < length files.now)) source.now }
     requires small { All (λ file. length file < 2 ^ 32) files.now }
     requires workers { (1 ≤ options.now.workers) × (options.now.workers ≤ 64) }
-    ensures { Bundles program.now name.now (sources_of objects.now files.now source.now) result }
+    ensures { Bundles options.now.odr program.now name.now (sources_of objects.now files.now source.now) result }
 {
     let seen = analyses(alloc, program.cpu, objects, files, source)?;
     let marks = marks_of(alloc, seen.as_slice())?;
-    link_marked(alloc, program, name, seen, marks.as_slice())
+    link_marked(alloc, options.odr, program, name, seen, marks.as_slice())
 }
 
 /// Links the marked entries of objects to the bundle of a program of this name.
 fn link_marked(
     alloc: Global,
+    odr: bool,
     program: &Image,
     name: &str,
     seen: List<Analysis>,
@@ -65,16 +66,15 @@ fn link_marked(
     requires program { IsSoundImage program.now }
     requires few { length seen < 2 ^ 16 }
     requires sound { All IsSound seen }
-    requires given { All IsGiven seen }
     requires live { MarkLive seen marks.now }
-    ensures { Links program.now name.now seen marks.now result }
+    ensures { Links odr program.now name.now seen marks.now result }
 {
     let objects = seen.len() as u64;
     let entries = count_entries(seen.as_slice());
     let live = count_live(seen.as_slice(), marks);
-    let shape = shape_of(alloc, seen.as_slice(), marks)?;
+    let shaped = shape_of(alloc, odr, seen.as_slice(), marks)?;
     let frames = frames_of(alloc, seen.as_slice())?;
-    let drafts = drafts_of(alloc, seen, &shape)?;
+    let drafts = drafts_of(alloc, seen, &shaped.shape)?;
     let nodes = count_nodes(drafts.as_slice());
     let image = image_of(alloc, program, drafts, &frames)?;
     let plist = plist_text(alloc, name)?;
@@ -82,8 +82,8 @@ fn link_marked(
         objects,
         entries,
         live,
-        pooled: 0,
-        names: 0,
+        pooled: shaped.pooled,
+        names: shaped.names,
         nodes,
         bytes: image.len() as u64,
     };

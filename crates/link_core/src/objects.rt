@@ -7,7 +7,6 @@ ghost use Rattle.std.specs.List.{All};
 ghost use Rattle.std.specs.Option.{option_map};
 ghost use Rattle.ds_base.specs.Reading.{Finds, Gives};
 ghost use Rattle.dwarf_types.specs.Sound.{IsSound};
-ghost use Rattle.linked_laws.specs.Given.{IsGiven};
 ghost use Rattle.object_view.specs.Analysis.{analysis_of};
 ghost use Rattle.link_core.specs.Linked.{analyses_from, analysis_from, analysis_in, content_of as bytes_of, sources_of};
 ghost use Rattle.link_core.specs.Passes.{Analyses, Numbered};
@@ -37,7 +36,6 @@ pub(crate) fn analyses(
     requires small { All (λ file. length file < 2 ^ 32) files.now }
     ensures exact { Analyses (analyses_from cpu 1 (sources_of objects.now files.now source.now)) result }
     ensures sound { IfOk result (All IsSound) }
-    ensures given { IfOk result (All IsGiven) }
     ensures size { IfOk result (λ seen. length seen ≡ length objects.now) }
 {
     let archives = members_of(alloc, files)?;
@@ -66,7 +64,6 @@ fn members_of<'a>(alloc: Global, files: &'a [Bytes]) -> Result<List<Members<'a>>
 fn numbered(number: u32, read: Result<Analysis, ReadError>) -> Result<Analysis, Refusal>
     ensures exact { (of : Outcome Seen Wrong) → Gives (λ it. it) read of → Numbered number of result }
     ensures sound { IfOk read IsSound → IfOk result IsSound }
-    ensures given { IfOk read IsGiven → IfOk result IsGiven }
 {
     match read {
         Ok(it) => Ok(it),
@@ -92,7 +89,6 @@ fn analysis(
     requires small { All (λ file. length file < 2 ^ 32) files.now }
     ensures exact { Gives (λ it. it) result (analysis_from cpu object.now (option_map (λ k. slice_index_or files.now k []) source)) }
     ensures sound { IfOk result IsSound }
-    ensures given { IfOk result IsGiven }
 {
     let Some(number) = source else {
         return Ok(no_entries(alloc));
@@ -131,7 +127,6 @@ fn analysis_of_file(
     requires small { length file.now < 2 ^ 32 }
     ensures exact { Gives (λ it. it) result (analysis_in cpu object.now file.now) }
     ensures sound { IfOk result IsSound }
-    ensures given { IfOk result IsGiven }
 {
     let bytes = content_of(&object.member, file, members)?;
     analysis_of_bytes(alloc, cpu, object, bytes)
@@ -163,7 +158,6 @@ fn analysis_of_bytes(
     requires { length bytes.now < 2 ^ 32 }
     ensures exact { Gives (λ it. it) result (analysis_of bytes.now object.now cpu) }
     ensures sound { IfOk result IsSound }
-    ensures given { IfOk result IsGiven }
 {
     analyse(alloc, bytes, object, cpu)
 }

@@ -35,6 +35,29 @@ pub(crate) const PROGRAM: &[&[u8]] = &[
     b"\0/tmp/m.o\0_main\0",
 ];
 
+/// The same program with a second object, `/tmp/n.o`, of which nothing was linked.
+#[rattlefmt::skip]
+pub(crate) const PROGRAM_OF_TWO: &[&[u8]] = &[
+    // magic, cputype, cpusubtype, filetype, ncmds, sizeofcmds, flags, reserved
+    b"\xcf\xfa\xed\xfe\x0c\0\0\x01\0\0\0\0\x02\0\0\0\x03\0\0\0\xc8\0\0\0\0\0\0\0\0\0\0\0",
+    // cmd, cmdsize, segname
+    b"\x19\0\0\0\x98\0\0\0__TEXT\0\0\0\0\0\0\0\0\0\0",
+    // vmaddr, vmsize, fileoff, filesize
+    b"\0\0\0\0\x01\0\0\0\0\x40\0\0\0\0\0\0\0\0\0\0\0\0\0\0\0\x40\0\0\0\0\0\0",
+    // maxprot, initprot, nsects, flags
+    b"\x05\0\0\0\x05\0\0\0\x01\0\0\0\0\0\0\0",
+    // sectname, segname, addr, size, and offset, align, reloff, nreloc, flags, reserved1 to 3
+    b"__text\0\0\0\0\0\0\0\0\0\0__TEXT\0\0\0\0\0\0\0\0\0\0\x50\x3f\0\0\x01\0\0\0\x2a\0\0\0\0\0\0\0\x50\x3f\0\0\x04\0\0\0\0\0\0\0\0\0\0\0\0\x04\0\x80\0\0\0\0\0\0\0\0\0\0\0\0",
+    // cmd, cmdsize, uuid
+    b"\x1b\0\0\0\x18\0\0\0\0\x11\x22\x33\x44\x55\x66\x77\x88\x99\xaa\xbb\xcc\xdd\xee\xff",
+    // cmd, cmdsize, symoff, nsyms, stroff, strsize
+    b"\x02\0\0\0\x18\0\0\0\xe8\0\0\0\x05\0\0\0\x38\x01\0\0\x19\0\0\0",
+    // the stab of the first object, those of `_main`, the stab of the second object, and `_main`: n_strx, n_type, n_sect, n_desc, n_value
+    b"\x01\0\0\0\x66\0\x01\0\0\0\0\0\0\0\0\0\x0a\0\0\0\x24\x01\0\0\x50\x3f\0\0\x01\0\0\0\0\0\0\0\x24\0\0\0\x2a\0\0\0\0\0\0\0\x10\0\0\0\x66\0\x01\0\0\0\0\0\0\0\0\0\x0a\0\0\0\x0f\x01\0\0\x50\x3f\0\0\x01\0\0\0",
+    // strings
+    b"\0/tmp/m.o\0_main\0/tmp/n.o\0",
+];
+
 /// An object with `main` of 0x2a bytes at 0, of 457 bytes.
 #[rattlefmt::skip]
 pub(crate) const OBJECT: &[&[u8]] = &[

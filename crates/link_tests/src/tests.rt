@@ -1,4 +1,4 @@
-use crate::bytes::{OBJECT, PLIST_TEXT, PROGRAM, image, joined};
+use crate::bytes::{OBJECT, PLIST_TEXT, PROGRAM, PROGRAM_OF_TWO, image, joined};
 use ds_base::{Fault, Kind, List, NoMemory, Part};
 use ds_files::{MemoryFiles, MemorySink, OpenGate};
 use link_cli::link_main;
@@ -10,6 +10,10 @@ use std::process::Abort;
 const PLIST: &str = "a.out.dSYM/Contents/Info.plist";
 
 const IMAGE: &str = "a.out.dSYM/Contents/Resources/DWARF/a.out";
+
+/// What is told of words that are none of the command's.
+const USAGE: &str =
+    "dsymlink: usage: dsymlink [-o OUT] [-j N] [--no-odr] [--keep-going] [--statistics] [--dump-map] [--generate N] EXE\n";
 
 /// What an earlier link wrote.
 const EARLIER: &[u8] = b"earlier";
@@ -31,18 +35,28 @@ fn files(
     Ok(files)
 }
 
-/// Links by one word.
-fn link(alloc: Global, word: &str, files: &mut MemoryFiles) -> Result<Status, NoMemory> {
-    let mut words = Vec::new(alloc);
-    words.push(String::from_str(alloc, word)?)?;
-    let mut messages = MemorySink::new(alloc, 0, List::new(alloc))?;
-    Ok(link_main(
+/// The command with these words, of whose puts the one of this number fails: its status, and what it told.
+fn run(
+    alloc: Global,
+    words: &[&str],
+    files: &mut MemoryFiles,
+    failing_put: u64,
+) -> Result<(Status, MemorySink), NoMemory> {
+    let mut list = Vec::new(alloc);
+    for word in words {
+        list.push(String::from_str(alloc, word)?)?;
+    }
+    let mut failing = List::new(alloc);
+    failing.push(failing_put)?;
+    let mut messages = MemorySink::new(alloc, 1024, failing)?;
+    let status = link_main(
         alloc,
-        words.as_slice(),
+        list.as_slice(),
         files,
         &mut messages,
         &OpenGate::new(),
-    ))
+    );
+    Ok((status, messages))
 }
 
 /// Whether the named file is there and has these bytes.
@@ -53,37 +67,52 @@ fn keeps(files: &MemoryFiles, name: &str, want: &[u8]) -> bool {
     }
 }
 
-/// A link by this word has this status, and the bundle then has these bytes.
-fn links(
+/// The command with these words has this status and tells this, and the bundle then has these bytes.
+fn ends(
     rt: &impl Abort,
     alloc: Global,
-    word: &str,
+    words: &[&str],
     files: &mut MemoryFiles,
+    failing_put: u64,
     want: Status,
+    text: &str,
     plist: &[u8],
     image: &[u8],
 ) {
-    match link(alloc, word, files) {
-        Ok(status) => assert!(rt; status == want),
+    match run(alloc, words, files, failing_put) {
+        Ok((status, messages)) => {
+            assert!(rt; status == want);
+            assert!(rt; messages.text() == text.as_bytes());
+        }
         Err(NoMemory) => panic!(rt; "no memory"),
     }
     assert!(rt; keeps(files, PLIST, plist));
     assert!(rt; keeps(files, IMAGE, image));
 }
 
-/// A link of this program and object, of which the call of this number fails, is refused so, and writes nothing.
+/// The command with these words, over this program and object, of whose calls the one of this number fails, is refused so,
+/// tells this, and writes nothing.
 fn refuses(
     rt: &impl Abort,
     alloc: Global,
+    words: &[&str],
     program: &[u8],
     object: &[u8],
     failing: u64,
     want: Status,
+    text: &str,
 ) {
     let Ok(mut files) = files(alloc, program, object, failing) else {
         panic!(rt; "no memory");
     };
-    links(rt, alloc, "a.out", &mut files, want, EARLIER, EARLIER);
+    ends(
+        rt, alloc, words, &mut files, 0, want, text, EARLIER, EARLIER,
+    );
+}
+
+/// Words that are none of the command's.
+fn is_usage(rt: &impl Abort, alloc: Global, words: &[&str]) {
+    refuses(rt, alloc, words, b"", b"", 0, Status::Usage, USAGE);
 }
 
 /// All bytes but the last.
@@ -117,45 +146,155 @@ fn a_program_is_linked_again_where_the_image_was_not_written(
     let image = image(alloc)?;
     assert_eq!(rt; image.len(), 4258);
     let mut files = files(alloc, program.as_slice(), object.as_slice(), 4)?;
-    let unwritten = Status::WriteFault { file: 1 };
-    links(
-        &rt, alloc, "a.out", &mut files, unwritten, PLIST_TEXT, EARLIER,
-    );
-    links(
+    ends(
         &rt,
         alloc,
-        "a.out",
+        &["a.out"],
         &mut files,
+        0,
+        Status::WriteFault { file: 1 },
+        "dsymlink: write fault: a.out.dSYM/Contents/Resources/DWARF/a.out\n",
+        PLIST_TEXT,
+        EARLIER,
+    );
+    let i = image.as_slice();
+    ends(
+        &rt,
+        alloc,
+        &["-j", "64", "a.out"],
+        &mut files,
+        0,
         Status::Done,
+        "",
         PLIST_TEXT,
-        image.as_slice(),
+        i,
     );
-    links(
+    ends(
         &rt,
         alloc,
-        "-x",
+        &["a.out", "--statistics", "-o", "a.out.dSYM"],
         &mut files,
-        Status::Usage,
+        0,
+        Status::Done,
+        "objects 1\nentries 2\nlive 2\npooled 0\nnames 0\nnodes 2\nbytes 4258\n",
         PLIST_TEXT,
-        image.as_slice(),
+        i,
     );
-    links(
+    Ok(())
+}
+
+#[test]
+fn a_message_that_fails_leaves_the_bundle(rt: HostRuntime) -> Result<(), NoMemory> {
+    let alloc = rt.alloc();
+    let program = joined(alloc, PROGRAM)?;
+    let object = joined(alloc, OBJECT)?;
+    let image = image(alloc)?;
+    let mut files = files(alloc, program.as_slice(), object.as_slice(), 0)?;
+    let words = &["--statistics", "a.out"];
+    let i = image.as_slice();
+    ends(
         &rt,
         alloc,
-        "dir/",
+        words,
         &mut files,
-        Status::Usage,
+        1,
+        Status::MessageFault,
+        "",
         PLIST_TEXT,
-        image.as_slice(),
+        i,
     );
-    links(
+    Ok(())
+}
+
+#[test]
+fn words_that_are_none_of_the_command_are_refused(rt: HostRuntime) {
+    let alloc = rt.alloc();
+    is_usage(&rt, alloc, &[]);
+    is_usage(&rt, alloc, &["a.out", "b.out"]);
+    is_usage(&rt, alloc, &["-j", "0", "a.out"]);
+    is_usage(&rt, alloc, &["-j", "65", "a.out"]);
+    is_usage(&rt, alloc, &["-j", "+4", "a.out"]);
+    is_usage(&rt, alloc, &["dir/"]);
+}
+
+#[test]
+fn words_that_generate_no_program_are_refused(rt: HostRuntime) {
+    let alloc = rt.alloc();
+    is_usage(&rt, alloc, &["--generate", "0", "a.out"]);
+    is_usage(&rt, alloc, &["--generate", "1001", "a.out"]);
+    is_usage(&rt, alloc, &["--generate", "01", "a.out"]);
+    is_usage(&rt, alloc, &["--generate", "1", "--dump-map", "a.out"]);
+    is_usage(&rt, alloc, &["--generate", "1"]);
+}
+
+/// The first call would fail. The numbers were computed by another program.
+#[test]
+fn a_generated_program_is_linked_whatever_the_files_are(rt: HostRuntime) {
+    let alloc = rt.alloc();
+    refuses(
         &rt,
         alloc,
-        "b.out",
-        &mut files,
-        Status::Missing { file: 0 },
-        PLIST_TEXT,
-        image.as_slice(),
+        &["--generate", "2", "a.out"],
+        b"",
+        b"",
+        1,
+        Status::Done,
+        "objects 2\nentries 3606\nlive 2706\npooled 2102\nnames 2101\nnodes 2706\nbytes 38857\n",
+    );
+    refuses(
+        &rt,
+        alloc,
+        &["--generate", "2", "--no-odr", "a.out"],
+        b"",
+        b"",
+        1,
+        Status::Done,
+        "objects 2\nentries 3606\nlive 2706\npooled 0\nnames 0\nnodes 2706\nbytes 38838\n",
+    );
+}
+
+#[test]
+fn a_debug_map_is_told(rt: HostRuntime) -> Result<(), NoMemory> {
+    let alloc = rt.alloc();
+    let program = joined(alloc, PROGRAM)?;
+    refuses(
+        &rt,
+        alloc,
+        &["--dump-map", "a.out"],
+        program.as_slice(),
+        b"",
+        2,
+        Status::Done,
+        "uuid 00112233-4455-6677-8899-aabbccddeeff\nobject 1 /tmp/m.o\n  function 0x0000000100003f50 0x000000000000002a _main\n",
+    );
+    Ok(())
+}
+
+#[test]
+fn a_missing_object_is_told_or_let_go(rt: HostRuntime) -> Result<(), NoMemory> {
+    let alloc = rt.alloc();
+    let program = joined(alloc, PROGRAM_OF_TWO)?;
+    let (p, o) = (program.as_slice(), b"");
+    let missing = Status::Missing { file: 2 };
+    refuses(
+        &rt,
+        alloc,
+        &["a.out"],
+        p,
+        o,
+        0,
+        missing,
+        "dsymlink: missing: /tmp/n.o\n",
+    );
+    refuses(
+        &rt,
+        alloc,
+        &["--keep-going", "a.out"],
+        p,
+        o,
+        0,
+        faulty(1, Kind::Truncated, Part::Header, 0),
+        "dsymlink: warning: missing: /tmp/n.o\ndsymlink: faulty: /tmp/m.o: Truncated in header at 0\n",
     );
     Ok(())
 }
@@ -166,40 +305,58 @@ fn a_link_that_is_refused_writes_nothing(rt: HostRuntime) -> Result<(), NoMemory
     let program = joined(alloc, PROGRAM)?;
     let object = joined(alloc, OBJECT)?;
     let (a, o) = (program.as_slice(), object.as_slice());
-    refuses(&rt, alloc, a, o, 1, Status::ReadFault { file: 0 });
-    refuses(&rt, alloc, a, o, 2, Status::ReadFault { file: 1 });
-    refuses(&rt, alloc, a, o, 3, Status::WriteFault { file: 0 });
+    let words = &["a.out"];
+    let unread = Status::ReadFault { file: 0 };
     refuses(
         &rt,
         alloc,
+        words,
+        a,
+        o,
+        1,
+        unread,
+        "dsymlink: read fault: a.out\n",
+    );
+    let unread = Status::ReadFault { file: 1 };
+    refuses(
+        &rt,
+        alloc,
+        words,
+        a,
+        o,
+        2,
+        unread,
+        "dsymlink: read fault: /tmp/m.o\n",
+    );
+    refuses(
+        &rt,
+        alloc,
+        words,
+        a,
+        o,
+        3,
+        Status::WriteFault { file: 0 },
+        "dsymlink: write fault: a.out.dSYM/Contents/Info.plist\n",
+    );
+    refuses(
+        &rt,
+        alloc,
+        words,
         b"",
         o,
         0,
         faulty(0, Kind::Truncated, Part::Header, 0),
+        "dsymlink: faulty: a.out: Truncated in header at 0\n",
     );
     refuses(
         &rt,
         alloc,
-        but_last(a),
-        o,
-        0,
-        faulty(0, Kind::BadSymbols, Part::Symbols, 0),
-    );
-    refuses(
-        &rt,
-        alloc,
-        a,
-        a,
-        0,
-        faulty(1, Kind::BadFileType, Part::Header, 12),
-    );
-    refuses(
-        &rt,
-        alloc,
+        words,
         a,
         but_last(o),
         0,
         faulty(1, Kind::BadSymbols, Part::Symbols, 0),
+        "dsymlink: faulty: /tmp/m.o: BadSymbols in symbols at 0\n",
     );
     Ok(())
 }

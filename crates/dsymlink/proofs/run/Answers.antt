@@ -5,7 +5,7 @@ pub returns-in-Err : goal.returns-in-Err
 returns-in-Err g c = c.unread.ensures.runs
 
 pub returns-in-Ok-words : goal.returns-in-Ok-words
-returns-in-Ok-words g c = linked _ _ _ (rw c.new.ensures at c.link_main.ensures.exact)
+returns-in-Ok-words g c = linked _ _ _ _ (rw (c.new.ensures, c.new-in-Ok-words.ensures) at c.link_main.ensures.exact)
 
 pub returns-in-Err-words : goal.returns-in-Err-words
 returns-in-Err-words g c = no_memory

@@ -1,13 +1,12 @@
-use Rattle.std.proofs.Common.{◌+◌, [], List, drop}
-use Rattle.std.proofs.Common.{Result}
-use Rattle.link_core.specs.declared.status.Status.{Status}
-use Rattle.link_cli.specs.Files.{World, world, HeldFile, ReadsFiles}
-use Rattle.link_cli.specs.Seen.{held_seen}
+use Rattle.std.proofs.Common.{◌+◌, Result, drop}
+use Rattle.link_cli.specs.declared.files.Stopped.{Stopped}
+use Rattle.link_cli.specs.Files.{World, world, Held, none_held, ReadsFiles}
+use Rattle.link_cli.specs.Holding.{held_of}
 use Rattle.link_cli.proofs.files.read_files.Given as goal
 
 -- what comes of the objects that are left comes of all
 abbrev pub invariant-loop-k : goal.invariant-loop-k
 invariant-loop-k g l =
-    (after : World) (answer : Result (List HeldFile) Status)
-    → ReadsFiles (l.k + 1) (drop l.k l.objects) (held_seen l.held.files) l.held.left (world (g.F.Files.files l.files) (g.F.Files.counts l.files)) after answer
-    → ReadsFiles 1 l.objects [] l.most (world (g.F.Files.files l.fn.files) (g.F.Files.counts l.fn.files)) after answer
+    (after : World) (answer : Result Held Stopped)
+    → ReadsFiles l.keep_going (l.k + 1) (drop l.k l.objects) (held_of l.held) (world (g.F.Files.files l.files) (g.F.Files.counts l.files)) after answer
+    → ReadsFiles l.keep_going 1 l.objects (none_held l.most) (world (g.F.Files.files l.fn.files) (g.F.Files.counts l.fn.files)) after answer

@@ -1,7 +1,6 @@
 use Rattle.std.proofs.Common.{◌≡◌}
 use Rattle.dwarf_types.specs.declared.shape.Shape.{Shape}
-use Rattle.dwarf_types.specs.LinkedGraph.{linked}
-use Rattle.dwarf_types.specs.LinkedShape.{objects_in}
+use Rattle.link_graph.specs.Graph.{graph_in}
 use Rattle.layout.proofs.DraftRuns.{Drafted}
 use Rattle.link_core.specs.Passes.{AreLeft}
 use Rattle.link_core.proofs.Graphs.{Waits}
@@ -11,4 +10,4 @@ use Rattle.link_core.proofs.graph.drafts_of.Given as goal
 abbrev pub invariant-loop-u : goal.invariant-loop-u
 invariant-loop-u l =
     let shape : Shape = record { units = l.shape.units; plain = l.shape.plain; images = l.shape.images } in
-    Drafted (linked (objects_in l.fn.seen shape)) l.u l.drafts × AreLeft l.gone l.fn.seen l.left × Waits shape l.u l.gone
+    Drafted (graph_in l.fn.seen shape) l.u l.drafts × AreLeft l.gone l.fn.seen l.left × Waits shape l.u l.gone

@@ -5,7 +5,6 @@ use Rattle.std.proofs.lemmas.List.Elements.{All-push}
 use Rattle.std.proofs.lemmas.Result.{err_from_is_err_and}
 use Rattle.dwarf_types.specs.declared.analysis.Analysis.{Analysis}
 use Rattle.dwarf_types.specs.Sound.{IsSound}
-use Rattle.linked_laws.specs.Given.{IsGiven}
 use Rattle.link_core.specs.Linked.{Source, analyses_from, source_of, sources_of}
 use Rattle.link_core.specs.Passes.{behind}
 use Rattle.link_core.proofs.Analysing.{object_more, object_refused, objects_all, source_at, sources_long}
@@ -45,7 +44,6 @@ loop-i-preserved c =
     record {
       exact = one ∙ ap (λ (l : List Analysis). behind l (analyses_from c.args.cpu (i + 1 + 1) (drop (i + 1) sources))) e;
       sound = subst (All IsSound) e (All-push IsSound seen it c.loop-i.invariant.sound (c.in_ok-it.ensures.sound c.analysis-read.ensures.sound));
-      given = subst (All IsGiven) e (All-push IsGiven seen it c.loop-i.invariant.given (c.in_ok-it.ensures.given c.analysis-read.ensures.given));
       size = omega (arith, ap length c.in_ok-push.ensures.ok, length-append seen (it ∷ []), c.loop-i.invariant.size);
     }
 
