@@ -213,7 +213,7 @@ code_alone code lt known = record {
       known = known;
       named = Nothing;
       spells = record { front = code ∷ []; back = []; is = refl; first = is_byte code (ltb-true _ _ lt); second = (refl, refl) };
-      no_base = tt;
+      alone = tt;
     },
     tt,
   );
@@ -239,7 +239,7 @@ register = record {
         first = is_byte 0x70 (omega arith);
         second = record { of = negsuc 0; spells = record { spelled = IsSpelled.last 0x7f (omega arith); value = refl; fits = refl }; is = refl };
       };
-      no_base = tt;
+      alone = tt;
     },
     tt,
   );

@@ -2,7 +2,7 @@
 use Rattle.std.specs.Prelude.{◌≡◌, ℕ, List, []}
 use Rattle.dwarf_types.specs.Spelled.{Followed, Made, IsUleb, IsSleb, IsNumber, IsCopy}
 use Rattle.dwarf_types.specs.declared.operands.Named.{Named}
-use Rattle.dwarf_types.specs.declared.operands.Named.TheVariants.{Nothing, Address, BaseType}
+use Rattle.dwarf_types.specs.declared.operands.Named.TheVariants.{Nothing, Address, BaseType, Index}
 use Rattle.dwarf_types.specs.declared.operands.Operands.{Operands}
 use Rattle.dwarf_types.specs.declared.operands.Operands.TheVariants as operands
 
@@ -24,5 +24,6 @@ SpellsOperands operands.BaseBlock bytes named = Followed IsUleb (λ base. Follow
 SpellsOperands operands.UlebBase bytes named = Followed IsUleb (λ n. Made (λ base. BaseType base) IsUleb) bytes named
 SpellsOperands operands.ByteBase bytes named = Followed (IsNumber 1) (λ n. Made (λ base. BaseType base) IsUleb) bytes named
 SpellsOperands operands.Base bytes named = Made (λ base. BaseType base) IsUleb bytes named
+SpellsOperands operands.Index bytes named = Made (λ index. Index index) IsUleb bytes named
 SpellsOperands operands.Expression bytes named = ⊥
 SpellsOperands operands.Outside bytes named = ⊥

@@ -4,7 +4,7 @@ use Rattle.std.specs.List.{All, concat}
 use Rattle.ds_base.specs.declared.dwarf.TheConstants.{DW_TAG_base_type}
 use Rattle.dwarf_types.specs.declared.graph.Node.{Node}
 use Rattle.dwarf_types.specs.declared.operands.Named.{Named}
-use Rattle.dwarf_types.specs.declared.operands.Named.TheVariants.{BaseType}
+use Rattle.dwarf_types.specs.declared.operands.Named.TheVariants.{BaseType, Index}
 use Rattle.dwarf_types.specs.declared.operands.Operands.{Operands}
 use Rattle.dwarf_types.specs.declared.operands.Operands.TheVariants as operands
 use Rattle.dwarf_types.specs.declared.parts.ExprPart.{ExprPart}
@@ -17,18 +17,19 @@ use Rattle.dwarf_types.specs.SpelledOperands.{SpellsOperands}
 
 -- ---- stretches of bytes
 
-abbrev pub NamesNoBase : Named → Type 0
-NamesNoBase (BaseType place) = ⊥
-NamesNoBase _ = Unit {0}
+abbrev pub StandsAlone : Named → Type 0
+StandsAlone (BaseType place) = ⊥
+StandsAlone (Index index) = ⊥
+StandsAlone _ = Unit {0}
 
--- the bytes of one operation that names no base type and is no entry value
+-- the bytes of one operation that names no base type and no entry of a table of addresses, and is no entry value
 pub record IsOperation (bytes : List ℕ) : Type 0 where
   pub code : ℕ
   pub row : Operands
   pub known : operands_of code ≡ Some row
   pub named : Named
   pub spells : InTurn (λ front. IsNumber 1 front code) (λ back. SpellsOperands row back named) bytes
-  pub no_base : NamesNoBase named
+  pub alone : StandsAlone named
 
 -- those of one operation after the other, and of one at least
 pub record AreOperations (bytes : List ℕ) : Type 0 where

@@ -46,6 +46,8 @@ pub enum Operands {
     ByteBase,
     /// A base type as a LEB number.
     Base,
+    /// The index of an entry of `__debug_addr` as a LEB number, in units of version 5.
+    Index,
     /// Those of an operation that this project does not read.
     Outside,
 }
@@ -58,6 +60,8 @@ pub enum Named {
     Address(u64),
     /// A base type, by its number as stored: its place in the unit, or 0 for the generic type.
     BaseType(u64),
+    /// An entry of `__debug_addr`, by its index.
+    Index(u64),
 }
 
 /// The operands of an operation by its code, or `None` where there is no such operation.
@@ -65,8 +69,8 @@ pub enum Named {
 /// Sections: DWARF 4, section 7.7.1 and figure 24, for the operations up to `DW_OP_stack_value`;
 /// DWARF 5, section 7.7.1 and table 7.9, for those from `DW_OP_implicit_pointer` on; GNU's
 /// `DW_OP_GNU_push_tls_address` and `DW_OP_GNU_entry_value`. Calls, pointers to what has no place
-/// and typed dereferences in other address spaces are outside of this project's profile, and so are,
-/// until units of version 5 are read, the operations that name an entry of `__debug_addr`.
+/// and typed dereferences in other address spaces are outside of this project's profile. The operations
+/// that name an entry of `__debug_addr` are there in units of version 5 alone.
 #[tactic(auto, unfolding(crate::specs::Operations::operands_of))]
 pub fn operands_after(code: u8) -> Option<Operands>
     ensures { result ≡ operands_of code }
@@ -96,7 +100,7 @@ pub fn operands_after(code: u8) -> Option<Operands>
         DW_OP_convert | DW_OP_reinterpret => Some(Operands::Base),
         DW_OP_call2 | DW_OP_call4 | DW_OP_call_ref => Some(Operands::Outside),
         DW_OP_implicit_pointer | DW_OP_xderef_type => Some(Operands::Outside),
-        DW_OP_addrx | DW_OP_constx => Some(Operands::Outside),
+        DW_OP_addrx | DW_OP_constx => Some(Operands::Index),
         _ => None,
     }
 }

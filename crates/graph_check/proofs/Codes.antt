@@ -19,7 +19,7 @@ operation b code = record {
   known = code.1;
   named = names.Nothing;
   spells = record { front = b ∷ []; back = []; is = refl; first = record { is = ap (λ (n : ℕ). n ∷ []) (sym (mod-eq_of_lt code.0)); fits = code.0 }; second = (refl, refl) };
-  no_base = tt;
+  alone = tt;
 }
 
 one_each : (bytes : List ℕ) → bytes ≡ concat (map (λ b. b ∷ []) bytes)

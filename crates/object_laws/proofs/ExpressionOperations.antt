@@ -15,7 +15,7 @@ use Rattle.dwarf_types.specs.Spelled.{AreBytes, InTurn, IsNumber}
 use Rattle.dwarf_types.specs.SpelledOperands.{SpellsOperands}
 use Rattle.dwarf_types.specs.LinkedExpressions.{before_base, behind_base}
 use Rattle.dwarf_types.specs.Operations.{operands_of}
-use Rattle.dwarf_types.specs.WholeParts.{IsOperation, NamesNoBase, SpellsAround}
+use Rattle.dwarf_types.specs.WholeParts.{IsOperation, StandsAlone, SpellsAround}
 use Rattle.linked_laws.specs.Given.{IsGivenBy, IsGivenPlain, MayName, NamesBase}
 use Rattle.object_laws.proofs.ExpressionBases.{around}
 
@@ -64,10 +64,10 @@ bytes_sound : (i k n : ℕ) → AreBytes (bytes_low_first i k n)
 bytes_sound i zero n = tt
 bytes_sound i (suc k) n = (byte_small i n, bytes_sound (suc i) k n)
 
-eight_spells : (row : Operands) (n : ℕ) → IsEight row → n < 2 ^ 64 → (named : Named) × SpellsOperands row (little_bytes 8 n) named × NamesNoBase named
-eight_spells row n (inl is) lt = subst (λ (r : Operands). (named : Named) × SpellsOperands r (little_bytes 8 n) named × NamesNoBase named) (sym is)
+eight_spells : (row : Operands) (n : ℕ) → IsEight row → n < 2 ^ 64 → (named : Named) × SpellsOperands row (little_bytes 8 n) named × StandsAlone named
+eight_spells row n (inl is) lt = subst (λ (r : Operands). (named : Named) × SpellsOperands r (little_bytes 8 n) named × StandsAlone named) (sym is)
     (Address n, record { of = n; spells = record { is = refl; fits = omega (arith, lt) }; is = refl }, tt)
-eight_spells row n (inr is) lt = subst (λ (r : Operands). (named : Named) × SpellsOperands r (little_bytes 8 n) named × NamesNoBase named) (sym is)
+eight_spells row n (inr is) lt = subst (λ (r : Operands). (named : Named) × SpellsOperands r (little_bytes 8 n) named × StandsAlone named) (sym is)
     (Nothing, record { of = little_bytes 8 n; spells = record { is = refl; sound = bytes_sound 0 8 n; len = refl }; is = refl }, tt)
 
 operation_with : (code : ℕ) (row : Operands) (n : ℕ) → operands_of code ≡ Some row → code < 256 ^ 1 → IsEight row → n < 2 ^ 64 → IsOperation (code ∷ little_bytes 8 n)
@@ -79,14 +79,14 @@ operation_with code row n known fits eight lt =
       known = known;
       named = e.0;
       spells = record { front = code ∷ []; back = little_bytes 8 n; is = refl; first = record { is = sym (one_byte code fits); fits = fits }; second = e.1 };
-      no_base = e.2;
+      alone = e.2;
     }
 
 -- ---- operations that name no base type
 
-moved_operation : (op : PlainOp) (address : Option Place) (m : IsMeant op) → AddressFits m.row address → NamesNoBase m.named
+moved_operation : (op : PlainOp) (address : Option Place) (m : IsMeant op) → AddressFits m.row address → StandsAlone m.named
     → IsOperation (option_map_or (λ place. op.code ∷ little_bytes 8 (linked_number place)) address op.bytes)
-moved_operation op None m fits none = record { code = op.code; row = m.row; known = m.known; named = m.named; spells = m.spells; no_base = none }
+moved_operation op None m fits none = record { code = op.code; row = m.row; known = m.known; named = m.named; spells = m.spells; alone = none }
 moved_operation op (Some place) m fits none = operation_with op.code m.row (linked_number place) m.known m.spells.first.fits fits.0 fits.1
 
 -- ---- operations that name one
@@ -106,8 +106,8 @@ names_base op base n row known spells may =
     }
 
 given_by : (op : PlainOp) (m : IsMeant op) (named : Named) (base : Option Base) → m.named ≡ named → BaseFits m.row named base → IsGivenBy op base
-given_by op m Nothing None is fits = moved_operation op op.address m m.address (subst NamesNoBase (sym is) tt)
-given_by op m (Address a) None is fits = moved_operation op op.address m m.address (subst NamesNoBase (sym is) tt)
+given_by op m Nothing None is fits = moved_operation op op.address m m.address (subst StandsAlone (sym is) tt)
+given_by op m (Address a) None is fits = moved_operation op op.address m m.address (subst StandsAlone (sym is) tt)
 given_by op m (BaseType n) None is fits = absurd fits
 given_by op m Nothing (Some base) is fits = absurd fits
 given_by op m (Address a) (Some base) is fits = absurd fits
