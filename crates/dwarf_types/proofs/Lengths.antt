@@ -1,12 +1,12 @@
 -- The lengths that are told of parts of the output are those of their bytes.
-use Rattle.std.proofs.Common.{◌≡◌, ℕ, ◌+◌, ◌==◌, Bool, true, false, cond, List, [], ◌∷◌, ◌++◌, length, replicate, sum_by, flat_map, Option, refl, ap, ◌∙◌, arith, length-append}
+use Rattle.std.proofs.Common.{◌≡◌, ℕ, ◌+◌, ◌*◌, ◌==◌, Bool, true, false, cond, List, [], ◌∷◌, ◌++◌, length, replicate, sum_by, flat_map, Option, refl, ap, ◌∙◌, arith, length-append}
 use mathlib.Core.Path.{fun_ext}
 use Rattle.std.specs.Int.{w64, cast_signed}
 use Rattle.std.proofs.lemmas.List.{length-replicate}
 use Rattle.std.proofs.lemmas.List.Concat.{length-flat_map}
 use Rattle.std.proofs.lemmas.List.Sums.{sum_by-cons}
 use Rattle.byteorder.specs.Endian.{little_bytes}
-use Rattle.ds_base.specs.declared.dwarf.TheConstants.{DW_FORM_block1, DW_FORM_block2, DW_FORM_block4, DW_FORM_data1, DW_FORM_data2, DW_FORM_data4, DW_FORM_data8, DW_FORM_flag, DW_FORM_sdata, DW_FORM_udata}
+use Rattle.ds_base.specs.declared.dwarf.TheConstants.{DW_FORM_block1, DW_FORM_block2, DW_FORM_block4, DW_FORM_data1, DW_FORM_data2, DW_FORM_data4, DW_FORM_data8, DW_FORM_flag, DW_FORM_sdata, DW_FORM_udata, DW_LLE_start_end, DW_RLE_end_of_list, DW_RLE_start_end, DW_UT_compile}
 use Rattle.ds_base.specs.Leb.{uleb, uleb_len_of, sleb, sleb_len_of}
 use Rattle.ds_base.proofs.LebLengths.{length-uleb, length-sleb}
 use Rattle.dwarf_types.specs.declared.address.Span.{Span}
@@ -20,11 +20,11 @@ use Rattle.dwarf_types.specs.declared.parts.ExprPart.TheVariants as parts
 use Rattle.dwarf_types.specs.declared.parts.PlainPart.{PlainPart}
 use Rattle.dwarf_types.specs.declared.parts.PlainPart.TheVariants as plain
 use Rattle.dwarf_types.specs.Aranges.{set_len, set_bytes}
-use Rattle.dwarf_types.specs.Entries.{OutEntry, entry_len, entry_bytes, entries_bytes, entries_of, behind_node, unit_len, unit_bytes}
+use Rattle.dwarf_types.specs.Entries.{OutEntry, entry_len, entry_bytes, entries_bytes, entries_of, behind_node, header_bytes, header_fields, header_len, unit_len, unit_bytes}
 use Rattle.dwarf_types.specs.Expressions.{typed_len, typed_bytes, base_bytes, plain_part_len, plain_part_bytes, inner_len, inner_bytes, part_len, part_bytes, expression_len, expression_bytes}
 use Rattle.dwarf_types.specs.Frames.{FrameEntry, Common, Description, frame_entry_len, frame_entry_bytes, frames_len, frames_bytes, frame_entries}
 use Rattle.dwarf_types.specs.declared.frames.OutFrame.{OutFrame}
-use Rattle.dwarf_types.specs.Lists.{range_list_len, range_list_bytes, location_len, location_bytes, location_list_len, location_list_bytes}
+use Rattle.dwarf_types.specs.Lists.{end_len, end_of_list, kind_bytes, kind_len, range_bytes, range_list_len, range_list_bytes, location_len, location_bytes, location_list_len, location_list_bytes, size_bytes, size_len, span_bytes}
 use Rattle.dwarf_types.specs.Places.{Places, ListPlaces, behind_value, own_node}
 use Rattle.dwarf_types.specs.Values.{block_prefix, block_prefix_len, number_bytes, number_len, value_bytes, value_len, values_bytes, values_len}
 
@@ -54,16 +54,56 @@ length-expression place expression = length_of_all (part_bytes place) part_len (
 
 -- ---- lists
 
-pub length-range_list : (spans : List Span) → length (range_list_bytes spans) ≡ range_list_len spans
-length-range_list [] = refl
-length-range_list (s ∷ spans) = let h = length-range_list spans in omega (arith, h)
+length_if : (five : Bool) (xs ys : List ℕ) (m n : ℕ) → length xs ≡ m → length ys ≡ n → length (cond five xs ys) ≡ cond five m n
+length_if true xs ys m n e h = e
+length_if false xs ys m n e h = h
 
-length-location : (place : ℕ → ℕ) (item : OutLocation) → length (location_bytes place item) ≡ location_len item
-length-location place item = omega (arith, length-expression place item.parts)
+length-kind : (version kind : ℕ) → length (kind_bytes version kind) ≡ kind_len version
+length-kind version kind = length_if (version == 5) (kind ∷ []) [] 1 0 refl refl
 
-pub length-location_list : (place : ℕ → ℕ) (items : List OutLocation) → length (location_list_bytes place items) ≡ location_list_len items
-length-location_list place items =
-    length-append (flat_map (location_bytes place) items) (replicate 16 0) ∙ ap (λ (n : ℕ). n + 16) (length_of_all (location_bytes place) location_len (length-location place) items)
+length-end : (version : ℕ) → length (end_of_list version) ≡ end_len version
+length-end version = length_if (version == 5) (DW_RLE_end_of_list ∷ []) (replicate 16 0) 1 16 refl refl
+
+length-size : (version n : ℕ) → length (size_bytes version n) ≡ size_len version n
+length-size version n = length_if (version == 5) (uleb n) (little_bytes 2 n) (uleb_len_of n) 2 (length-uleb n) refl
+
+length-range : (version : ℕ) (s : Span) → length (range_bytes version s) ≡ kind_len version + 16
+length-range version s = length-append (kind_bytes version DW_RLE_start_end) (span_bytes s) ∙ ap (λ (n : ℕ). n + 16) (length-kind version DW_RLE_start_end)
+
+all_ranges : (version : ℕ) (spans : List Span) → length (flat_map (range_bytes version) spans) ≡ (kind_len version + 16) * length spans
+all_ranges version [] = omega arith
+all_ranges version (s ∷ spans) =
+    let all : length (flat_map (range_bytes version) (s ∷ spans)) ≡ length (range_bytes version s) + length (flat_map (range_bytes version) spans) = length-append (range_bytes version s) (flat_map (range_bytes version) spans) in
+    let each = length-range version s in
+    let others = all_ranges version spans in
+    let more : (kind_len version + 16) * (length spans + 1) ≡ (kind_len version + 16) * length spans + (kind_len version + 16) = omega arith in
+    omega (arith, all, each, others, more)
+
+pub length-range_list : (version : ℕ) (spans : List Span) → length (range_list_bytes version spans) ≡ range_list_len version spans
+length-range_list version spans =
+    omega (arith, length-append (flat_map (range_bytes version) spans) (end_of_list version), all_ranges version spans, length-end version)
+
+length-location : (version : ℕ) (place : ℕ → ℕ) (item : OutLocation) → length (location_bytes version place item) ≡ location_len version item
+length-location version place item =
+    let size = size_bytes version (expression_len item.parts) in
+    omega (
+      arith,
+      length-append (kind_bytes version DW_LLE_start_end) (span_bytes item.span ++ (size ++ expression_bytes place item.parts)),
+      length-append (span_bytes item.span) (size ++ expression_bytes place item.parts),
+      length-append size (expression_bytes place item.parts),
+      length-kind version DW_LLE_start_end,
+      length-size version (expression_len item.parts),
+      length-expression place item.parts,
+    )
+
+pub length-location_list : (version : ℕ) (place : ℕ → ℕ) (items : List OutLocation) → length (location_list_bytes version place items) ≡ location_list_len version items
+length-location_list version place items =
+    omega (
+      arith,
+      length-append (flat_map (location_bytes version place) items) (end_of_list version),
+      length_of_all (location_bytes version place) (location_len version) (length-location version place) items,
+      length-end version,
+    )
 
 -- ---- values
 
@@ -111,8 +151,8 @@ length-value places next values.Lines = refl
 pub length-values : (places : Places) (next : ListPlaces) (attrs : List OutAttr) → length (values_bytes places next attrs) ≡ values_len attrs
 length-values places next [] = refl
 length-values places next (a ∷ attrs) =
-    let rest = values_bytes places (behind_value next a.value) attrs in
-    omega (arith, length-append (value_bytes places next a.value) rest, length-value places next a.value, length-values places (behind_value next a.value) attrs, sum_by-cons (λ (b : OutAttr). value_len b.value) a attrs)
+    let rest = values_bytes places (behind_value places.version next a.value) attrs in
+    omega (arith, length-append (value_bytes places next a.value) rest, length-value places next a.value, length-values places (behind_value places.version next a.value) attrs, sum_by-cons (λ (b : OutAttr). value_len b.value) a attrs)
 
 -- ---- entries
 
@@ -130,11 +170,28 @@ length-entry places next entry =
 pub length-entries : (places : Places) (next : ListPlaces) (entries : List OutEntry) → length (entries_bytes places next entries) ≡ sum_by entry_len entries
 length-entries places next [] = refl
 length-entries places next (e ∷ es) =
-    let rest = entries_bytes places (behind_node next e.node) es in
-    omega (arith, length-append (entry_bytes places next e) rest, length-entry places next e, length-entries places (behind_node next e.node) es, sum_by-cons entry_len e es)
+    let rest = entries_bytes places (behind_node places.version next e.node) es in
+    omega (arith, length-append (entry_bytes places next e) rest, length-entry places next e, length-entries places (behind_node places.version next e.node) es, sum_by-cons entry_len e es)
+
+length-fields : (version table : ℕ) → 6 + length (header_fields version table) ≡ header_len version
+length-fields version table =
+    ap (λ (n : ℕ). 6 + n) (length_if (version == 5) (DW_UT_compile ∷ 8 ∷ little_bytes 4 table) (little_bytes 4 table ++ 8 ∷ []) 6 5 refl refl) ∙ six (version == 5)
+  where
+    six : (five : Bool) → 6 + cond five 6 5 ≡ cond five 12 11
+    six true = refl
+    six false = refl
+
+pub length-header : (u table : ℕ) (unit : OutUnit) → length (header_bytes u table unit) ≡ header_len unit.version
+length-header u table unit = omega (arith, length-fields unit.version table)
 
 pub length-unit : (places : Places) (next : ListPlaces) (table : ℕ) (unit : OutUnit) → length (unit_bytes places next table unit) ≡ unit_len places.unit unit
-length-unit places next table unit = omega (arith, length-entries places next (entries_of places.unit unit))
+length-unit places next table unit =
+    omega (
+      arith,
+      length-append (header_bytes places.unit table unit) (entries_bytes places next (entries_of places.unit unit)),
+      length-header places.unit table unit,
+      length-entries places next (entries_of places.unit unit),
+    )
 
 -- ---- sets of addresses, frames
 

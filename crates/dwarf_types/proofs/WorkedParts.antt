@@ -1,8 +1,9 @@
 -- Parts of sections as they stand in a file, byte for byte: a line program, an expression, lists, frames.
-use Rattle.std.proofs.Common.{◌≡◌, ℕ, true, false, List, [], ◌∷◌, ◌++◌, replicate, Some, refl}
+use Rattle.std.proofs.Common.{◌≡◌, ◌==◌, ℕ, true, false, List, [], ◌∷◌, ◌++◌, length, replicate, Some, None, refl, if◌then◌else◌}
 use Rattle.ds_base.specs.Leb.{uleb, sleb}
 use Rattle.dwarf_types.specs.declared.address.Span.{Span}
 use Rattle.dwarf_types.specs.declared.frames.OutFrame.{OutFrame}
+use Rattle.dwarf_types.specs.declared.lines.FileName.{FileName}
 use Rattle.dwarf_types.specs.declared.lines.Row.{Row}
 use Rattle.dwarf_types.specs.declared.lines.Sequence.{Sequence}
 use Rattle.dwarf_types.specs.declared.parts.ExprPart.{ExprPart}
@@ -10,7 +11,8 @@ use Rattle.dwarf_types.specs.declared.parts.ExprPart.TheVariants as parts
 use Rattle.dwarf_types.specs.Expressions.{expression_len, expression_bytes}
 use Rattle.dwarf_types.specs.Frames.{frames_len, frames_bytes}
 use Rattle.dwarf_types.specs.LineProgram.{sequence_bytes}
-use Rattle.dwarf_types.specs.Lists.{location_list_len, location_list_bytes, range_list_len, range_list_bytes}
+use Rattle.dwarf_types.specs.LineTable.{line_table_bytes}
+use Rattle.dwarf_types.specs.Lists.{behind_header, location_list_len, location_list_bytes, range_list_len, range_list_bytes}
 
 -- ---- a line program: lines 11 and 12 at 0x100002000 and 0x100002010, up to 0x100002020
 
@@ -48,24 +50,57 @@ expression_length = refl
 span : Span
 span = record { low = 0x100002000; high = 0x100002010 }
 
-locations : location_list_bytes (λ k. 0) (record { span = span; parts = parts.Plain (0x50 ∷ []) ∷ [] } ∷ []) ≡
+locations : location_list_bytes 4 (λ k. 0) (record { span = span; parts = parts.Plain (0x50 ∷ []) ∷ [] } ∷ []) ≡
     0x00 ∷ 0x20 ∷ 0x00 ∷ 0x00 ∷ 0x01 ∷ 0x00 ∷ 0x00 ∷ 0x00 ∷ 0x10 ∷ 0x20 ∷ 0x00 ∷ 0x00 ∷ 0x01 ∷ 0x00 ∷ 0x00 ∷ 0x00
     ∷ 0x01 ∷ 0x00 ∷ 0x50
     ∷ replicate 16 0
 unfolding span
 locations = refl
 
-locations_length : location_list_len (record { span = span; parts = parts.Plain (0x50 ∷ []) ∷ [] } ∷ []) ≡ 35
+locations_length : location_list_len 4 (record { span = span; parts = parts.Plain (0x50 ∷ []) ∷ [] } ∷ []) ≡ 35
 locations_length = refl
 
-ranges : range_list_bytes (span ∷ []) ≡
+ranges : range_list_bytes 4 (span ∷ []) ≡
     0x00 ∷ 0x20 ∷ 0x00 ∷ 0x00 ∷ 0x01 ∷ 0x00 ∷ 0x00 ∷ 0x00 ∷ 0x10 ∷ 0x20 ∷ 0x00 ∷ 0x00 ∷ 0x01 ∷ 0x00 ∷ 0x00 ∷ 0x00
     ∷ replicate 16 0
 unfolding span
 ranges = refl
 
-ranges_length : range_list_len (span ∷ []) ≡ 32
+ranges_length : range_list_len 4 (span ∷ []) ≡ 32
 ranges_length = refl
+
+-- ---- the same lists in version 5, the range list behind the header of its section
+
+locations_of_5 : location_list_bytes 5 (λ k. 0) (record { span = span; parts = parts.Plain (0x50 ∷ []) ∷ [] } ∷ []) ≡
+    0x07 ∷ 0x00 ∷ 0x20 ∷ 0x00 ∷ 0x00 ∷ 0x01 ∷ 0x00 ∷ 0x00 ∷ 0x00 ∷ 0x10 ∷ 0x20 ∷ 0x00 ∷ 0x00 ∷ 0x01 ∷ 0x00 ∷ 0x00 ∷ 0x00
+    ∷ 0x01 ∷ 0x50
+    ∷ 0x00 ∷ []
+unfolding span uleb
+locations_of_5 = refl
+
+ranges_of_5 : behind_header (range_list_bytes 5 (span ∷ [])) ≡
+    0x1a ∷ 0x00 ∷ 0x00 ∷ 0x00 ∷ 0x05 ∷ 0x00 ∷ 0x08 ∷ 0x00 ∷ 0x00 ∷ 0x00 ∷ 0x00 ∷ 0x00
+    ∷ 0x06 ∷ 0x00 ∷ 0x20 ∷ 0x00 ∷ 0x00 ∷ 0x01 ∷ 0x00 ∷ 0x00 ∷ 0x00 ∷ 0x10 ∷ 0x20 ∷ 0x00 ∷ 0x00 ∷ 0x01 ∷ 0x00 ∷ 0x00 ∷ 0x00
+    ∷ 0x00 ∷ []
+unfolding span
+ranges_of_5 = refl
+
+-- ---- a line table of version 5: two files of one name in one directory, without digests, whose texts stand at 0 and 5
+
+named : List ℕ → ℕ
+named text = if length text == 4 then 0 else 5
+
+twice : FileName
+twice = record { name = 0x61 ∷ 0x2e ∷ 0x63 ∷ []; dir = 0; time = 0; size = 0; digest = None }
+
+table_of_5 : line_table_bytes 5 named (record { dirs = (0x2f ∷ 0x73 ∷ 0x72 ∷ 0x63 ∷ []) ∷ []; files = twice ∷ twice ∷ []; sequences = [] }) ≡
+    0x3a ∷ 0x00 ∷ 0x00 ∷ 0x00 ∷ 0x05 ∷ 0x00 ∷ 0x08 ∷ 0x00 ∷ 0x32 ∷ 0x00 ∷ 0x00 ∷ 0x00 ∷ 0x01 ∷ 0x01 ∷ 0x01 ∷ 0xfb ∷ 0x0e ∷ 0x0d
+    ∷ 0x00 ∷ 0x01 ∷ 0x01 ∷ 0x01 ∷ 0x01 ∷ 0x00 ∷ 0x00 ∷ 0x00 ∷ 0x01 ∷ 0x00 ∷ 0x00 ∷ 0x01
+    ∷ 0x01 ∷ 0x01 ∷ 0x1f ∷ 0x01 ∷ 0x00 ∷ 0x00 ∷ 0x00 ∷ 0x00
+    ∷ 0x04 ∷ 0x01 ∷ 0x1f ∷ 0x02 ∷ 0x0f ∷ 0x03 ∷ 0x0f ∷ 0x04 ∷ 0x0f
+    ∷ 0x02 ∷ 0x05 ∷ 0x00 ∷ 0x00 ∷ 0x00 ∷ 0x00 ∷ 0x00 ∷ 0x00 ∷ 0x05 ∷ 0x00 ∷ 0x00 ∷ 0x00 ∷ 0x00 ∷ 0x00 ∷ 0x00 ∷ []
+unfolding uleb named twice
+table_of_5 = refl
 
 -- ---- a common information entry, and a frame description that names it
 

@@ -1,5 +1,5 @@
 -- A graph of two units with references between them, a line table, lists and frames. The bytes wanted are an assembler's, which placed them by labels.
-use Rattle.std.proofs.Common.{◌≡◌, ℕ, zero, suc, ◌-◌, ◌^◌, ◌<◌, ltb, negsuc, true, false, List, [], ◌∷◌, Some, None, All, refl, sym, ap, ◌∙◌, drop, slice_get, arith}
+use Rattle.std.proofs.Common.{inl, ◌≡◌, ℕ, zero, suc, ◌-◌, ◌^◌, ◌<◌, ltb, negsuc, true, false, List, [], ◌∷◌, Some, None, All, refl, sym, ap, ◌∙◌, drop, slice_get, arith}
 use Rattle.std.specs.List.{AllByRecursion}
 use Rattle.std.proofs.lemmas.Bool.{ltb-true, ltb-false}
 use Rattle.std.proofs.lemmas.List.Elements.{All-from_recursion}
@@ -28,7 +28,7 @@ use Rattle.dwarf_types.specs.Values.{block_prefix, block_prefix_len, number_byte
 use Rattle.dwarf_types.specs.Well.{IsWell, IsWellUnit}
 use Rattle.dwarf_types.specs.WellNodes.{IsAttribute, IsNode, IsPreorderParent, IsUp, has_lines, is_dropped}
 use Rattle.dwarf_types.specs.WellRoots.{without_ranges, with_ranges}
-use Rattle.dwarf_types.specs.WellLines.{IsFile, IsFrame, IsLineTable, IsPath, IsRow, IsSequence}
+use Rattle.dwarf_types.specs.WellLines.{IsFile, IsFrame, IsLineTable, IsPath, IsRow, IsSequence, none_has}
 use Rattle.dwarf_types.specs.WellValues.{IsLocation, IsSpan, IsValue, IsTarget, MayStand, in_block1, in_data1, in_data8, in_flag_present, in_sdata, in_udata}
 use Rattle.dwarf_types.specs.WholeParts.{IsOperation, AreOperations, IsWholePart, IsWholePlainPart, IsWhole}
 use Rattle.dwarf_types.specs.Encode.{abbrev_section, info_section, str_section, line_section, ranges_section, loc_section, aranges_section, frame_section}
@@ -263,7 +263,7 @@ converted_whole = record {
 }
 
 -- an attribute with a name that may stand
-attribute : (nodes : List Node) (name : ℕ) (value : OutValue) → ltb 0 name ≡ true → ltb name (2 ^ 16) ≡ true → is_dropped name ≡ false → IsValue graph nodes value → MayStand name value → IsAttribute graph nodes (attr name value)
+attribute : (nodes : List Node) (name : ℕ) (value : OutValue) → ltb 0 name ≡ true → ltb name (2 ^ 16) ≡ true → is_dropped name ≡ false → IsValue graph 4 nodes value → MayStand name value → IsAttribute graph 4 nodes (attr name value)
 unfolding attr
 attribute nodes name value some fits kept holds stands = record { some = ltb-true _ _ some; fits = ltb-true _ _ fits; kept = kept; value = holds; stands = stands }
 
@@ -274,27 +274,27 @@ is_span : (low high : ℕ) → ltb low high ≡ true → ltb high (2 ^ 64) ≡ t
 unfolding span
 is_span low high some fits = record { some = ltb-true _ _ some; fits = ltb-true _ _ fits }
 
-is_location : (nodes : List Node) (low high : ℕ) (expression : List ExprPart) → ltb low high ≡ true → ltb high (2 ^ 64) ≡ true → IsWhole nodes expression → ltb (expression_len expression) (2 ^ 16) ≡ true → IsLocation nodes (location low high expression)
+is_location : (nodes : List Node) (low high : ℕ) (expression : List ExprPart) → ltb low high ≡ true → ltb high (2 ^ 64) ≡ true → IsWhole nodes expression → ltb (expression_len expression) (2 ^ 16) ≡ true → IsLocation 4 nodes (location low high expression)
 unfolding location
-is_location nodes low high expression some fits whole short = record { span = is_span low high some fits; whole = whole; short = ltb-true _ _ short }
+is_location nodes low high expression some fits whole short = record { span = is_span low high some fits; whole = whole; short = λ four. ltb-true _ _ short }
 
-node_of : (nodes : List Node) (node : Node) → ltb 0 node.tag ≡ true → ltb node.tag (2 ^ 16) ≡ true → AllByRecursion (IsAttribute graph nodes) node.attrs → IsNode graph nodes node
-node_of nodes node some fits each = record { some = ltb-true _ _ some; fits = ltb-true _ _ fits; attrs = All-from_recursion (IsAttribute graph nodes) node.attrs each }
+node_of : (nodes : List Node) (node : Node) → ltb 0 node.tag ≡ true → ltb node.tag (2 ^ 16) ≡ true → AllByRecursion (IsAttribute graph 4 nodes) node.attrs → IsNode graph 4 nodes node
+node_of nodes node some fits each = record { some = ltb-true _ _ some; fits = ltb-true _ _ fits; attrs = All-from_recursion (IsAttribute graph 4 nodes) node.attrs each }
 
 -- of the first unit, and of the second
-in_first : (name : ℕ) (value : OutValue) → ltb 0 name ≡ true → ltb name (2 ^ 16) ≡ true → is_dropped name ≡ false → IsValue graph first.nodes value → MayStand name value → IsAttribute graph first.nodes (attr name value)
+in_first : (name : ℕ) (value : OutValue) → ltb 0 name ≡ true → ltb name (2 ^ 16) ≡ true → is_dropped name ≡ false → IsValue graph 4 first.nodes value → MayStand name value → IsAttribute graph 4 first.nodes (attr name value)
 in_first name value some fits kept holds stands = attribute first.nodes name value some fits kept holds stands
 
-in_second : (name : ℕ) (value : OutValue) → ltb 0 name ≡ true → ltb name (2 ^ 16) ≡ true → is_dropped name ≡ false → IsValue graph second.nodes value → MayStand name value → IsAttribute graph second.nodes (attr name value)
+in_second : (name : ℕ) (value : OutValue) → ltb 0 name ≡ true → ltb name (2 ^ 16) ≡ true → is_dropped name ≡ false → IsValue graph 4 second.nodes value → MayStand name value → IsAttribute graph 4 second.nodes (attr name value)
 in_second name value some fits kept holds stands = attribute second.nodes name value some fits kept holds stands
 
-first_nodes : All (IsNode graph first.nodes) first.nodes
+first_nodes : All (IsNode graph 4 first.nodes) first.nodes
 unfolding attr entry root u int to span location stretch converted row rows lines first second cie graph operands_of has_no_operands
 first_nodes =
-    let of : (node : Node) → ltb 0 node.tag ≡ true → ltb node.tag (2 ^ 16) ≡ true → AllByRecursion (IsAttribute graph first.nodes) node.attrs → IsNode graph first.nodes node = node_of first.nodes in
+    let of : (node : Node) → ltb 0 node.tag ≡ true → ltb node.tag (2 ^ 16) ≡ true → AllByRecursion (IsAttribute graph 4 first.nodes) node.attrs → IsNode graph 4 first.nodes node = node_of first.nodes in
     let base : IsTarget graph (record { unit = 0; node = 1 }) = record { unit = first; stands = refl; inside = omega arith } in
     let structure : IsTarget graph (record { unit = 1; node = 1 }) = record { unit = second; stands = refl; inside = omega arith } in
-    All-from_recursion (IsNode graph first.nodes) first.nodes (
+    All-from_recursion (IsNode graph 4 first.nodes) first.nodes (
       of _ refl refl (in_first DW_AT_name u refl refl refl byte_texts.0 tt, (in_first DW_AT_stmt_list values.Lines refl refl refl tt tt, tt)),
       (
         of _ refl refl (
@@ -318,7 +318,7 @@ first_nodes =
           (
             of _ refl refl (
               in_first DW_AT_location (values.Locations (location 0x1000 0x1010 converted ∷ [])) refl refl refl
-                  (All-from_recursion (IsLocation first.nodes) (location 0x1000 0x1010 converted ∷ []) (is_location first.nodes 0x1000 0x1010 converted refl refl converted_whole refl, tt)) refl,
+                  (All-from_recursion (IsLocation 4 first.nodes) (location 0x1000 0x1010 converted ∷ []) (is_location first.nodes 0x1000 0x1010 converted refl refl converted_whole refl, tt)) refl,
               (in_first DW_AT_type (to 1 1) refl refl refl structure tt, tt),
             ),
             (
@@ -330,7 +330,7 @@ first_nodes =
               (
                 of _ refl refl (
                   in_first DW_AT_location (values.Locations (location 0x1000 0x1004 (stretch (0x50 ∷ [])) ∷ location 0x1004 0x1008 (stretch (0x51 ∷ [])) ∷ [])) refl refl refl
-                      (All-from_recursion (IsLocation first.nodes) (location 0x1000 0x1004 (stretch (0x50 ∷ [])) ∷ location 0x1004 0x1008 (stretch (0x51 ∷ [])) ∷ []) (
+                      (All-from_recursion (IsLocation 4 first.nodes) (location 0x1000 0x1004 (stretch (0x50 ∷ [])) ∷ location 0x1004 0x1008 (stretch (0x51 ∷ [])) ∷ []) (
                         is_location first.nodes 0x1000 0x1004 (stretch (0x50 ∷ [])) refl refl (is_stretch first.nodes (0x50 ∷ []) (code_alone 0x50 refl refl)) refl,
                         (is_location first.nodes 0x1004 0x1008 (stretch (0x51 ∷ [])) refl refl (is_stretch first.nodes (0x51 ∷ []) (code_alone 0x51 refl refl)) refl, tt),
                       )) refl,
@@ -350,12 +350,12 @@ first_nodes =
       ),
     )
 
-second_nodes : All (IsNode graph second.nodes) second.nodes
+second_nodes : All (IsNode graph 4 second.nodes) second.nodes
 unfolding attr entry root u int to span location stretch converted row rows lines first second cie graph operands_of has_no_operands
 second_nodes =
-    let of : (node : Node) → ltb 0 node.tag ≡ true → ltb node.tag (2 ^ 16) ≡ true → AllByRecursion (IsAttribute graph second.nodes) node.attrs → IsNode graph second.nodes node = node_of second.nodes in
+    let of : (node : Node) → ltb 0 node.tag ≡ true → ltb node.tag (2 ^ 16) ≡ true → AllByRecursion (IsAttribute graph 4 second.nodes) node.attrs → IsNode graph 4 second.nodes node = node_of second.nodes in
     let base : IsTarget graph (record { unit = 0; node = 1 }) = record { unit = first; stands = refl; inside = omega arith } in
-    All-from_recursion (IsNode graph second.nodes) second.nodes (
+    All-from_recursion (IsNode graph 4 second.nodes) second.nodes (
       of _ refl refl (
         in_second DW_AT_name u refl refl refl byte_texts.0 tt,
         (
@@ -376,7 +376,7 @@ second_nodes =
           (
             of _ refl refl (
               in_second DW_AT_location (values.Locations (location 0x1000 0x1020 (stretch (0x70 ∷ 0x7f ∷ [])) ∷ [])) refl refl refl
-                  (All-from_recursion (IsLocation second.nodes) (location 0x1000 0x1020 (stretch (0x70 ∷ 0x7f ∷ [])) ∷ []) (
+                  (All-from_recursion (IsLocation 4 second.nodes) (location 0x1000 0x1020 (stretch (0x70 ∷ 0x7f ∷ [])) ∷ []) (
                     is_location second.nodes 0x1000 0x1020 (stretch (0x70 ∷ 0x7f ∷ [])) refl refl (is_stretch second.nodes (0x70 ∷ 0x7f ∷ []) register) refl,
                     tt,
                   )) refl,
@@ -414,20 +414,20 @@ second_preorder (suc (suc (suc k))) node e = absurd cc
 is_row : (r : Row) → ltb r.address (2 ^ 64) ≡ true → ltb r.file (2 ^ 64) ≡ true → ltb r.line (2 ^ 32) ≡ true → ltb r.column (2 ^ 64) ≡ true → ltb r.discriminator (2 ^ 64) ≡ true → ltb r.isa (2 ^ 64) ≡ true → IsRow r
 is_row r a b c d e f = record { address = ltb-true _ _ a; file = ltb-true _ _ b; line = ltb-true _ _ c; column = ltb-true _ _ d; discriminator = ltb-true _ _ e; isa = ltb-true _ _ f }
 
-well_lines : IsLineTable lines
+well_lines : IsLineTable 4 lines
 unfolding lines rows row
 well_lines = record {
-  dirs = All-from_recursion IsPath lines.dirs (record { some = omega arith; text = ((omega arith, omega arith), tt) }, tt);
-  files = All-from_recursion IsFile lines.files (
+  dirs = All-from_recursion (IsPath 4) lines.dirs (record { some = λ four. omega arith; text = ((omega arith, omega arith), tt) }, tt);
+  files = All-from_recursion (IsFile 4) lines.files (
     record {
-      name = record { some = omega arith; text = ((omega arith, omega arith), ((omega arith, omega arith), ((omega arith, omega arith), tt))) };
+      name = record { some = λ four. omega arith; text = ((omega arith, omega arith), ((omega arith, omega arith), ((omega arith, omega arith), tt))) };
       dir = omega arith;
       time = omega arith;
       size = omega arith;
-      digest = refl;
     },
     tt,
   );
+  digests = none_has (All-from_recursion (λ file. file.digest ≡ None) lines.files (refl, tt));
   sequences = All-from_recursion IsSequence lines.sequences (
     record {
       some = omega arith;
@@ -458,7 +458,7 @@ unfolding attr entry root u int to span location stretch converted row rows line
 well = record {
   units = All-from_recursion (IsWellUnit graph) graph.units (
     record {
-      version = refl;
+      version = inl refl;
       root = root (attr DW_AT_name u ∷ attr DW_AT_stmt_list values.Lines ∷ []);
       below = drop 1 first.nodes;
       nodes = refl;
@@ -471,7 +471,7 @@ well = record {
     },
     (
       record {
-        version = refl;
+        version = inl refl;
         root = root (attr DW_AT_name u ∷ attr DW_AT_low_pc (values.Address 0) ∷ attr DW_AT_ranges (values.Ranges (span 0x1000 0x1020 ∷ [])) ∷ []);
         below = drop 1 second.nodes;
         nodes = refl;

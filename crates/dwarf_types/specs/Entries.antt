@@ -1,8 +1,9 @@
--- The entries of an output unit as bytes, and where each stands (DWARF 4, sections 7.5.1 and 7.5.2).
-use Rattle.std.specs.Prelude.{ℕ, zero, suc, ◌+◌, ◌-◌, List, [], ◌∷◌, ◌++◌, length, map, take, replicate, slice_get, Option, nat_lt, if◌then◌else◌}
+-- The entries of an output unit as bytes, and where each stands (DWARF 4, sections 7.5.1 and 7.5.2; DWARF 5, section 7.5.1.1, for the header of version 5).
+use Rattle.std.specs.Prelude.{ℕ, zero, suc, ◌+◌, ◌-◌, ◌==◌, List, [], ◌∷◌, ◌++◌, length, map, take, replicate, slice_get, Option, nat_lt, if◌then◌else◌}
 use Rattle.std.specs.Option.{option_and_then, option_map_or}
 use Rattle.std.specs.List.{enumerate_from, sum_by}
 use Rattle.byteorder.specs.Endian.{little_bytes}
+use Rattle.ds_base.specs.declared.dwarf.TheConstants.{DW_UT_compile}
 use Rattle.ds_base.specs.Leb.{uleb, uleb_len_of}
 use Rattle.dwarf_types.specs.declared.graph.Node.{Node}
 use Rattle.dwarf_types.specs.declared.graph.OutUnit.{OutUnit}
@@ -52,40 +53,44 @@ entries_of u unit = map (λ n. entry_of u unit.nodes n.0 n.1) (enumerate_from 0 
 abbrev pub entry_len : OutEntry → ℕ
 entry_len entry = uleb_len_of entry.code + (values_len entry.node.attrs + entry.ended)
 
--- unit_length, version, debug_abbrev_offset, address_size
-abbrev pub header_len : ℕ
-header_len = 11
+-- unit_length, version, debug_abbrev_offset, address_size, and in version 5 unit_type
+abbrev pub header_len : ℕ → ℕ
+header_len version = if version == 5 then 12 else 11
 
 -- The place of an entry, counted from the header of its unit: the length of the header and of all entries before it, with the zero bytes behind them.
 abbrev pub node_place : ℕ → OutUnit → ℕ → ℕ
-node_place u unit k = header_len + sum_by entry_len (take k (entries_of u unit))
+node_place u unit k = header_len unit.version + sum_by entry_len (take k (entries_of u unit))
 
 abbrev pub unit_len : ℕ → OutUnit → ℕ
-unit_len u unit = header_len + sum_by entry_len (entries_of u unit)
+unit_len u unit = header_len unit.version + sum_by entry_len (entries_of u unit)
 
 -- ---- bytes
 
--- the range lists and the location lists of a node
-abbrev pub node_ranges_len : Node → ℕ
-node_ranges_len node = sum_by (λ a. ranges_len a.value) node.attrs
+-- the range lists and the location lists of a node of a unit of a version
+abbrev pub node_ranges_len : ℕ → Node → ℕ
+node_ranges_len version node = sum_by (λ a. ranges_len version a.value) node.attrs
 
-abbrev pub node_locations_len : Node → ℕ
-node_locations_len node = sum_by (λ a. locations_len a.value) node.attrs
+abbrev pub node_locations_len : ℕ → Node → ℕ
+node_locations_len version node = sum_by (λ a. locations_len version a.value) node.attrs
 
 -- where the next lists stand behind those of a node
-abbrev pub behind_node : ListPlaces → Node → ListPlaces
-behind_node next node = record { ranges = next.ranges + node_ranges_len node; locations = next.locations + node_locations_len node }
+abbrev pub behind_node : ℕ → ListPlaces → Node → ListPlaces
+behind_node version next node = record { ranges = next.ranges + node_ranges_len version node; locations = next.locations + node_locations_len version node }
 
 abbrev pub entry_bytes : Places → ListPlaces → OutEntry → List ℕ
 entry_bytes places next entry = uleb entry.code ++ (values_bytes places next entry.node.attrs ++ replicate entry.ended 0)
 
 abbrev pub entries_bytes : Places → ListPlaces → List OutEntry → List ℕ
 entries_bytes places next [] = []
-entries_bytes places next (e ∷ es) = entry_bytes places next e ++ entries_bytes places (behind_node next e.node) es
+entries_bytes places next (e ∷ es) = entry_bytes places next e ++ entries_bytes places (behind_node places.version next e.node) es
 
--- the header of a unit of version 4, whose abbreviations stand at a place; unit_length does not count itself
+-- what follows the version: in version 5 unit_type and address_size before debug_abbrev_offset, else that and then address_size
+abbrev pub header_fields : ℕ → ℕ → List ℕ
+header_fields version table = if version == 5 then DW_UT_compile ∷ 8 ∷ little_bytes 4 table else little_bytes 4 table ++ (8 ∷ [])
+
+-- the header of a unit whose abbreviations stand at a place; unit_length does not count itself
 abbrev pub header_bytes : ℕ → ℕ → OutUnit → List ℕ
-header_bytes u table unit = little_bytes 4 (unit_len u unit - 4) ++ (little_bytes 2 unit.version ++ (little_bytes 4 table ++ (8 ∷ [])))
+header_bytes u table unit = little_bytes 4 (unit_len u unit - 4) ++ (little_bytes 2 unit.version ++ header_fields unit.version table)
 
 -- a unit, whose abbreviations and whose first lists stand at these places
 abbrev pub unit_bytes : Places → ListPlaces → ℕ → OutUnit → List ℕ

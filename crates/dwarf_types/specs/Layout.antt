@@ -1,5 +1,5 @@
 -- Where the parts of each unit of a graph stand, each in its section: behind those of the units before it.
-use Rattle.std.specs.Prelude.{ℕ, List, length, take, slice_get, Option, Some, None}
+use Rattle.std.specs.Prelude.{ℕ, ◌+◌, ◌==◌, Bool, List, [], ◌++◌, length, map, take, slice_get, Option, Some, None, if◌then◌else◌}
 use Rattle.std.specs.Option.{option_map_or, unwrap_or}
 use Rattle.std.specs.List.{enumerate_from, filter_map, flat_map, sum_by}
 use Rattle.std.specs.Str.{bytes_eq}
@@ -11,9 +11,10 @@ use Rattle.dwarf_types.specs.declared.graph.OutUnit.{OutUnit}
 use Rattle.dwarf_types.specs.declared.graph.OutValue.{OutValue}
 use Rattle.dwarf_types.specs.declared.graph.OutValue.TheVariants as values
 use Rattle.dwarf_types.specs.declared.graph.Target.{Target}
-use Rattle.dwarf_types.specs.Abbreviations.{table_bytes}
+use Rattle.dwarf_types.specs.Abbreviations.{same_flag, table_bytes}
 use Rattle.dwarf_types.specs.Entries.{node_ranges_len, node_locations_len, node_place, unit_len}
 use Rattle.dwarf_types.specs.LineTable.{lines_bytes}
+use Rattle.dwarf_types.specs.Lists.{lists_header_len}
 use Rattle.dwarf_types.specs.Places.{Places, ListPlaces}
 
 -- ---- texts
@@ -32,6 +33,17 @@ texts_of graph = once bytes_eq (flat_map (λ unit. flat_map texts_of_node unit.n
 
 abbrev pub text_place : Graph → List ℕ → ℕ
 text_place graph text = unwrap_or (place_of (texts_of graph) text) 0
+
+-- the texts of a unit's line table: in version 5 its directories and then its files, in version 4 none, since they stand in the table
+abbrev pub line_texts_of_unit : OutUnit → List (List ℕ)
+line_texts_of_unit unit = if unit.version == 5 then option_map_or (λ lines. lines.dirs ++ map (λ file. file.name) lines.files) unit.lines [] else []
+
+-- those of a graph, each once, by first use over units
+abbrev pub line_texts_of : Graph → List (List ℕ)
+line_texts_of graph = once bytes_eq (flat_map line_texts_of_unit graph.units)
+
+abbrev pub line_text_place : Graph → List ℕ → ℕ
+line_text_place graph text = unwrap_or (place_of (line_texts_of graph) text) 0
 
 -- ---- units
 
@@ -53,19 +65,48 @@ table_place graph u = before_unit graph (λ v unit. length (table_bytes v unit))
 
 -- of its line table in the line section
 abbrev pub lines_place : Graph → ℕ → ℕ
-lines_place graph u = before_unit graph (λ v unit. length (lines_bytes unit)) u
+lines_place graph u = before_unit graph (λ v unit. length (lines_bytes (line_text_place graph) unit)) u
 
--- of its first lists, each in its section
-abbrev pub lists_place : Graph → ℕ → ListPlaces
-lists_place graph u = record {
-  ranges = before_unit graph (λ v unit. sum_by node_ranges_len unit.nodes) u;
-  locations = before_unit graph (λ v unit. sum_by node_locations_len unit.nodes) u;
+-- The lists of units of version 5 stand in sections of their own: whether a unit's lists stand in these, or in the others.
+abbrev pub stands_in : Bool → OutUnit → Bool
+stands_in five unit = same_flag (unit.version == 5) five
+
+abbrev pub unit_ranges_len : Bool → OutUnit → ℕ
+unit_ranges_len five unit = if stands_in five unit then sum_by (node_ranges_len unit.version) unit.nodes else 0
+
+abbrev pub unit_locations_len : Bool → OutUnit → ℕ
+unit_locations_len five unit = if stands_in five unit then sum_by (node_locations_len unit.version) unit.nodes else 0
+
+-- the lists of the units before the one of a number
+abbrev pub ranges_before : Bool → Graph → ℕ → ℕ
+ranges_before five graph u = before_unit graph (λ v unit. unit_ranges_len five unit) u
+
+abbrev pub locations_before : Bool → Graph → ℕ → ℕ
+locations_before five graph u = before_unit graph (λ v unit. unit_locations_len five unit) u
+
+-- where the first list of a section stands
+abbrev pub lists_start : Bool → ℕ
+lists_start five = if five then lists_header_len else 0
+
+-- of the first lists of the unit of a number, each in its section
+abbrev pub lists_place : Graph → ℕ → OutUnit → ListPlaces
+lists_place graph u unit = record {
+  ranges = lists_start (unit.version == 5) + ranges_before (unit.version == 5) graph u;
+  locations = lists_start (unit.version == 5) + locations_before (unit.version == 5) graph u;
 }
 
 -- of an entry, counted from the header of its unit
 abbrev pub target_place : Graph → Target → ℕ
 target_place graph target = option_map_or (λ unit. node_place target.unit unit target.node) (slice_get graph.units target.unit) 0
 
--- what the values of a unit name
-abbrev pub places_of : Graph → ℕ → Places
-places_of graph u = record { unit = u; text = text_place graph; start = unit_start graph; node = target_place graph; lines = lines_place graph u }
+-- what the values and the line table of the unit of a number name
+abbrev pub places_of : Graph → ℕ → OutUnit → Places
+places_of graph u unit = record {
+  unit = u;
+  version = unit.version;
+  text = text_place graph;
+  start = unit_start graph;
+  node = target_place graph;
+  lines = lines_place graph u;
+  line_text = line_text_place graph;
+}

@@ -5,8 +5,9 @@ use Rattle.dwarf_types.specs.declared.graph.Target.{Target}
 use Rattle.dwarf_types.specs.Lists.{ranges_len, locations_len}
 
 pub record Places : Type 0 where
-  -- the unit's number in the graph
+  -- the unit's number in the graph, and its version
   pub unit : ℕ
+  pub version : ℕ
   -- of a text in the string section
   pub text : List ℕ → ℕ
   -- of the header of the unit of a number in the information section
@@ -15,15 +16,17 @@ pub record Places : Type 0 where
   pub node : Target → ℕ
   -- of the unit's line table in the line section
   pub lines : ℕ
+  -- of a text of a line table in the section of such texts
+  pub line_text : List ℕ → ℕ
 
 -- where the next range list and the next location list stand, each in its section
 pub record ListPlaces : Type 0 where
   pub ranges : ℕ
   pub locations : ℕ
 
--- where the next ones stand behind those of a value
-abbrev pub behind_value : ListPlaces → OutValue → ListPlaces
-behind_value next value = record { ranges = next.ranges + ranges_len value; locations = next.locations + locations_len value }
+-- where the next ones stand behind those of a value of a unit of a version
+abbrev pub behind_value : ℕ → ListPlaces → OutValue → ListPlaces
+behind_value version next value = record { ranges = next.ranges + ranges_len version value; locations = next.locations + locations_len version value }
 
 -- where a node of the unit itself stands
 abbrev pub own_node : Places → ℕ → ℕ

@@ -72,4 +72,4 @@ value_bytes places next values.Lines = little_bytes 4 places.lines
 -- the values of an entry, one after the other
 abbrev pub values_bytes : Places → ListPlaces → List OutAttr → List ℕ
 values_bytes places next [] = []
-values_bytes places next (a ∷ attrs) = value_bytes places next a.value ++ values_bytes places (behind_value next a.value) attrs
+values_bytes places next (a ∷ attrs) = value_bytes places next a.value ++ values_bytes places (behind_value places.version next a.value) attrs

@@ -1,5 +1,5 @@
--- A well graph of version 4: what every linked graph keeps to.
-use Rattle.std.specs.Prelude.{◌≡◌, ℕ, false, List, ◌∷◌, slice_get, Some, IfSome}
+-- A well graph: what every linked graph keeps to.
+use Rattle.std.specs.Prelude.{◌≡◌, ◌⊎◌, ℕ, false, List, ◌∷◌, slice_get, Some, IfSome}
 use Rattle.std.specs.List.{All}
 use Rattle.dwarf_types.specs.declared.graph.Graph.{Graph}
 use Rattle.dwarf_types.specs.declared.graph.Node.{Node}
@@ -10,7 +10,7 @@ use Rattle.dwarf_types.specs.WellRoots.{IsRoot}
 use Rattle.dwarf_types.specs.WellValues.{IsSpan}
 
 pub record IsWellUnit (graph : Graph) (unit : OutUnit) : Type 0 where
-  pub version : unit.version ≡ 4
+  pub version : (unit.version ≡ 4) ⊎ (unit.version ≡ 5)
   -- the root, and behind it all other nodes, which stand below it
   pub root : Node
   pub below : List Node
@@ -19,8 +19,8 @@ pub record IsWellUnit (graph : Graph) (unit : OutUnit) : Type 0 where
   -- node k of these stands right behind node k of the unit
   pub preorder : (k : ℕ) (node : Node) → slice_get below k ≡ Some node → IsPreorderParent unit.nodes k node.parent
   pub no_lines : All (λ node. has_lines node ≡ false) below
-  pub each : All (IsNode graph unit.nodes) unit.nodes
-  pub lines : IfSome unit.lines IsLineTable
+  pub each : All (IsNode graph unit.version unit.nodes) unit.nodes
+  pub lines : IfSome unit.lines (IsLineTable unit.version)
   pub ranges : All IsSpan unit.ranges
 
 pub record IsWell (graph : Graph) : Type 0 where

@@ -1,4 +1,4 @@
--- What the nodes of a well graph of version 4 keep to.
+-- What the nodes of a well graph keep to.
 use Rattle.std.specs.Prelude.{◌≡◌, ◌<◌, ◌≤◌, ◌^◌, ◌==◌, ◌||◌, ℕ, zero, suc, Bool, true, false, List, slice_get, Option, Some}
 use Rattle.std.specs.List.{All, list_any}
 use Rattle.ds_base.specs.declared.dwarf.TheConstants.{DW_AT_addr_base, DW_AT_loclists_base, DW_AT_rnglists_base, DW_AT_sibling, DW_AT_str_offsets_base}
@@ -32,11 +32,11 @@ is_dropped name =
     name == DW_AT_sibling || (name == DW_AT_str_offsets_base || (name == DW_AT_addr_base
     || (name == DW_AT_rnglists_base || name == DW_AT_loclists_base)))
 
-pub record IsAttribute (graph : Graph) (nodes : List Node) (attr : OutAttr) : Type 0 where
+pub record IsAttribute (graph : Graph) (version : ℕ) (nodes : List Node) (attr : OutAttr) : Type 0 where
   pub some : 0 < attr.name
   pub fits : attr.name < 2 ^ 16
   pub kept : is_dropped attr.name ≡ false
-  pub value : IsValue graph nodes attr.value
+  pub value : IsValue graph version nodes attr.value
   pub stands : MayStand attr.name attr.value
 
 abbrev pub is_lines : OutValue → Bool
@@ -47,7 +47,7 @@ is_lines _ = false
 abbrev pub has_lines : Node → Bool
 has_lines node = list_any (λ a. is_lines a.value) node.attrs
 
-pub record IsNode (graph : Graph) (nodes : List Node) (node : Node) : Type 0 where
+pub record IsNode (graph : Graph) (version : ℕ) (nodes : List Node) (node : Node) : Type 0 where
   pub some : 0 < node.tag
   pub fits : node.tag < 2 ^ 16
-  pub attrs : All (IsAttribute graph nodes) node.attrs
+  pub attrs : All (IsAttribute graph version nodes) node.attrs

@@ -1,4 +1,4 @@
--- What the values of a well graph of version 4 keep to.
+-- What the values of a well graph keep to.
 use Rattle.std.specs.Prelude.{◌≡◌, ◌<◌, ◌^◌, ◌==◌, ◌||◌, ℕ, Bool, IsTrue, List, length, slice_get, Some}
 use Rattle.std.specs.List.{All}
 use Rattle.ds_base.specs.declared.dwarf.TheConstants.{DW_AT_data_member_location, DW_AT_frame_base, DW_AT_location, DW_AT_ranges, DW_AT_return_addr, DW_AT_segment, DW_AT_static_link, DW_AT_string_length, DW_AT_use_location, DW_AT_vtable_elem_location, DW_FORM_block, DW_FORM_block1, DW_FORM_block2, DW_FORM_block4, DW_FORM_data1, DW_FORM_data2, DW_FORM_data4, DW_FORM_data8, DW_FORM_flag, DW_FORM_flag_present, DW_FORM_sdata, DW_FORM_udata}
@@ -37,11 +37,11 @@ pub record IsSpan (span : Span) : Type 0 where
   pub some : span.low < span.high
   pub fits : span.high < 2 ^ 64
 
--- the length of its expression has two bytes
-pub record IsLocation (nodes : List Node) (item : OutLocation) : Type 0 where
+-- in version 4 the length of its expression has two bytes
+pub record IsLocation (version : ℕ) (nodes : List Node) (item : OutLocation) : Type 0 where
   pub span : IsSpan item.span
   pub whole : IsWhole nodes item.parts
-  pub short : expression_len item.parts < 2 ^ 16
+  pub short : version ≡ 4 → expression_len item.parts < 2 ^ 16
 
 -- a node of a unit that is there
 pub record IsTarget (graph : Graph) (target : Target) : Type 0 where
@@ -49,18 +49,18 @@ pub record IsTarget (graph : Graph) (target : Target) : Type 0 where
   pub stands : slice_get graph.units target.unit ≡ Some unit
   pub inside : target.node < length unit.nodes
 
--- a value of a unit with these nodes; no 16 bytes stand in a unit of version 4
-abbrev pub IsValue : Graph → List Node → OutValue → Type 0
-IsValue graph nodes (values.Address address) = address < 2 ^ 64
-IsValue graph nodes (values.Text text) = AreTextBytes text
-IsValue graph nodes (values.Number form bits) = FitsForm form bits
-IsValue graph nodes (values.Wide bytes) = ⊥
-IsValue graph nodes (values.Block form bytes) = FitsBlock form (length bytes) × AreBytes bytes
-IsValue graph nodes (values.Expr expression) = IsWhole nodes expression
-IsValue graph nodes (values.Ref target) = IsTarget graph target
-IsValue graph nodes (values.Ranges spans) = All IsSpan spans
-IsValue graph nodes (values.Locations items) = All (IsLocation nodes) items
-IsValue graph nodes values.Lines = Unit {0}
+-- a value of a unit of a version with these nodes; constants of 16 bytes stand in units of version 5 alone
+abbrev pub IsValue : Graph → ℕ → List Node → OutValue → Type 0
+IsValue graph version nodes (values.Address address) = address < 2 ^ 64
+IsValue graph version nodes (values.Text text) = AreTextBytes text
+IsValue graph version nodes (values.Number form bits) = FitsForm form bits
+IsValue graph version nodes (values.Wide bytes) = (version ≡ 5) × (length bytes ≡ 16) × AreBytes bytes
+IsValue graph version nodes (values.Block form bytes) = FitsBlock form (length bytes) × AreBytes bytes
+IsValue graph version nodes (values.Expr expression) = IsWhole nodes expression
+IsValue graph version nodes (values.Ref target) = IsTarget graph target
+IsValue graph version nodes (values.Ranges spans) = All IsSpan spans
+IsValue graph version nodes (values.Locations items) = All (IsLocation version nodes) items
+IsValue graph version nodes values.Lines = Unit {0}
 
 -- the attributes whose section offset is a location list
 abbrev pub has_locations : ℕ → Bool
