@@ -27,6 +27,7 @@ outer_number o (outer.Entry target) = entry_number o.units.now o.end target
 outer_number o (outer.Ranges offset) = o.ranges + offset
 outer_number o (outer.Locations offset) = o.locations + offset
 outer_number o outer.Lines = o.lines
+outer_number o (outer.LineText i) = slice_index o.line_texts.now i
 
 -- a filling, when the unit has told what it tells
 abbrev pub settled : Filling → ℕ → List ℕ → Filling

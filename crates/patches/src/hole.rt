@@ -22,12 +22,14 @@ pub enum Outer {
     Text(usize),
     /// An entry of another unit in `__debug_info`.
     Entry(Target),
-    /// A range list in `__debug_ranges`, by its place among those of the unit, in bytes.
+    /// A range list in the section of its version, by its place among those of the unit, in bytes.
     Ranges(usize),
-    /// A location list in `__debug_loc`, by its place among those of the unit, in bytes.
+    /// A location list in the section of its version, by its place among those of the unit, in bytes.
     Locations(usize),
     /// The unit's line table in `__debug_line`.
     Lines,
+    /// A text in `__debug_line_str`, by its number among the texts of the unit's line table.
+    LineText(usize),
 }
 
 /// A hole for what the unit tells. `at` counts bytes from the buffer's start.

@@ -31,6 +31,8 @@ pub struct Outside<'a> {
     pub locations: u32,
     /// Each text of the unit, by its number among them.
     pub texts: &'a [u32],
+    /// Each text of its line table, by its number among them.
+    pub line_texts: &'a [u32],
     /// All units, in the order of the section.
     pub units: &'a [Placed],
     /// The end of `__debug_info`.
@@ -48,6 +50,7 @@ pub(crate) fn outer_in(outside: &Outside, hole: Outer) -> u128
         Outer::Ranges(offset) => u128::from(outside.ranges) + offset as u128,
         Outer::Locations(offset) => u128::from(outside.locations) + offset as u128,
         Outer::Lines => u128::from(outside.lines),
+        Outer::LineText(i) => u128::from(at_or(outside.line_texts, i, 0)),
     }
 }
 

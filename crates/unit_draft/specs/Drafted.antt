@@ -5,11 +5,10 @@ use Rattle.std.specs.Str.{bytes_eq}
 use Rattle.ds_base.specs.FirstUse.{once}
 use Rattle.dwarf_types.specs.declared.graph.OutUnit.{OutUnit}
 use Rattle.dwarf_types.specs.Abbreviations.{table_bytes}
-use Rattle.dwarf_types.specs.Encode.{over_values}
+use Rattle.dwarf_types.specs.Encode.{unit_locations, unit_ranges}
 use Rattle.dwarf_types.specs.Entries.{node_place, unit_bytes, unit_len}
-use Rattle.dwarf_types.specs.Layout.{texts_of_node}
+use Rattle.dwarf_types.specs.Layout.{line_texts_of_unit, texts_of_node}
 use Rattle.dwarf_types.specs.LineTable.{lines_bytes}
-use Rattle.dwarf_types.specs.Lists.{ranges_bytes, locations_bytes}
 use Rattle.patches.specs.Filling.{Filling, filled}
 use Rattle.unit_draft.specs.declared.unit.Draft.{Draft}
 use Rattle.unit_draft.specs.declared.error.DraftError.{DraftError}
@@ -20,16 +19,25 @@ use Rattle.unit_draft.specs.World.{Stands, World}
 abbrev pub node_places : ℕ → OutUnit → List ℕ
 node_places u unit = map (λ k. node_place u unit k.0) (enumerate_from 0 unit.nodes)
 
+-- the length of a line table, which no place of a text changes
+abbrev pub lines_len : OutUnit → ℕ
+lines_len unit = length (lines_bytes (λ text. 0) unit)
+
 -- a draft of the unit of a number
 pub record IsDraft (number : ℕ) (clone : OutUnit) (draft : Draft) : Type 0 where
   -- wherever the unit stands, its bytes are those of the draft with that filling
-  pub info : (w : World) → Stands number clone draft.names w → filled draft.info w.filling ≡ unit_bytes w.places w.lists w.table clone
+  pub info : (w : World) → Stands number clone draft.names draft.line_names w → filled draft.info w.filling ≡ unit_bytes w.places w.lists w.table clone
   pub size : (f : Filling) → length (filled draft.info f) ≡ unit_len number clone
   -- what the unit itself tells is filled in
   pub settled : draft.info.own ≡ []
-  pub locations : draft.locations ≡ over_values (locations_bytes (node_place number clone)) clone
-  pub ranges : draft.ranges ≡ over_values ranges_bytes clone
-  pub lines : draft.lines ≡ lines_bytes clone
+  pub version : draft.version ≡ clone.version
+  pub locations : draft.locations ≡ unit_locations (node_place number clone) clone
+  pub ranges : draft.ranges ≡ unit_ranges clone
+  -- its line table, wherever the texts stand that it names
+  pub lines : (w : World) → Stands number clone draft.names draft.line_names w → filled draft.lines w.filling ≡ lines_bytes w.places.line_text clone
+  pub lines_size : (f : Filling) → length (filled draft.lines f) ≡ lines_len clone
+  pub lines_settled : draft.lines.own ≡ []
+  pub line_names : draft.line_names ≡ once bytes_eq (line_texts_of_unit clone)
   pub table : draft.table ≡ table_bytes number clone
   pub names : draft.names ≡ once bytes_eq (flat_map texts_of_node clone.nodes)
   pub places : draft.places ≡ node_places number clone

@@ -16,9 +16,10 @@ pub record World : Type 0 where
   -- the unit's abbreviations
   pub table : ℕ
 
--- the unit of a number stands in a world, whose filling says where its texts, by their numbers, and all else outside of it stand
-pub record Stands (number : ℕ) (clone : OutUnit) (texts : List (List ℕ)) (w : World) : Type 0 where
+-- the unit of a number stands in a world, whose filling says where its texts and those of its line table, by their numbers, and all else outside of it stand
+pub record Stands (number : ℕ) (clone : OutUnit) (texts line_texts : List (List ℕ)) (w : World) : Type 0 where
   pub unit : w.places.unit ≡ number
+  pub version : w.places.version ≡ clone.version
   pub own : (k : ℕ) → own_node w.places k ≡ node_place number clone k
   pub table : w.filling.outer outer.Table ≡ w.table
   pub text : (i : ℕ) (t : List ℕ) → slice_get texts i ≡ Some t → w.filling.outer (outer.Text i) ≡ w.places.text t
@@ -26,3 +27,4 @@ pub record Stands (number : ℕ) (clone : OutUnit) (texts : List (List ℕ)) (w 
   pub ranges : (n : ℕ) → w.filling.outer (outer.Ranges n) ≡ w.lists.ranges + n
   pub locations : (n : ℕ) → w.filling.outer (outer.Locations n) ≡ w.lists.locations + n
   pub lines : w.filling.outer outer.Lines ≡ w.places.lines
+  pub line_text : (i : ℕ) (t : List ℕ) → slice_get line_texts i ≡ Some t → w.filling.outer (outer.LineText i) ≡ w.places.line_text t

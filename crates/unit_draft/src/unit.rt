@@ -29,12 +29,16 @@ use text_pool::Names;
 pub struct Draft {
     /// The unit in `__debug_info`, with holes for what stands outside of it.
     pub info: Buffer,
-    /// Its location lists in `__debug_loc`, in the order of the attributes.
+    /// Its version, which tells the sections of its lists.
+    pub version: u16,
+    /// Its location lists in `__debug_loc` or `__debug_loclists`, in the order of the attributes.
     pub locations: Bytes,
-    /// Its range lists in `__debug_ranges`, in the order of the attributes.
+    /// Its range lists in `__debug_ranges` or `__debug_rnglists`, in the order of the attributes.
     pub ranges: Bytes,
-    /// Its line table in `__debug_line`; no bytes where it has none.
-    pub lines: Bytes,
+    /// Its line table in `__debug_line`, with holes for the places of its texts; no bytes where it has none.
+    pub lines: Buffer,
+    /// The texts of its line table, by the numbers under which the holes name them; none in version 4.
+    pub line_names: Names,
     /// Its abbreviations in `__debug_abbrev`.
     pub table: Bytes,
     /// Its texts, by the numbers under which the holes name them.
