@@ -95,7 +95,7 @@ fn read_placed_text<'a>(cursor: &mut Cursor, section: &'a [u8]) -> Result<(u32, 
 
 /// The text that begins at a place of a section, if it ends there.
 #[tactic(auto, unfolding(crate::specs::Reading::text_of, ds_base::specs::Reading::text_at))]
-fn text_in(section: &[u8], place: u32) -> Option<&[u8]>
+pub fn text_in(section: &[u8], place: u32) -> Option<&[u8]>
     ensures { option_copied result ≡ text_of section.now place }
 {
     let place = u64::from(place);
