@@ -2,36 +2,37 @@
 use Rattle.std.proofs.Common.{◌≡◌, ℕ, ◌+◌, ◌-◌, ◌^◌, ◌<◌, ◌&&◌, Bool, true, false, not, List, [], ◌∷◌, ◌++◌, length, Option, Some, None, Result, Ok, refl, sym, ap, ap₂, subst, ◌∙◌, append_assoc, inl, inr, arith}
 use Rattle.std.specs.Prelude.{nat_lt, if◌then◌else◌}
 use Rattle.std.specs.List.{list_all}
-use Rattle.std.specs.Option.{option_to_list}
+use Rattle.std.specs.Option.{option_map, option_to_list}
 use Rattle.std.proofs.lemmas.Bool.{cases_eq, ne_eqb, ltb-true, lt-ltb, not-false}
 use Rattle.std.proofs.lemmas.List.{append-nil}
 use Rattle.ds_base.specs.declared.fault.Fault.{Fault}
-use Rattle.ds_base.specs.declared.fault.Kind.TheVariants.{BadOffset}
+use Rattle.ds_base.specs.declared.fault.Kind.TheVariants.{BadIndex, BadOffset}
 use Rattle.ds_base.specs.Spot.{Spot, rest, fault_at}
-use Rattle.ds_base.specs.Reading.{◌>>=◌}
+use Rattle.ds_base.specs.Reading.{◌>>=◌, or_fault}
 use Rattle.dwarf_types.specs.declared.abbrev.Field.{Field}
 use Rattle.dwarf_types.specs.declared.entry.RawAttr.{RawAttr}
 use Rattle.dwarf_types.specs.declared.entry.RawEntry.{RawEntry}
 use Rattle.dwarf_types.specs.SectionBytes.{SectionBytes}
 use Rattle.dwarf_types.specs.declared.value.Value.{Value}
 use Rattle.dwarf_types.specs.declared.value.Value.TheVariants as values
-use Rattle.ds_base.proofs.Passing.{bind_ok, passed, ok_is}
+use Rattle.ds_base.proofs.Passing.{bind_ok, passed, ok_is, found_ok}
 use Rattle.dwarf_types.proofs.Readers.{Stands}
 use Rattle.dwarf_types.specs.Spelled.{Made}
 use Rattle.form_value.specs.declared.form.FormClass.{FormClass}
 use Rattle.form_value.specs.declared.form.FormClass.TheVariants.{Address, Text, StrText, LineStrText, Number, Signed, Present, Implicit, Wide, Block, Offset, Outside}
-use Rattle.form_value.specs.Reading.{fixed_address, in_64_bits, value_at}
+use Rattle.form_value.specs.Reading.{fixed_address, in_64_bits, text_of, value_at}
 use Rattle.form_value.specs.Spelling.{SpellsClass}
 use Rattle.form_value.proofs.ValueLaws.{value_spelled, value_read}
+use Rattle.index_tables.specs.declared.bases.Bases.{Bases}
+use Rattle.index_tables.specs.Tables.{text_place, address_place, list_place}
 use Rattle.unit_tree.specs.declared.attribute.Home.{Home}
-use Rattle.unit_tree.specs.declared.header.TheConstants.{DWARF_VERSION}
 use Rattle.unit_tree.specs.declared.meaning.Meaning.{Meaning}
-use Rattle.unit_tree.specs.declared.meaning.Meaning.TheVariants.{InUnit, InObject, LineTable, RangeList, LocationList, Other}
+use Rattle.unit_tree.specs.declared.meaning.Meaning.TheVariants.{InUnit, InObject, LineTable, RangeList, LocationList, TextIndex, AddressIndex, RangeListIndex, LocationListIndex, Other}
 use Rattle.unit_tree.specs.declared.reference.Reference.{Reference}
-use Rattle.unit_tree.specs.Attribute.{led_to, names_lines, offset_in, reference_to, meant_at, value_meant_at, attr_at, Described, attrs_at}
+use Rattle.unit_tree.specs.Attribute.{led_to, names_lines, offset_in, reference_to, ranges_of, locations_of, text_named, address_named, list_named, meant_at, value_meant_at, attr_at, Described, attrs_at}
 use Rattle.unit_tree.specs.Meaning.{meaning_of}
 use Rattle.unit_tree.specs.Reference.{leads}
-use Rattle.unit_tree.specs.Spelling.{meant, attr_value, IsBelow, IsInside, SpellsAttr, SpellsAttrs, ValueLeads, AttrsLead, begins_at}
+use Rattle.unit_tree.specs.Spelling.{Origin, NamesText, NamesAddress, NamesList, Names, Means, IsMeant, SpellsAttr, SpellsAttrs, ValueLeads, AttrsLead, begins_at}
 use Rattle.unit_tree.proofs.Onward.{value_onward, attr_onward}
 use Rattle.unit_tree.proofs.Placed.{Passed, passed_nothing, passed_then, passed_by, stands_on}
 
@@ -91,14 +92,17 @@ cut_not place lt = omega (arith, lt)
 
 -- ---- what a number means
 
+-- from where the values of a unit that is read count
+abbrev pub origin_of : Home → Origin
+origin_of home = record { place = home.place; version = home.version; bases = home.bases }
+
 record MeantTaken (all : List RawEntry) (sections : SectionBytes) (home : Home) (lines : Bool) (meaning : Meaning) (n : ℕ) (y : Value × Option Reference) : Type 0 where
-  below : IsBelow sections lines meaning n
-  is : y.0 ≡ meant home.place meaning n
+  means : Means sections (origin_of home) lines meaning n y.0
   leads_on : ValueLeads all home.unit meaning y.0
 
-record MeantGoes (all : List RawEntry) (sections : SectionBytes) (home : Home) (lines : Bool) (meaning : Meaning) (n : ℕ) (s : Spot) : Type 0 where
+record MeantGoes (all : List RawEntry) (sections : SectionBytes) (home : Home) (lines : Bool) (meaning : Meaning) (n : ℕ) (value : Value) (s : Spot) : Type 0 where
   reference : Option Reference
-  reads : meant_at sections home lines meaning n s ≡ Ok (meant home.place meaning n, reference)
+  reads : meant_at sections home lines meaning n s ≡ Ok (value, reference)
   lead : Lead all (option_to_list reference)
 
 abbrev plain : ℕ → Value × Option Reference
@@ -120,6 +124,59 @@ lines_go : (lines : Bool) (section : List ℕ) (n : ℕ) (s : Spot) → (lines �
 lines_go true section n s below = offset_goes section n s (below refl)
 lines_go false section n s below = refl
 
+-- the value of what was read
+value_is : (value : Value) (y : Value × Option Reference) → (value, None) ≡ y → y.0 ≡ value
+value_is value y e = sym (ap (λ (p : Value × Option Reference). p.0) e)
+
+-- ---- indices
+
+pub text_taken : (sections : SectionBytes) (bases : Option Bases) (n : ℕ) (s : Spot) (y : Value × Option Reference) → text_named sections bases n s ≡ Ok y → Names (λ bases v. NamesText sections bases n v) bases n y.0
+unfolding text_named
+text_taken sections None n s y e = value_is (values.Offset n) y (ok_is _ y e)
+text_taken sections (Some bases) n s y e =
+    let last : List ℕ → Result (Value × Option Reference) Fault = λ text. Ok (values.Text text, None) in
+    let a = bind_ok (or_fault (text_place sections bases.texts n) (fault_at s BadIndex)) (λ place. or_fault (text_of sections.strings place) (fault_at s BadOffset) >>= last) y e in
+    let b = bind_ok (or_fault (text_of sections.strings a.0) (fault_at s BadOffset)) last y a.2 in
+    record {
+      place = a.0;
+      placed = found_ok (text_place sections bases.texts n) (fault_at s BadIndex) a.0 a.1;
+      text = b.0;
+      stands = found_ok (text_of sections.strings a.0) (fault_at s BadOffset) b.0 b.1;
+      is = value_is (values.Text b.0) y (ok_is _ y b.2);
+    }
+
+text_goes : (sections : SectionBytes) (bases : Option Bases) (n : ℕ) (value : Value) (s : Spot) → Names (λ bases v. NamesText sections bases n v) bases n value → text_named sections bases n s ≡ Ok (value, None)
+unfolding text_named
+text_goes sections None n value s h = ap (λ (v : Value). Ok (v, None)) (sym h)
+text_goes sections (Some bases) n value s h = rw (h.placed, h.stands) (ap (λ (v : Value). Ok (v, None)) (sym h.is))
+
+pub address_taken : (sections : SectionBytes) (bases : Option Bases) (n : ℕ) (s : Spot) (y : Value × Option Reference) → address_named sections bases n s ≡ Ok y → Names (λ bases v. NamesAddress sections bases n v) bases n y.0
+unfolding address_named
+address_taken sections None n s y e = value_is (values.Offset n) y (ok_is _ y e)
+address_taken sections (Some bases) n s y e =
+    let a = bind_ok (or_fault (address_place sections bases.addresses n) (fault_at s BadIndex)) (λ place. Ok (plain n)) y e in
+    record { place = a.0; placed = found_ok (address_place sections bases.addresses n) (fault_at s BadIndex) a.0 a.1; is = value_is (values.Offset n) y (ok_is _ y a.2) }
+
+address_goes : (sections : SectionBytes) (bases : Option Bases) (n : ℕ) (value : Value) (s : Spot) → Names (λ bases v. NamesAddress sections bases n v) bases n value → address_named sections bases n s ≡ Ok (value, None)
+unfolding address_named
+address_goes sections None n value s h = ap (λ (v : Value). Ok (v, None)) (sym h)
+address_goes sections (Some bases) n value s h = rw h.placed (ap (λ (v : Value). Ok (v, None)) (sym h.is))
+
+pub list_taken : (section : List ℕ) (base : Bases → ℕ) (bases : Option Bases) (n : ℕ) (s : Spot) (y : Value × Option Reference) → list_named section (option_map base bases) n s ≡ Ok y → Names (λ bases v. NamesList section (base bases) n v) bases n y.0
+unfolding list_named
+list_taken section base None n s y e = value_is (values.Offset n) y (ok_is _ y e)
+list_taken section base (Some bases) n s y e =
+    let a = bind_ok (or_fault (list_place section (base bases) n) (fault_at s BadIndex)) (λ place. offset_in section place s) y e in
+    let o = offset_below section a.0 s y a.2 in
+    record { place = a.0; placed = found_ok (list_place section (base bases) n) (fault_at s BadIndex) a.0 a.1; inside = o.0; is = value_is (values.Offset a.0) y o.1 }
+
+list_goes : (section : List ℕ) (base : Bases → ℕ) (bases : Option Bases) (n : ℕ) (value : Value) (s : Spot) → Names (λ bases v. NamesList section (base bases) n v) bases n value → list_named section (option_map base bases) n s ≡ Ok (value, None)
+unfolding list_named
+list_goes section base None n value s h = ap (λ (v : Value). Ok (v, None)) (sym h)
+list_goes section base (Some bases) n value s h = rw h.placed (offset_goes section h.place s h.inside ∙ ap (λ (v : Value). Ok (v, None)) (sym h.is))
+
+-- ---- references
+
 -- a reference that leads
 reference_taken : (all : List RawEntry) (place : ℕ) (unit : Option ℕ) (s : Spot) → AreLow all → Lead all (option_to_list (reference_to place unit s).1) → (led_to place ≡ place) × (begins_at all unit (led_to place) ≡ true)
 reference_taken all place unit s low h =
@@ -131,6 +188,12 @@ reference_goes all place unit s low h =
     let is = cut_not place (begun_low all unit place low h) in
     (is, rw (is, h) refl)
 
+-- a reference is read as the place to which it leads
+leads_as : (all : List RawEntry) (place : ℕ) (unit : Option ℕ) (value : Value) (s : Spot) → AreLow all → value ≡ values.Ref place → begins_at all unit place ≡ true → (reference : Option Reference) × (reference_to place unit s ≡ (value, reference)) × Lead all (option_to_list reference)
+leads_as all place unit value s low is h =
+    let r = reference_goes all place unit s low h in
+    ((reference_to place unit s).1, ap (λ (v : Value). (v, (reference_to place unit s).1)) (ap (λ (p : ℕ). values.Ref p) r.0 ∙ sym is), r.1)
+
 meant_taken : (all : List RawEntry) → AreLow all → (sections : SectionBytes) (home : Home) (lines : Bool) (meaning : Meaning) (n : ℕ) (s : Spot) (y : Value × Option Reference) → meant_at sections home lines meaning n s ≡ Ok y → Lead all (option_to_list y.1)
     → MeantTaken all sections home lines meaning n y
 unfolding meant_at
@@ -138,48 +201,54 @@ meant_taken all low sections home lines InUnit n s y e h =
     subst (λ (p : Value × Option Reference). Lead all (option_to_list p.1) → MeantTaken all sections home lines InUnit n p) (ok_is (reference_to (home.place + n) (Some home.unit) s) y e)
     (λ k.
     let r = reference_taken all (home.place + n) (Some home.unit) s low k in
-    record { below = tt; is = ap (λ (p : ℕ). values.Ref p) r.0; leads_on = r.1 }) h
+    record { means = ap (λ (p : ℕ). values.Ref p) r.0; leads_on = r.1 }) h
 meant_taken all low sections home lines InObject n s y e h =
     subst (λ (p : Value × Option Reference). Lead all (option_to_list p.1) → MeantTaken all sections home lines InObject n p) (ok_is (reference_to n None s) y e)
     (λ k.
     let r = reference_taken all n None s low k in
-    record { below = tt; is = ap (λ (p : ℕ). values.Ref p) r.0; leads_on = r.1 }) h
+    record { means = ap (λ (p : ℕ). values.Ref p) r.0; leads_on = r.1 }) h
 meant_taken all low sections home lines LineTable n s y e h =
     let o = lines_below lines sections.line n s y e in
-    subst (λ (p : Value × Option Reference). MeantTaken all sections home lines LineTable n p) o.1 (record { below = o.0; is = refl; leads_on = tt })
+    record { means = (o.0, value_is (values.Offset n) y o.1); leads_on = tt }
 meant_taken all low sections home lines RangeList n s y e h =
-    let o = offset_below sections.ranges n s y e in
-    subst (λ (p : Value × Option Reference). MeantTaken all sections home lines RangeList n p) o.1 (record { below = o.0; is = refl; leads_on = tt })
+    let o = offset_below (ranges_of home.version sections) n s y e in
+    record { means = (o.0, value_is (values.Offset n) y o.1); leads_on = tt }
 meant_taken all low sections home lines LocationList n s y e h =
-    let o = offset_below sections.loc n s y e in
-    subst (λ (p : Value × Option Reference). MeantTaken all sections home lines LocationList n p) o.1 (record { below = o.0; is = refl; leads_on = tt })
-meant_taken all low sections home lines Other n s y e h =
-    subst (λ (p : Value × Option Reference). MeantTaken all sections home lines Other n p) (ok_is (plain n) y e) (record { below = tt; is = refl; leads_on = tt })
+    let o = offset_below (locations_of home.version sections) n s y e in
+    record { means = (o.0, value_is (values.Offset n) y o.1); leads_on = tt }
+meant_taken all low sections home lines TextIndex n s y e h = record { means = text_taken sections home.bases n s y e; leads_on = tt }
+meant_taken all low sections home lines AddressIndex n s y e h = record { means = address_taken sections home.bases n s y e; leads_on = tt }
+meant_taken all low sections home lines RangeListIndex n s y e h = record { means = list_taken sections.rnglists (λ bases. bases.ranges) home.bases n s y e; leads_on = tt }
+meant_taken all low sections home lines LocationListIndex n s y e h = record { means = list_taken sections.loclists (λ bases. bases.locations) home.bases n s y e; leads_on = tt }
+meant_taken all low sections home lines Other n s y e h = record { means = value_is (values.Offset n) y (ok_is (plain n) y e); leads_on = tt }
 
-meant_goes : (all : List RawEntry) → AreLow all → (sections : SectionBytes) (home : Home) (lines : Bool) (meaning : Meaning) (n : ℕ) (s : Spot) → IsBelow sections lines meaning n → ValueLeads all home.unit meaning (meant home.place meaning n)
-    → MeantGoes all sections home lines meaning n s
+meant_goes : (all : List RawEntry) → AreLow all → (sections : SectionBytes) (home : Home) (lines : Bool) (meaning : Meaning) (n : ℕ) (value : Value) (s : Spot) → Means sections (origin_of home) lines meaning n value → ValueLeads all home.unit meaning value
+    → MeantGoes all sections home lines meaning n value s
 unfolding meant_at
-meant_goes all low sections home lines InUnit n s below h =
-    let r = reference_goes all (home.place + n) (Some home.unit) s low h in
-    record { reference = (reference_to (home.place + n) (Some home.unit) s).1; reads = ap (λ (p : ℕ). Ok (values.Ref p, (reference_to (home.place + n) (Some home.unit) s).1)) r.0; lead = r.1 }
-meant_goes all low sections home lines InObject n s below h =
-    let r = reference_goes all n None s low h in
-    record { reference = (reference_to n None s).1; reads = ap (λ (p : ℕ). Ok (values.Ref p, (reference_to n None s).1)) r.0; lead = r.1 }
-meant_goes all low sections home lines LineTable n s below h = record { reference = None; reads = lines_go lines sections.line n s below; lead = refl }
-meant_goes all low sections home lines RangeList n s below h = record { reference = None; reads = offset_goes sections.ranges n s below; lead = refl }
-meant_goes all low sections home lines LocationList n s below h = record { reference = None; reads = offset_goes sections.loc n s below; lead = refl }
-meant_goes all low sections home lines Other n s below h = record { reference = None; reads = refl; lead = refl }
+meant_goes all low sections home lines InUnit n value s means h =
+    let r = leads_as all (home.place + n) (Some home.unit) value s low means (subst (ValueLeads all home.unit InUnit) means h) in
+    record { reference = r.0; reads = ap Ok r.1; lead = r.2 }
+meant_goes all low sections home lines InObject n value s means h =
+    let r = leads_as all n None value s low means (subst (ValueLeads all home.unit InObject) means h) in
+    record { reference = r.0; reads = ap Ok r.1; lead = r.2 }
+meant_goes all low sections home lines LineTable n value s means h = record { reference = None; reads = lines_go lines sections.line n s means.0 ∙ ap (λ (v : Value). Ok (v, None)) (sym means.1); lead = refl }
+meant_goes all low sections home lines RangeList n value s means h = record { reference = None; reads = offset_goes (ranges_of home.version sections) n s means.0 ∙ ap (λ (v : Value). Ok (v, None)) (sym means.1); lead = refl }
+meant_goes all low sections home lines LocationList n value s means h = record { reference = None; reads = offset_goes (locations_of home.version sections) n s means.0 ∙ ap (λ (v : Value). Ok (v, None)) (sym means.1); lead = refl }
+meant_goes all low sections home lines TextIndex n value s means h = record { reference = None; reads = text_goes sections home.bases n value s means; lead = refl }
+meant_goes all low sections home lines AddressIndex n value s means h = record { reference = None; reads = address_goes sections home.bases n value s means; lead = refl }
+meant_goes all low sections home lines RangeListIndex n value s means h = record { reference = None; reads = list_goes sections.rnglists (λ bases. bases.ranges) home.bases n value s means; lead = refl }
+meant_goes all low sections home lines LocationListIndex n value s means h = record { reference = None; reads = list_goes sections.loclists (λ bases. bases.locations) home.bases n value s means; lead = refl }
+meant_goes all low sections home lines Other n value s means h = record { reference = None; reads = ap (λ (v : Value). Ok (v, None)) (sym means); lead = refl }
 
 -- ---- what a value means
 
-record ValueTaken (all : List RawEntry) (sections : SectionBytes) (home : Home) (lines : Bool) (field : Field) (value : Value) (y : Value × Option Reference) : Type 0 where
-  inside : IsInside sections lines field value
-  is : y.0 ≡ attr_value home.place field value
+record ValueTaken (all : List RawEntry) (sections : SectionBytes) (home : Home) (lines : Bool) (field : Field) (stored : Value) (y : Value × Option Reference) : Type 0 where
+  means : IsMeant sections (origin_of home) lines field stored y.0
   leads_on : ValueLeads all home.unit (meaning_of field.form field.name) y.0
 
-record ValueGoes (all : List RawEntry) (sections : SectionBytes) (home : Home) (root : Bool) (field : Field) (before : List RawAttr) (value : Value) (s : Spot) : Type 0 where
+record ValueGoes (all : List RawEntry) (sections : SectionBytes) (home : Home) (root : Bool) (field : Field) (before : List RawAttr) (stored value : Value) (s : Spot) : Type 0 where
   reference : Option Reference
-  reads : value_meant_at sections home root field before value s ≡ Ok (attr_value home.place field value, reference)
+  reads : value_meant_at sections home root field before stored s ≡ Ok (value, reference)
   lead : Lead all (option_to_list reference)
 
 -- a value that is neither a reference nor an offset is no reference
@@ -193,19 +262,19 @@ value_taken : (all : List RawEntry) → AreLow all → (sections : SectionBytes)
 unfolding value_meant_at
 value_taken all low sections home root field before (values.Offset n) s y stored e h =
     let m = meant_taken all low sections home (names_lines root before) (meaning_of field.form field.name) n s y e h in
-    record { inside = m.below; is = m.is; leads_on = m.leads_on }
+    record { means = m.means; leads_on = m.leads_on }
 value_taken all low sections home root field before (values.Ref place) s y stored e h = absurd (stored place refl)
 value_taken all low sections home root field before value s y stored e h =
     subst (λ (p : Value × Option Reference). ValueTaken all sections home (names_lines root before) field value p) (ok_is (value, None) y e)
-    (record { inside = tt; is = refl; leads_on = no_reference all home.unit (meaning_of field.form field.name) value stored })
+    (record { means = refl; leads_on = no_reference all home.unit (meaning_of field.form field.name) value stored })
 
-value_goes : (all : List RawEntry) → AreLow all → (sections : SectionBytes) (home : Home) (root : Bool) (field : Field) (before : List RawAttr) (value : Value) (s : Spot) → IsInside sections (names_lines root before) field value
-    → ValueLeads all home.unit (meaning_of field.form field.name) (attr_value home.place field value) → ValueGoes all sections home root field before value s
+value_goes : (all : List RawEntry) → AreLow all → (sections : SectionBytes) (home : Home) (root : Bool) (field : Field) (before : List RawAttr) (stored value : Value) (s : Spot) → IsMeant sections (origin_of home) (names_lines root before) field stored value
+    → ValueLeads all home.unit (meaning_of field.form field.name) value → ValueGoes all sections home root field before stored value s
 unfolding value_meant_at
-value_goes all low sections home root field before (values.Offset n) s inside h =
-    let m = meant_goes all low sections home (names_lines root before) (meaning_of field.form field.name) n s inside h in
+value_goes all low sections home root field before (values.Offset n) value s means h =
+    let m = meant_goes all low sections home (names_lines root before) (meaning_of field.form field.name) n value s means h in
     record { reference = m.reference; reads = m.reads; lead = m.lead }
-value_goes all low sections home root field before value s inside h = record { reference = None; reads = refl; lead = refl }
+value_goes all low sections home root field before stored value s means h = record { reference = None; reads = ap (λ (v : Value). Ok (v, None)) (sym means); lead = refl }
 
 -- ---- no reference is stored as one
 
@@ -233,7 +302,7 @@ class_not_ref Outside field sections bytes value m = absurd m
 
 pub record AttrTaken (all : List RawEntry) (sections : SectionBytes) (home : Home) (root : Bool) (field : Field) (before : List RawAttr) (s : Spot) (y : (RawAttr × Option Reference) × Spot) : Type 0 where
   pub bytes : List ℕ
-  pub spells : SpellsAttr sections home.place (names_lines root before) field y.0.0 s.place bytes
+  pub spells : SpellsAttr sections (origin_of home) (names_lines root before) field y.0.0 s.place bytes
   pub leads_on : ValueLeads all home.unit (meaning_of field.form field.name) y.0.0.value
   pub passed : Passed bytes s y.1
 
@@ -242,18 +311,18 @@ attr_taken : (all : List RawEntry) → AreLow all → (sections : SectionBytes) 
 unfolding attr_at
 attr_taken all low sections home root field before s y stands e h =
     let made : Value × Spot → Value × Option Reference → Result ((RawAttr × Option Reference) × Spot) Fault = λ read meant. Ok ((record { name = field.name; form = field.form; end = read.1.place; value = meant.0 }, meant.1), read.1) in
-    let b = bind_ok (value_at field DWARF_VERSION sections s) (λ read. value_meant_at sections home root field before read.0 s >>= made read) y e in
+    let b = bind_ok (value_at field home.version sections s) (λ read. value_meant_at sections home root field before read.0 s >>= made read) y e in
     let c = bind_ok (value_meant_at sections home root field before b.0.0 s) (made b.0) y b.2 in
     let place = stands.place in
-    let v = value_spelled field DWARF_VERSION sections s b.0.0 b.0.1 stands b.1 in
+    let v = value_spelled field home.version sections s b.0.0 b.0.1 stands b.1 in
     let w = v.spells in
-    let go = passed_by v.bytes s b.0.1 stands (value_onward field DWARF_VERSION sections s b.0 b.1) v.parts in
+    let go = passed_by v.bytes s b.0.1 stands (value_onward field home.version sections s b.0 b.1) v.parts in
     subst (λ (p : (RawAttr × Option Reference) × Spot). Lead all (option_to_list p.0.1) → AttrTaken all sections home root field before s p) (ok_is _ y c.2)
     (λ k.
     let t = value_taken all low sections home root field before b.0.0 s c.0 (class_not_ref w.row.class field sections v.bytes b.0.0 w.spells) c.1 k in
     record {
       bytes = v.bytes;
-      spells = record { value = b.0.0; spells = w; inside = t.inside; is = ap₂ (λ (n : ℕ) (x : Value). record { name = field.name; form = field.form; end = n; value = x }) go.place t.is };
+      spells = record { stored = b.0.0; spells = w; value = c.0.0; means = t.means; is = ap (λ (n : ℕ). record { name = field.name; form = field.form; end = n; value = c.0.0 }) go.place };
       leads_on = t.leads_on;
       passed = go;
     }) h
@@ -267,15 +336,15 @@ record AttrGoes (all : List RawEntry) (sections : SectionBytes) (home : Home) (r
   left : rest next ≡ more
 
 attr_goes : (all : List RawEntry) → AreLow all → (sections : SectionBytes) (home : Home) (root : Bool) (field : Field) (before : List RawAttr) (s : Spot) (bytes : List ℕ) (attr : RawAttr) (more : List ℕ) → Stands s
-    → SpellsAttr sections home.place (names_lines root before) field attr s.place bytes → ValueLeads all home.unit (meaning_of field.form field.name) attr.value → rest s ≡ bytes ++ more
+    → SpellsAttr sections (origin_of home) (names_lines root before) field attr s.place bytes → ValueLeads all home.unit (meaning_of field.form field.name) attr.value → rest s ≡ bytes ++ more
     → AttrGoes all sections home root field before s bytes attr more
 unfolding attr_at
 attr_goes all low sections home root field before s bytes attr more stands w leads_on parts =
-    let r = value_read field DWARF_VERSION sections s bytes w.value more stands w.spells parts in
-    let value_is : attr.value ≡ attr_value home.place field w.value = ap (λ (a : RawAttr). a.value) w.is in
-    let g = value_goes all low sections home root field before w.value s w.inside (subst (ValueLeads all home.unit (meaning_of field.form field.name)) value_is leads_on) in
-    let go = passed_by bytes s r.next stands (value_onward field DWARF_VERSION sections s (w.value, r.next) r.reads) (parts ∙ ap (λ (xs : List ℕ). bytes ++ xs) (sym r.left)) in
-    let ended : ℕ → RawAttr = λ n. record { name = field.name; form = field.form; end = n; value = attr_value home.place field w.value } in
+    let r = value_read field home.version sections s bytes w.stored more stands w.spells parts in
+    let value_same : attr.value ≡ w.value = ap (λ (a : RawAttr). a.value) w.is in
+    let g = value_goes all low sections home root field before w.stored w.value s w.means (subst (ValueLeads all home.unit (meaning_of field.form field.name)) value_same leads_on) in
+    let go = passed_by bytes s r.next stands (value_onward field home.version sections s (w.stored, r.next) r.reads) (parts ∙ ap (λ (xs : List ℕ). bytes ++ xs) (sym r.left)) in
+    let ended : ℕ → RawAttr = λ n. record { name = field.name; form = field.form; end = n; value = w.value } in
     record {
       reference = g.reference;
       next = r.next;
@@ -293,7 +362,7 @@ pub record AttrsTaken (all : List RawEntry) (sections : SectionBytes) (home : Ho
   pub references : List Reference
   pub grown : y.0.1 ≡ before.1 ++ references
   pub bytes : List ℕ
-  pub spells : SpellsAttrs sections home.place root fields before.0 own s.place bytes
+  pub spells : SpellsAttrs sections (origin_of home) root fields before.0 own s.place bytes
   pub leads_on : AttrsLead all home.unit fields own
   pub passed : Passed bytes s y.1
 
@@ -317,7 +386,7 @@ attrs_taken all low sections home root (field ∷ fields) before s y stands e h 
       references = option_to_list b.0.0.1 ++ t.references;
       grown = t.grown ∙ append_assoc before.1 (option_to_list b.0.0.1) t.references;
       bytes = a.bytes ++ t.bytes;
-      spells = record { front = a.bytes; back = t.bytes; is = refl; first = a.spells; second = subst (λ (n : ℕ). SpellsAttrs sections home.place root fields (before.0 ++ b.0.0.0 ∷ []) t.own n t.bytes) went.place t.spells };
+      spells = record { front = a.bytes; back = t.bytes; is = refl; first = a.spells; second = subst (λ (n : ℕ). SpellsAttrs sections (origin_of home) root fields (before.0 ++ b.0.0.0 ∷ []) t.own n t.bytes) went.place t.spells };
       leads_on = (a.leads_on, t.leads_on);
       passed = passed_then a.bytes t.bytes s b.0.1 y.1 a.passed t.passed;
     }
@@ -331,7 +400,7 @@ pub record AttrsGo (all : List RawEntry) (sections : SectionBytes) (home : Home)
   pub left : rest next ≡ more
 
 pub attrs_go : (all : List RawEntry) → AreLow all → (sections : SectionBytes) (home : Home) (root : Bool) (fields : List Field) (own : List RawAttr) (before : Described) (s : Spot) (bytes more : List ℕ) → Stands s
-    → SpellsAttrs sections home.place root fields before.0 own s.place bytes → AttrsLead all home.unit fields own → Lead all before.1 → rest s ≡ bytes ++ more → AttrsGo all sections home root fields before s bytes own more
+    → SpellsAttrs sections (origin_of home) root fields before.0 own s.place bytes → AttrsLead all home.unit fields own → Lead all before.1 → rest s ≡ bytes ++ more → AttrsGo all sections home root fields before s bytes own more
 unfolding attrs_at
 attrs_go all low sections home root [] [] before s bytes more stands w leads_on lead parts =
     record {
@@ -349,7 +418,7 @@ attrs_go all low sections home root (field ∷ fields) (attr ∷ own) before s b
     let a = attr_goes all low sections home root field before.0 s w.front attr (w.back ++ more) stands w.first leads_on.0 whole in
     let p = a.passed in
     let now : Described = (before.0 ++ attr ∷ [], before.1 ++ option_to_list a.reference) in
-    let rest_spelled = subst (λ (n : ℕ). SpellsAttrs sections home.place root fields (before.0 ++ attr ∷ []) own n w.back) (sym p.place) w.second in
+    let rest_spelled = subst (λ (n : ℕ). SpellsAttrs sections (origin_of home) root fields (before.0 ++ attr ∷ []) own n w.back) (sym p.place) w.second in
     let t = attrs_go all low sections home root fields own now a.next w.back more p.stands rest_spelled leads_on.1 (lead_both all before.1 (option_to_list a.reference) lead a.lead) a.left in
     record {
       references = t.references;

@@ -8,6 +8,7 @@ pub mod Places
 pub mod References
 pub mod Resolving
 pub mod Rising
+pub mod RootBases
 pub mod Soundness
 pub mod Steps
 pub mod TreeLaws

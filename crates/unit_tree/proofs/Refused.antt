@@ -1,11 +1,11 @@
 -- Every fault of an object's units is of their reader's kinds.
-use Rattle.std.proofs.Common.{ℕ, zero, suc, ◌-◌, ◌==◌, ◌&&◌, Bool, not, List, [], ◌∷◌, ◌++◌, length, Option, None, Ok, Err, refl, arith, Some, Result}
-use Rattle.std.specs.Prelude.{is_none, nat_lt}
-use Rattle.std.specs.Option.{option_map_or}
+use Rattle.std.proofs.Common.{ℕ, zero, suc, ◌-◌, ◌==◌, ◌&&◌, Bool, true, not, List, [], ◌∷◌, ◌++◌, length, Option, None, Ok, Err, refl, arith, Some, Result}
+use Rattle.std.specs.Prelude.{is_none, nat_lt, if◌then◌else◌}
+use Rattle.std.specs.Option.{option_map, option_map_or}
 use Rattle.std.specs.List.{Contains, find, list_all}
 use Rattle.std.specs.Option.{option_to_list}
 use Rattle.std.proofs.lemmas.List.Elements.{All-contains, All-from_recursion, Contains-append_left}
-use Rattle.ds_base.specs.declared.dwarf.TheConstants.{DW_TAG_compile_unit}
+use Rattle.ds_base.specs.declared.dwarf.TheConstants.{DW_TAG_compile_unit, DW_UT_compile}
 use Rattle.ds_base.specs.declared.fault.Fault.{Fault}
 use Rattle.ds_base.specs.declared.fault.Kind.{Kind}
 use Rattle.ds_base.specs.declared.fault.Kind.TheVariants as kinds
@@ -22,25 +22,27 @@ use Rattle.dwarf_types.specs.SectionBytes.{SectionBytes}
 use Rattle.abbrev_read.specs.Reading.{table_at}
 use Rattle.ds_base.proofs.FaultKinds.{FaultsAre, ok_kinds, err_kinds, bind_kinds, refuse_kinds, either_kinds, found_kinds, bytes_kinds, number_kinds, uleb_kinds}
 use Rattle.abbrev_read.proofs.Refused.{IsOne as IsTableKind, table_faults_kinds as table_faults}
-use Rattle.form_value.specs.Reading.{value_at}
+use Rattle.form_value.specs.Reading.{text_of, value_at}
 use Rattle.form_value.proofs.Refused.{IsOne as IsValueKind, value_faults}
+use Rattle.index_tables.specs.declared.bases.Bases.{Bases}
+use Rattle.index_tables.specs.Tables.{text_place, address_place, list_place}
 use Rattle.unit_tree.specs.declared.attribute.Home.{Home}
 use Rattle.unit_tree.specs.declared.entry.TheConstants.{MOST_OPEN}
-use Rattle.unit_tree.specs.declared.header.TheConstants.{DWARF_VERSION, ADDRESS_SIZE}
+use Rattle.unit_tree.specs.declared.header.TheConstants.{DWARF_4, DWARF_5, ADDRESS_SIZE}
 use Rattle.unit_tree.specs.declared.meaning.Meaning.{Meaning}
-use Rattle.unit_tree.specs.declared.meaning.Meaning.TheVariants.{InUnit, InObject, LineTable, RangeList, LocationList, Other}
+use Rattle.unit_tree.specs.declared.meaning.Meaning.TheVariants.{InUnit, InObject, LineTable, RangeList, LocationList, TextIndex, AddressIndex, RangeListIndex, LocationListIndex, Other}
 use Rattle.unit_tree.specs.declared.reference.Reference.{Reference}
-use Rattle.unit_tree.specs.Attribute.{Described, attr_at, attrs_at, meant_at, names_lines, number_in, offset_in, value_meant_at}
-use Rattle.unit_tree.specs.Entry.{Parsed, Walk, child_at, children_at, closed, declared_as, entry_at, innermost, is_full, is_split, listed_at, opened, root_at, tree_at}
-use Rattle.unit_tree.specs.Header.{behind_length, fields_at, header_at, info_at, is_bad_length}
+use Rattle.unit_tree.specs.Attribute.{Described, address_named, attr_at, attrs_at, list_named, locations_of, meant_at, names_lines, number_in, offset_in, ranges_of, text_named, value_meant_at}
+use Rattle.unit_tree.specs.Entry.{Parsed, Walk, bases_at, child_at, children_at, closed, declared_as, entry_at, first_at, innermost, is_full, is_split, listed_at, opened, root_at, tree_at}
+use Rattle.unit_tree.specs.Header.{behind_length, fields_4_at, fields_5_at, fields_at, header_at, info_at, is_bad_length}
 use Rattle.unit_tree.specs.Meaning.{meaning_of}
 use Rattle.unit_tree.specs.Reference.{leads, resolved}
-use Rattle.unit_tree.specs.Unit.{is_zero, nothing, unit_at, units_at, units_of, zeros_at}
+use Rattle.unit_tree.specs.Unit.{home_in, is_zero, nothing, unit_at, units_at, units_of, zeros_at}
 
 abbrev pub IsOne : Kind → Type 0
 IsOne = Contains (
     kinds.Truncated ∷ kinds.LebTooWide ∷ kinds.UnknownForm ∷ kinds.FormOutsideProfile ∷ kinds.BadOffset ∷ kinds.BadAbbrev ∷ kinds.DuplicateCode ∷ kinds.LimitAttributes
-    ∷ kinds.UnsupportedVersion ∷ kinds.BadUnit ∷ kinds.SplitUnit ∷ kinds.UnknownCode ∷ kinds.UnclosedSiblings ∷ kinds.LimitDepth ∷ kinds.LimitEntries ∷ kinds.BadReference ∷ []
+    ∷ kinds.UnsupportedVersion ∷ kinds.BadUnit ∷ kinds.SplitUnit ∷ kinds.UnknownCode ∷ kinds.UnclosedSiblings ∷ kinds.LimitDepth ∷ kinds.LimitEntries ∷ kinds.BadReference ∷ kinds.BadIndex ∷ []
     )
 
 -- a test before what follows
@@ -84,11 +86,14 @@ many = (14, omega arith, refl)
 dangling : IsOne kinds.BadReference
 dangling = (15, omega arith, refl)
 
+index_bad : IsOne kinds.BadIndex
+index_bad = (16, omega arith, refl)
+
 -- ---- those of values and of tables
 
 of_value : (k : Kind) → IsValueKind k → IsOne k
 of_value k h = Contains-append_left (kinds.Truncated ∷ kinds.LebTooWide ∷ kinds.UnknownForm ∷ kinds.FormOutsideProfile ∷ kinds.BadOffset ∷ []) (
-    kinds.BadAbbrev ∷ kinds.DuplicateCode ∷ kinds.LimitAttributes ∷ kinds.UnsupportedVersion ∷ kinds.BadUnit ∷ kinds.SplitUnit ∷ kinds.UnknownCode ∷ kinds.UnclosedSiblings ∷ kinds.LimitDepth ∷ kinds.LimitEntries ∷ kinds.BadReference ∷ []
+    kinds.BadAbbrev ∷ kinds.DuplicateCode ∷ kinds.LimitAttributes ∷ kinds.UnsupportedVersion ∷ kinds.BadUnit ∷ kinds.SplitUnit ∷ kinds.UnknownCode ∷ kinds.UnclosedSiblings ∷ kinds.LimitDepth ∷ kinds.LimitEntries ∷ kinds.BadReference ∷ kinds.BadIndex ∷ []
     ) k h
 
 of_table : (k : Kind) → IsTableKind k → IsOne k
@@ -100,13 +105,36 @@ of_table k h = All-contains IsOne (kinds.Truncated ∷ kinds.LebTooWide ∷ kind
 offset_kinds : (section : List ℕ) (n : ℕ) (s : Spot) → FaultsAre IsOne (offset_in section n s)
 offset_kinds section n s = tried_kinds (not (nat_lt n (length section))) (fault_at s kinds.BadOffset) (Ok _) offset_bad (ok_kinds IsOne _)
 
+text_kinds : (sections : SectionBytes) (bases : Option Bases) (n : ℕ) (s : Spot) → FaultsAre IsOne (text_named sections bases n s)
+unfolding text_named
+text_kinds sections None n s = ok_kinds IsOne _
+text_kinds sections (Some bases) n s =
+    bind_kinds IsOne (or_fault (text_place sections bases.texts n) (fault_at s kinds.BadIndex)) _ (found_kinds IsOne (text_place sections bases.texts n) (fault_at s kinds.BadIndex) index_bad) (λ place.
+    bind_kinds IsOne (or_fault (text_of sections.strings place) (fault_at s kinds.BadOffset)) _ (found_kinds IsOne (text_of sections.strings place) (fault_at s kinds.BadOffset) offset_bad) (λ text. ok_kinds IsOne _))
+
+address_kinds : (sections : SectionBytes) (bases : Option Bases) (n : ℕ) (s : Spot) → FaultsAre IsOne (address_named sections bases n s)
+unfolding address_named
+address_kinds sections None n s = ok_kinds IsOne _
+address_kinds sections (Some bases) n s =
+    bind_kinds IsOne (or_fault (address_place sections bases.addresses n) (fault_at s kinds.BadIndex)) _ (found_kinds IsOne (address_place sections bases.addresses n) (fault_at s kinds.BadIndex) index_bad) (λ place. ok_kinds IsOne _)
+
+list_kinds : (section : List ℕ) (base : Option ℕ) (n : ℕ) (s : Spot) → FaultsAre IsOne (list_named section base n s)
+unfolding list_named
+list_kinds section None n s = ok_kinds IsOne _
+list_kinds section (Some base) n s =
+    bind_kinds IsOne (or_fault (list_place section base n) (fault_at s kinds.BadIndex)) _ (found_kinds IsOne (list_place section base n) (fault_at s kinds.BadIndex) index_bad) (λ place. offset_kinds section place s)
+
 meant_kinds : (sections : SectionBytes) (home : Home) (lines : Bool) (meaning : Meaning) (n : ℕ) (s : Spot) → FaultsAre IsOne (meant_at sections home lines meaning n s)
 unfolding meant_at
 meant_kinds sections home lines InUnit n s = ok_kinds IsOne _
 meant_kinds sections home lines InObject n s = ok_kinds IsOne _
 meant_kinds sections home lines LineTable n s = either_kinds IsOne lines (offset_in sections.line n s) (Ok _) (offset_kinds sections.line n s) (ok_kinds IsOne _)
-meant_kinds sections home lines RangeList n s = offset_kinds sections.ranges n s
-meant_kinds sections home lines LocationList n s = offset_kinds sections.loc n s
+meant_kinds sections home lines RangeList n s = offset_kinds (ranges_of home.version sections) n s
+meant_kinds sections home lines LocationList n s = offset_kinds (locations_of home.version sections) n s
+meant_kinds sections home lines TextIndex n s = text_kinds sections home.bases n s
+meant_kinds sections home lines AddressIndex n s = address_kinds sections home.bases n s
+meant_kinds sections home lines RangeListIndex n s = list_kinds sections.rnglists (option_map (λ bases. bases.ranges) home.bases) n s
+meant_kinds sections home lines LocationListIndex n s = list_kinds sections.loclists (option_map (λ bases. bases.locations) home.bases) n s
 meant_kinds sections home lines Other n s = ok_kinds IsOne _
 
 value_meant_kinds : (sections : SectionBytes) (home : Home) (root : Bool) (field : Field) (before : List RawAttr) (value : Value) (s : Spot) → FaultsAre IsOne (value_meant_at sections home root field before value s)
@@ -118,7 +146,7 @@ value_meant_kinds sections home root field before value s =
 attr_kinds : (sections : SectionBytes) (home : Home) (root : Bool) (field : Field) (before : List RawAttr) (s : Spot) → FaultsAre IsOne (attr_at sections home root field before s)
 unfolding attr_at
 attr_kinds sections home root field before s =
-    bind_kinds IsOne (value_at field DWARF_VERSION sections s) _ (λ f e. of_value f.kind (value_faults field DWARF_VERSION sections s f e)) (λ read.
+    bind_kinds IsOne (value_at field home.version sections s) _ (λ f e. of_value f.kind (value_faults field home.version sections s f e)) (λ read.
     bind_kinds IsOne (value_meant_at sections home root field before read.0 s) _ (value_meant_kinds sections home root field before read.0 s) (λ meant. ok_kinds IsOne _))
 
 attrs_kinds : (sections : SectionBytes) (home : Home) (root : Bool) (fields : List Field) (before : Described) (s : Spot) → FaultsAre IsOne (attrs_at sections home root fields before s)
@@ -135,16 +163,27 @@ unfolding entry_at
 entry_kinds sections home parent place declared before s =
     bind_kinds IsOne (attrs_at sections home (is_none parent) declared.fields ([], before.references) s) _ (attrs_kinds sections home (is_none parent) declared.fields ([], before.references) s) (λ read. ok_kinds IsOne _)
 
-root_kinds : (start : Spot) (sections : SectionBytes) (home : Home) (table : List Abbrev) (before : Parsed) (s : Spot) → FaultsAre IsOne (root_at start sections home table before s)
-unfolding root_at
-root_kinds start sections home table before s =
+first_kinds : (start : Spot) (table : List Abbrev) (before : Parsed) (s : Spot) → FaultsAre IsOne (first_at start table before s)
+unfolding first_at
+first_kinds start table before s =
     bind_kinds IsOne (uleb_at s) _ (uleb_kinds IsOne s cut wide) (λ code.
     tried_kinds (code.0 == 0) (fault_at start kinds.BadUnit) _ unit_bad
     (bind_kinds IsOne (or_fault (declared_as code.0 table) (fault_at s kinds.UnknownCode)) _ (found_kinds IsOne (declared_as code.0 table) (fault_at s kinds.UnknownCode) unknown) (λ declared.
     tried_kinds (not (declared.tag == DW_TAG_compile_unit)) (fault_at start kinds.BadUnit) _ unit_bad
     (tried_kinds (is_split declared) (fault_at s kinds.SplitUnit) _ split
-    (tried_kinds (is_full before) (fault_at s kinds.LimitEntries) _ many
-    (bind_kinds IsOne (entry_at sections home None s.place declared before code.1) _ (entry_kinds sections home None s.place declared before code.1) (λ read. ok_kinds IsOne _)))))))
+    (tried_kinds (is_full before) (fault_at s kinds.LimitEntries) _ many (ok_kinds IsOne _))))))
+
+bases_kinds : (start : Spot) (sections : SectionBytes) (home : Home) (table : List Abbrev) (before : Parsed) (s : Spot) → FaultsAre IsOne (bases_at start sections home table before s)
+unfolding bases_at
+bases_kinds start sections home table before s =
+    bind_kinds IsOne (first_at start table before s) _ (first_kinds start table before s) (λ first.
+    bind_kinds IsOne (attrs_at sections home true first.0.fields ([], []) first.1) _ (attrs_kinds sections home true first.0.fields ([], []) first.1) (λ read. ok_kinds IsOne _))
+
+root_kinds : (start : Spot) (sections : SectionBytes) (home : Home) (table : List Abbrev) (before : Parsed) (s : Spot) → FaultsAre IsOne (root_at start sections home table before s)
+unfolding root_at
+root_kinds start sections home table before s =
+    bind_kinds IsOne (first_at start table before s) _ (first_kinds start table before s) (λ first.
+    bind_kinds IsOne (entry_at sections home None s.place first.0 before first.1) _ (entry_kinds sections home None s.place first.0 before first.1) (λ read. ok_kinds IsOne _))
 
 listed_kinds : (sections : SectionBytes) (home : Home) (declared : Abbrev) (walk : Walk) (first s : Spot) → FaultsAre IsOne (listed_at sections home declared walk first s)
 unfolding listed_at
@@ -177,15 +216,31 @@ tree_kinds start sections home table before s =
 
 -- ---- units
 
+fields_4_kinds : (sections : SectionBytes) (first s : Spot) → FaultsAre IsOne (fields_4_at sections first s)
+unfolding fields_4_at
+fields_4_kinds sections first s =
+    bind_kinds IsOne (number_at 4 s) _ (number_kinds IsOne 4 s cut) (λ table.
+    tried_kinds (not (nat_lt table.0 (length sections.abbrev_))) (fault_at s kinds.BadOffset) _ offset_bad
+    (bind_kinds IsOne (number_at 1 table.1) _ (number_kinds IsOne 1 table.1 cut) (λ size.
+    tried_kinds (not (size.0 == ADDRESS_SIZE)) (fault_at first kinds.BadUnit) (Ok _) unit_bad (ok_kinds IsOne _))))
+
+fields_5_kinds : (sections : SectionBytes) (first s : Spot) → FaultsAre IsOne (fields_5_at sections first s)
+unfolding fields_5_at
+fields_5_kinds sections first s =
+    bind_kinds IsOne (number_at 1 s) _ (number_kinds IsOne 1 s cut) (λ kind.
+    tried_kinds (not (kind.0 == DW_UT_compile)) (fault_at first kinds.BadUnit) _ unit_bad
+    (bind_kinds IsOne (number_at 1 kind.1) _ (number_kinds IsOne 1 kind.1 cut) (λ size.
+    tried_kinds (not (size.0 == ADDRESS_SIZE)) (fault_at first kinds.BadUnit) _ unit_bad
+    (bind_kinds IsOne (number_at 4 size.1) _ (number_kinds IsOne 4 size.1 cut) (λ table.
+    tried_kinds (not (nat_lt table.0 (length sections.abbrev_))) (fault_at size.1 kinds.BadOffset) (Ok _) offset_bad (ok_kinds IsOne _))))))
+
 fields_kinds : (sections : SectionBytes) (first s : Spot) → FaultsAre IsOne (fields_at sections first s)
 unfolding fields_at
 fields_kinds sections first s =
     bind_kinds IsOne (number_at 2 s) _ (number_kinds IsOne 2 s cut) (λ version.
-    tried_kinds (not (version.0 == DWARF_VERSION)) (fault_at s kinds.UnsupportedVersion) _ version_bad
-    (bind_kinds IsOne (number_at 4 version.1) _ (number_kinds IsOne 4 version.1 cut) (λ table.
-    tried_kinds (not (nat_lt table.0 (length sections.abbrev_))) (fault_at version.1 kinds.BadOffset) _ offset_bad
-    (bind_kinds IsOne (number_at 1 table.1) _ (number_kinds IsOne 1 table.1 cut) (λ size.
-    tried_kinds (not (size.0 == ADDRESS_SIZE)) (fault_at first kinds.BadUnit) (Ok _) unit_bad (ok_kinds IsOne _))))))
+    tried_kinds (not (version.0 == DWARF_4) && not (version.0 == DWARF_5)) (fault_at s kinds.UnsupportedVersion) _ version_bad
+    (bind_kinds IsOne (if version.0 == DWARF_5 then fields_5_at sections first version.1 else fields_4_at sections first version.1) _
+    (either_kinds IsOne (version.0 == DWARF_5) (fields_5_at sections first version.1) (fields_4_at sections first version.1) (fields_5_kinds sections first version.1) (fields_4_kinds sections first version.1)) (λ table. ok_kinds IsOne _)))
 
 header_kinds : (sections : SectionBytes) (place : ℕ) → FaultsAre IsOne (header_at sections place)
 unfolding header_at
@@ -205,9 +260,11 @@ unit_read_kinds sections number before place =
     bind_kinds IsOne (header_at sections place) _ (header_kinds sections place) (λ header.
     bind_kinds IsOne (table_at sections.abbrev_ header.0.table) _
     (λ f e. of_table f.kind (table_faults sections.abbrev_ header.0.table f e)) (λ table.
-    bind_kinds IsOne (tree_at (info_at sections place) sections (record { unit = number; place = place }) table before header.1) _
-    (tree_kinds (info_at sections place) sections (record { unit = number; place = place }) table before header.1) (λ tree.
-    bind_kinds IsOne (zeros_at (info_at sections place) tree.1) _ (zeros_kinds (info_at sections place) tree.1) (λ u. ok_kinds IsOne _))))
+    bind_kinds IsOne (bases_at (info_at sections place) sections (home_in number place header.0.version None) table before header.1) _
+    (bases_kinds (info_at sections place) sections (home_in number place header.0.version None) table before header.1) (λ bases.
+    bind_kinds IsOne (tree_at (info_at sections place) sections (home_in number place header.0.version (Some bases)) table before header.1) _
+    (tree_kinds (info_at sections place) sections (home_in number place header.0.version (Some bases)) table before header.1) (λ tree.
+    bind_kinds IsOne (zeros_at (info_at sections place) tree.1) _ (zeros_kinds (info_at sections place) tree.1) (λ u. ok_kinds IsOne _)))))
 
 units_read_kinds : (sections : SectionBytes) (left : ℕ) (units : List AUnit) (before : Parsed) (place : ℕ) → FaultsAre IsOne (units_at sections left units before place)
 unfolding units_at

@@ -18,7 +18,7 @@ use Rattle.unit_tree.specs.Reference.{IsRising}
 use Rattle.unit_tree.specs.Unit.{nothing, unit_at, units_at}
 use Rattle.ds_base.proofs.Onward.{Onward, Further, stays, onward_then, further_then, end_kept, place_rises, number_fits, number_onward, uleb_further}
 use Rattle.unit_tree.proofs.Onward.{attrs_onward}
-use Rattle.unit_tree.proofs.Steps.{entry_steps, root_steps, listed_steps, child_steps, children_end, children_steps, tree_steps, header_steps, unit_steps, units_end, units_steps}
+use Rattle.unit_tree.proofs.Steps.{entry_steps, root_steps, listed_steps, child_steps, children_end, children_steps, tree_steps, FieldsSteps, header_steps, unit_steps, units_end, units_steps}
 
 -- entries in order, all of which begin below a place
 pub record RisesBelow (entries : List RawEntry) (place : ℕ) : Type 0 where
@@ -135,14 +135,25 @@ pub both_false : (b c : Bool) → (b || c) ≡ false → (b ≡ false) × (c ≡
 both_false true c e = absurd cc
 both_false false c e = (refl, e)
 
+fields_onward : (sections : SectionBytes) (first : Spot) (version table : ℕ × Spot) → FieldsSteps sections first version table → Onward version.1 table.1
+fields_onward sections first version table f =
+    elim f [
+      | inl four ↦
+          let w = four.1 in
+          subst (λ (p : ℕ × Spot). Onward version.1 p.1) w.is (onward_then version.1 w.table.1 w.size.1 (number_onward 4 version.1 w.table w.table_is) (number_onward 1 w.table.1 w.size w.size_is))
+      | inr five ↦
+          let w = five.1 in
+          onward_then version.1 w.kind.1 table.1 (number_onward 1 version.1 w.kind w.kind_is) (onward_then w.kind.1 w.size.1 table.1 (number_onward 1 w.kind.1 w.size w.size_is) (number_onward 4 w.size.1 table w.table_is))
+    ]
+
 pub header_opens : (sections : SectionBytes) (place : ℕ) (y : Header × Spot) → header_at sections place ≡ Ok y → Opened sections place y.0 y.1
 header_opens sections place y e =
     let w = header_steps sections place y e in
     let s : Spot = behind_length sections place w.len.0 in
-    let o = onward_then s w.version.1 w.size.1 (number_onward 2 s w.version w.version_is) (onward_then w.version.1 w.table.1 w.size.1 (number_onward 4 w.version.1 w.table w.table_is) (number_onward 1 w.table.1 w.size w.size_is)) in
-    let end = end_kept s w.size.1 o in
-    let rise = place_rises s w.size.1 o in
-    let there : w.size.1.place ≡ place + 4 + o.by = ap (λ (x : Spot). x.place) o.is in
+    let o = onward_then s w.version.1 w.table.1 (number_onward 2 s w.version w.version_is) (fields_onward sections (info_at sections place) w.version w.table w.fields) in
+    let end = end_kept s w.table.1 o in
+    let rise = place_rises s w.table.1 o in
+    let there : w.table.1.place ≡ place + 4 + o.by = ap (λ (x : Spot). x.place) o.is in
     let sound = both_false (not (nat_lt w.len.0 LENGTH_RESERVED)) (nat_lt (length sections.info - (place + 4)) w.len.0) w.sound in
     let four = number_fits 4 (info_at sections place) w.len w.length_is in
     let inside : place + 4 + w.len.0 ≤ length sections.info = omega (arith, four, ltb-false _ _ sound.1) in

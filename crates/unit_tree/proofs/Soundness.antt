@@ -197,7 +197,7 @@ unit_reads : (sections : SectionBytes) (units : List InUnit) (before : Parsed) (
 unit_reads sections units before place y e h =
     let w = unit_steps sections (length units) before place y e in
     let t = tree_grows _ sections _ w.table before w.header.1 w.tree units w.tree_is refl h in
-    let u : InUnit = unit_from (length before.entries) w.tree.0.entries in
+    let u : InUnit = unit_from w.header.0.version (length before.entries) w.tree.0.entries in
     let ends : u.first + u.count ≡ length w.tree.0.entries = omega (arith, t.1) in
     let g = t.0 in
     subst (λ (p : (InUnit × Parsed) × ℕ). Reads (units ++ p.0.0 ∷ []) p.0.1.entries) w.is (record {

@@ -1,9 +1,9 @@
 -- What a reader that did not fail was made of, step by step.
-use Rattle.std.proofs.Common.{◌≡◌, ℕ, zero, suc, ◌+◌, ◌-◌, ◌==◌, ◌&&◌, Bool, true, false, not, List, [], ◌∷◌, ◌++◌, length, Option, Some, None, Result, Ok, Err, refl, sym, ◌∙◌, inl, inr, ◌⊎◌}
+use Rattle.std.proofs.Common.{◌≡◌, ℕ, zero, suc, ◌+◌, ◌-◌, ◌==◌, ◌&&◌, Bool, true, false, not, List, [], ◌∷◌, ◌++◌, length, Option, Some, None, Result, Ok, Err, refl, sym, ap, subst, ◌∙◌, inl, inr, ◌⊎◌}
 use Rattle.std.specs.Prelude.{nat_lt, is_none, if◌then◌else◌}
 use Rattle.std.specs.List.{list_all}
-use Rattle.std.proofs.lemmas.Bool.{cases_eq, eq-eqb, ne_eqb}
-use Rattle.ds_base.specs.declared.dwarf.TheConstants.{DW_TAG_compile_unit}
+use Rattle.std.proofs.lemmas.Bool.{cases_eq, eq-eqb, eqb-true, ne_eqb}
+use Rattle.ds_base.specs.declared.dwarf.TheConstants.{DW_TAG_compile_unit, DW_UT_compile}
 use Rattle.ds_base.specs.declared.fault.Fault.{Fault}
 use Rattle.ds_base.specs.declared.fault.Kind.TheVariants as kinds
 use Rattle.ds_base.specs.Spot.{Spot, fault_at}
@@ -13,15 +13,17 @@ use Rattle.dwarf_types.specs.declared.entry.InUnit.{InUnit}
 use Rattle.dwarf_types.specs.SectionBytes.{SectionBytes}
 use Rattle.ds_base.proofs.Passing.{bind_ok, passed, ok_is, found_ok}
 use Rattle.abbrev_read.specs.Reading.{table_at}
+use Rattle.index_tables.specs.declared.bases.Bases.{Bases}
+use Rattle.index_tables.specs.Bases.{bases_in}
 use Rattle.unit_tree.specs.declared.attribute.Home.{Home}
 use Rattle.unit_tree.specs.declared.entry.TheConstants.{MOST_OPEN}
 use Rattle.unit_tree.specs.declared.header.Header.{Header}
-use Rattle.unit_tree.specs.declared.header.TheConstants.{DWARF_VERSION, ADDRESS_SIZE}
+use Rattle.unit_tree.specs.declared.header.TheConstants.{DWARF_4, DWARF_5, ADDRESS_SIZE}
 use Rattle.unit_tree.specs.Attribute.{Described, attrs_at}
-use Rattle.unit_tree.specs.Entry.{Parsed, with_entry, entry_at, is_full, is_split, root_at, innermost, closed, opened, Walk, listed_at, child_at, children_at, tree_at}
-use Rattle.unit_tree.specs.Header.{info_at, behind_length, is_bad_length, fields_at, header_at}
+use Rattle.unit_tree.specs.Entry.{Parsed, with_entry, entry_at, is_full, is_split, first_at, bases_at, root_at, innermost, closed, opened, Walk, listed_at, child_at, children_at, tree_at}
+use Rattle.unit_tree.specs.Header.{info_at, behind_length, is_bad_length, fields_4_at, fields_5_at, fields_at, header_at}
 use Rattle.unit_tree.specs.Entry.{declared_as}
-use Rattle.unit_tree.specs.Unit.{is_zero, zeros_at, unit_from, unit_at, units_at}
+use Rattle.unit_tree.specs.Unit.{home_in, is_zero, zeros_at, unit_from, unit_at, units_at}
 
 -- an entry
 pub record EntrySteps (sections : SectionBytes) (home : Home) (parent : Option ℕ) (place : ℕ) (declared : Abbrev) (before : Parsed) (s : Spot) (y : Parsed × Spot) : Type 0 where
@@ -46,28 +48,77 @@ pub record RootSteps (start : Spot) (sections : SectionBytes) (home : Home) (tab
   pub unit : not (declared.tag == DW_TAG_compile_unit) ≡ false
   pub whole : is_split declared ≡ false
   pub room : is_full before ≡ false
+  pub first : first_at start table before s ≡ Ok (declared, code.1)
   pub read : Parsed × Spot
   pub entry : entry_at sections home None s.place declared before code.1 ≡ Ok read
   pub is : ((declared.children, read.0), read.1) ≡ y
 
-pub root_steps : (start : Spot) (sections : SectionBytes) (home : Home) (table : List Abbrev) (before : Parsed) (s : Spot) (y : (Bool × Parsed) × Spot) → root_at start sections home table before s ≡ Ok y
-    → RootSteps start sections home table before s y
-unfolding root_at
-root_steps start sections home table before s y e =
-    let last : Abbrev → Parsed × Spot → Result ((Bool × Parsed) × Spot) Fault = λ declared read. Ok ((declared.children, read.0), read.1) in
-    let entry : Abbrev → ℕ × Spot → Result ((Bool × Parsed) × Spot) Fault = λ declared code. entry_at sections home None s.place declared before code.1 >>= last declared in
-    let room : Abbrev → ℕ × Spot → Result ((Bool × Parsed) × Spot) Fault = λ declared code. refuse_if (is_full before) (fault_at s kinds.LimitEntries) >>= λ u. entry declared code in
-    let whole : Abbrev → ℕ × Spot → Result ((Bool × Parsed) × Spot) Fault = λ declared code. refuse_if (is_split declared) (fault_at s kinds.SplitUnit) >>= λ u. room declared code in
-    let unit : Abbrev → ℕ × Spot → Result ((Bool × Parsed) × Spot) Fault = λ declared code. refuse_if (not (declared.tag == DW_TAG_compile_unit)) (fault_at start kinds.BadUnit) >>= λ u. whole declared code in
-    let found : ℕ × Spot → Result ((Bool × Parsed) × Spot) Fault = λ code. or_fault (declared_as code.0 table) (fault_at s kinds.UnknownCode) >>= λ declared. unit declared code in
+-- the declaration of a first entry
+pub record FirstSteps (start : Spot) (table : List Abbrev) (before : Parsed) (s : Spot) (y : Abbrev × Spot) : Type 0 where
+  pub code : ℕ × Spot
+  pub coded : uleb_at s ≡ Ok code
+  pub some : (code.0 == 0) ≡ false
+  pub declared : Abbrev
+  pub found : declared_as code.0 table ≡ Some declared
+  pub unit : not (declared.tag == DW_TAG_compile_unit) ≡ false
+  pub whole : is_split declared ≡ false
+  pub room : is_full before ≡ false
+  pub is : (declared, code.1) ≡ y
+
+pub first_steps : (start : Spot) (table : List Abbrev) (before : Parsed) (s : Spot) (y : Abbrev × Spot) → first_at start table before s ≡ Ok y → FirstSteps start table before s y
+unfolding first_at
+first_steps start table before s y e =
+    let last : Abbrev → ℕ × Spot → Result (Abbrev × Spot) Fault = λ declared code. Ok (declared, code.1) in
+    let room : Abbrev → ℕ × Spot → Result (Abbrev × Spot) Fault = λ declared code. refuse_if (is_full before) (fault_at s kinds.LimitEntries) >>= λ u. last declared code in
+    let whole : Abbrev → ℕ × Spot → Result (Abbrev × Spot) Fault = λ declared code. refuse_if (is_split declared) (fault_at s kinds.SplitUnit) >>= λ u. room declared code in
+    let unit : Abbrev → ℕ × Spot → Result (Abbrev × Spot) Fault = λ declared code. refuse_if (not (declared.tag == DW_TAG_compile_unit)) (fault_at start kinds.BadUnit) >>= λ u. whole declared code in
+    let found : ℕ × Spot → Result (Abbrev × Spot) Fault = λ code. or_fault (declared_as code.0 table) (fault_at s kinds.UnknownCode) >>= λ declared. unit declared code in
     let a = bind_ok (uleb_at s) (λ code. refuse_if (code.0 == 0) (fault_at start kinds.BadUnit) >>= λ u. found code) y e in
     let b = passed (a.0.0 == 0) (fault_at start kinds.BadUnit) (found a.0) y a.2 in
     let c = bind_ok (or_fault (declared_as a.0.0 table) (fault_at s kinds.UnknownCode)) (λ declared. unit declared a.0) y b.1 in
     let d = passed (not (c.0.tag == DW_TAG_compile_unit)) (fault_at start kinds.BadUnit) (whole c.0 a.0) y c.2 in
     let f = passed (is_split c.0) (fault_at s kinds.SplitUnit) (room c.0 a.0) y d.1 in
-    let g = passed (is_full before) (fault_at s kinds.LimitEntries) (entry c.0 a.0) y f.1 in
-    let h = bind_ok (entry_at sections home None s.place c.0 before a.0.1) (last c.0) y g.1 in
-    record { code = a.0; coded = a.1; some = b.0; declared = c.0; found = found_ok (declared_as a.0.0 table) (fault_at s kinds.UnknownCode) c.0 c.1; unit = d.0; whole = f.0; room = g.0; read = h.0; entry = h.1; is = ok_is _ y h.2 }
+    let g = passed (is_full before) (fault_at s kinds.LimitEntries) (last c.0 a.0) y f.1 in
+    record { code = a.0; coded = a.1; some = b.0; declared = c.0; found = found_ok (declared_as a.0.0 table) (fault_at s kinds.UnknownCode) c.0 c.1; unit = d.0; whole = f.0; room = g.0; is = ok_is _ y g.1 }
+
+pub root_steps : (start : Spot) (sections : SectionBytes) (home : Home) (table : List Abbrev) (before : Parsed) (s : Spot) (y : (Bool × Parsed) × Spot) → root_at start sections home table before s ≡ Ok y
+    → RootSteps start sections home table before s y
+unfolding root_at
+root_steps start sections home table before s y e =
+    let last : Abbrev × Spot → Parsed × Spot → Result ((Bool × Parsed) × Spot) Fault = λ first read. Ok ((first.0.children, read.0), read.1) in
+    let a = bind_ok (first_at start table before s) (λ first. entry_at sections home None s.place first.0 before first.1 >>= last first) y e in
+    let f = first_steps start table before s a.0 a.1 in
+    let b = bind_ok (entry_at sections home None s.place a.0.0 before a.0.1) (last a.0) y a.2 in
+    record {
+      code = f.code;
+      coded = f.coded;
+      some = f.some;
+      declared = f.declared;
+      found = f.found;
+      unit = f.unit;
+      whole = f.whole;
+      room = f.room;
+      first = a.1 ∙ ap Ok (sym f.is);
+      read = b.0;
+      entry = subst (λ (p : Abbrev × Spot). entry_at sections home None s.place p.0 before p.1 ≡ Ok b.0) (sym f.is) b.1;
+      is = subst (λ (p : Abbrev × Spot). ((p.0.children, b.0.0), b.0.1) ≡ y) (sym f.is) (ok_is _ y b.2);
+    }
+
+-- the bases of a unit
+pub record BasesSteps (start : Spot) (sections : SectionBytes) (home : Home) (table : List Abbrev) (before : Parsed) (s : Spot) (y : Bases) : Type 0 where
+  pub first : Abbrev × Spot
+  pub first_is : first_at start table before s ≡ Ok first
+  pub read : Described × Spot
+  pub attrs : attrs_at sections home true first.0.fields ([], []) first.1 ≡ Ok read
+  pub is : bases_in read.0.0 ≡ y
+
+pub bases_steps : (start : Spot) (sections : SectionBytes) (home : Home) (table : List Abbrev) (before : Parsed) (s : Spot) (y : Bases) → bases_at start sections home table before s ≡ Ok y → BasesSteps start sections home table before s y
+unfolding bases_at
+bases_steps start sections home table before s y e =
+    let last : Described × Spot → Result Bases Fault = λ read. Ok (bases_in read.0.0) in
+    let a = bind_ok (first_at start table before s) (λ first. attrs_at sections home true first.0.fields ([], []) first.1 >>= last) y e in
+    let b = bind_ok (attrs_at sections home true a.0.0.fields ([], []) a.0.1) last y a.2 in
+    record { first = a.0; first_is = a.1; read = b.0; attrs = b.1; is = ok_is _ y b.2 }
 
 -- an entry of an open list, behind its code
 pub record ListedSteps (sections : SectionBytes) (home : Home) (declared : Abbrev) (walk : Walk) (first s : Spot) (y : Walk × Spot) : Type 0 where
@@ -166,41 +217,92 @@ tree_steps start sections home table before s y e =
     record { root = a.0; first = a.1; others = a.2 }
 
 -- a header
+pub record Fields4Steps (sections : SectionBytes) (first s : Spot) (y : ℕ × Spot) : Type 0 where
+  pub table : ℕ × Spot
+  pub table_is : number_at 4 s ≡ Ok table
+  pub inside : not (nat_lt table.0 (length sections.abbrev_)) ≡ false
+  pub size : ℕ × Spot
+  pub size_is : number_at 1 table.1 ≡ Ok size
+  pub eight : not (size.0 == ADDRESS_SIZE) ≡ false
+  pub is : (table.0, size.1) ≡ y
+
+fields_4_steps : (sections : SectionBytes) (first s : Spot) (y : ℕ × Spot) → fields_4_at sections first s ≡ Ok y → Fields4Steps sections first s y
+unfolding fields_4_at
+fields_4_steps sections first s y e =
+    let last : ℕ × Spot → ℕ × Spot → Result (ℕ × Spot) Fault = λ table size. Ok (table.0, size.1) in
+    let eight : ℕ × Spot → ℕ × Spot → Result (ℕ × Spot) Fault = λ table size. refuse_if (not (size.0 == ADDRESS_SIZE)) (fault_at first kinds.BadUnit) >>= λ u. last table size in
+    let size : ℕ × Spot → Result (ℕ × Spot) Fault = λ table. number_at 1 table.1 >>= λ n. eight table n in
+    let a = bind_ok (number_at 4 s) (λ table. refuse_if (not (nat_lt table.0 (length sections.abbrev_))) (fault_at s kinds.BadOffset) >>= λ u. size table) y e in
+    let b = passed (not (nat_lt a.0.0 (length sections.abbrev_))) (fault_at s kinds.BadOffset) (size a.0) y a.2 in
+    let c = bind_ok (number_at 1 a.0.1) (eight a.0) y b.1 in
+    let d = passed (not (c.0.0 == ADDRESS_SIZE)) (fault_at first kinds.BadUnit) (last a.0 c.0) y c.2 in
+    record { table = a.0; table_is = a.1; inside = b.0; size = c.0; size_is = c.1; eight = d.0; is = ok_is _ y d.1 }
+
+pub record Fields5Steps (sections : SectionBytes) (first s : Spot) (y : ℕ × Spot) : Type 0 where
+  pub kind : ℕ × Spot
+  pub kind_is : number_at 1 s ≡ Ok kind
+  pub compile : not (kind.0 == DW_UT_compile) ≡ false
+  pub size : ℕ × Spot
+  pub size_is : number_at 1 kind.1 ≡ Ok size
+  pub eight : not (size.0 == ADDRESS_SIZE) ≡ false
+  pub table_is : number_at 4 size.1 ≡ Ok y
+  pub inside : not (nat_lt y.0 (length sections.abbrev_)) ≡ false
+
+fields_5_steps : (sections : SectionBytes) (first s : Spot) (y : ℕ × Spot) → fields_5_at sections first s ≡ Ok y → Fields5Steps sections first s y
+unfolding fields_5_at
+fields_5_steps sections first s y e =
+    let inside : ℕ × Spot → ℕ × Spot → Result (ℕ × Spot) Fault = λ size table. refuse_if (not (nat_lt table.0 (length sections.abbrev_))) (fault_at size.1 kinds.BadOffset) >>= λ u. Ok table in
+    let table : ℕ × Spot → Result (ℕ × Spot) Fault = λ size. number_at 4 size.1 >>= inside size in
+    let eight : ℕ × Spot → Result (ℕ × Spot) Fault = λ size. refuse_if (not (size.0 == ADDRESS_SIZE)) (fault_at first kinds.BadUnit) >>= λ u. table size in
+    let size : ℕ × Spot → Result (ℕ × Spot) Fault = λ kind. number_at 1 kind.1 >>= eight in
+    let a = bind_ok (number_at 1 s) (λ kind. refuse_if (not (kind.0 == DW_UT_compile)) (fault_at first kinds.BadUnit) >>= λ u. size kind) y e in
+    let b = passed (not (a.0.0 == DW_UT_compile)) (fault_at first kinds.BadUnit) (size a.0) y a.2 in
+    let c = bind_ok (number_at 1 a.0.1) eight y b.1 in
+    let d = passed (not (c.0.0 == ADDRESS_SIZE)) (fault_at first kinds.BadUnit) (table c.0) y c.2 in
+    let f = bind_ok (number_at 4 c.0.1) (inside c.0) y d.1 in
+    let g = passed (not (nat_lt f.0.0 (length sections.abbrev_))) (fault_at c.0.1 kinds.BadOffset) (Ok f.0) y f.2 in
+    let same : f.0 ≡ y = ok_is f.0 y g.1 in
+    record { kind = a.0; kind_is = a.1; compile = b.0; size = c.0; size_is = c.1; eight = d.0; table_is = subst (λ (p : ℕ × Spot). number_at 4 c.0.1 ≡ Ok p) same f.1; inside = subst (λ (p : ℕ × Spot). not (nat_lt p.0 (length sections.abbrev_)) ≡ false) same g.0 }
+
+-- what follows the version, by the version
+abbrev pub FieldsSteps : SectionBytes → Spot → ℕ × Spot → ℕ × Spot → Type 0
+FieldsSteps sections first version y = ((version.0 ≡ DWARF_4) × Fields4Steps sections first version.1 y) ⊎ ((version.0 ≡ DWARF_5) × Fields5Steps sections first version.1 y)
+
 pub record HeaderSteps (sections : SectionBytes) (place : ℕ) (y : Header × Spot) : Type 0 where
   pub len : ℕ × Spot
   pub length_is : number_at 4 (info_at sections place) ≡ Ok len
   pub sound : is_bad_length sections place len.0 ≡ false
   pub version : ℕ × Spot
   pub version_is : number_at 2 (behind_length sections place len.0) ≡ Ok version
-  pub supported : not (version.0 == DWARF_VERSION) ≡ false
   pub table : ℕ × Spot
-  pub table_is : number_at 4 version.1 ≡ Ok table
-  pub inside : not (nat_lt table.0 (length sections.abbrev_)) ≡ false
-  pub size : ℕ × Spot
-  pub size_is : number_at 1 table.1 ≡ Ok size
-  pub eight : not (size.0 == ADDRESS_SIZE) ≡ false
-  pub is : (record { table = table.0; end = place + 4 + len.0 }, size.1) ≡ y
+  pub fields : FieldsSteps sections (info_at sections place) version table
+  pub is : (record { version = version.0; table = table.0; end = place + 4 + len.0 }, table.1) ≡ y
+
+is_other : (a b : Bool) → (not a && not b) ≡ false → b ≡ false → a ≡ true
+is_other true b e f = refl
+is_other false true e f = absurd cc
+is_other false false e f = absurd cc
+
+by_version : (sections : SectionBytes) (first : Spot) (version table : ℕ × Spot) (b : Bool) → (version.0 == DWARF_5) ≡ b → (not (version.0 == DWARF_4) && not (version.0 == DWARF_5)) ≡ false
+    → (if b then fields_5_at sections first version.1 else fields_4_at sections first version.1) ≡ Ok table → FieldsSteps sections first version table
+by_version sections first version table true is known e = inr (eqb-true version.0 DWARF_5 is, fields_5_steps sections first version.1 table e)
+by_version sections first version table false is known e = inl (eqb-true version.0 DWARF_4 (is_other (version.0 == DWARF_4) (version.0 == DWARF_5) known is), fields_4_steps sections first version.1 table e)
 
 pub header_steps : (sections : SectionBytes) (place : ℕ) (y : Header × Spot) → header_at sections place ≡ Ok y → HeaderSteps sections place y
 unfolding header_at fields_at
 header_steps sections place y e =
     let first : Spot = info_at sections place in
-    let last : ℕ → ℕ × Spot → ℕ × Spot → Result (Header × Spot) Fault = λ len table size. Ok (record { table = table.0; end = place + 4 + len }, size.1) in
-    let eight : ℕ → ℕ × Spot → ℕ × Spot → Result (Header × Spot) Fault = λ len table size. refuse_if (not (size.0 == ADDRESS_SIZE)) (fault_at first kinds.BadUnit) >>= λ u. last len table size in
-    let size : ℕ → ℕ × Spot → Result (Header × Spot) Fault = λ len table. number_at 1 table.1 >>= λ n. eight len table n in
-    let inside : ℕ → ℕ × Spot → ℕ × Spot → Result (Header × Spot) Fault = λ len version table. refuse_if (not (nat_lt table.0 (length sections.abbrev_))) (fault_at version.1 kinds.BadOffset) >>= λ u. size len table in
-    let table : ℕ → ℕ × Spot → Result (Header × Spot) Fault = λ len version. number_at 4 version.1 >>= λ n. inside len version n in
-    let supported : ℕ → ℕ × Spot → Result (Header × Spot) Fault = λ len version. refuse_if (not (version.0 == DWARF_VERSION)) (fault_at (behind_length sections place len) kinds.UnsupportedVersion) >>= λ u. table len version in
-    let version : ℕ → Result (Header × Spot) Fault = λ len. number_at 2 (behind_length sections place len) >>= λ n. supported len n in
+    let fields : ℕ × Spot → Result (ℕ × Spot) Fault = λ version. if version.0 == DWARF_5 then fields_5_at sections first version.1 else fields_4_at sections first version.1 in
+    let last : ℕ → ℕ × Spot → ℕ × Spot → Result (Header × Spot) Fault = λ len version table. Ok (record { version = version.0; table = table.0; end = place + 4 + len }, table.1) in
+    let known : ℕ → ℕ × Spot → Result (Header × Spot) Fault = λ len version. fields version >>= last len version in
+    let supported : ℕ → ℕ × Spot → Result (Header × Spot) Fault = λ len version. refuse_if (not (version.0 == DWARF_4) && not (version.0 == DWARF_5)) (fault_at (behind_length sections place len) kinds.UnsupportedVersion) >>= λ u. known len version in
+    let version : ℕ → Result (Header × Spot) Fault = λ len. number_at 2 (behind_length sections place len) >>= supported len in
     let a = bind_ok (number_at 4 first) (λ len. refuse_if (is_bad_length sections place len.0) (fault_at first kinds.BadUnit) >>= λ u. version len.0) y e in
     let b = passed (is_bad_length sections place a.0.0) (fault_at first kinds.BadUnit) (version a.0.0) y a.2 in
     let c = bind_ok (number_at 2 (behind_length sections place a.0.0)) (supported a.0.0) y b.1 in
-    let d = passed (not (c.0.0 == DWARF_VERSION)) (fault_at (behind_length sections place a.0.0) kinds.UnsupportedVersion) (table a.0.0 c.0) y c.2 in
-    let f = bind_ok (number_at 4 c.0.1) (inside a.0.0 c.0) y d.1 in
-    let g = passed (not (nat_lt f.0.0 (length sections.abbrev_))) (fault_at c.0.1 kinds.BadOffset) (size a.0.0 f.0) y f.2 in
-    let h = bind_ok (number_at 1 f.0.1) (eight a.0.0 f.0) y g.1 in
-    let i = passed (not (h.0.0 == ADDRESS_SIZE)) (fault_at first kinds.BadUnit) (last a.0.0 f.0 h.0) y h.2 in
-    record { len = a.0; length_is = a.1; sound = b.0; version = c.0; version_is = c.1; supported = d.0; table = f.0; table_is = f.1; inside = g.0; size = h.0; size_is = h.1; eight = i.0; is = ok_is _ y i.1 }
+    let d = passed (not (c.0.0 == DWARF_4) && not (c.0.0 == DWARF_5)) (fault_at (behind_length sections place a.0.0) kinds.UnsupportedVersion) (known a.0.0 c.0) y c.2 in
+    let f = bind_ok (fields c.0) (last a.0.0 c.0) y d.1 in
+    record { len = a.0; length_is = a.1; sound = b.0; version = c.0; version_is = c.1; table = f.0; fields = by_version sections first c.0 f.0 (c.0.0 == DWARF_5) refl d.0 f.1; is = ok_is _ y f.2 }
 
 refused_not : (b : Bool) (f : Fault) (u : Unit {0}) → refuse_if b f ≡ Ok u → b ≡ false
 refused_not true f u e = absurd cc
@@ -212,27 +314,31 @@ pub record UnitSteps (sections : SectionBytes) (number : ℕ) (before : Parsed) 
   pub header_is : header_at sections place ≡ Ok header
   pub table : List Abbrev
   pub table_is : table_at sections.abbrev_ header.0.table ≡ Ok table
+  pub bases : Bases
+  pub bases_are : bases_at (info_at sections place) sections (home_in number place header.0.version None) table before header.1 ≡ Ok bases
   pub tree : Parsed × Spot
-  pub tree_is : tree_at (info_at sections place) sections (record { unit = number; place = place }) table before header.1 ≡ Ok tree
+  pub tree_is : tree_at (info_at sections place) sections (home_in number place header.0.version (Some bases)) table before header.1 ≡ Ok tree
   pub others : List ℕ × Spot
   pub others_is : bytes_at (tree.1.end - tree.1.place) tree.1 ≡ Ok others
   pub zeros : not (list_all is_zero others.0) ≡ false
-  pub is : ((unit_from (length before.entries) tree.0.entries, tree.0), header.0.end) ≡ y
+  pub is : ((unit_from header.0.version (length before.entries) tree.0.entries, tree.0), header.0.end) ≡ y
 
 pub unit_steps : (sections : SectionBytes) (number : ℕ) (before : Parsed) (place : ℕ) (y : (InUnit × Parsed) × ℕ) → unit_at sections number before place ≡ Ok y → UnitSteps sections number before place y
 unfolding unit_at zeros_at
 unit_steps sections number before place y e =
-    let home : Home = record { unit = number; place = place } in
+    let home : Header × Spot → Option Bases → Home = λ header bases. home_in number place header.0.version bases in
     let start : Spot = info_at sections place in
-    let last : Header × Spot → Parsed × Spot → Result ((InUnit × Parsed) × ℕ) Fault = λ header tree. Ok ((unit_from (length before.entries) tree.0.entries, tree.0), header.0.end) in
+    let last : Header × Spot → Parsed × Spot → Result ((InUnit × Parsed) × ℕ) Fault = λ header tree. Ok ((unit_from header.0.version (length before.entries) tree.0.entries, tree.0), header.0.end) in
     let zeros : Parsed × Spot → Result (Unit {0}) Fault = λ tree. bytes_at (tree.1.end - tree.1.place) tree.1 >>= λ others. refuse_if (not (list_all is_zero others.0)) (fault_at start kinds.BadUnit) in
-    let tree : Header × Spot → List Abbrev → Result ((InUnit × Parsed) × ℕ) Fault = λ header table. tree_at start sections home table before header.1 >>= λ tree. zeros tree >>= λ u. last header tree in
-    let a = bind_ok (header_at sections place) (λ header. table_at sections.abbrev_ header.0.table >>= λ table. tree header table) y e in
-    let b = bind_ok (table_at sections.abbrev_ a.0.0.table) (λ table. tree a.0 table) y a.2 in
-    let c = bind_ok (tree_at start sections home b.0 before a.0.1) (λ tree. zeros tree >>= λ u. last a.0 tree) y b.2 in
+    let tree : Header × Spot → List Abbrev → Bases → Result ((InUnit × Parsed) × ℕ) Fault = λ header table bases. tree_at start sections (home header (Some bases)) table before header.1 >>= λ tree. zeros tree >>= λ u. last header tree in
+    let bases : Header × Spot → List Abbrev → Result ((InUnit × Parsed) × ℕ) Fault = λ header table. bases_at start sections (home header None) table before header.1 >>= tree header table in
+    let a = bind_ok (header_at sections place) (λ header. table_at sections.abbrev_ header.0.table >>= λ table. bases header table) y e in
+    let b = bind_ok (table_at sections.abbrev_ a.0.0.table) (λ table. bases a.0 table) y a.2 in
+    let g = bind_ok (bases_at start sections (home a.0 None) b.0 before a.0.1) (tree a.0 b.0) y b.2 in
+    let c = bind_ok (tree_at start sections (home a.0 (Some g.0)) b.0 before a.0.1) (λ tree. zeros tree >>= λ u. last a.0 tree) y g.2 in
     let d = bind_ok (zeros c.0) (λ u. last a.0 c.0) y c.2 in
     let f = bind_ok (bytes_at (c.0.1.end - c.0.1.place) c.0.1) (λ others. refuse_if (not (list_all is_zero others.0)) (fault_at start kinds.BadUnit)) d.0 d.1 in
-    record { header = a.0; header_is = a.1; table = b.0; table_is = b.1; tree = c.0; tree_is = c.1; others = f.0; others_is = f.1; zeros = refused_not (not (list_all is_zero f.0.0)) (fault_at start kinds.BadUnit) d.0 f.2; is = ok_is _ y d.2 }
+    record { header = a.0; header_is = a.1; table = b.0; table_is = b.1; bases = g.0; bases_are = g.1; tree = c.0; tree_is = c.1; others = f.0; others_is = f.1; zeros = refused_not (not (list_all is_zero f.0.0)) (fault_at start kinds.BadUnit) d.0 f.2; is = ok_is _ y d.2 }
 
 -- units
 pub record UnitsSteps (sections : SectionBytes) (left : ℕ) (units : List InUnit) (before : Parsed) (place : ℕ) (y : List InUnit × Parsed) : Type 0 where

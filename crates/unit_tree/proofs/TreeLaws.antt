@@ -19,7 +19,7 @@ use Rattle.unit_tree.specs.Entry.{Parsed, is_full, entry_at, innermost, closed, 
 use Rattle.unit_tree.specs.Entry.{declared_as}
 use Rattle.unit_tree.specs.Spelling.{Node, Forest, size, entry_of, preorder, InTurnFrom, SpellsAttrs, SpellsNode, SpellsBelow, SpellsTrees, IsShallow, AttrsLead, NodeLeads, TreesLead}
 use Rattle.unit_tree.specs.Spelling.Forest.{no_more, tree}
-use Rattle.unit_tree.proofs.AttrLaws.{Lead, AreLow, lead_front, attrs_taken, attrs_go}
+use Rattle.unit_tree.proofs.AttrLaws.{Lead, AreLow, lead_front, origin_of, attrs_taken, attrs_go}
 use Rattle.unit_tree.proofs.Placed.{Passed, passed_nothing, passed_then, stands_on, uleb_taken, uleb_goes}
 use Rattle.ds_base.proofs.Onward.{uleb_onward}
 use Rattle.unit_tree.proofs.Rising.{entry_onward}
@@ -39,7 +39,7 @@ node_of declared place attrs = record { declared = declared; place = place; attr
 pub record NodeTaken (all : List RawEntry) (sections : SectionBytes) (home : Home) (table : List Abbrev) (parent : Option ℕ) (declared : Abbrev) (before : Parsed) (s : Spot) (y : Parsed × Spot) : Type 0 where
   pub attrs : List RawAttr
   pub bytes : List ℕ
-  pub spells : SpellsNode sections home.place table (is_none parent) (node_of declared s.place attrs) s.place bytes
+  pub spells : SpellsNode sections (origin_of home) table (is_none parent) (node_of declared s.place attrs) s.place bytes
   pub leads_on : AttrsLead all home.unit declared.fields attrs
   pub entries : y.0.entries ≡ before.entries ++ entry_of home.unit parent (node_of declared s.place attrs) ∷ []
   pub references : List Reference
@@ -63,7 +63,7 @@ node_taken all low sections home table parent declared before s code y stands co
     record {
       attrs = a.own;
       bytes = c.bytes ++ a.bytes;
-      spells = record { there = refl; spells = record { front = c.bytes; back = a.bytes; is = refl; first = record { code = code.0; some = code_some code.0 some; spells = c.spells; found = found }; second = subst (λ (n : ℕ). SpellsAttrs sections home.place (is_none parent) declared.fields [] a.own n a.bytes) p.place a.spells } };
+      spells = record { there = refl; spells = record { front = c.bytes; back = a.bytes; is = refl; first = record { code = code.0; some = code_some code.0 some; spells = c.spells; found = found }; second = subst (λ (n : ℕ). SpellsAttrs sections (origin_of home) (is_none parent) declared.fields [] a.own n a.bytes) p.place a.spells } };
       leads_on = a.leads_on;
       entries = ap (λ (attrs : List RawAttr). before.entries ++ entry_of home.unit parent (node_of declared s.place attrs) ∷ []) a.is;
       references = a.references;
@@ -84,7 +84,7 @@ pub record NodeGoes (all : List RawEntry) (sections : SectionBytes) (home : Home
   pub left : rest next ≡ more
 
 pub node_goes : (all : List RawEntry) → AreLow all → (sections : SectionBytes) (home : Home) (table : List Abbrev) (parent : Option ℕ) (node : Node) (before : Parsed) (s : Spot) (bytes more : List ℕ) → Stands s
-    → SpellsNode sections home.place table (is_none parent) node s.place bytes → NodeLeads all home.unit node → Lead all before.references → rest s ≡ bytes ++ more
+    → SpellsNode sections (origin_of home) table (is_none parent) node s.place bytes → NodeLeads all home.unit node → Lead all before.references → rest s ≡ bytes ++ more
     → NodeGoes all sections home table parent node before s bytes more
 unfolding entry_at
 node_goes all low sections home table parent node before s bytes more stands w leads_on lead parts =
@@ -93,7 +93,7 @@ node_goes all low sections home table parent node before s bytes more stands w l
     let whole : rest s ≡ spelled.front ++ (spelled.back ++ more) = parts ∙ ap (λ (b : List ℕ). b ++ more) spelled.is ∙ append_assoc spelled.front spelled.back more in
     let c = uleb_goes s spelled.front first.code (spelled.back ++ more) stands first.spells whole in
     let p = c.passed in
-    let attrs_spelled = subst (λ (n : ℕ). SpellsAttrs sections home.place (is_none parent) node.declared.fields [] node.attrs n spelled.back) (sym p.place) spelled.second in
+    let attrs_spelled = subst (λ (n : ℕ). SpellsAttrs sections (origin_of home) (is_none parent) node.declared.fields [] node.attrs n spelled.back) (sym p.place) spelled.second in
     let a = attrs_go all low sections home (is_none parent) node.declared.fields node.attrs ([], before.references) c.next spelled.back more p.stands attrs_spelled leads_on lead c.left in
     let there : node_of node.declared s.place node.attrs ≡ node = ap (λ (place : ℕ). node_of node.declared place node.attrs) (sym w.there) in
     record {
@@ -140,13 +140,13 @@ some_open stack p = ne_eqb (length (back stack ++ p ∷ [])) 0 (λ z. absurd (om
 -- ---- trees, where so many lists are open
 
 pub record TreesThere (all : List RawEntry) (sections : SectionBytes) (home : Home) (table : List Abbrev) (lists : ℕ) (trees : Forest) (place : ℕ) (bytes : List ℕ) : Type 0 where
-  pub spells : SpellsTrees sections home.place table trees place bytes
+  pub spells : SpellsTrees sections (origin_of home) table trees place bytes
   pub shallow : IsShallow lists trees
   pub leads_on : TreesLead all home.unit trees
 
 -- what is below an entry
 pub record KidsThere (all : List RawEntry) (sections : SectionBytes) (home : Home) (table : List Abbrev) (lists : ℕ) (children : Bool) (kids : Forest) (place : ℕ) (bytes : List ℕ) : Type 0 where
-  pub spells : SpellsBelow children (λ p b. SpellsTrees sections home.place table kids p b) kids place bytes
+  pub spells : SpellsBelow children (λ p b. SpellsTrees sections (origin_of home) table kids p b) kids place bytes
   pub shallow : IsShallow lists kids
   pub leads_on : TreesLead all home.unit kids
 
@@ -207,12 +207,12 @@ closing_taken all sections home table p stack before s code y stands coded zero_
 
 -- an entry with what is below it and behind it
 with_node : (all : List RawEntry) (sections : SectionBytes) (home : Home) (table : List Abbrev) (lists : ℕ) (node : Node) (kids others : Forest) (place : ℕ) (a b c : List ℕ) → (node.declared.children ≡ true → lists < MOST_OPEN)
-    → SpellsNode sections home.place table false node place a → NodeLeads all home.unit node → KidsThere all sections home table (suc lists) node.declared.children kids (place + length a) b
+    → SpellsNode sections (origin_of home) table false node place a → NodeLeads all home.unit node → KidsThere all sections home table (suc lists) node.declared.children kids (place + length a) b
     → TreesThere all sections home table lists others (place + length a + length b) c → TreesThere all sections home table lists (tree node kids others) place ((a ++ b) ++ c)
 with_node all sections home table lists node kids others place a b c depth spells leads_on k o =
     let len : place + length (a ++ b) ≡ place + length a + length b = omega (arith, length-append a b) in
     record {
-      spells = record { front = a ++ b; back = c; is = refl; first = record { front = a; back = b; is = refl; first = spells; second = k.spells }; second = subst (λ (n : ℕ). SpellsTrees sections home.place table others n c) (sym len) o.spells };
+      spells = record { front = a ++ b; back = c; is = refl; first = record { front = a; back = b; is = refl; first = spells; second = k.spells }; second = subst (λ (n : ℕ). SpellsTrees sections (origin_of home) table others n c) (sym len) o.spells };
       shallow = ((depth, k.shallow), o.shallow);
       leads_on = ((leads_on, k.leads_on), o.leads_on);
     }
@@ -225,14 +225,14 @@ record OpenWith (all : List RawEntry) (sections : SectionBytes) (home : Home) (t
 
 -- the node has a list, which is open too
 with_list : (all : List RawEntry) (sections : SectionBytes) (home : Home) (table : List Abbrev) (p : ℕ) (stack : List ℕ) (place : ℕ) (node : Node) (a r : List ℕ) (number : ℕ) → node.declared.children ≡ true → suc (length stack) < MOST_OPEN
-    → SpellsNode sections home.place table false node place a → NodeLeads all home.unit node → (forests : List Forest) → OpenThere all sections home table (number ∷ p ∷ stack) forests (place + length a) r
+    → SpellsNode sections (origin_of home) table false node place a → NodeLeads all home.unit node → (forests : List Forest) → OpenThere all sections home table (number ∷ p ∷ stack) forests (place + length a) r
     → OpenWith all sections home table p stack place (a ++ r) number (entry_of home.unit (Some p) node ∷ open_entries home.unit (number + 1) (number ∷ p ∷ stack) forests)
 with_list all sections home table p stack place node a r number has depth spells leads_on [] there = absurd there
 with_list all sections home table p stack place node a r number has depth spells leads_on (kids ∷ []) there = absurd there.second
 with_list all sections home table p stack place node a r number has depth spells leads_on (kids ∷ others ∷ forests) there =
     let k = there.first in
     let o = there.second in
-    let below = subst (λ (c : Bool). SpellsBelow c (λ q b. SpellsTrees sections home.place table kids q b) kids (place + length a) there.front) (sym has) k.spells in
+    let below = subst (λ (c : Bool). SpellsBelow c (λ q b. SpellsTrees sections (origin_of home) table kids q b) kids (place + length a) there.front) (sym has) k.spells in
     let len : place + length a + length there.front + length o.front ≡ place + length ((a ++ there.front) ++ o.front) = omega (arith, length-append (a ++ there.front) o.front, length-append a there.front) in
     let number_is : number + 1 + size kids + size others ≡ number + suc (size kids + size others) = omega arith in
     record {
@@ -257,12 +257,12 @@ differs e f = cc
 
 -- the node has none
 with_none : (all : List RawEntry) (sections : SectionBytes) (home : Home) (table : List Abbrev) (p : ℕ) (stack : List ℕ) (place : ℕ) (node : Node) (a r : List ℕ) (number : ℕ) → node.declared.children ≡ false
-    → SpellsNode sections home.place table false node place a → NodeLeads all home.unit node → (forests : List Forest) → OpenThere all sections home table (p ∷ stack) forests (place + length a) r
+    → SpellsNode sections (origin_of home) table false node place a → NodeLeads all home.unit node → (forests : List Forest) → OpenThere all sections home table (p ∷ stack) forests (place + length a) r
     → OpenWith all sections home table p stack place (a ++ r) number (entry_of home.unit (Some p) node ∷ open_entries home.unit (number + 1) (p ∷ stack) forests)
 with_none all sections home table p stack place node a r number has spells leads_on [] there = absurd there
 with_none all sections home table p stack place node a r number has spells leads_on (others ∷ forests) there =
     let o = there.first in
-    let below = subst (λ (c : Bool). SpellsBelow c (λ q b. SpellsTrees sections home.place table no_more q b) no_more (place + length a) []) (sym has) refl in
+    let below = subst (λ (c : Bool). SpellsBelow c (λ q b. SpellsTrees sections (origin_of home) table no_more q b) no_more (place + length a) []) (sym has) refl in
     let here : place + length a ≡ place + length a + length no_bytes = omega arith in
     let next = subst (λ (n : ℕ). TreesThere all sections home table (suc (length stack)) others n there.front) here o in
     let len : place + length a + length there.front ≡ place + length ((a ++ []) ++ there.front) = omega (arith, length-append (a ++ []) there.front, length-append a []) in
@@ -471,7 +471,7 @@ tree_goes all low sections home table node kids others p stack before s bytes mo
     first : RawEntry
     first = entry_of home.unit (Some p) node
 
-    spells : SpellsTrees sections home.place table (tree node kids others) s.place bytes
+    spells : SpellsTrees sections (origin_of home) table (tree node kids others) s.place bytes
     spells = there.spells
 
     a : List ℕ
@@ -517,14 +517,14 @@ tree_goes all low sections home table node kids others p stack before s bytes mo
 
     go : (b : Bool) → node.declared.children ≡ b → TreesGo all sections home table p stack (tree node kids others) before s bytes more
     go true has =
-        let below = below_list node.declared.children (λ x y. SpellsTrees sections home.place table kids x y) kids (s.place + length a) k has spells.first.second in
-        let kids_there : TreesThere all sections home table (suc (length (p ∷ stack))) kids g.next.place k = record { spells = subst (λ (n : ℕ). SpellsTrees sections home.place table kids n k) (sym q.place) below; shallow = there.shallow.0.1; leads_on = there.leads_on.0.1 } in
+        let below = below_list node.declared.children (λ x y. SpellsTrees sections (origin_of home) table kids x y) kids (s.place + length a) k has spells.first.second in
+        let kids_there : TreesThere all sections home table (suc (length (p ∷ stack))) kids g.next.place k = record { spells = subst (λ (n : ℕ). SpellsTrees sections (origin_of home) table kids n k) (sym q.place) below; shallow = there.shallow.0.1; leads_on = there.leads_on.0.1 } in
         let gk = read_kids number (p ∷ stack) one g.next k (c ++ more) q.stands kids_there g.lead (omega (arith, len_one, room)) g.left in
         let r = gk.passed in
         let two : Parsed = parsed (one.entries ++ preorder home.unit (Some number) (length one.entries) kids) gk.references in
         let len_two : length two.entries ≡ number + 1 + size kids = omega (arith, length-append one.entries (preorder home.unit (Some number) (length one.entries) kids), length_preorder home.unit (Some number) (length one.entries) kids, len_one) in
         let at : s.place + length spells.front ≡ gk.next.place = omega (arith, ap length spells.first.is, length-append a k, q.place, r.place) in
-        let others_there : TreesThere all sections home table (suc (length stack)) others gk.next.place c = record { spells = subst (λ (n : ℕ). SpellsTrees sections home.place table others n c) at spells.second; shallow = there.shallow.1; leads_on = there.leads_on.1 } in
+        let others_there : TreesThere all sections home table (suc (length stack)) others gk.next.place c = record { spells = subst (λ (n : ℕ). SpellsTrees sections (origin_of home) table others n c) at spells.second; shallow = there.shallow.1; leads_on = there.leads_on.1 } in
         let go_on = read_others p stack two gk.next c more r.stands others_there gk.lead (omega (arith, len_two, room)) gk.left in
         let t : (if node.declared.children then turns kids else 0) ≡ turns kids = rw has refl in
         let made : two.entries ++ preorder home.unit (Some p) (length two.entries) others ≡ before.entries ++ preorder home.unit (Some p) number (tree node kids others) =
@@ -544,10 +544,10 @@ tree_goes all low sections home table node kids others p stack before s bytes mo
           left = go_on.left;
         }
     go false has =
-        let none = below_none node.declared.children (λ x y. SpellsTrees sections home.place table kids x y) kids (s.place + length a) k has spells.first.second in
+        let none = below_none node.declared.children (λ x y. SpellsTrees sections (origin_of home) table kids x y) kids (s.place + length a) k has spells.first.second in
         let left_is : rest g.next ≡ c ++ more = g.left ∙ ap (λ (b : List ℕ). b ++ (c ++ more)) none.1 in
         let at : s.place + length spells.front ≡ g.next.place = omega (arith, ap length spells.first.is, length-append a k, q.place, ap length none.1) in
-        let others_there : TreesThere all sections home table (suc (length stack)) others g.next.place c = record { spells = subst (λ (n : ℕ). SpellsTrees sections home.place table others n c) at spells.second; shallow = there.shallow.1; leads_on = there.leads_on.1 } in
+        let others_there : TreesThere all sections home table (suc (length stack)) others g.next.place c = record { spells = subst (λ (n : ℕ). SpellsTrees sections (origin_of home) table others n c) at spells.second; shallow = there.shallow.1; leads_on = there.leads_on.1 } in
         let go_on = read_others p stack one g.next c more q.stands others_there g.lead (omega (arith, len_one, room)) left_is in
         let t : (if node.declared.children then turns kids else 0) ≡ 0 = rw has refl in
         let no_kids : size kids ≡ 0 = ap size none.0 in

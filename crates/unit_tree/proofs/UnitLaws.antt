@@ -6,7 +6,7 @@ use Rattle.std.specs.Option.{option_map_or}
 use Rattle.std.proofs.lemmas.Bool.{eqb-true, ltb-true, ltb-false, not-false}
 use Rattle.std.proofs.lemmas.List.{append-nil, length-append, length-take, length-drop, take_all, drop_all, drop-drop, take-append-drop}
 use Rattle.byteorder.specs.Numbers.{length-bytes_low_first}
-use Rattle.ds_base.specs.declared.dwarf.TheConstants.{DW_TAG_compile_unit}
+use Rattle.ds_base.specs.declared.dwarf.TheConstants.{DW_TAG_compile_unit, DW_UT_compile}
 use Rattle.ds_base.specs.declared.fault.Fault.{Fault}
 use Rattle.ds_base.specs.declared.fault.Kind.TheVariants as kinds
 use Rattle.ds_base.specs.declared.fault.Part.TheVariants.{Info}
@@ -21,32 +21,39 @@ use Rattle.dwarf_types.specs.SectionBytes.{SectionBytes}
 use Rattle.ds_base.proofs.Passing.{bind_ok, guard_ok, ok_is}
 use Rattle.dwarf_types.proofs.Readers.{IsBytes, IsBytes-drop, IsBytes-take, IsBytes-from, Stands}
 use Rattle.abbrev_read.proofs.TableLaws.{table_spelled}
+use Rattle.index_tables.specs.declared.bases.Bases.{Bases}
+use Rattle.index_tables.specs.Bases.{bases_in}
 use Rattle.unit_tree.specs.declared.attribute.Home.{Home}
 use Rattle.unit_tree.specs.declared.entry.TheConstants.{MOST_ENTRIES}
 use Rattle.unit_tree.specs.declared.header.Header.{Header}
 use Rattle.ds_base.specs.declared.dwarf.TheConstants.{LENGTH_RESERVED}
-use Rattle.unit_tree.specs.declared.header.TheConstants.{DWARF_VERSION, ADDRESS_SIZE}
+use Rattle.unit_tree.specs.declared.header.TheConstants.{ADDRESS_SIZE}
 use Rattle.unit_tree.specs.declared.reference.Reference.{Reference}
-use Rattle.unit_tree.specs.Entry.{Parsed, is_split, opened, tree_at, children_at}
+use Rattle.unit_tree.specs.Attribute.{Described, attrs_at}
+use Rattle.unit_tree.specs.Entry.{Parsed, is_split, opened, first_at, bases_at, tree_at, children_at}
 use Rattle.unit_tree.specs.Header.{info_at, behind_length}
 use Rattle.unit_tree.specs.Reference.{leads, resolved}
-use Rattle.unit_tree.specs.Spelling.{Node, Forest, size, entry_of, preorder, UnitTree, unit_entries, entries_of, in_unit, in_units, raw_units, InTurnFrom, SpellsNode, SpellsBelow, SpellsTrees, IsShallow, NodeLeads, TreesLead, SpellsTree, AreZeros, SpellsBody, SpellsUnit, SpellsUnits, IsSoundUnit, AreSoundUnits, IsSpelled}
+use Rattle.unit_tree.specs.Spelling.{Origin, origin_in, SpellsFields, SpellsHeader, Node, Forest, size, entry_of, preorder, UnitTree, unit_entries, entries_of, in_unit, in_units, raw_units, InTurnFrom, SpellsNode, SpellsBelow, SpellsTrees, IsShallow, NodeLeads, TreesLead, SpellsTree, AreZeros, SpellsBody, SpellsUnit, SpellsUnits, IsSoundUnit, AreSoundUnits, IsSpelled}
 use Rattle.unit_tree.specs.Spelling.Forest.{no_more}
-use Rattle.unit_tree.specs.Unit.{is_zero, unit_from, unit_at, units_at, units_of, nothing}
-use Rattle.unit_tree.proofs.AttrLaws.{Lead, AreLow, lead_front}
+use Rattle.unit_tree.specs.Unit.{home_in, is_zero, unit_from, unit_at, units_at, units_of, nothing}
+use Rattle.unit_tree.proofs.AttrLaws.{Lead, AreLow, lead_front, origin_of}
+use Rattle.unit_tree.proofs.RootBases.{RootBases, root_bases, unbased}
 use Rattle.unit_tree.proofs.Placed.{Passed, passed_then, stands_on, number_taken}
 use Rattle.unit_tree.proofs.Rising.{entry_onward, both_false, unit_passes, units_rise}
 use Rattle.ds_base.proofs.Onward.{uleb_onward, number_onward}
-use Rattle.unit_tree.proofs.Steps.{RootSteps, root_steps, tree_steps, HeaderSteps, header_steps, unit_steps, units_end, UnitsSteps, units_steps}
+use Rattle.unit_tree.proofs.Steps.{RootSteps, root_steps, bases_steps, tree_steps, FieldsSteps, HeaderSteps, header_steps, unit_steps, units_end, UnitsSteps, units_steps}
 use Rattle.unit_tree.proofs.TreeLaws.{node_of, node_taken, OpenThere, open_entries, ChildrenTaken, children_taken, has_room, length_preorder}
 
 -- ---- the tree of a unit
 
-record TreeTaken (all : List RawEntry) (sections : SectionBytes) (home : Home) (table : List Abbrev) (before : Parsed) (s : Spot) (y : Parsed × Spot) : Type 0 where
+record TreeTaken (all : List RawEntry) (start : Spot) (sections : SectionBytes) (home : Home) (table : List Abbrev) (before : Parsed) (s : Spot) (y : Parsed × Spot) : Type 0 where
   root : Node
+  behind : Spot
+  first : first_at start table before s ≡ Ok (root.declared, behind)
+  bases : RootBases sections home root.declared behind root.attrs
   kids : Forest
   bytes : List ℕ
-  spells : InTurnFrom (SpellsNode sections home.place table true root) (SpellsBelow root.declared.children (λ p b. SpellsTrees sections home.place table kids p b) kids) s.place bytes
+  spells : InTurnFrom (SpellsNode sections (origin_of home) table true root) (SpellsBelow root.declared.children (λ p b. SpellsTrees sections (origin_of home) table kids p b) kids) s.place bytes
   shallow : IsShallow 1 kids
   root_leads : NodeLeads all home.unit root
   kids_lead : TreesLead all home.unit kids
@@ -61,7 +68,7 @@ record TreeTaken (all : List RawEntry) (sections : SectionBytes) (home : Home) (
 -- what is below a root
 record BelowRoot (all : List RawEntry) (sections : SectionBytes) (home : Home) (table : List Abbrev) (children : Bool) (number place : ℕ) (bytes : List ℕ) (entries : List RawEntry) : Type 0 where
   kids : Forest
-  spells : SpellsBelow children (λ p b. SpellsTrees sections home.place table kids p b) kids place bytes
+  spells : SpellsBelow children (λ p b. SpellsTrees sections (origin_of home) table kids p b) kids place bytes
   shallow : IsShallow 1 kids
   leads_on : TreesLead all home.unit kids
   entries_are : entries ≡ preorder home.unit (Some number) (number + 1) kids
@@ -72,7 +79,7 @@ one_list all sections home table number place bytes [] there = absurd there
 one_list all sections home table number place bytes (kids ∷ []) there =
     let k = there.first in
     let is : there.front ≡ bytes = sym (there.is ∙ ap (λ (b : List ℕ). there.front ++ b) there.second ∙ append-nil there.front) in
-    record { kids = kids; spells = subst (SpellsTrees sections home.place table kids place) is k.spells; shallow = k.shallow; leads_on = k.leads_on; entries_are = append-nil (preorder home.unit (Some number) (number + 1) kids) }
+    record { kids = kids; spells = subst (SpellsTrees sections (origin_of home) table kids place) is k.spells; shallow = k.shallow; leads_on = k.leads_on; entries_are = append-nil (preorder home.unit (Some number) (number + 1) kids) }
 one_list all sections home table number place bytes (kids ∷ others ∷ forests) there = absurd there.second
 
 no_list : (all : List RawEntry) (sections : SectionBytes) (home : Home) (table : List Abbrev) (number place : ℕ) (bytes : List ℕ) (forests : List Forest) → OpenThere all sections home table [] forests place bytes
@@ -82,7 +89,7 @@ no_list all sections home table number place bytes (trees ∷ forests) there = a
 
 root_taken : (all : List RawEntry) → AreLow all → (start : Spot) (sections : SectionBytes) (home : Home) (table : List Abbrev) (before : Parsed) (s : Spot) (z : (Bool × Parsed) × Spot) (y : Parsed × Spot) → Stands s
     → RootSteps start sections home table before s z → children_at sections home table (z.1.end - z.1.place) (z.0.1, opened z.0.0 (length before.entries) []) z.1 ≡ Ok y → Lead all y.0.references
-    → TreeTaken all sections home table before s y
+    → TreeTaken all start sections home table before s y
 root_taken all low start sections home table before s z y stands root others h = go root.declared.children refl
   where
     number : ℕ
@@ -102,7 +109,7 @@ root_taken all low start sections home table before s z y stands root others h =
 
     joined : (stack : List ℕ) (r : ChildrenTaken all sections home table stack read.0 read.1 y)
         → ((place : ℕ) → OpenThere all sections home table stack r.forests place r.bytes → BelowRoot all sections home table declared.children number place r.bytes (open_entries home.unit (number + 1) stack r.forests))
-        → TreeTaken all sections home table before s y
+        → TreeTaken all start sections home table before s y
     joined stack r below =
         let nd = node_taken all low sections home table None declared before s root.code read stands root.coded root.some root.found root.entry (lead_front all read.0.references r.references (subst (Lead all) r.grown h)) in
         let q = nd.passed in
@@ -111,6 +118,9 @@ root_taken all low start sections home table before s z y stands root others h =
         let b = below (s.place + length nd.bytes) (subst (λ (n : ℕ). OpenThere all sections home table stack r.forests n r.bytes) q.place r.there) in
         record {
           root = node_of declared s.place nd.attrs;
+          behind = root.code.1;
+          first = root.first;
+          bases = root_bases sections home s.place declared before root.code.1 (node_of declared s.place nd.attrs) read root.entry nd.entries;
           kids = b.kids;
           bytes = nd.bytes ++ r.bytes;
           spells = record { front = nd.bytes; back = r.bytes; is = refl; first = nd.spells; second = b.spells };
@@ -133,7 +143,7 @@ root_taken all low start sections home table before s z y stands root others h =
     still : (c : Bool) → declared.children ≡ c → children_at sections home table (read.1.end - read.1.place) (read.0, opened c number []) read.1 ≡ Ok y
     still c has = subst (λ (b : Bool). children_at sections home table (read.1.end - read.1.place) (read.0, opened b number []) read.1 ≡ Ok y) has run
 
-    go : (b : Bool) → declared.children ≡ b → TreeTaken all sections home table before s y
+    go : (b : Bool) → declared.children ≡ b → TreeTaken all start sections home table before s y
     go true has =
         let r = children_taken all low sections home table (read.1.end - read.1.place) (number ∷ []) read.0 read.1 y stands_next (still true has) h in
         joined (number ∷ []) r (λ place there. subst (λ (c : Bool). BelowRoot all sections home table c number place r.bytes (open_entries home.unit (number + 1) (number ∷ []) r.forests)) (sym has) (one_list all sections home table number place r.bytes r.forests there))
@@ -142,7 +152,7 @@ root_taken all low start sections home table before s z y stands root others h =
         joined [] r (λ place there. subst (λ (c : Bool). BelowRoot all sections home table c number place r.bytes (open_entries home.unit (number + 1) [] r.forests)) (sym has) (no_list all sections home table number place r.bytes r.forests there))
 
 tree_taken : (all : List RawEntry) → AreLow all → (start : Spot) (sections : SectionBytes) (home : Home) (table : List Abbrev) (before : Parsed) (s : Spot) (y : Parsed × Spot) → Stands s → tree_at start sections home table before s ≡ Ok y → Lead all y.0.references
-    → TreeTaken all sections home table before s y
+    → TreeTaken all start sections home table before s y
 tree_taken all low start sections home table before s y stands e h =
     let w = tree_steps start sections home table before s y e in
     root_taken all low start sections home table before s w.root y stands (root_steps start sections home table before s w.root w.first) w.others h
@@ -188,18 +198,65 @@ record HeaderTaken (sections : SectionBytes) (place : ℕ) (y : Header × Spot) 
   short : len < LENGTH_RESERVED
   inside : place + 4 + len ≤ length sections.info
   parts : drop place sections.info ≡ count ++ drop (place + 4) sections.info
-  version : List ℕ
-  version_is : IsNumber 2 version DWARF_VERSION
-  offset : List ℕ
-  offset_is : IsNumber 4 offset y.0.table
-  width : List ℕ
-  width_is : IsNumber 1 width ADDRESS_SIZE
+  header : List ℕ
+  header_is : SpellsHeader y.0.version y.0.table header
   below : y.0.table < length sections.abbrev_
   end : y.0.end ≡ place + 4 + len
-  passed : Passed (version ++ (offset ++ width)) (behind_length sections place len) y.1
+  passed : Passed header (behind_length sections place len) y.1
 
 pub length_number : (width n : ℕ) (bytes : List ℕ) → IsNumber width bytes n → length bytes ≡ width
 length_number width n bytes w = ap length w.is ∙ length-bytes_low_first 0 width n
+
+-- what follows the version
+record FieldsTaken (sections : SectionBytes) (version y : ℕ × Spot) : Type 0 where
+  bytes : List ℕ
+  spells : SpellsFields version.0 y.0 bytes
+  below : y.0 < length sections.abbrev_
+  passed : Passed bytes version.1 y.1
+
+eight_is : (size : ℕ) (bytes : List ℕ) → not (size == ADDRESS_SIZE) ≡ false → IsNumber 1 bytes size → IsNumber 1 bytes ADDRESS_SIZE
+eight_is size bytes e h = subst (IsNumber 1 bytes) (eqb-true size ADDRESS_SIZE (not-false (size == ADDRESS_SIZE) e)) h
+
+compile_is : (kind : ℕ) (bytes : List ℕ) → not (kind == DW_UT_compile) ≡ false → IsNumber 1 bytes kind → IsNumber 1 bytes DW_UT_compile
+compile_is kind bytes e h = subst (IsNumber 1 bytes) (eqb-true kind DW_UT_compile (not-false (kind == DW_UT_compile) e)) h
+
+fields_taken : (sections : SectionBytes) (first : Spot) (version y : ℕ × Spot) → Stands version.1 → FieldsSteps sections first version y → FieldsTaken sections version y
+fields_taken sections first version y stands f =
+    elim f [
+      | inl four ↦
+          let w = four.1 in
+          let t = number_taken 4 version.1 w.table stands w.table_is in
+          let tp = t.passed in
+          let z = number_taken 1 w.table.1 w.size tp.stands w.size_is in
+          subst (FieldsTaken sections version) w.is (record {
+            bytes = t.bytes ++ z.bytes;
+            spells = inl (four.0, record { front = t.bytes; back = z.bytes; is = refl; first = t.spells; second = eight_is w.size.0 z.bytes w.eight z.spells });
+            below = ltb-true _ _ (not-false (nat_lt w.table.0 (length sections.abbrev_)) w.inside);
+            passed = passed_then t.bytes z.bytes version.1 w.table.1 w.size.1 tp z.passed;
+          })
+      | inr five ↦
+          let w = five.1 in
+          let k = number_taken 1 version.1 w.kind stands w.kind_is in
+          let kp = k.passed in
+          let z = number_taken 1 w.kind.1 w.size kp.stands w.size_is in
+          let zp = z.passed in
+          let t = number_taken 4 w.size.1 y zp.stands w.table_is in
+          record {
+            bytes = k.bytes ++ (z.bytes ++ t.bytes);
+            spells = inr (
+              five.0,
+              record {
+                front = k.bytes;
+                back = z.bytes ++ t.bytes;
+                is = refl;
+                first = compile_is w.kind.0 k.bytes w.compile k.spells;
+                second = record { front = z.bytes; back = t.bytes; is = refl; first = eight_is w.size.0 z.bytes w.eight z.spells; second = t.spells };
+              },
+            );
+            below = ltb-true _ _ (not-false (nat_lt y.0 (length sections.abbrev_)) w.inside);
+            passed = passed_then k.bytes (z.bytes ++ t.bytes) version.1 w.kind.1 y.1 kp (passed_then z.bytes t.bytes w.kind.1 w.size.1 y.1 zp t.passed);
+          }
+    ]
 
 header_taken : (sections : SectionBytes) (place : ℕ) (y : Header × Spot) → AreBytes sections.info → place ≤ length sections.info → HeaderSteps sections place y → HeaderTaken sections place y
 header_taken sections place y all le w =
@@ -218,11 +275,7 @@ header_taken sections place y all le w =
     let s : Spot = behind_length sections place w.len.0 in
     let v = number_taken 2 s w.version (body_stands sections place w.len.0 all inside) w.version_is in
     let vp = v.passed in
-    let t = number_taken 4 w.version.1 w.table vp.stands w.table_is in
-    let tp = t.passed in
-    let z = number_taken 1 w.table.1 w.size tp.stands w.size_is in
-    let version : w.version.0 ≡ DWARF_VERSION = eqb-true _ _ (not-false (w.version.0 == DWARF_VERSION) w.supported) in
-    let width : w.size.0 ≡ ADDRESS_SIZE = eqb-true _ _ (not-false (w.size.0 == ADDRESS_SIZE) w.eight) in
+    let f = fields_taken sections first w.version w.table vp.stands w.fields in
     subst (HeaderTaken sections place) w.is (record {
       count = c.bytes;
       len = w.len.0;
@@ -230,15 +283,11 @@ header_taken sections place y all le w =
       short = short;
       inside = inside;
       parts = sym (info_left sections place) ∙ p.parts ∙ ap (λ (xs : List ℕ). c.bytes ++ xs) (ap rest there ∙ info_left sections (place + 4));
-      version = v.bytes;
-      version_is = subst (IsNumber 2 v.bytes) version v.spells;
-      offset = t.bytes;
-      offset_is = t.spells;
-      width = z.bytes;
-      width_is = subst (IsNumber 1 z.bytes) width z.spells;
-      below = ltb-true _ _ (not-false (nat_lt w.table.0 (length sections.abbrev_)) w.inside);
+      header = v.bytes ++ f.bytes;
+      header_is = record { front = v.bytes; back = f.bytes; is = refl; first = v.spells; second = f.spells };
+      below = f.below;
       end = refl;
-      passed = passed_then v.bytes (t.bytes ++ z.bytes) s w.version.1 w.size.1 vp (passed_then t.bytes z.bytes w.version.1 w.table.1 w.size.1 tp z.passed);
+      passed = passed_then v.bytes f.bytes s w.version.1 w.table.1 vp f.passed;
     })
 
 -- all bytes that are left
@@ -248,12 +297,12 @@ all_left s y e =
     let g = guard_ok (nat_lt (s.end - s.place) (s.end - s.place)) (fault_at s kinds.Truncated) (take (s.end - s.place) (rest s), after s (s.end - s.place)) y e in
     sym (ap (λ (p : List ℕ × Spot). p.0) g.1) ∙ take_all (s.end - s.place) (rest s) (omega (arith, length-take (s.end - s.place) (drop s.place s.bytes)))
 
-got_there : {X : Type 0} (xs : List X) (x : X) (ys : List X) → slice_get (xs ++ x ∷ ys) (length xs) ≡ Some x
+pub got_there : {X : Type 0} (xs : List X) (x : X) (ys : List X) → slice_get (xs ++ x ∷ ys) (length xs) ≡ Some x
 got_there [] x ys = refl
 got_there (z ∷ xs) x ys = got_there xs x ys
 
 -- the unit of a root and what is below it
-pub unit_is : (number : ℕ) (before entries : List RawEntry) (t : UnitTree) → entries ≡ before ++ unit_entries number (length before) t → unit_from (length before) entries ≡ in_unit (length before) t
+pub unit_is : (number : ℕ) (before entries : List RawEntry) (t : UnitTree) → entries ≡ before ++ unit_entries number (length before) t → unit_from t.version (length before) entries ≡ in_unit (length before) t
 unit_is number before entries t is =
     let below = preorder number (Some (length before)) (length before + 1) t.kids in
     let first : RawEntry = entry_of number None t.root in
@@ -275,18 +324,21 @@ record UnitTaken (all : List RawEntry) (sections : SectionBytes) (number : ℕ) 
   grown : y.0.1.references ≡ before.references ++ references
   few : length y.0.1.entries ≤ MOST_ENTRIES
 
--- what stands between two spots at the end of a body
-body_spells : (sections : SectionBytes) (unit : ℕ) (t : UnitTree) (place : ℕ) (v o w tree_bytes zeros : List ℕ) → IsNumber 2 v DWARF_VERSION → IsNumber 4 o t.offset → IsNumber 1 w ADDRESS_SIZE
-    → SpellsTree sections unit t (place + length (v ++ (o ++ w))) tree_bytes → AreZeros zeros → SpellsBody sections unit t place ((v ++ (o ++ w)) ++ (tree_bytes ++ zeros))
-body_spells sections unit t place v o w tree_bytes zeros version offset width spells empty =
-    let at : place + length (v ++ (o ++ w)) ≡ place + length v + length o + length w = omega (arith, length-append v (o ++ w), length-append o w) in
-    record {
-      front = v;
-      back = o ++ (w ++ (tree_bytes ++ zeros));
-      is = append_assoc v (o ++ w) (tree_bytes ++ zeros) ∙ ap (λ (xs : List ℕ). v ++ xs) (append_assoc o w (tree_bytes ++ zeros));
-      first = version;
-      second = record { front = o; back = w ++ (tree_bytes ++ zeros); is = refl; first = offset; second = record { front = w; back = tree_bytes ++ zeros; is = refl; first = width; second = record { front = tree_bytes; back = zeros; is = refl; first = subst (λ (n : ℕ). SpellsTree sections unit t n tree_bytes) at spells; second = empty } } };
-    }
+-- a body by its parts
+body_spells : (sections : SectionBytes) (o : Origin) (t : UnitTree) (place : ℕ) (header tree_bytes zeros : List ℕ) → SpellsHeader t.version t.offset header → SpellsTree sections o t (place + length header) tree_bytes → AreZeros zeros
+    → SpellsBody sections o t place (header ++ (tree_bytes ++ zeros))
+body_spells sections o t place header tree_bytes zeros header_is spells empty =
+    record { front = header; back = tree_bytes ++ zeros; is = refl; first = header_is; second = record { front = tree_bytes; back = zeros; is = refl; first = spells; second = empty } }
+
+-- the bases with which a unit is read are those in its root
+bases_same : (start : Spot) (sections : SectionBytes) (home : Home) (table : List Abbrev) (before : Parsed) (s : Spot) (bases : Bases) (root : Node) (behind : Spot) → bases_at start sections (unbased home) table before s ≡ Ok bases
+    → first_at start table before s ≡ Ok (root.declared, behind) → RootBases sections home root.declared behind root.attrs → bases ≡ bases_in root.attrs
+bases_same start sections home table before s bases root behind e first known =
+    let w = bases_steps start sections (unbased home) table before s bases e in
+    let there : (root.declared, behind) ≡ w.first = ok_is (root.declared, behind) w.first (sym first ∙ w.first_is) in
+    let again : attrs_at sections (unbased home) true root.declared.fields ([], []) behind ≡ Ok w.read = subst (λ (p : Abbrev × Spot). attrs_at sections (unbased home) true p.0.fields ([], []) p.1 ≡ Ok w.read) (sym there) w.attrs in
+    let read : known.read ≡ w.read = ok_is known.read w.read (sym known.reads ∙ again) in
+    sym w.is ∙ ap (λ (r : Described × Spot). bases_in r.0.0) (sym read) ∙ known.same
 
 unit_taken : (all : List RawEntry) → AreLow all → (sections : SectionBytes) (number : ℕ) (before : Parsed) (place : ℕ) (y : (InUnit × Parsed) × ℕ) → AreBytes sections.info → AreBytes sections.abbrev_ → place ≤ length sections.info
     → unit_at sections number before place ≡ Ok y → Lead all y.0.1.references → UnitTaken all sections number before place y
@@ -295,18 +347,22 @@ unit_taken all low sections number before place y info abbrev_bytes le e h =
     let hd = header_taken sections place w.header info le (header_steps sections place w.header w.header_is) in
     let p = hd.passed in
     let s : Spot = behind_length sections place hd.len in
-    let home : Home = record { unit = number; place = place } in
+    let version : ℕ = w.header.0.version in
+    let home : Home = home_in number place version (Some w.bases) in
     subst (λ (x : (InUnit × Parsed) × ℕ). Lead all x.0.1.references → UnitTaken all sections number before place x) w.is
     (λ k.
     let tk = tree_taken all low (info_at sections place) sections home w.table before w.header.1 w.tree p.stands w.tree_is k in
     let tp = tk.passed in
-    let t : UnitTree = record { offset = w.header.0.table; table = w.table; root = tk.root; kids = tk.kids } in
+    let t : UnitTree = record { version = version; offset = w.header.0.table; table = w.table; root = tk.root; kids = tk.kids } in
     let tail : w.others.0 ≡ rest w.tree.1 = all_left w.tree.1 w.others w.others_is in
-    let front : List ℕ = hd.version ++ (hd.offset ++ hd.width) in
+    let front : List ℕ = hd.header in
     let body : body_at sections place hd.len ≡ front ++ (tk.bytes ++ w.others.0) = sym (body_left sections place hd.len) ∙ p.parts ∙ ap (λ (xs : List ℕ). front ++ xs) (tp.parts ∙ ap (λ (xs : List ℕ). tk.bytes ++ xs) (sym tail)) in
     let len : length (body_at sections place hd.len) ≡ hd.len = length_body sections place hd.len hd.inside in
-    let spells : SpellsBody sections place t (place + 4) (body_at sections place hd.len) =
-    subst (SpellsBody sections place t (place + 4)) (sym body) (body_spells sections place t (place + 4) hd.version hd.offset hd.width tk.bytes w.others.0 hd.version_is hd.offset_is hd.width_is (subst (λ (n : ℕ). SpellsTree sections place t n tk.bytes) p.place tk.spells) (not-false (list_all is_zero w.others.0) w.zeros)) in
+    let same : w.bases ≡ bases_in tk.root.attrs = bases_same (info_at sections place) sections home w.table before w.header.1 w.bases tk.root tk.behind w.bases_are tk.first tk.bases in
+    let read : SpellsBody sections (origin_of home) t (place + 4) (front ++ (tk.bytes ++ w.others.0)) =
+    body_spells sections (origin_of home) t (place + 4) front tk.bytes w.others.0 hd.header_is (subst (λ (n : ℕ). SpellsTree sections (origin_of home) t n tk.bytes) p.place tk.spells) (not-false (list_all is_zero w.others.0) w.zeros) in
+    let known : SpellsBody sections (origin_in place t) t (place + 4) (front ++ (tk.bytes ++ w.others.0)) = subst (λ (b : Bases). SpellsBody sections (record { place = place; version = version; bases = Some b }) t (place + 4) (front ++ (tk.bytes ++ w.others.0))) same read in
+    let spells : SpellsBody sections (origin_in place t) t (place + 4) (body_at sections place hd.len) = subst (SpellsBody sections (origin_in place t) t (place + 4)) (sym body) known in
     let four = length_number 4 hd.len hd.count hd.counts in
     let whole : drop place sections.info ≡ (hd.count ++ body_at sections place hd.len) ++ drop w.header.0.end sections.info =
     hd.parts ∙ ap (λ (xs : List ℕ). hd.count ++ xs) (body_parts sections place hd.len ∙ ap (λ (n : ℕ). body_at sections place hd.len ++ drop n sections.info) (sym hd.end)) ∙ sym (append_assoc hd.count (body_at sections place hd.len) (drop w.header.0.end sections.info)) in

@@ -1,22 +1,24 @@
--- The attributes of an entry (DWARF 4, section 7.5.3): its values in the order of its declaration, with the references among them.
+-- The attributes of an entry (DWARF 4, section 7.5.3; DWARF 5, section 7.5.3): its values in the order of its declaration, with the references among them.
 use Rattle.std.specs.Prelude.{ℕ, ◌+◌, ◌-◌, ◌^◌, ◌==◌, ◌&&◌, Bool, not, List, [], ◌∷◌, ◌++◌, length, min, Option, Some, None, Result, Ok, nat_lt, if◌then◌else◌}
 use Rattle.std.specs.List.{list_any}
-use Rattle.std.specs.Option.{option_map_or, option_to_list}
+use Rattle.std.specs.Option.{option_map, option_map_or, option_to_list}
 use Rattle.ds_base.specs.declared.dwarf.TheConstants.{DW_AT_stmt_list}
 use Rattle.ds_base.specs.declared.fault.Fault.{Fault}
-use Rattle.ds_base.specs.declared.fault.Kind.TheVariants.{BadOffset}
+use Rattle.ds_base.specs.declared.fault.Kind.TheVariants.{BadIndex, BadOffset}
 use Rattle.ds_base.specs.Spot.{Spot, fault_at}
-use Rattle.ds_base.specs.Reading.{◌>>=◌, refuse_if}
+use Rattle.ds_base.specs.Reading.{◌>>=◌, refuse_if, or_fault}
 use Rattle.dwarf_types.specs.declared.abbrev.Field.{Field}
 use Rattle.dwarf_types.specs.declared.entry.RawAttr.{RawAttr}
 use Rattle.dwarf_types.specs.SectionBytes.{SectionBytes}
 use Rattle.dwarf_types.specs.declared.value.Value.{Value}
 use Rattle.dwarf_types.specs.declared.value.Value.TheVariants as values
-use Rattle.form_value.specs.Reading.{value_at}
-use Rattle.unit_tree.specs.declared.header.TheConstants.{DWARF_VERSION}
+use Rattle.form_value.specs.Reading.{text_of, value_at}
+use Rattle.index_tables.specs.declared.bases.Bases.{Bases}
+use Rattle.index_tables.specs.Tables.{text_place, address_place, list_place}
+use Rattle.unit_tree.specs.declared.header.TheConstants.{DWARF_5}
 use Rattle.unit_tree.specs.declared.attribute.Home.{Home}
 use Rattle.unit_tree.specs.declared.meaning.Meaning.{Meaning}
-use Rattle.unit_tree.specs.declared.meaning.Meaning.TheVariants.{InUnit, InObject, LineTable, RangeList, LocationList, Other}
+use Rattle.unit_tree.specs.declared.meaning.Meaning.TheVariants.{InUnit, InObject, LineTable, RangeList, LocationList, TextIndex, AddressIndex, RangeListIndex, LocationListIndex, Other}
 use Rattle.unit_tree.specs.declared.reference.Reference.{Reference}
 use Rattle.unit_tree.specs.Meaning.{meaning_of}
 
@@ -44,13 +46,48 @@ offset_in section n s = refuse_if (not (nat_lt n (length section))) (fault_at s 
 abbrev pub reference_to : ℕ → Option ℕ → Spot → Value × Option Reference
 reference_to place unit s = (values.Ref (led_to place), Some (record { place = s.place; target = led_to place; unit = unit }))
 
+-- the sections of the lists of a version (DWARF 4, sections 2.17.3 and 2.6.2; DWARF 5, sections 2.17.3 and 2.6.2)
+abbrev pub ranges_of : ℕ → SectionBytes → List ℕ
+ranges_of version sections = if version == DWARF_5 then sections.rnglists else sections.ranges
+
+abbrev pub locations_of : ℕ → SectionBytes → List ℕ
+locations_of version sections = if version == DWARF_5 then sections.loclists else sections.loc
+
+-- What an index means, which stands here, by the bases of the unit (DWARF 5, sections 7.26 to 7.29). Where these are not known yet no index is tried.
+
+-- a text of __debug_str
+unfoldable pub text_named : SectionBytes → Option Bases → ℕ → Spot → Result (Value × Option Reference) Fault
+text_named sections None n s = Ok (values.Offset n, None)
+text_named sections (Some bases) n s = do
+  place ← or_fault (text_place sections bases.texts n) (fault_at s BadIndex)
+  text ← or_fault (text_of sections.strings place) (fault_at s BadOffset)
+  Ok (values.Text text, None)
+
+-- an address, which stays the index
+unfoldable pub address_named : SectionBytes → Option Bases → ℕ → Spot → Result (Value × Option Reference) Fault
+address_named sections None n s = Ok (values.Offset n, None)
+address_named sections (Some bases) n s = do
+  _ ← or_fault (address_place sections bases.addresses n) (fault_at s BadIndex)
+  Ok (values.Offset n, None)
+
+-- a list of a section, given by its place there
+unfoldable pub list_named : List ℕ → Option ℕ → ℕ → Spot → Result (Value × Option Reference) Fault
+list_named section None n s = Ok (values.Offset n, None)
+list_named section (Some base) n s = do
+  place ← or_fault (list_place section base n) (fault_at s BadIndex)
+  offset_in section place s
+
 -- what a number means, which stands here
 unfoldable pub meant_at : SectionBytes → Home → Bool → Meaning → ℕ → Spot → Result (Value × Option Reference) Fault
 meant_at sections home lines InUnit n s = Ok (reference_to (home.place + n) (Some home.unit) s)
 meant_at sections home lines InObject n s = Ok (reference_to n None s)
 meant_at sections home lines LineTable n s = if lines then offset_in sections.line n s else Ok (values.Offset n, None)
-meant_at sections home lines RangeList n s = offset_in sections.ranges n s
-meant_at sections home lines LocationList n s = offset_in sections.loc n s
+meant_at sections home lines RangeList n s = offset_in (ranges_of home.version sections) n s
+meant_at sections home lines LocationList n s = offset_in (locations_of home.version sections) n s
+meant_at sections home lines TextIndex n s = text_named sections home.bases n s
+meant_at sections home lines AddressIndex n s = address_named sections home.bases n s
+meant_at sections home lines RangeListIndex n s = list_named sections.rnglists (option_map (λ bases. bases.ranges) home.bases) n s
+meant_at sections home lines LocationListIndex n s = list_named sections.loclists (option_map (λ bases. bases.locations) home.bases) n s
 meant_at sections home lines Other n s = Ok (values.Offset n, None)
 
 -- what a value means, which stands here as an attribute behind others of a root or another entry
@@ -61,7 +98,7 @@ value_meant_at sections home root field before value s =
 -- the next attribute, behind others, and the reference that it is
 unfoldable pub attr_at : SectionBytes → Home → Bool → Field → List RawAttr → Spot → Result ((RawAttr × Option Reference) × Spot) Fault
 attr_at sections home root field before s = do
-  read ← value_at field DWARF_VERSION sections s
+  read ← value_at field home.version sections s
   meant ← value_meant_at sections home root field before read.0 s
   Ok ((record { name = field.name; form = field.form; end = read.1.place; value = meant.0 }, meant.1), read.1)
 

@@ -1,5 +1,5 @@
--- The entries of a unit (DWARF 4, sections 2.3 and 7.5.2), as they are read from the left: each with its parent, behind those before.
-use Rattle.std.specs.Prelude.{ℕ, zero, suc, ◌-◌, ◌==◌, ◌&&◌, ◌||◌, Bool, not, List, [], ◌∷◌, ◌++◌, length, take, slice_get, Option, None, is_none, Result, Ok, Err, nat_lt, if◌then◌else◌}
+-- The entries of a unit (DWARF 4, sections 2.3 and 7.5.2; DWARF 5, sections 2.3 and 7.5.2), as they are read from the left: each with its parent, behind those before.
+use Rattle.std.specs.Prelude.{ℕ, zero, suc, ◌-◌, ◌==◌, ◌&&◌, ◌||◌, Bool, true, not, List, [], ◌∷◌, ◌++◌, length, take, slice_get, Option, None, is_none, Result, Ok, Err, nat_lt, if◌then◌else◌}
 use Rattle.std.specs.List.{find, list_any}
 use Rattle.ds_base.specs.declared.dwarf.TheConstants.{DW_TAG_compile_unit, DW_AT_dwo_name, DW_AT_GNU_dwo_name}
 use Rattle.ds_base.specs.declared.fault.Fault.{Fault}
@@ -10,6 +10,8 @@ use Rattle.dwarf_types.specs.declared.abbrev.Abbrev.{Abbrev}
 use Rattle.dwarf_types.specs.declared.abbrev.Field.{Field}
 use Rattle.dwarf_types.specs.declared.entry.RawEntry.{RawEntry}
 use Rattle.dwarf_types.specs.SectionBytes.{SectionBytes}
+use Rattle.index_tables.specs.declared.bases.Bases.{Bases}
+use Rattle.index_tables.specs.Bases.{bases_in}
 use Rattle.unit_tree.specs.declared.attribute.Home.{Home}
 use Rattle.unit_tree.specs.declared.reference.Reference.{Reference}
 use Rattle.unit_tree.specs.declared.entry.TheConstants.{MOST_ENTRIES, MOST_OPEN}
@@ -46,17 +48,30 @@ is_dwo_name field = field.name == DW_AT_dwo_name || field.name == DW_AT_GNU_dwo_
 abbrev pub is_split : Abbrev → Bool
 is_split declared = list_any is_dwo_name declared.fields
 
--- the first entry of the unit that begins at start, and whether it has a list of children
-unfoldable pub root_at : Spot → SectionBytes → Home → List Abbrev → Parsed → Spot → Result ((Bool × Parsed) × Spot) Fault
-root_at start sections home table before s = do
+-- the declaration of the first entry of the unit that begins at start
+unfoldable pub first_at : Spot → List Abbrev → Parsed → Spot → Result (Abbrev × Spot) Fault
+first_at start table before s = do
   code ← uleb_at s
   _ ← refuse_if (code.0 == 0) (fault_at start kinds.BadUnit)
   declared ← or_fault (declared_as code.0 table) (fault_at s kinds.UnknownCode)
   _ ← refuse_if (not (declared.tag == DW_TAG_compile_unit)) (fault_at start kinds.BadUnit)
   _ ← refuse_if (is_split declared) (fault_at s kinds.SplitUnit)
   _ ← refuse_if (is_full before) (fault_at s kinds.LimitEntries)
-  read ← entry_at sections home None s.place declared before code.1
-  Ok ((declared.children, read.0), read.1)
+  Ok (declared, code.1)
+
+-- the bases of the tables of the unit that begins at start, whose home has none: they stand in its root, of whose values no index is tried
+unfoldable pub bases_at : Spot → SectionBytes → Home → List Abbrev → Parsed → Spot → Result Bases Fault
+bases_at start sections home table before s = do
+  first ← first_at start table before s
+  read ← attrs_at sections home true first.0.fields ([], []) first.1
+  Ok (bases_in read.0.0)
+
+-- the first entry of the unit that begins at start, and whether it has a list of children
+unfoldable pub root_at : Spot → SectionBytes → Home → List Abbrev → Parsed → Spot → Result ((Bool × Parsed) × Spot) Fault
+root_at start sections home table before s = do
+  first ← first_at start table before s
+  read ← entry_at sections home None s.place first.0 before first.1
+  Ok ((first.0.children, read.0), read.1)
 
 -- The lists of children that are open are named by their entries, the innermost last.
 

@@ -1,8 +1,8 @@
--- How the units of an object are spelled (DWARF 4, section 7.5), whoever reads them: a unit is a header, a tree and zero bytes, a tree is
+-- How the units of an object are spelled (DWARF 4, section 7.5; DWARF 5, section 7.5), whoever reads them: a unit is a header, a tree and zero bytes, a tree is
 -- an entry's code and values and, where its declaration has children, the trees of its children and the code 0.
-use Rattle.std.specs.Prelude.{◌≡◌, ◌<◌, ◌≤◌, ◌+◌, ◌++◌, ◌==◌, ◌&&◌, ℕ, suc, Bool, true, false, List, [], ◌∷◌, length, Option, None, Some}
+use Rattle.std.specs.Prelude.{◌≡◌, ◌<◌, ◌≤◌, ◌⊎◌, ◌+◌, ◌++◌, ◌==◌, ◌&&◌, ℕ, suc, Bool, true, false, List, [], ◌∷◌, length, Option, None, Some}
 use Rattle.std.specs.List.{list_all, list_any}
-use Rattle.ds_base.specs.declared.dwarf.TheConstants.{DW_TAG_compile_unit}
+use Rattle.ds_base.specs.declared.dwarf.TheConstants.{DW_TAG_compile_unit, DW_UT_compile}
 use Rattle.dwarf_types.specs.declared.abbrev.Abbrev.{Abbrev}
 use Rattle.dwarf_types.specs.declared.abbrev.Field.{Field}
 use Rattle.dwarf_types.specs.declared.entry.RawAttr.{RawAttr}
@@ -12,15 +12,19 @@ use Rattle.dwarf_types.specs.declared.entry.RawUnits.{RawUnits}
 use Rattle.dwarf_types.specs.SectionBytes.{SectionBytes}
 use Rattle.dwarf_types.specs.declared.value.Value.{Value}
 use Rattle.dwarf_types.specs.declared.value.Value.TheVariants as values
-use Rattle.dwarf_types.specs.Spelled.{IsUleb, IsNumber}
+use Rattle.dwarf_types.specs.Spelled.{InTurn, IsUleb, IsNumber}
 use Rattle.abbrev_read.specs.Spelling.{StandsAt}
+use Rattle.form_value.specs.Reading.{text_of}
 use Rattle.form_value.specs.Spelling.{SpellsValue}
+use Rattle.index_tables.specs.declared.bases.Bases.{Bases}
+use Rattle.index_tables.specs.Bases.{bases_in}
+use Rattle.index_tables.specs.Tables.{text_place, address_place, list_place}
 use Rattle.unit_tree.specs.declared.entry.TheConstants.{MOST_ENTRIES, MOST_OPEN}
 use Rattle.ds_base.specs.declared.dwarf.TheConstants.{LENGTH_RESERVED}
-use Rattle.unit_tree.specs.declared.header.TheConstants.{DWARF_VERSION, ADDRESS_SIZE}
+use Rattle.unit_tree.specs.declared.header.TheConstants.{DWARF_4, DWARF_5, ADDRESS_SIZE}
 use Rattle.unit_tree.specs.declared.meaning.Meaning.{Meaning}
-use Rattle.unit_tree.specs.declared.meaning.Meaning.TheVariants.{InUnit as InTheUnit, InObject, LineTable, RangeList, LocationList, Other}
-use Rattle.unit_tree.specs.Attribute.{names_lines}
+use Rattle.unit_tree.specs.declared.meaning.Meaning.TheVariants.{InUnit as InTheUnit, InObject, LineTable, RangeList, LocationList, TextIndex, AddressIndex, RangeListIndex, LocationListIndex, Other}
+use Rattle.unit_tree.specs.Attribute.{names_lines, ranges_of, locations_of}
 use Rattle.unit_tree.specs.Entry.{is_split}
 use Rattle.unit_tree.specs.Entry.{declared_as}
 use Rattle.unit_tree.specs.Meaning.{meaning_of}
@@ -45,8 +49,9 @@ abbrev pub size : Forest → ℕ
 size no_more = 0
 size (tree node kids others) = suc (size kids + size others)
 
--- a unit: the place of its abbreviation table, that table, its root, and the trees below that
+-- a unit: its version, the place of its abbreviation table, that table, its root, and the trees below that
 pub record UnitTree : Type 0 where
+  pub version : ℕ
   pub offset : ℕ
   pub table : List Abbrev
   pub root : Node
@@ -72,7 +77,7 @@ entries_of unit number [] = []
 entries_of unit number (t ∷ ts) = unit_entries unit number t ++ entries_of (suc unit) (number + 1 + size t.kids) ts
 
 abbrev pub in_unit : ℕ → UnitTree → InUnit
-in_unit number t = record { first = number; count = 1 + size t.kids; version = DWARF_VERSION; language = language_of t.root.attrs; lines = None }
+in_unit number t = record { first = number; count = 1 + size t.kids; version = t.version; language = language_of t.root.attrs; lines = None }
 
 abbrev pub in_units : ℕ → List UnitTree → List InUnit
 in_units number [] = []
@@ -92,46 +97,74 @@ pub record InTurnFrom (First Then : ℕ → List ℕ → Type 0) (place : ℕ) (
   pub first : First place front
   pub second : Then (place + length front) back
 
--- what a stored value is as an attribute of a unit that begins at a place: a reference is the place to which it leads
-abbrev pub meant : ℕ → Meaning → ℕ → Value
-meant place InTheUnit n = values.Ref (place + n)
-meant place InObject n = values.Ref n
-meant place LineTable n = values.Offset n
-meant place RangeList n = values.Offset n
-meant place LocationList n = values.Offset n
-meant place Other n = values.Offset n
+-- From where the numbers of a unit's values count: its first place, its version, and the bases of its tables. Where the bases are not known, no index leads anywhere.
+pub record Origin : Type 0 where
+  pub place : ℕ
+  pub version : ℕ
+  pub bases : Option Bases
 
-abbrev pub attr_value : ℕ → Field → Value → Value
-attr_value place field (values.Offset n) = meant place (meaning_of field.form field.name) n
-attr_value place field value = value
+-- an index leads to a text, which is the value
+pub record NamesText (sections : SectionBytes) (bases : Bases) (n : ℕ) (value : Value) : Type 0 where
+  pub place : ℕ
+  pub placed : text_place sections bases.texts n ≡ Some place
+  pub text : List ℕ
+  pub stands : text_of sections.strings place ≡ Some text
+  pub is : value ≡ values.Text text
 
--- an offset to a table or list is below the size of its section
-abbrev pub IsBelow : SectionBytes → Bool → Meaning → ℕ → Type 0
-IsBelow sections lines InTheUnit n = Unit {0}
-IsBelow sections lines InObject n = Unit {0}
-IsBelow sections lines LineTable n = lines ≡ true → n < length sections.line
-IsBelow sections lines RangeList n = n < length sections.ranges
-IsBelow sections lines LocationList n = n < length sections.loc
-IsBelow sections lines Other n = Unit {0}
+-- to an address, which stays the index
+pub record NamesAddress (sections : SectionBytes) (bases : Bases) (n : ℕ) (value : Value) : Type 0 where
+  pub place : ℕ
+  pub placed : address_place sections bases.addresses n ≡ Some place
+  pub is : value ≡ values.Offset n
 
-abbrev pub IsInside : SectionBytes → Bool → Field → Value → Type 0
-IsInside sections lines field (values.Offset n) = IsBelow sections lines (meaning_of field.form field.name) n
-IsInside sections lines field _ = Unit {0}
+-- to a list, whose place is the value
+pub record NamesList (section : List ℕ) (base n : ℕ) (value : Value) : Type 0 where
+  pub place : ℕ
+  pub placed : list_place section base n ≡ Some place
+  pub inside : place < length section
+  pub is : value ≡ values.Offset place
 
--- bytes from a place spell the attribute of a field, of a unit that begins at another
-pub record SpellsAttr (sections : SectionBytes) (unit : ℕ) (lines : Bool) (field : Field) (attr : RawAttr) (place : ℕ) (bytes : List ℕ) : Type 0 where
+abbrev pub Names : (Bases → Value → Type 0) → Option Bases → ℕ → Value → Type 0
+Names There (Some bases) n value = There bases value
+Names There None n value = value ≡ values.Offset n
+
+-- An offset to a table or list is below the size of its section.
+abbrev pub IsBelow : List ℕ → ℕ → Value → Type 0
+IsBelow section n value = (n < length section) × (value ≡ values.Offset n)
+
+-- what a stored number is as a value of a unit
+abbrev pub Means : SectionBytes → Origin → Bool → Meaning → ℕ → Value → Type 0
+Means sections o lines InTheUnit n value = value ≡ values.Ref (o.place + n)
+Means sections o lines InObject n value = value ≡ values.Ref n
+Means sections o lines LineTable n value = (lines ≡ true → n < length sections.line) × (value ≡ values.Offset n)
+Means sections o lines RangeList n value = IsBelow (ranges_of o.version sections) n value
+Means sections o lines LocationList n value = IsBelow (locations_of o.version sections) n value
+Means sections o lines TextIndex n value = Names (λ bases v. NamesText sections bases n v) o.bases n value
+Means sections o lines AddressIndex n value = Names (λ bases v. NamesAddress sections bases n v) o.bases n value
+Means sections o lines RangeListIndex n value = Names (λ bases v. NamesList sections.rnglists bases.ranges n v) o.bases n value
+Means sections o lines LocationListIndex n value = Names (λ bases v. NamesList sections.loclists bases.locations n v) o.bases n value
+Means sections o lines Other n value = value ≡ values.Offset n
+
+-- what a stored value is as the value of an attribute of a unit
+abbrev pub IsMeant : SectionBytes → Origin → Bool → Field → Value → Value → Type 0
+IsMeant sections o lines field (values.Offset n) value = Means sections o lines (meaning_of field.form field.name) n value
+IsMeant sections o lines field stored value = value ≡ stored
+
+-- bytes from a place spell the attribute of a field, of a unit of an origin
+pub record SpellsAttr (sections : SectionBytes) (o : Origin) (lines : Bool) (field : Field) (attr : RawAttr) (place : ℕ) (bytes : List ℕ) : Type 0 where
+  pub stored : Value
+  pub spells : SpellsValue field o.version sections bytes stored
   pub value : Value
-  pub spells : SpellsValue field DWARF_VERSION sections bytes value
-  pub inside : IsInside sections lines field value
-  pub is : attr ≡ record { name = field.name; form = field.form; end = place + length bytes; value = attr_value unit field value }
+  pub means : IsMeant sections o lines field stored value
+  pub is : attr ≡ record { name = field.name; form = field.form; end = place + length bytes; value = value }
 
 -- the attributes of fields, behind others of a root or another entry
-abbrev pub SpellsAttrs : SectionBytes → ℕ → Bool → List Field → List RawAttr → List RawAttr → ℕ → List ℕ → Type 0
-SpellsAttrs sections unit root [] before [] place bytes = bytes ≡ []
-SpellsAttrs sections unit root [] before (attr ∷ attrs) place bytes = ⊥
-SpellsAttrs sections unit root (field ∷ fields) before [] place bytes = ⊥
-SpellsAttrs sections unit root (field ∷ fields) before (attr ∷ attrs) place bytes =
-    InTurnFrom (SpellsAttr sections unit (names_lines root before) field attr) (λ p b. SpellsAttrs sections unit root fields (before ++ attr ∷ []) attrs p b) place bytes
+abbrev pub SpellsAttrs : SectionBytes → Origin → Bool → List Field → List RawAttr → List RawAttr → ℕ → List ℕ → Type 0
+SpellsAttrs sections o root [] before [] place bytes = bytes ≡ []
+SpellsAttrs sections o root [] before (attr ∷ attrs) place bytes = ⊥
+SpellsAttrs sections o root (field ∷ fields) before [] place bytes = ⊥
+SpellsAttrs sections o root (field ∷ fields) before (attr ∷ attrs) place bytes =
+    InTurnFrom (SpellsAttr sections o (names_lines root before) field attr) (λ p b. SpellsAttrs sections o root fields (before ++ attr ∷ []) attrs p b) place bytes
 
 -- a code that is not 0, and a declaration that has it
 pub record SpellsCode (table : List Abbrev) (declared : Abbrev) (bytes : List ℕ) : Type 0 where
@@ -141,9 +174,9 @@ pub record SpellsCode (table : List Abbrev) (declared : Abbrev) (bytes : List �
   pub found : declared_as code table ≡ Some declared
 
 -- an entry that begins at a place: its code and its attributes
-pub record SpellsNode (sections : SectionBytes) (unit : ℕ) (table : List Abbrev) (root : Bool) (node : Node) (place : ℕ) (bytes : List ℕ) : Type 0 where
+pub record SpellsNode (sections : SectionBytes) (o : Origin) (table : List Abbrev) (root : Bool) (node : Node) (place : ℕ) (bytes : List ℕ) : Type 0 where
   pub there : node.place ≡ place
-  pub spells : InTurnFrom (λ p b. SpellsCode table node.declared b) (SpellsAttrs sections unit root node.declared.fields [] node.attrs) place bytes
+  pub spells : InTurnFrom (λ p b. SpellsCode table node.declared b) (SpellsAttrs sections o root node.declared.fields [] node.attrs) place bytes
 
 -- the trees below an entry: a list of them, or nothing
 abbrev pub SpellsBelow : Bool → (ℕ → List ℕ → Type 0) → Forest → ℕ → List ℕ → Type 0
@@ -152,14 +185,14 @@ SpellsBelow false Kids no_more place bytes = bytes ≡ []
 SpellsBelow false Kids (tree node more others) place bytes = ⊥
 
 -- trees one after the other from a place, and the code 0
-abbrev pub SpellsTrees : SectionBytes → ℕ → List Abbrev → Forest → ℕ → List ℕ → Type 0
-SpellsTrees sections unit table no_more place bytes = IsUleb bytes 0
-SpellsTrees sections unit table (tree node kids others) place bytes =
-    InTurnFrom (InTurnFrom (SpellsNode sections unit table false node) (SpellsBelow node.declared.children (λ p b. SpellsTrees sections unit table kids p b) kids)) (λ p b. SpellsTrees sections unit table others p b) place bytes
+abbrev pub SpellsTrees : SectionBytes → Origin → List Abbrev → Forest → ℕ → List ℕ → Type 0
+SpellsTrees sections o table no_more place bytes = IsUleb bytes 0
+SpellsTrees sections o table (tree node kids others) place bytes =
+    InTurnFrom (InTurnFrom (SpellsNode sections o table false node) (SpellsBelow node.declared.children (λ p b. SpellsTrees sections o table kids p b) kids)) (λ p b. SpellsTrees sections o table others p b) place bytes
 
 -- the tree of a unit
-abbrev pub SpellsTree : SectionBytes → ℕ → UnitTree → ℕ → List ℕ → Type 0
-SpellsTree sections unit t = InTurnFrom (SpellsNode sections unit t.table true t.root) (SpellsBelow t.root.declared.children (λ p b. SpellsTrees sections unit t.table t.kids p b) t.kids)
+abbrev pub SpellsTree : SectionBytes → Origin → UnitTree → ℕ → List ℕ → Type 0
+SpellsTree sections o t = InTurnFrom (SpellsNode sections o t.table true t.root) (SpellsBelow t.root.declared.children (λ p b. SpellsTrees sections o t.table t.kids p b) t.kids)
 
 -- ---- units
 
@@ -167,10 +200,28 @@ SpellsTree sections unit t = InTurnFrom (SpellsNode sections unit t.table true t
 abbrev pub AreZeros : List ℕ → Type 0
 AreZeros bytes = list_all is_zero bytes ≡ true
 
--- what follows a unit's length: its version, the place of its table, the size of an address, its tree from a place on, and zeros
-abbrev pub SpellsBody : SectionBytes → ℕ → UnitTree → ℕ → List ℕ → Type 0
-SpellsBody sections unit t =
-    InTurnFrom (λ p b. IsNumber 2 b DWARF_VERSION) (InTurnFrom (λ p b. IsNumber 4 b t.offset) (InTurnFrom (λ p b. IsNumber 1 b ADDRESS_SIZE) (InTurnFrom (SpellsTree sections unit t) (λ p b. AreZeros b))))
+-- What follows the version in a header: in version 4 the place of the abbreviation table and the size of an address,
+abbrev pub SpellsFields4 : ℕ → List ℕ → Type 0
+SpellsFields4 offset bytes = InTurn (λ b. IsNumber 4 b offset) (λ b. IsNumber 1 b ADDRESS_SIZE) bytes
+
+-- in version 5 the unit's type, that size and that place.
+abbrev pub SpellsFields5 : ℕ → List ℕ → Type 0
+SpellsFields5 offset bytes = InTurn (λ b. IsNumber 1 b DW_UT_compile) (λ b. InTurn (λ c. IsNumber 1 c ADDRESS_SIZE) (λ c. IsNumber 4 c offset) b) bytes
+
+abbrev pub SpellsFields : ℕ → ℕ → List ℕ → Type 0
+SpellsFields version offset bytes = ((version ≡ DWARF_4) × SpellsFields4 offset bytes) ⊎ ((version ≡ DWARF_5) × SpellsFields5 offset bytes)
+
+-- a header without its length
+abbrev pub SpellsHeader : ℕ → ℕ → List ℕ → Type 0
+SpellsHeader version offset bytes = InTurn (λ b. IsNumber 2 b version) (λ b. SpellsFields version offset b) bytes
+
+-- what follows a unit's length: the rest of its header, its tree from a place on, and zeros
+abbrev pub SpellsBody : SectionBytes → Origin → UnitTree → ℕ → List ℕ → Type 0
+SpellsBody sections o t = InTurnFrom (λ p b. SpellsHeader t.version t.offset b) (InTurnFrom (SpellsTree sections o t) (λ p b. AreZeros b))
+
+-- the values of a unit that begins at a place count from there, and the bases of its tables stand in its root
+abbrev pub origin_in : ℕ → UnitTree → Origin
+origin_in place t = record { place = place; version = t.version; bases = Some (bases_in t.root.attrs) }
 
 -- the unit that begins at a place
 pub record SpellsUnit (sections : SectionBytes) (t : UnitTree) (place : ℕ) (bytes : List ℕ) : Type 0 where
@@ -179,7 +230,7 @@ pub record SpellsUnit (sections : SectionBytes) (t : UnitTree) (place : ℕ) (by
   pub is : bytes ≡ count ++ body
   pub counts : IsNumber 4 count (length body)
   pub short : length body < LENGTH_RESERVED
-  pub spells : SpellsBody sections place t (place + 4) body
+  pub spells : SpellsBody sections (origin_in place t) t (place + 4) body
   pub inside : t.offset < length sections.abbrev_
   pub table : StandsAt sections.abbrev_ t.offset t.table
   pub is_unit : t.root.declared.tag ≡ DW_TAG_compile_unit

@@ -1,5 +1,5 @@
--- The units of an object (DWARF 4, section 7.5.1), one after the other, and then the references between their entries.
-use Rattle.std.specs.Prelude.{ℕ, zero, suc, ◌-◌, ◌^◌, ◌==◌, Bool, not, List, [], ◌∷◌, ◌++◌, length, slice_get, None, Result, Ok, nat_lt, if◌then◌else◌}
+-- The units of an object (DWARF 4, section 7.5.1; DWARF 5, section 7.5.1), one after the other, and then the references between their entries.
+use Rattle.std.specs.Prelude.{ℕ, zero, suc, ◌-◌, ◌^◌, ◌==◌, Bool, not, List, [], ◌∷◌, ◌++◌, length, slice_get, Option, Some, None, Result, Ok, nat_lt, if◌then◌else◌}
 use Rattle.std.specs.List.{find, list_all}
 use Rattle.std.specs.Option.{option_map_or}
 use Rattle.ds_base.specs.declared.dwarf.TheConstants.{DW_AT_language}
@@ -16,9 +16,10 @@ use Rattle.dwarf_types.specs.declared.value.Value.{Value}
 use Rattle.dwarf_types.specs.declared.value.Value.TheVariants as values
 use Rattle.abbrev_read.specs.Reading.{table_at}
 use Rattle.dwarf_types.specs.Forms.{is_flag}
-use Rattle.unit_tree.specs.declared.header.TheConstants.{DWARF_VERSION}
+use Rattle.index_tables.specs.declared.bases.Bases.{Bases}
+use Rattle.unit_tree.specs.declared.attribute.Home.{Home}
 use Rattle.unit_tree.specs.Header.{info_at, header_at}
-use Rattle.unit_tree.specs.Entry.{Parsed, tree_at}
+use Rattle.unit_tree.specs.Entry.{Parsed, bases_at, tree_at}
 use Rattle.unit_tree.specs.Reference.{resolved}
 
 -- a constant of 16 bits, or 0; a flag is no constant
@@ -30,10 +31,10 @@ short_in _ = 0
 abbrev pub language_of : List RawAttr → ℕ
 language_of attrs = option_map_or (λ a. short_in a.value) (find (λ a. a.name == DW_AT_language) attrs) 0
 
--- the unit whose entries are those from a number on
-abbrev pub unit_from : ℕ → List RawEntry → InUnit
-unit_from first entries =
-    record { first = first; count = length entries - first; version = DWARF_VERSION; language = option_map_or (λ e. language_of e.attrs) (slice_get entries first) 0; lines = None }
+-- the unit of a version whose entries are those from a number on
+abbrev pub unit_from : ℕ → ℕ → List RawEntry → InUnit
+unit_from version first entries =
+    record { first = first; count = length entries - first; version = version; language = option_map_or (λ e. language_of e.attrs) (slice_get entries first) 0; lines = None }
 
 abbrev pub is_zero : ℕ → Bool
 is_zero b = b == 0
@@ -44,14 +45,19 @@ zeros_at start s = do
   others ← bytes_at (s.end - s.place) s
   refuse_if (not (list_all is_zero others.0)) (fault_at start kinds.BadUnit)
 
--- the unit of a number that begins at a place, with its entries behind those before, and the place behind it
+-- a unit of a number that begins at a place, of a version, and the bases of its tables where these are known
+abbrev pub home_in : ℕ → ℕ → ℕ → Option Bases → Home
+home_in number place version bases = record { unit = number; place = place; version = version; bases = bases }
+
+-- The unit of a number that begins at a place, with its entries behind those before, and the place behind it. Its root tells the bases of its tables, and is then read with them.
 unfoldable pub unit_at : SectionBytes → ℕ → Parsed → ℕ → Result ((InUnit × Parsed) × ℕ) Fault
 unit_at sections number before place = do
   header ← header_at sections place
   table ← table_at sections.abbrev_ header.0.table
-  tree ← tree_at (info_at sections place) sections (record { unit = number; place = place }) table before header.1
+  bases ← bases_at (info_at sections place) sections (home_in number place header.0.version None) table before header.1
+  tree ← tree_at (info_at sections place) sections (home_in number place header.0.version (Some bases)) table before header.1
   _ ← zeros_at (info_at sections place) tree.1
-  Ok ((unit_from (length before.entries) tree.0.entries, tree.0), header.0.end)
+  Ok ((unit_from header.0.version (length before.entries) tree.0.entries, tree.0), header.0.end)
 
 -- Units up to the section's end. Each takes a byte at least, so a count of the bytes that are left bounds them.
 unfoldable pub units_at : SectionBytes → ℕ → List InUnit → Parsed → ℕ → Result (List InUnit × Parsed) Fault

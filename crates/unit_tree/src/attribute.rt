@@ -2,22 +2,23 @@
 
 ghost use Rattle.std.specs.Prelude.{◌≡◌, ◌<◌, ◌++◌, not, length, Some, IfOk, OnOk, nat_lt};
 ghost use Rattle.std.specs.Option.{option_to_list};
-ghost use Rattle.ds_base.specs.declared.fault.Kind.TheVariants.{BadOffset};
+ghost use Rattle.ds_base.specs.declared.fault.Kind.TheVariants.{BadIndex, BadOffset};
 ghost use Rattle.ds_base.specs.Reading.{Finds, Reads, ReadsUnlessFull, refuse_if};
 ghost use Rattle.ds_base.specs.Spot.{IsSmall, fault_at};
 ghost use Rattle.dwarf_types.specs.Put.{value_read};
 ghost use Rattle.dwarf_types.specs.SectionBytes.{bytes_in};
 ghost use Rattle.dwarf_types.specs.declared.value.Value.TheVariants.{Ref};
 ghost use Rattle.unit_tree.specs.Meaning.{meaning_of};
-ghost use Rattle.unit_tree.specs.Attribute.{number_in, names_lines, reference_to, meant_at, value_meant_at, attr_at, attrs_at};
+ghost use Rattle.unit_tree.specs.Attribute.{number_in, names_lines, offset_in, reference_to, ranges_of, locations_of, text_named, address_named, list_named, meant_at, value_meant_at, attr_at, attrs_at};
 
-use crate::header::DWARF_VERSION;
+use crate::header::DWARF_5;
 use crate::meaning::{Meaning, meaning_of_value};
 use crate::reference::Reference;
 use ds_base::dwarf::DW_AT_stmt_list;
 use ds_base::{Cursor, Fault, Kind, List, NoMemory, ReadError};
 use dwarf_types::{Builder, Field, RawValue, Sections};
-use form_value::read_value;
+use form_value::{read_value, text_in};
+use index_tables::{Bases, has_address, list_at, text_at};
 
 /// The unit whose entries are read.
 #[derive(Clone, Copy, Debug, PartialEq, Eq)]
@@ -26,6 +27,10 @@ pub(crate) struct Home {
     pub(crate) unit: u32,
     /// The place of its first byte in `__debug_info`.
     pub(crate) place: u32,
+    /// Its version.
+    pub(crate) version: u16,
+    /// The bases of its tables. Where they are not known yet, no index is tried.
+    pub(crate) bases: Option<Bases>,
 }
 
 /// Reads the attributes of the fields of a declaration, in their order, and puts them behind those before.
@@ -77,7 +82,7 @@ fn read_attr<'a>(
     ensures known { IfOk result (λ _. field.now.form < 256) }
 {
     let first = cursor.fork();
-    let value = read_value(cursor, field, DWARF_VERSION, sections)?;
+    let value = read_value(cursor, field, home.version, sections)?;
     let (value, reference) = understand(&first, sections, home, root, field, before, value)?;
     let end = cursor.place() as u32;
     Ok((end, value, reference))
@@ -87,7 +92,7 @@ fn read_attr<'a>(
 #[tactic(auto, unfolding(crate::specs::Attribute::value_meant_at))]
 fn understand<'a>(
     first: &Cursor,
-    sections: &Sections,
+    sections: &Sections<'a>,
     home: Home,
     root: bool,
     field: &Field,
@@ -131,7 +136,7 @@ fn number_of(form: u16, value: &RawValue) -> Option<u64>
 #[tactic(auto, unfolding(crate::specs::Attribute::meant_at))]
 fn means<'a>(
     first: &Cursor,
-    sections: &Sections,
+    sections: &Sections<'a>,
     home: Home,
     lines: bool,
     field: &Field,
@@ -151,11 +156,109 @@ fn means<'a>(
             return Ok((RawValue::Ref(reference.target), Some(reference)));
         }
         Meaning::LineTable if lines => try_offset(first, sections.line, n)?,
-        Meaning::RangeList => try_offset(first, sections.ranges, n)?,
-        Meaning::LocationList => try_offset(first, sections.loc, n)?,
+        Meaning::RangeList => try_offset(first, range_lists(sections, home.version), n)?,
+        Meaning::LocationList => try_offset(first, location_lists(sections, home.version), n)?,
+        Meaning::TextIndex => return find_text(first, sections, home.bases, field, n),
+        Meaning::AddressIndex => return find_address(first, sections, home.bases, field, n),
+        Meaning::RangeListIndex => {
+            let base = home.bases.map(|bases| bases.ranges);
+            return find_list(first, sections.rnglists, base, field, n);
+        }
+        Meaning::LocationListIndex => {
+            let base = home.bases.map(|bases| bases.locations);
+            return find_list(first, sections.loclists, base, field, n);
+        }
         _ => {}
     }
     Ok((RawValue::Offset(n), None))
+}
+
+/// The section of the range lists of a version.
+fn range_lists<'a>(sections: &Sections<'a>, version: u16) -> &'a [u8]
+    ensures { result.now ≡ ranges_of version (bytes_in sections.now) }
+{
+    if version == DWARF_5 {
+        sections.rnglists
+    } else {
+        sections.ranges
+    }
+}
+
+/// The section of the location lists of a version.
+fn location_lists<'a>(sections: &Sections<'a>, version: u16) -> &'a [u8]
+    ensures { result.now ≡ locations_of version (bytes_in sections.now) }
+{
+    if version == DWARF_5 {
+        sections.loclists
+    } else {
+        sections.loc
+    }
+}
+
+/// The text at an index, which stands at the cursor.
+#[tactic(auto, unfolding(crate::specs::Attribute::text_named))]
+fn find_text<'a>(
+    first: &Cursor,
+    sections: &Sections<'a>,
+    bases: Option<Bases>,
+    field: &Field,
+    n: u64,
+) -> Result<(RawValue<'a>, Option<Reference>), Fault>
+    ensures { Finds (λ meant. (value_read field.now.form meant.0, meant.1)) result (text_named (bytes_in sections.now) bases n first.now) }
+{
+    let Some(bases) = bases else {
+        return Ok((RawValue::Offset(n), None));
+    };
+    let place = match text_at(sections, bases.texts, n) {
+        Ok(place) => place,
+        Err(kind) => return Err(first.fault(kind)),
+    };
+    let Some(bytes) = text_in(sections.strings, place) else {
+        return Err(first.fault(Kind::BadOffset));
+    };
+    let place = Some(place);
+    Ok((RawValue::Text { bytes, place }, None))
+}
+
+/// The index of an address, which stands at the cursor: the address is there.
+#[tactic(auto, unfolding(crate::specs::Attribute::address_named))]
+fn find_address<'a>(
+    first: &Cursor,
+    sections: &Sections<'a>,
+    bases: Option<Bases>,
+    field: &Field,
+    n: u64,
+) -> Result<(RawValue<'a>, Option<Reference>), Fault>
+    ensures { Finds (λ meant. (value_read field.now.form meant.0, meant.1)) result (address_named (bytes_in sections.now) bases n first.now) }
+{
+    if let Some(bases) = bases
+        && !has_address(sections, bases.addresses, n)
+    {
+        return Err(first.fault(Kind::BadIndex));
+    }
+    Ok((RawValue::Offset(n), None))
+}
+
+/// The place in a section of the list at an index, which stands at the cursor.
+#[tactic(auto, unfolding(crate::specs::Attribute::list_named))]
+fn find_list<'a>(
+    first: &Cursor,
+    section: &[u8],
+    base: Option<u64>,
+    field: &Field,
+    n: u64,
+) -> Result<(RawValue<'a>, Option<Reference>), Fault>
+    ensures { Finds (λ meant. (value_read field.now.form meant.0, meant.1)) result (list_named section.now base n first.now) }
+{
+    let Some(base) = base else {
+        return Ok((RawValue::Offset(n), None));
+    };
+    let place = match list_at(section, base, n) {
+        Ok(place) => place,
+        Err(kind) => return Err(first.fault(kind)),
+    };
+    try_offset(first, section, place)?;
+    Ok((RawValue::Offset(place), None))
 }
 
 /// Tries an offset to a table or list, from a value that stands at the cursor: it is inside of the section.

@@ -1,11 +1,12 @@
 //! The entries of a unit.
 
-ghost use Rattle.std.specs.Prelude.{◌≡◌, ◌<◌, ◌-◌, ◌==◌, length, IfOk, IfSome, OnOk};
+ghost use Rattle.std.specs.Prelude.{◌≡◌, ◌<◌, ◌-◌, ◌==◌, [], length, IfOk, IfSome, OnOk};
 ghost use Rattle.std.specs.List.{list_any};
-ghost use Rattle.ds_base.specs.Reading.{Finds, Moves, ReadsUnlessFull, uleb_at};
+ghost use Rattle.ds_base.specs.Reading.{Finds, Gives, Moves, Reads, ReadsUnlessFull, uleb_at};
 ghost use Rattle.ds_base.specs.Spot.{IsSmall};
 ghost use Rattle.dwarf_types.specs.SectionBytes.{bytes_in};
-ghost use Rattle.unit_tree.specs.Entry.{is_dwo_name, entry_at, root_at, innermost, closed, opened, listed_at, child_at, children_at, tree_at};
+ghost use Rattle.unit_tree.specs.Entry.{is_dwo_name, entry_at, first_at, bases_at, root_at, innermost, closed, opened, listed_at, child_at, children_at, tree_at};
+ghost use Rattle.index_tables.specs.Bases.{bases_in};
 ghost use Rattle.unit_tree.specs.Bounds.{AreNumbers, IsReady, NumbersNext, parsed_seen};
 
 use crate::attribute::{Home, read_attrs};
@@ -14,6 +15,7 @@ use crate::table::Table;
 use ds_base::dwarf::{DW_AT_GNU_dwo_name, DW_AT_dwo_name, DW_TAG_compile_unit};
 use ds_base::{Cursor, Fault, Kind, List, NoMemory, ReadError};
 use dwarf_types::{Abbrev, Builder, Field, Sections};
+use index_tables::{Bases, bases_of};
 use std::alloc::Global;
 
 /// The most entries that an object may have.
@@ -75,31 +77,88 @@ fn read_root<'a>(
     ensures ready { OnOk result (IsReady parsed.new) }
     ensures small { OnOk result (IsSmall cursor.new) }
 {
+    let place = cursor.place() as u32;
+    let declared = read_first(start, cursor, table, parsed)?;
+    let number = parsed.built.len() as u32;
+    read_entry(cursor, sections, home, None, place, declared, parsed)?;
+    Ok((number, declared.children))
+}
+
+/// Reads the code of the first entry of the unit that begins at `start`. Answers its declaration.
+#[tactic(auto, unfolding(crate::specs::Entry::first_at))]
+fn read_first<'t>(
+    start: &Cursor,
+    cursor: &mut Cursor,
+    table: &'t Table,
+    parsed: &Parsed,
+) -> Result<&'t Abbrev, Fault>
+    requires small { IsSmall cursor.old }
+    ensures read { Reads (λ declared. declared.now) result cursor.new (first_at start.now table.now (parsed_seen parsed.now) cursor.old) }
+    ensures room { IfOk result (λ declared. length parsed.now.built.entries < MOST_ENTRIES) }
+    ensures small { OnOk result (IsSmall cursor.new) }
+{
     let first = cursor.fork();
     let code = read_code(cursor)?;
     if code == 0 {
-        return Err(ReadError::Faulty(start.fault(Kind::BadUnit)));
+        return Err(start.fault(Kind::BadUnit));
     }
     let Some(declared) = table.find(code) else {
-        return Err(ReadError::Faulty(first.fault(Kind::UnknownCode)));
+        return Err(first.fault(Kind::UnknownCode));
     };
     if declared.tag != DW_TAG_compile_unit {
-        return Err(ReadError::Faulty(start.fault(Kind::BadUnit)));
+        return Err(start.fault(Kind::BadUnit));
     }
     if has_dwo_name(declared.fields.as_slice()) {
-        return Err(ReadError::Faulty(first.fault(Kind::SplitUnit)));
+        return Err(first.fault(Kind::SplitUnit));
     }
-    let number = next_number(&first, parsed)?;
-    read_entry(
-        cursor,
+    next_number(&first, parsed)?;
+    Ok(declared)
+}
+
+/// The bases of the tables of the unit that begins at `start`, whose first entry stands at the cursor. Its
+/// values are read, and no index is tried.
+#[tactic(auto, unfolding(crate::specs::Entry::bases_at))]
+pub(crate) fn find_bases<'a>(
+    alloc: Global,
+    start: &Cursor,
+    cursor: &Cursor<'a>,
+    sections: &Sections<'a>,
+    home: Home,
+    table: &Table,
+    parsed: &Parsed,
+) -> Result<Bases, ReadError>
+    requires small { IsSmall cursor.now }
+    ensures { Gives (λ bases. bases) result (bases_at start.now (bytes_in sections.now) home table.now (parsed_seen parsed.now) cursor.now) }
+{
+    let mut cursor = cursor.fork();
+    let declared = read_first(start, &mut cursor, table, parsed)?;
+    let fields = declared.fields.as_slice();
+    let strings: &[u8] = &[];
+    let mut built = Builder::new(alloc, strings, 0)?;
+    let mut references = List::new(alloc);
+    read_attrs(
+        &mut cursor,
         sections,
         home,
-        None,
-        first.place() as u32,
-        declared,
-        parsed,
+        true,
+        fields,
+        &mut built,
+        &mut references,
     )?;
-    Ok((number, declared.children))
+    Ok(bases_so_far(built)?)
+}
+
+/// The bases in a root whose attributes were put.
+fn bases_so_far(built: Builder) -> Result<Bases, NoMemory>
+    requires { built.entries ≡ [] }
+    ensures { IfOk result (λ bases. bases ≡ bases_in built.attrs) }
+{
+    let mut built = built;
+    built.close(None, 0, 0, DW_TAG_compile_unit)?;
+    match built.get(0) {
+        Some(root) => Ok(bases_of(&root)),
+        None => unreachable!(),
+    }
 }
 
 /// Reads entries until no list is open.

@@ -3,7 +3,7 @@
 ghost use Rattle.std.specs.Prelude.{◌≡◌, ◌<◌, ◌^◌, List, Ok, length, [], ◌∷◌, Err};
 ghost use Rattle.std.specs.List.{Contains};
 ghost use Rattle.ds_base.specs.declared.fault.Fault.{Fault};
-ghost use Rattle.ds_base.specs.declared.fault.Kind.TheVariants.{BadAbbrev, BadOffset, BadReference, BadUnit, DuplicateCode, FormOutsideProfile, LebTooWide, LimitAttributes, LimitDepth, LimitEntries, SplitUnit, Truncated, UnclosedSiblings, UnknownCode, UnknownForm, UnsupportedVersion};
+ghost use Rattle.ds_base.specs.declared.fault.Kind.TheVariants.{BadAbbrev, BadIndex, BadOffset, BadReference, BadUnit, DuplicateCode, FormOutsideProfile, LebTooWide, LimitAttributes, LimitDepth, LimitEntries, SplitUnit, Truncated, UnclosedSiblings, UnknownCode, UnknownForm, UnsupportedVersion};
 ghost use Rattle.dwarf_types.specs.Spelled.{AreBytes};
 ghost use Rattle.dwarf_types.specs.declared.entry.RawUnits.{RawUnits};
 ghost use Rattle.dwarf_types.specs.SectionBytes.{SectionBytes};
@@ -11,7 +11,7 @@ ghost use Rattle.unit_tree.specs.Unit.{units_of};
 ghost use Rattle.unit_tree.specs.Spelling.{UnitTree, SpellsObject, IsSpelled, raw_units};
 
 /// What [`read_units`](crate::read_units) reads is spelled so, and what is spelled so is read (DWARF 4,
-/// section 7.5): units, each of a header, a tree and zero bytes, and their entries in preorder.
+/// section 7.5; DWARF 5, section 7.5): units, each of a header, a tree and zero bytes, and their entries in preorder.
 pub fn units_are_read_as_spelled()
     ensures found { (sections : SectionBytes) (units : RawUnits) → length sections.info < 2 ^ 32 → AreBytes sections.info → AreBytes sections.abbrev_ →
         units_of sections ≡ Ok units → IsSpelled sections units }
@@ -24,6 +24,6 @@ pub fn kinds_of_unit_faults()
     ensures { (sections : SectionBytes) (f : Fault) →
         units_of sections ≡ Err f → Contains (
         Truncated ∷ LebTooWide ∷ UnknownForm ∷ FormOutsideProfile ∷ BadOffset ∷ BadAbbrev ∷ DuplicateCode ∷ LimitAttributes
-        ∷ UnsupportedVersion ∷ BadUnit ∷ SplitUnit ∷ UnknownCode ∷ UnclosedSiblings ∷ LimitDepth ∷ LimitEntries ∷ BadReference ∷ []
+        ∷ UnsupportedVersion ∷ BadUnit ∷ SplitUnit ∷ UnknownCode ∷ UnclosedSiblings ∷ LimitDepth ∷ LimitEntries ∷ BadReference ∷ BadIndex ∷ []
         ) f.kind }
 {}

@@ -14,8 +14,8 @@ ghost use Rattle.unit_tree.specs.Table.{AreRead};
 ghost use Rattle.unit_tree.specs.Unit.{short_in, language_of, unit_from, is_zero, zeros_at, unit_at, units_at, units_of, nothing};
 
 use crate::attribute::Home;
-use crate::entry::{Parsed, read_tree};
-use crate::header::{DWARF_VERSION, info_cursor, read_header};
+use crate::entry::{Parsed, find_bases, read_tree};
+use crate::header::{info_cursor, read_header};
 use crate::reference::try_references;
 use crate::table::{Tables, add_table, kept_table};
 use ds_base::dwarf::DW_AT_language;
@@ -24,14 +24,18 @@ use dwarf_types::{Builder, InUnit, RawEntryRef, RawUnits, Sections, ValueRef, is
 use std::alloc::Global;
 use std::collections::BTreeMap;
 
-/// The units of an object and their entries, in document order (DWARF 4, section 7.5).
+/// The units of an object and their entries, in document order (DWARF 4, section 7.5; DWARF 5, section
+/// 7.5).
 ///
 /// Units and entries are numbered from 0 over the whole object; an entry stands before those below it.
 /// Places count bytes from the start of `__debug_info`. A reference is `Ref` of the place of its target,
-/// `DW_AT_sibling` too; every other value is as `form_value::read_value` gives it. A unit's language is
-/// its root's where that is a constant below 65536 and no flag, else 0.
+/// `DW_AT_sibling` too. The index of a text is that text, and the index of a list is `Offset` of the list's
+/// place in the section of its attribute's lists; the index of an address stays that index. Every other
+/// value is as `form_value::read_value` gives it. A unit's language is its root's where that is a constant
+/// below 65536 and no flag, else 0.
 ///
-/// Faults are placed in `__debug_info`, those of an abbreviation table in `__debug_abbrev`. References
+/// Faults are placed in `__debug_info`, those of an abbreviation table in `__debug_abbrev`. Indices of a
+/// root's values are tried after its last value, since the bases of the unit's tables stand there. References
 /// are tried after all units. The time is linear in the sections, and `n log n` in the references.
 #[tactic(auto, unfolding(crate::specs::Unit::units_of))]
 pub fn read_units(alloc: Global, sections: &Sections) -> Result<RawUnits, ReadError>
@@ -41,8 +45,9 @@ pub fn read_units(alloc: Global, sections: &Sections) -> Result<RawUnits, ReadEr
     // Units follow one another and are all entries, and each parent stands before its children in the unit.
     ensures sound { IfOk result AreSound }
 
-    // Values stand before their ends, references lead to entries, and offsets are inside their sections.
-    ensures inside { AreBytes sections.now.info.now → AreBytes sections.now.abbrev.now → IfOk result (λ raw. AreInside (bytes_in sections.now) raw.entries) }
+    // Values stand before their ends, references lead to entries, offsets are inside their sections, and indices
+    // of addresses lead to these.
+    ensures inside { AreBytes sections.now.info.now → AreBytes sections.now.abbrev.now → IfOk result (λ raw. AreInside (bytes_in sections.now) raw) }
 {
     let mut parsed = Parsed {
         built: Builder::new(alloc, sections.strings, sections.info.len())?,
@@ -105,13 +110,22 @@ fn read_unit(
     add_table(alloc, tables, sections.abbrev, header.table)?;
     let table = kept_table(tables, header.table);
     let start = info_cursor(sections, place);
+    let unknown = Home {
+        unit: number,
+        place: place as u32,
+        version: header.version,
+        bases: None,
+    };
+    let bases = find_bases(alloc, &start, &cursor, sections, unknown, table, parsed)?;
     let home = Home {
         unit: number,
         place: place as u32,
+        version: header.version,
+        bases: Some(bases),
     };
     let first = read_tree(alloc, &start, &mut cursor, sections, home, table, parsed)?;
     read_zeros(&start, &mut cursor)?;
-    Ok((unit_of(first, &parsed.built), header.end))
+    Ok((unit_of(header.version, first, &parsed.built), header.end))
 }
 
 /// Reads the zero bytes up to the end of the unit that begins at `start`.
@@ -132,10 +146,10 @@ fn are_zeros(bytes: &[u8]) -> bool
     bytes.iter().all(|b| *b == 0)
 }
 
-/// The unit whose entries are those from `first` on.
-fn unit_of(first: u32, built: &Builder) -> InUnit
+/// The unit of a version whose entries are those from `first` on.
+fn unit_of(version: u16, first: u32, built: &Builder) -> InUnit
     requires { length built.now.entries ≤ MOST_ENTRIES }
-    ensures { result ≡ unit_from first built.now.entries }
+    ensures { result ≡ unit_from version first built.now.entries }
 {
     let count = built.len() as u32;
     let language = match built.get(first as usize) {
@@ -145,7 +159,7 @@ fn unit_of(first: u32, built: &Builder) -> InUnit
     InUnit {
         first,
         count: count.saturating_sub(first),
-        version: DWARF_VERSION,
+        version,
         language,
         lines: None,
     }

@@ -3,4 +3,4 @@ use Rattle.unit_tree.proofs.Rising.{entry_onward}
 use Rattle.unit_tree.proofs.entry.read_root.Goals as goal
 
 pub returns-clause-small : goal.returns-clause-small
-returns-clause-small c = small_kept _ _ (entry_onward _ _ _ _ _ _ _ _ c.in_ok-read_entry.ensures.read) (c.in_ok-code.ensures.small c.requires.small)
+returns-clause-small c = small_kept _ _ (entry_onward _ _ _ _ _ _ _ _ c.in_ok-read_entry.ensures.read) c.in_ok-declared.ensures.small
