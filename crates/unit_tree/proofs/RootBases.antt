@@ -1,6 +1,6 @@
 -- The bases of a unit's tables are those in its root, whether its values are read with no index tried or with the bases at hand.
 use Rattle.std.proofs.Common.{◌≡◌, ℕ, ◌==◌, ◌&&◌, Bool, true, false, not, List, [], ◌∷◌, ◌++◌, length, Option, Some, None, Result, Ok, refl, sym, ap, subst, cond, ◌∙◌, inl, inr, ◌⊎◌}
-use Rattle.std.specs.Prelude.{slice_get, is_none, if◌then◌else◌}
+use Rattle.std.specs.Prelude.{slice_get, if◌then◌else◌}
 use Rattle.std.specs.List.{find}
 use Rattle.std.specs.Option.{option_map_or, option_to_list}
 use Rattle.std.proofs.lemmas.Bool.{cases_eq, ne_eqb}
@@ -24,7 +24,7 @@ use Rattle.unit_tree.specs.declared.meaning.Meaning.{Meaning}
 use Rattle.unit_tree.specs.declared.meaning.Meaning.TheVariants.{InUnit, InObject, LineTable, RangeList, LocationList, TextIndex, AddressIndex, RangeListIndex, LocationListIndex, Other}
 use Rattle.unit_tree.specs.declared.reference.Reference.{Reference}
 use Rattle.unit_tree.specs.Attribute.{Described, attr_at, attrs_at, has_attr, meant_at, names_lines, text_named, address_named, list_named, value_meant_at}
-use Rattle.unit_tree.specs.Entry.{Parsed, entry_at, with_entry}
+use Rattle.unit_tree.specs.Entry.{Parsed, entry_at}
 use Rattle.unit_tree.specs.Meaning.{has_locations, meaning_of, table_of}
 use Rattle.unit_tree.specs.Spelling.{Names, NamesAddress, NamesList, NamesText, Node, entry_of}
 use Rattle.unit_tree.proofs.AttrLaws.{text_taken, address_taken, list_taken}
