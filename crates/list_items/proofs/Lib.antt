@@ -1,3 +1,4 @@
+pub mod Items
 pub mod Given
 pub mod Turns
 pub mod Soundness

@@ -1,23 +1,22 @@
 -- What every list keeps to, by its definition.
-use Rattle.std.proofs.Common.{◌≡◌, ℕ, ◌-◌, ◌<◌, ◌≤◌, ◌&&◌, Bool, true, false, List, Some, None, IfSome, Ok, refl, sym, ap, subst, ◌∙◌, arith, inl, inr}
-use Rattle.std.specs.Prelude.{not, nat_le, ◌==◌, if◌then◌else◌}
+use Rattle.std.proofs.Common.{◌≡◌, ℕ, ◌-◌, ◌<◌, ◌&&◌, Bool, true, false, List, Some, None, IfSome, Ok, refl, sym, ap, subst, ◌∙◌, arith, inl, inr}
+use Rattle.std.specs.Prelude.{nat_le, ◌==◌, if◌then◌else◌}
 use Rattle.std.specs.List.{All}
-use Rattle.std.proofs.lemmas.Bool.{ltb-false, leb-true, eqb-true, eqb-false, not-false, cases_lt}
-use Rattle.ds_base.specs.Spot.{Spot, after}
-use Rattle.ds_base.specs.Reading.{number_at}
-use Rattle.ds_base.proofs.Passing.{bind_ok, passed, guard_ok, ok_is}
+use Rattle.std.proofs.lemmas.Bool.{leb-true, eqb-true, eqb-false, cases_lt}
+use Rattle.ds_base.specs.Spot.{Spot}
+use Rattle.ds_base.proofs.Onward.{end_kept}
+use Rattle.ds_base.proofs.Passing.{bind_ok, ok_is}
 use Rattle.dwarf_types.specs.declared.address.Addr.{Addr}
 use Rattle.dwarf_types.specs.declared.address.Addr.TheVariants as addrs
 use Rattle.dwarf_types.specs.declared.lists.RawSpan.{RawSpan}
-use Rattle.macho_read.specs.declared.image.Image.{Image}
-use Rattle.reloc_table.specs.declared.relocation.Relocs.{Relocs}
 use Rattle.list_items.specs.declared.item.Item.{Item}
 use Rattle.list_items.specs.declared.item.Item.TheVariants as items
-use Rattle.list_items.specs.declared.item.Word.{Word}
+use Rattle.list_items.specs.Context.{Context}
 use Rattle.list_items.specs.Ends.{are_of_one_class, number_of, belong_together, is_empty}
-use Rattle.list_items.specs.Reading.{word_at, span_at, item_of, item_at}
+use Rattle.list_items.specs.Reading.{item_at}
 use Rattle.list_items.specs.Lists.{Behind, Says, ends, selects, spans, said_at, whole_at, items_from, given, list_of}
 use Rattle.list_items.proofs.Given.{all_given}
+use Rattle.list_items.proofs.Items.{IsOrdered, item_kept}
 use Rattle.list_items.specs.Sound.{Rise, IsSoundSpan}
 
 -- ---- spans
@@ -52,50 +51,6 @@ sound_from : (span : RawSpan) → belong_together span ≡ true → is_empty spa
 unfolding belong_together is_empty
 sound_from span le differ = rise_from span.low span.high le differ
 
--- ---- items
-
--- where the item is a span, its ends belong together
-abbrev IsOrdered : Item → Type 0
-IsOrdered items.End = Unit {0}
-IsOrdered (items.Base selected) = Unit {0}
-IsOrdered (items.Span span) = belong_together span ≡ true
-
--- what a number is read from
-pub number_fits : (n : ℕ) (s : Spot) (v : ℕ) (t : Spot) → number_at n s ≡ Ok (v, t) → (n ≤ s.end - s.place) × (t ≡ after s n)
-unfolding number_at
-number_fits n s v t e =
-    let p = guard_ok _ _ _ _ e in
-    (ltb-false (s.end - s.place) n p.0, sym (ap (λ (x : ℕ × Spot). x.1) p.1))
-
-word_end : (image : Image) (relocs : Relocs) (s : Spot) (w : Word) (t : Spot) → word_at image relocs s ≡ Ok (w, t) → t.end ≡ s.end
-unfolding word_at
-word_end image relocs s w t e =
-    let p = bind_ok (number_at 8 s) _ (w, t) e in
-    let same : p.0.1 ≡ t = ap (λ (x : Word × Spot). x.1) (ok_is _ _ p.2) in
-    sym (ap (λ (x : Spot). x.end) same) ∙ ap (λ (x : Spot). x.end) (number_fits 8 s p.0.0 p.0.1 p.1).1
-
-span_ordered : (first : Spot) (span : RawSpan) (item : Item) → span_at first span ≡ Ok item → IsOrdered item
-span_ordered first span item e =
-    let p = passed (not (belong_together span)) _ _ item e in
-    subst IsOrdered (ok_is (items.Span span) item p.1) (not-false (belong_together span) p.0)
-
-item_ordered : (is_last is_base : Bool) (selected : Addr) (first : Spot) (span : RawSpan) (item : Item)
-    → (if is_last then Ok items.End else if is_base then Ok (items.Base selected) else span_at first span) ≡ Ok item → IsOrdered item
-item_ordered true is_base selected first span item e = subst IsOrdered (ok_is items.End item e) tt
-item_ordered false true selected first span item e = subst IsOrdered (ok_is (items.Base selected) item e) tt
-item_ordered false false selected first span item e = span_ordered first span item e
-
-item_keeps : (image : Image) (relocs : Relocs) (base : Addr) (s : Spot) (item : Item) (t : Spot) → item_at image relocs base s ≡ Ok (item, t) → IsOrdered item × (t.end ≡ s.end)
-unfolding item_at
-item_keeps image relocs base s item t e =
-    let low = bind_ok (word_at image relocs s) _ (item, t) e in
-    let high = bind_ok (word_at image relocs low.0.1) _ (item, t) low.2 in
-    let what = bind_ok (item_of base s low.0.0 high.0.0) _ (item, t) high.2 in
-    let is = ok_is (what.0, high.0.1) (item, t) what.2 in (
-      subst IsOrdered (ap (λ (x : Item × Spot). x.0) is) (item_ordered _ _ _ s _ what.0 what.1),
-      sym (ap (λ (x : Item × Spot). x.1.end) is) ∙ word_end image relocs low.0.1 high.0.0 high.0.1 high.1 ∙ word_end image relocs s low.0.0 low.0.1 low.1,
-    )
-
 -- ---- lists
 
 -- reading behind a span leaves the end where it is
@@ -121,14 +76,15 @@ said_sound {A = A} P end behind same keeps first (items.Span span) s y at ordere
       same first span s p.0.0 p.0.1 p.1 ∙ at,
     )
 
-whole_sound : {A : Type 0} (P : A → Type 0) (end : ℕ) (image : Image) (relocs : Relocs) (behind : Behind A) → KeepsEnd behind → Keeps P end behind
-    → (base : Addr) (s : Spot) (y : Says A × Spot) → s.end ≡ end → whole_at image relocs behind base s ≡ Ok y → IfSome (given y.0) P × (y.1.end ≡ end)
-whole_sound P end image relocs behind same keeps base s y at e =
-    let item = bind_ok (item_at image relocs base s) _ y e in
-    let kept = item_keeps image relocs base s item.0.0 item.0.1 item.1 in
-    said_sound P end behind same keeps s item.0.0 item.0.1 y (kept.1 ∙ at) kept.0 item.2
+whole_sound : {A : Type 0} (P : A → Type 0) (end : ℕ) (c : Context) (behind : Behind A) → KeepsEnd behind → Keeps P end behind
+    → (base : Addr) (s : Spot) (y : Says A × Spot) → s.end ≡ end → whole_at c behind base s ≡ Ok y → IfSome (given y.0) P × (y.1.end ≡ end)
+whole_sound P end c behind same keeps base s y at e =
+    let item = bind_ok (item_at c base s) _ y e in
+    let kept = item_kept c base s item.0 item.1 in
+    let moved = kept.0 in
+    said_sound P end behind same keeps s item.0.0 item.0.1 y (end_kept s item.0.1 moved.onward ∙ at) kept.1 item.2
 
-pub list_sound : {A : Type 0} (P : A → Type 0) (end : ℕ) (image : Image) (relocs : Relocs) (behind : Behind A) → KeepsEnd behind → Keeps P end behind
-    → (left : ℕ) (base : Addr) (s : Spot) (xs : List A) → s.end ≡ end → list_of (items_from (whole_at image relocs behind) left base s) ≡ Ok xs → All P xs
-list_sound P end image relocs behind same keeps left base s xs at e =
-    all_given P (λ (t : Spot). t.end ≡ end) (whole_at image relocs behind) (whole_sound P end image relocs behind same keeps) left base s xs at e
+pub list_sound : {A : Type 0} (P : A → Type 0) (end : ℕ) (c : Context) (behind : Behind A) → KeepsEnd behind → Keeps P end behind
+    → (left : ℕ) (base : Addr) (s : Spot) (xs : List A) → s.end ≡ end → list_of (items_from (whole_at c behind) left base s) ≡ Ok xs → All P xs
+list_sound P end c behind same keeps left base s xs at e =
+    all_given P (λ (t : Spot). t.end ≡ end) (whole_at c behind) (whole_sound P end c behind same keeps) left base s xs at e

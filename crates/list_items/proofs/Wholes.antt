@@ -1,45 +1,22 @@
 -- No byte of a list that is read is left out.
-use Rattle.std.proofs.Common.{◌≡◌, ℕ, zero, suc, ◌+◌, ◌-◌, ◌<◌, ◌≤◌, true, false, List, [], ◌∷◌, length, None, Result, Ok, Err, refl, sym, ap, subst, ◌∙◌, arith}
+use Rattle.std.proofs.Common.{◌≡◌, ℕ, zero, suc, ◌+◌, ◌-◌, ◌<◌, ◌≤◌, true, false, List, [], ◌∷◌, length, None, Result, Ok, Err, refl, ap, subst, ◌∙◌, arith}
 use Rattle.ds_base.specs.declared.fault.Fault.{Fault}
 use Rattle.ds_base.specs.declared.fault.Part.{Part}
-use Rattle.ds_base.specs.Reading.{number_at}
-use Rattle.ds_base.specs.Spot.{Spot, after}
+use Rattle.ds_base.specs.Spot.{Spot}
 use Rattle.ds_base.proofs.Passing.{bind_ok, ok_is}
 use Rattle.ds_base.proofs.Onward.{Onward, Further, stays, end_kept, further_then}
 use Rattle.dwarf_types.specs.declared.address.Addr.{Addr}
 use Rattle.dwarf_types.specs.declared.lists.RawSpan.{RawSpan}
-use Rattle.macho_read.specs.declared.image.Image.{Image}
-use Rattle.reloc_table.specs.declared.relocation.Relocs.{Relocs}
 use Rattle.list_items.specs.declared.item.Item.{Item}
 use Rattle.list_items.specs.declared.item.Item.TheVariants as items
-use Rattle.list_items.specs.declared.item.Word.{Word}
+use Rattle.list_items.specs.Context.{Context}
 use Rattle.list_items.specs.Lists.{Behind, Says, ends, selects, spans, said_at, whole_at, ListItem, Listing, behind_it, listed, items_from, list_spot, items_in, list_in}
-use Rattle.list_items.specs.Reading.{word_at, item_of, item_at}
+use Rattle.list_items.specs.Reading.{item_at}
 use Rattle.list_items.specs.Whole.{is_mark, EndsOnce, IsWhole}
 use Rattle.list_items.proofs.Given.{list_known}
-use Rattle.list_items.proofs.Soundness.{number_fits}
+use Rattle.list_items.proofs.Items.{item_kept}
 
--- ---- an item goes on by a byte at least
-
-snd_further : {W : Type 0} (s : Spot) (x y : W × Spot) → x ≡ y → Further s x.1 → Further s y.1
-snd_further {W = W} s x y e h = subst (λ (z : W × Spot). Further s z.1) e h
-
-word_further : (image : Image) (relocs : Relocs) (s : Spot) (y : Word × Spot) → word_at image relocs s ≡ Ok y → Further s y.1
-unfolding word_at
-word_further image relocs s y e =
-    let p = bind_ok (number_at 8 s) _ y e in
-    let fits = number_fits 8 s p.0.0 p.0.1 p.1 in
-    let moved : Further s (after s 8) = record { onward = record { by = 8; is = refl; fits = fits.0 }; some = omega arith } in
-    snd_further s _ y (ok_is _ y p.2) (subst (Further s) (sym fits.1) moved)
-
-item_further : (image : Image) (relocs : Relocs) (base : Addr) (s : Spot) (y : Item × Spot) → item_at image relocs base s ≡ Ok y → Further s y.1
-unfolding item_at
-item_further image relocs base s y e =
-    let low = bind_ok (word_at image relocs s) _ y e in
-    let high = bind_ok (word_at image relocs low.0.1) _ y low.2 in
-    let what = bind_ok (item_of base s low.0.0 high.0.0) _ y high.2 in
-    let second = word_further image relocs low.0.1 high.0 high.1 in
-    snd_further s (what.0, high.0.1) y (ok_is (what.0, high.0.1) y what.2) (further_then s low.0.1 high.0.1 (word_further image relocs s low.0 low.1) second.onward)
+-- ---- what is read behind a span
 
 -- reading behind a span goes on from where it begins
 abbrev pub GoesOn : {A : Type 0} → Behind A → Type 0
@@ -52,10 +29,11 @@ said_onward {A = A} behind on first (items.Span span) s y e =
     let p = bind_ok (behind first span s) _ y e in
     subst (λ (r : Says A × Spot). Onward s r.1) (ok_is (spans span p.0.0, p.0.1) y p.2) (on first span s p.0 p.1)
 
-whole_further : {A : Type 0} (image : Image) (relocs : Relocs) (behind : Behind A) → GoesOn behind → (base : Addr) (s : Spot) (y : Says A × Spot) → whole_at image relocs behind base s ≡ Ok y → Further s y.1
-whole_further image relocs behind on base s y e =
-    let item = bind_ok (item_at image relocs base s) _ y e in
-    further_then s item.0.1 y.1 (item_further image relocs base s item.0 item.1) (said_onward behind on s item.0.0 item.0.1 y item.2)
+whole_further : {A : Type 0} (c : Context) (behind : Behind A) → GoesOn behind → (base : Addr) (s : Spot) (y : Says A × Spot) → whole_at c behind base s ≡ Ok y → Further s y.1
+whole_further c behind on base s y e =
+    let item = bind_ok (item_at c base s) _ y e in
+    let kept = item_kept c base s item.0 item.1 in
+    further_then s item.0.1 y.1 kept.0 (said_onward behind on s item.0.0 item.0.1 y item.2)
 
 -- ---- items in turn
 
@@ -91,18 +69,18 @@ one_whole size first (Ok y) base more here later none =
     let h = here y refl in behind_whole size first.place y.1.place y.0 base (λ b. more b y.1) h.0 h.1 (later y refl) none
 one_whole size first (Err f) base more here later none = absurd cc
 
-items_whole : {A : Type 0} (image : Image) (relocs : Relocs) (behind : Behind A) → GoesOn behind → (size left : ℕ) (base : Addr) (s : Spot) → s.end ≡ size
-    → (items_from (whole_at image relocs behind) left base s).stop ≡ None → IsWhole size s.place (items_from (whole_at image relocs behind) left base s).items
-items_whole image relocs behind on size zero base s at none = absurd cc
-items_whole image relocs behind on size (suc left) base s at none =
-    one_whole size s (whole_at image relocs behind base s) base (λ b t. items_from (whole_at image relocs behind) left b t)
-    (λ y e. let f = whole_further image relocs behind on base s y e in (f.some, omega (arith, inside_end s y.1 f, at)))
-    (λ y e b h. let f = whole_further image relocs behind on base s y e in items_whole image relocs behind on size left b y.1 (end_kept s y.1 f.onward ∙ at) h)
+items_whole : {A : Type 0} (c : Context) (behind : Behind A) → GoesOn behind → (size left : ℕ) (base : Addr) (s : Spot) → s.end ≡ size
+    → (items_from (whole_at c behind) left base s).stop ≡ None → IsWhole size s.place (items_from (whole_at c behind) left base s).items
+items_whole c behind on size zero base s at none = absurd cc
+items_whole c behind on size (suc left) base s at none =
+    one_whole size s (whole_at c behind base s) base (λ b t. items_from (whole_at c behind) left b t)
+    (λ y e. let f = whole_further c behind on base s y e in (f.some, omega (arith, inside_end s y.1 f, at)))
+    (λ y e b h. let f = whole_further c behind on base s y e in items_whole c behind on size left b y.1 (end_kept s y.1 f.onward ∙ at) h)
     none
 
-pub list_whole : {A : Type 0} (part : Part) (bytes : List ℕ) (image : Image) (relocs : Relocs) (behind : Behind A) → GoesOn behind → (offset : ℕ) (base : Addr) (xs : List A)
-    → list_in part bytes image relocs behind offset base ≡ Ok xs → IsWhole (length bytes) offset (items_in part bytes image relocs behind offset base).items
-list_whole part bytes image relocs behind on offset base xs e =
+pub list_whole : {A : Type 0} (part : Part) (bytes : List ℕ) (c : Context) (behind : Behind A) → GoesOn behind → (offset : ℕ) (base : Addr) (xs : List A)
+    → list_in part bytes c behind offset base ≡ Ok xs → IsWhole (length bytes) offset (items_in part bytes c behind offset base).items
+list_whole part bytes c behind on offset base xs e =
     let s = list_spot part bytes offset in
-    let k = list_known (items_in part bytes image relocs behind offset base) xs e in
-    items_whole image relocs behind on (length bytes) (s.end - s.place) base s refl k.0
+    let k = list_known (items_in part bytes c behind offset base) xs e in
+    items_whole c behind on (length bytes) (s.end - s.place) base s refl k.0

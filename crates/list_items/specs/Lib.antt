@@ -1,4 +1,9 @@
+pub mod Context
 pub mod Ends
+pub mod Items
+pub mod Words
+pub mod EntryKinds
+pub mod Entries
 pub mod Reading
 pub mod Lists
 pub mod Sound

@@ -1,4 +1,4 @@
--- A list (DWARF 4, sections 2.17.3 and 2.6.2), whatever follows its spans: a listing of its items, and what they give.
+-- A list (DWARF 4 and 5, sections 2.17.3 and 2.6.2), whatever follows its spans: a listing of its items, and what they give.
 use Rattle.std.specs.Prelude.{ℕ, zero, suc, ◌-◌, List, [], ◌∷◌, length, Option, Some, None, Result, Ok, Err, if◌then◌else◌}
 use Rattle.std.specs.List.{filter_map}
 use Rattle.ds_base.specs.declared.fault.Fault.{Fault}
@@ -8,34 +8,33 @@ use Rattle.ds_base.specs.Spot.{Spot, fault_at}
 use Rattle.ds_base.specs.Reading.{◌>>=◌}
 use Rattle.dwarf_types.specs.declared.address.Addr.{Addr}
 use Rattle.dwarf_types.specs.declared.lists.RawSpan.{RawSpan}
-use Rattle.macho_read.specs.declared.image.Image.{Image}
-use Rattle.reloc_table.specs.declared.relocation.Relocs.{Relocs}
 use Rattle.list_items.specs.declared.item.Item.{Item}
 use Rattle.list_items.specs.declared.item.Item.TheVariants as items
+use Rattle.list_items.specs.Context.{Context}
 use Rattle.list_items.specs.Ends.{is_empty}
 use Rattle.list_items.specs.Reading.{item_at}
 
 -- ---- an item
 
--- what is read behind the two words of a span whose item begins at first
+-- what is read behind a span whose item begins at first
 abbrev pub Behind : Type 0 → Type 0
 Behind A = Spot → RawSpan → Spot → Result (A × Spot) Fault
 
--- what an item says: that the list ends, the base of the items behind it, or a span with what is read behind its words
+-- what an item says: that the list ends, the base of the items behind it, or a span with what is read behind it
 pub data Says (A : Type 0) : Type 0 where
   ends : Says A
   selects : Addr → Says A
   spans : RawSpan → A → Says A
 
--- what follows the two words
+-- what follows an item's span
 abbrev pub said_at : {A : Type 0} → Behind A → Spot → Item → Spot → Result (Says A × Spot) Fault
 said_at behind first items.End s = Ok (ends, s)
 said_at behind first (items.Base selected) s = Ok (selects selected, s)
 said_at behind first (items.Span span) s = behind first span s >>= λ x. Ok (spans span x.0, x.1)
 
--- the next item of a list that has this base: its two words, and what follows them
-abbrev pub whole_at : {A : Type 0} → Image → Relocs → Behind A → Addr → Spot → Result (Says A × Spot) Fault
-whole_at image relocs behind base s = item_at image relocs base s >>= λ item. said_at behind s item.0 item.1
+-- the next item of a list that has this base, and what follows its span
+abbrev pub whole_at : {A : Type 0} → Context → Behind A → Addr → Spot → Result (Says A × Spot) Fault
+whole_at c behind base s = item_at c base s >>= λ item. said_at behind s item.0 item.1
 
 -- ---- the items of a list
 
@@ -71,9 +70,9 @@ abbrev pub list_spot : Part → List ℕ → ℕ → Spot
 list_spot part bytes offset = record { bytes = bytes; part = part; place = offset; end = length bytes }
 
 -- the items of the list that begins at a place of the section
-abbrev pub items_in : {A : Type 0} → Part → List ℕ → Image → Relocs → Behind A → ℕ → Addr → Listing A
-items_in part bytes image relocs behind offset base =
-    let s = list_spot part bytes offset in items_from (whole_at image relocs behind) (s.end - s.place) base s
+abbrev pub items_in : {A : Type 0} → Part → List ℕ → Context → Behind A → ℕ → Addr → Listing A
+items_in part bytes c behind offset base =
+    let s = list_spot part bytes offset in items_from (whole_at c behind) (s.end - s.place) base s
 
 -- ---- what they give
 
@@ -93,5 +92,5 @@ abbrev pub list_of : {A : Type 0} → Listing A → Result (List A) Fault
 list_of listing = unless_stopped listing.stop >>= λ _. Ok (filter_map (λ item. given item.says) listing.items)
 
 -- the list that begins at a place of the section
-abbrev pub list_in : {A : Type 0} → Part → List ℕ → Image → Relocs → Behind A → ℕ → Addr → Result (List A) Fault
-list_in part bytes image relocs behind offset base = list_of (items_in part bytes image relocs behind offset base)
+abbrev pub list_in : {A : Type 0} → Part → List ℕ → Context → Behind A → ℕ → Addr → Result (List A) Fault
+list_in part bytes c behind offset base = list_of (items_in part bytes c behind offset base)

@@ -1,47 +1,21 @@
--- Reading the two words of an item (DWARF 4, sections 2.17.3 and 2.6.2): what they are, or the first fault.
-use Rattle.std.specs.Prelude.{ℕ, ◌-◌, ◌^◌, ◌==◌, ◌&&◌, not, Result, Ok, if◌then◌else◌}
+-- The next item of a list, up to what follows its span, or the first fault.
+use Rattle.std.specs.Prelude.{Result}
 use Rattle.ds_base.specs.declared.fault.Fault.{Fault}
-use Rattle.ds_base.specs.declared.fault.Kind.TheVariants as kinds
-use Rattle.ds_base.specs.Spot.{Spot, fault_at}
-use Rattle.ds_base.specs.Reading.{◌>>=◌, refuse_if, number_at}
+use Rattle.ds_base.specs.Spot.{Spot}
 use Rattle.dwarf_types.specs.declared.address.Addr.{Addr}
-use Rattle.dwarf_types.specs.declared.lists.RawSpan.{RawSpan}
-use Rattle.macho_read.specs.declared.image.Image.{Image}
-use Rattle.reloc_table.specs.declared.relocation.Relocs.{Relocs}
-use Rattle.reloc_table.specs.Address.{address_of}
+use Rattle.list_items.specs.declared.context.ListForm.{ListForm}
+use Rattle.list_items.specs.declared.context.ListForm.TheVariants as forms
 use Rattle.list_items.specs.declared.item.Item.{Item}
-use Rattle.list_items.specs.declared.item.Item.TheVariants as items
-use Rattle.list_items.specs.declared.item.Word.{Word}
-use Rattle.list_items.specs.Ends.{from_base, belong_together}
+use Rattle.list_items.specs.Context.{Context}
+use Rattle.list_items.specs.Entries.{entry_at}
+use Rattle.list_items.specs.Words.{words_at}
 
--- the number in the next eight bytes, and what it means there
-unfoldable pub word_at : Image → Relocs → Spot → Result (Word × Spot) Fault
-word_at image relocs s = do
-  n ← number_at 8 s
-  Ok (record { stored = n.0; means = address_of image relocs s.place n.0 }, n.1)
-
--- the span between two words, whose ends belong together
-abbrev pub span_of : Addr → Word → Word → RawSpan
-span_of base low high = record { low = from_base base low.means; high = from_base base high.means }
-
-abbrev pub span_at : Spot → RawSpan → Result Item Fault
-span_at first span = refuse_if (not (belong_together span)) (fault_at first kinds.BadList) >>= λ u. Ok (items.Span span)
-
--- "the value of the largest representable address offset", which makes the second word a base
-abbrev pub largest_offset : ℕ
-largest_offset = 2 ^ 64 - 1
-
--- what two words are: the stored numbers tell the end and the selection of a base
-abbrev pub item_of : Addr → Spot → Word → Word → Result Item Fault
-item_of base first low high =
-    if low.stored == 0 && high.stored == 0 then Ok items.End
-    else if low.stored == largest_offset then Ok (items.Base high.means)
-    else span_at first (span_of base low high)
+-- an item by the form of its list
+abbrev pub formed_at : ListForm → Context → Addr → Spot → Result (Item × Spot) Fault
+formed_at forms.Words c base s = words_at c base s
+formed_at forms.RangeEntries c base s = entry_at c base s
+formed_at forms.LocationEntries c base s = entry_at c base s
 
 -- the next item of a list that has this base
-unfoldable pub item_at : Image → Relocs → Addr → Spot → Result (Item × Spot) Fault
-item_at image relocs base s = do
-  low ← word_at image relocs s
-  high ← word_at image relocs low.1
-  item ← item_of base s low.0 high.0
-  Ok (item, high.1)
+unfoldable pub item_at : Context → Addr → Spot → Result (Item × Spot) Fault
+item_at c base s = formed_at c.form c base s

@@ -14,8 +14,15 @@ pub(crate) fn from_base(base: &Addr, end: Addr) -> Addr
     let Addr::Fixed(offset) = end else {
         return end;
     };
-    match *base {
-        Addr::Placed(at) => Addr::Placed(at.wrapping_add(offset)),
+    plus(base, offset)
+}
+
+/// So many bytes behind an address, modulo 2^64: what it counts from stays.
+pub(crate) fn plus(at: &Addr, offset: u64) -> Addr
+    ensures { result ≡ Ends.plus at.now offset }
+{
+    match *at {
+        Addr::Placed(place) => Addr::Placed(place.wrapping_add(offset)),
         Addr::Named { symbol, addend } => Addr::Named {
             symbol,
             addend: addend.wrapping_add(offset),

@@ -1,19 +1,20 @@
-//! One item, up to what follows its two words.
+//! One item, up to what follows its span.
 
-ghost use Rattle.std.specs.Prelude.{◌≡◌, OnOk};
-ghost use Rattle.ds_base.specs.Reading.{Reads};
+ghost use Rattle.std.specs.Prelude.{OnOk};
+ghost use Rattle.ds_base.specs.Reading.{Finds, Reads};
 ghost use Rattle.ds_base.specs.Spot.{IsSmall};
-ghost use Rattle.macho_read.specs.Sound.{IsSound as IsSoundImage};
-ghost use Rattle.reloc_table.specs.Sound.{IsSound};
-ghost use Rattle.list_items.specs.Reading.{word_at, item_at};
+ghost use Rattle.list_items.specs.Context.{context_in, IsSoundContext};
+ghost use Rattle.list_items.specs.Items.{span_at};
+ghost use Rattle.list_items.specs.Reading.{item_at};
 
-use crate::ends::{belong_together, from_base};
+use crate::context::{ListContext, ListForm};
+use crate::ends::belong_together;
+use crate::entry::read_entry;
+use crate::words::read_words;
 use ds_base::{Cursor, Fault, Kind};
 use dwarf_types::{Addr, RawSpan};
-use macho_read::Image;
-use reloc_table::{Relocs, resolve};
 
-/// An item of a list by its two words (DWARF 4, section 2.6.2).
+/// An item of a list (DWARF 4 and 5, section 2.6.2).
 #[derive(Clone, Copy, Debug, PartialEq, Eq)]
 pub enum Item {
     /// The list ends.
@@ -24,66 +25,37 @@ pub enum Item {
     Span(RawSpan),
 }
 
-/// "The value of the largest representable address offset", which makes the second word a base (DWARF 4, section 2.6.2).
-const BASE_SELECTION: u64 = 0xffff_ffff_ffff_ffff;
-
-/// A stored number of eight bytes, and what it means as an address.
-#[derive(Clone, Copy)]
-struct Word {
-    stored: u64,
-    means: Addr,
-}
-
-/// The next item of a list whose base is `base`, up to what follows its two words.
+/// The next item of a list whose base is `base`, up to what follows its span.
 ///
-/// `relocs` are those of the section in which the cursor stands. Two zeros end a list and a first word of all ones
-/// selects a base by the numbers that are stored, whatever relocations stand there. A selected base doesn't count from
-/// the one before it. Each word is an item of its own for `Truncated`; `BadList` is placed at the first word.
+/// In the form of words, two zeros end a list and a first word of all ones selects a base by the numbers that are
+/// stored, whatever relocations stand there; an end that no relocation changes counts from the base. In the forms of
+/// entries the kind tells what stands behind it, and the ends of an offset pair alone count from the base. An address
+/// that an index names is that in the unit's table of addresses. A selected base doesn't count from the one before it.
+/// A default location, which has no span, has that of all numbers: no number alone is an address, so no part of it moves.
+///
+/// Each number is an item of its own for `Truncated` and `LebTooWide`. `UnknownListEntry`, `BadIndex` and `BadList`
+/// are placed at the item's first byte, and come as soon as what decides them is read.
 #[tactic(auto, unfolding(crate::specs::Reading::item_at))]
-pub fn read_item(
-    cursor: &mut Cursor,
-    relocs: &Relocs,
-    image: &Image,
-    base: &Addr,
-) -> Result<Item, Fault>
-    requires sound { IsSound image.now relocs.now }
-    requires sound_image { IsSoundImage image.now }
+pub fn read_item(cursor: &mut Cursor, context: &ListContext<'_>, base: &Addr) -> Result<Item, Fault>
+    requires sound { IsSoundContext (context_in context.now) }
     requires small { IsSmall cursor.old }
-    ensures read { Reads (λ item. item) result cursor.new (item_at image.now relocs.now base.now cursor.old) }
+    ensures read { Reads (λ item. item) result cursor.new (item_at (context_in context.now) base.now cursor.old) }
     ensures small { OnOk result (IsSmall cursor.new) }
 {
-    let first = cursor.fork();
-    let low = read_word(cursor, relocs, image)?;
-    let high = read_word(cursor, relocs, image)?;
-    if low.stored == 0 && high.stored == 0 {
-        return Ok(Item::End);
+    match context.form {
+        ListForm::Words => read_words(cursor, context, base),
+        ListForm::RangeEntries => read_entry(cursor, context, base),
+        ListForm::LocationEntries => read_entry(cursor, context, base),
     }
-    if low.stored == BASE_SELECTION {
-        return Ok(Item::Base(high.means));
-    }
-    let span = RawSpan {
-        low: from_base(base, low.means),
-        high: from_base(base, high.means),
-    };
+}
+
+/// The item that a span is whose ends are these. `first` stands at the item's first byte.
+pub(crate) fn item_between(first: &Cursor, low: Addr, high: Addr) -> Result<Item, Fault>
+    ensures { Finds (λ item. item) result (span_at first.now (record { low = low; high = high })) }
+{
+    let span = RawSpan { low, high };
     if !belong_together(&span) {
         return Err(first.fault(Kind::BadList));
     }
     Ok(Item::Span(span))
-}
-
-/// The next eight bytes.
-#[tactic(auto, unfolding(crate::specs::Reading::word_at, ds_base::specs::Reading::number_at))]
-fn read_word(cursor: &mut Cursor, relocs: &Relocs, image: &Image) -> Result<Word, Fault>
-    requires sound { IsSound image.now relocs.now }
-    requires sound_image { IsSoundImage image.now }
-    requires small { IsSmall cursor.old }
-    ensures read { Reads (λ word. word) result cursor.new (word_at image.now relocs.now cursor.old) }
-    ensures small { OnOk result (IsSmall cursor.new) }
-{
-    let place = cursor.place() as u32;
-    let stored = cursor.u64()?;
-    Ok(Word {
-        stored,
-        means: resolve(relocs, image, place, stored),
-    })
 }

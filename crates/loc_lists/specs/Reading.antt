@@ -1,34 +1,69 @@
--- Reading a location list of version 4 (DWARF 4, section 2.6.2): its items, or the first fault in their order.
-use Rattle.std.specs.Prelude.{ℕ, List, Result, Ok}
+-- Reading a location list (DWARF 4 and 5, section 2.6.2): its items, or the first fault in their order.
+use Rattle.std.specs.Prelude.{ℕ, ◌==◌, Bool, List, [], ◌∷◌, Result, Ok, if◌then◌else◌}
 use Rattle.ds_base.specs.declared.fault.Fault.{Fault}
+use Rattle.ds_base.specs.declared.fault.Kind.{Kind}
+use Rattle.ds_base.specs.declared.fault.Kind.TheVariants.{Truncated, LebTooWide, BadList, BadIndex, UnknownListEntry}
+use Rattle.ds_base.specs.declared.fault.Part.{Part}
 use Rattle.ds_base.specs.declared.fault.Part.TheVariants as parts
 use Rattle.ds_base.specs.Spot.{Spot}
-use Rattle.ds_base.specs.Reading.{◌>>=◌, number_at, bytes_at}
+use Rattle.ds_base.specs.Reading.{◌>>=◌, number_at, bytes_at, uleb_at}
 use Rattle.dwarf_types.specs.declared.address.Addr.{Addr}
 use Rattle.dwarf_types.specs.declared.lists.RawLocation.{RawLocation}
 use Rattle.dwarf_types.specs.declared.lists.RawSpan.{RawSpan}
 use Rattle.dwarf_types.specs.SectionBytes.{SectionBytes}
 use Rattle.macho_read.specs.declared.image.Image.{Image}
 use Rattle.reloc_table.specs.declared.relocation.Relocs.{Relocs}
+use Rattle.list_items.specs.declared.context.ListForm.{ListForm}
+use Rattle.list_items.specs.declared.context.ListForm.TheVariants as forms
+use Rattle.list_items.specs.Context.{Context}
 use Rattle.list_items.specs.Lists.{Listing, items_in, list_of}
 
--- the place of an expression's first byte and its bytes, behind their length of two bytes
-unfoldable pub expression_at : Spot → Result ((ℕ × List ℕ) × Spot) Fault
-expression_at s = do
-  len ← number_at 2 s
+-- ---- where the lists of a unit stand, by the unit's version
+
+abbrev pub location_part : ℕ → Part
+location_part version = if version == 5 then parts.Loclists else parts.Loc
+
+abbrev pub location_bytes : SectionBytes → ℕ → List ℕ
+location_bytes sections version = if version == 5 then sections.loclists else sections.loc
+
+abbrev pub location_form : ℕ → ListForm
+location_form version = if version == 5 then forms.LocationEntries else forms.Words
+
+-- the kinds of their faults
+abbrev pub location_faults : ℕ → List Kind
+location_faults version = if version == 5 then Truncated ∷ LebTooWide ∷ BadList ∷ BadIndex ∷ UnknownListEntry ∷ [] else Truncated ∷ BadList ∷ []
+
+-- ---- expressions
+
+-- the length of an expression: a ULEB in version 5, and two bytes before
+abbrev pub len_at : Bool → Spot → Result (ℕ × Spot) Fault
+len_at five s = if five then uleb_at s else number_at 2 s
+
+-- the place of an expression's first byte and its bytes, behind their length
+unfoldable pub expression_at : ℕ → Spot → Result ((ℕ × List ℕ) × Spot) Fault
+expression_at version s = do
+  len ← len_at (version == 5) s
   bytes ← bytes_at len.0 len.1
   Ok ((len.1.place, bytes.0), bytes.1)
 
--- an expression follows the two words of a span, also of an empty one
-abbrev pub location_at : Spot → RawSpan → Spot → Result (RawLocation × Spot) Fault
-location_at first span s = do
-  expression ← expression_at s
+-- ---- lists
+
+-- an expression follows a span, also an empty one
+abbrev pub location_at : ℕ → Spot → RawSpan → Spot → Result (RawLocation × Spot) Fault
+location_at version first span s = do
+  expression ← expression_at version s
   Ok (record { span = span; place = first.place; first = expression.0.0; bytes = expression.0.1 }, expression.1)
 
+-- what the items are understood by: the relocations of their section and those of __debug_addr, where the unit's addresses begin at a base
+abbrev pub location_context : SectionBytes → Relocs → Image → ℕ → Relocs → ℕ → Context
+location_context sections relocs image version addresses addr_base =
+    record { form = location_form version; image = image; relocs = relocs; sections = sections; addresses = addresses; addr_base = addr_base }
+
 -- the items of the list at a place, whose base at first is the unit's
-abbrev pub location_items : SectionBytes → Relocs → Image → ℕ → Addr → Listing RawLocation
-location_items sections relocs image offset base = items_in parts.Loc sections.loc image relocs location_at offset base
+abbrev pub location_items : SectionBytes → Relocs → Image → ℕ → ℕ → Addr → Relocs → ℕ → Listing RawLocation
+location_items sections relocs image offset version base addresses addr_base =
+    items_in (location_part version) (location_bytes sections version) (location_context sections relocs image version addresses addr_base) (location_at version) offset base
 
 -- the locations that they give
-unfoldable pub locations_of : SectionBytes → Relocs → Image → ℕ → Addr → Result (List RawLocation) Fault
-locations_of sections relocs image offset base = list_of (location_items sections relocs image offset base)
+unfoldable pub locations_of : SectionBytes → Relocs → Image → ℕ → ℕ → Addr → Relocs → ℕ → Result (List RawLocation) Fault
+locations_of sections relocs image offset version base addresses addr_base = list_of (location_items sections relocs image offset version base addresses addr_base)

@@ -1,26 +1,26 @@
 //! What the definition of location lists says of one.
 
-ghost use Rattle.std.specs.Prelude.{◌≡◌, ℕ, List as Listed, [], ◌∷◌, length, Ok, Err};
+ghost use Rattle.std.specs.Prelude.{◌≡◌, ℕ, List as Listed, length, Ok, Err};
 ghost use Rattle.std.specs.List.{Contains};
 ghost use Rattle.ds_base.specs.declared.fault.Fault.{Fault};
-ghost use Rattle.ds_base.specs.declared.fault.Kind.TheVariants.{Truncated, BadList};
 ghost use Rattle.dwarf_types.specs.declared.address.Addr.{Addr};
 ghost use Rattle.dwarf_types.specs.declared.lists.RawLocation.{RawLocation};
 ghost use Rattle.dwarf_types.specs.SectionBytes.{SectionBytes};
 ghost use Rattle.list_items.specs.Whole.{IsWhole};
 ghost use Rattle.macho_read.specs.declared.image.Image.{Image};
 ghost use Rattle.reloc_table.specs.declared.relocation.Relocs.{Relocs};
-ghost use Rattle.loc_lists.specs.Reading.{location_items, locations_of};
+ghost use Rattle.loc_lists.specs.Reading.{location_bytes, location_faults, location_items, locations_of};
 
-/// A location list that is read is read whole: its items follow each other without a gap from its offset to where the
-/// mark ends that ends it, and only the last one is that mark.
+/// A location list that is read is read whole: its items follow each other without a gap from its offset to where the mark
+/// ends that ends it, and only the last one is that mark.
 pub fn items_fill_a_location_list()
-    ensures { (sections : SectionBytes) (relocs : Relocs) (image : Image) (offset : ℕ) (base : Addr) (locations : Listed RawLocation) →
-        locations_of sections relocs image offset base ≡ Ok locations → IsWhole (length sections.loc) offset (location_items sections relocs image offset base).items }
+    ensures { (sections : SectionBytes) (relocs : Relocs) (image : Image) (offset version : ℕ) (base : Addr) (addresses : Relocs) (addr_base : ℕ) (locations : Listed RawLocation) →
+        locations_of sections relocs image offset version base addresses addr_base ≡ Ok locations
+        → IsWhole (length (location_bytes sections version)) offset (location_items sections relocs image offset version base addresses addr_base).items }
 {}
 
-/// Each fault of a location list is of one of these kinds.
+/// Each fault of a location list is of one of these kinds, which are two in version 4 and five in version 5.
 pub fn kinds_of_location_faults()
-    ensures { (sections : SectionBytes) (relocs : Relocs) (image : Image) (offset : ℕ) (base : Addr) (f : Fault) →
-        locations_of sections relocs image offset base ≡ Err f → Contains (Truncated ∷ BadList ∷ []) f.kind }
+    ensures { (sections : SectionBytes) (relocs : Relocs) (image : Image) (offset version : ℕ) (base : Addr) (addresses : Relocs) (addr_base : ℕ) (f : Fault) →
+        locations_of sections relocs image offset version base addresses addr_base ≡ Err f → Contains (location_faults version) f.kind }
 {}

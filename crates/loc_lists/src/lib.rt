@@ -1,10 +1,11 @@
-//! Location lists: `__debug_loc` of an object, one list at a time.
+//! Location lists: `__debug_loc` and `__debug_loclists` of an object, one list at a time.
 //!
-//! Layer: object readers. Reads lists of version 4 (DWARF 4, section 2.6.2). [`read_locations`] is the crate's one call.
-//! It gives `locations_of` the sections (`specs/Reading.antt`), or the first fault in the order of the list's items. The
-//! items are those of `list_items`, each span with an expression behind it; no byte of a list that is read is left out
-//! ([`items_fill_a_location_list`]), and faults are of the kinds that [`kinds_of_location_faults`] names. Spans keep the
-//! object's addresses: `addr_map` moves them. Expressions are kept as bytes: `expr_walk` reads their operations.
+//! Layer: object readers. Reads lists of versions 4 and 5 (DWARF 4 and 5, section 2.6.2). [`read_locations`] is the
+//! crate's one call. It gives `locations_of` the sections (`specs/Reading.antt`), or the first fault in the order of the
+//! list's items. The items are those of `list_items`, each span with an expression behind it; no byte of a list that is
+//! read is left out ([`items_fill_a_location_list`]), and faults are of the kinds that [`kinds_of_location_faults`]
+//! names. Spans keep the object's addresses: `addr_map` moves them. Expressions are kept as bytes: `expr_walk` reads
+//! their operations.
 #![tactic(auto)]
 
 mod laws;

@@ -1,28 +1,34 @@
 //! One location list, from its place in the section.
 
-ghost use Rattle.std.specs.Prelude.{◌≡◌, ◌<◌, ◌^◌, length, IfOk, OnOk};
+ghost use Rattle.std.specs.Prelude.{◌≡◌, ◌-◌, ◌<◌, ◌^◌, ◌==◌, length, IfOk, OnOk};
 ghost use Rattle.std.specs.List.{All};
-ghost use Rattle.ds_base.specs.Reading.{Gives, Reads};
+ghost use Rattle.ds_base.specs.Reading.{Gives, Moves, Reads};
 ghost use Rattle.ds_base.specs.Spot.{IsSmall};
 ghost use Rattle.dwarf_types.specs.SectionBytes.{bytes_in};
+ghost use Rattle.list_items.specs.Context.{context_in, IsSoundContext};
+ghost use Rattle.list_items.specs.Lists.{items_from, list_of, whole_at};
 ghost use Rattle.macho_read.specs.Sound.{IsSound as IsSoundImage};
 ghost use Rattle.reloc_table.specs.Sound.{IsSound};
-ghost use Rattle.loc_lists.specs.Reading.{expression_at, locations_of};
+ghost use Rattle.loc_lists.specs.Reading.{expression_at, len_at, location_at, location_bytes, location_form, location_part, locations_of};
 ghost use Rattle.loc_lists.specs.Sound.{IsSoundLocation};
 
 use ds_base::{Bytes, Cursor, Fault, Kind, List, Part, ReadError};
 use dwarf_types::{Addr, RawLocation, Sections};
-use list_items::{Item, is_empty, read_item};
+use list_items::{Item, ListContext, ListForm, is_empty, read_item};
 use macho_read::Image;
 use reloc_table::Relocs;
 use std::alloc::Global;
 
-/// The items of the location list at `offset` (DWARF 4, section 2.6.2), in their order, without those of empty spans.
+/// The items of the location list at `offset` (DWARF 4 and 5, section 2.6.2), in their order, without those of empty
+/// spans.
 ///
-/// `offset` counts bytes from the start of `__debug_loc`, and so do the places of items and expressions and those of
-/// faults, which are `Truncated` and `BadList`. `BadList` is tried before the expression. `relocs` are those of that
-/// section. `base` is what numbers count from that no relocation changes, until the list selects another base. The
-/// version is the unit's; it isn't looked at, since lists of version 4 alone are read.
+/// `version` is the unit's. In version 5 the list stands in `__debug_loclists`, else in `__debug_loc`. `offset` counts
+/// bytes from the start of that section, and so do the places of items and expressions and those of faults. They are
+/// `Truncated` and `BadList`, in version 5 also `LebTooWide`, `BadIndex` and `UnknownListEntry`; those of an item's span
+/// are tried before the expression. `relocs` are those of that section, `addresses` those of `__debug_addr`, where the
+/// unit's table of addresses begins at `addr_base`. `base` is what offsets count from until the list selects another
+/// base; in version 4 all numbers are offsets that no relocation changes. A default location has the span of all
+/// numbers, from `Addr::Fixed(0)` to `Addr::Fixed(u64::MAX)`, of which no piece moves.
 pub fn read_locations(
     alloc: Global,
     sections: &Sections,
@@ -31,29 +37,60 @@ pub fn read_locations(
     offset: u32,
     version: u16,
     base: &Addr,
+    addresses: &Relocs,
+    addr_base: u64,
 ) -> Result<List<RawLocation>, ReadError>
-    requires inside { offset < length sections.now.loc.now }
-    requires small { length sections.now.loc.now < 2 ^ 32 }
+    requires inside { offset < length (location_bytes (bytes_in sections.now) version) }
+    requires small { length (location_bytes (bytes_in sections.now) version) < 2 ^ 32 }
+    requires small_addresses { length sections.now.addr.now < 2 ^ 32 }
     requires sound { IsSound image.now relocs.now }
+    requires sound_addresses { IsSound image.now addresses.now }
     requires sound_image { IsSoundImage image.now }
-    ensures exact { Gives (λ locations. locations) result (locations_of (bytes_in sections.now) relocs.now image.now offset base.now) }
+    ensures exact { Gives (λ locations. locations) result (locations_of (bytes_in sections.now) relocs.now image.now offset version base.now addresses.now addr_base) }
 
     // The ends of each span are of one class, the low one is below the high one, and each expression ends in the section.
-    ensures sound { IfOk result (All (IsSoundLocation (length sections.now.loc.now))) }
+    ensures sound { IfOk result (All (IsSoundLocation (length (location_bytes (bytes_in sections.now) version)))) }
 {
-    let _ = version;
-    let bytes = sections.loc;
-    let mut cursor = Cursor::new(bytes, Part::Loc, u64::from(offset), bytes.len() as u64);
+    let context = ListContext {
+        form: form_of(version),
+        image,
+        relocs,
+        sections,
+        addresses,
+        addr_base,
+    };
+    let bytes = bytes_of(sections, version);
+    let mut cursor = Cursor::new(
+        bytes,
+        part_of(version),
+        u64::from(offset),
+        bytes.len() as u64,
+    );
+    read_items(alloc, &mut cursor, &context, version, base)
+}
+
+/// The items of the list that begins where the cursor stands.
+fn read_items(
+    alloc: Global,
+    cursor: &mut Cursor,
+    context: &ListContext<'_>,
+    version: u16,
+    base: &Addr,
+) -> Result<List<RawLocation>, ReadError>
+    requires sound { IsSoundContext (context_in context.now) }
+    requires small { IsSmall cursor.old }
+    ensures { Gives (λ locations. locations) result (list_of (items_from (whole_at (context_in context.now) (location_at version)) (cursor.old.end - cursor.old.place) base.now cursor.old)) }
+{
     let mut base = *base;
     let mut locations = List::new(alloc);
     let left = cursor.left();
     for _ in 0..left {
         let place = cursor.place();
-        match read_item(&mut cursor, relocs, image, &base)? {
+        match read_item(cursor, context, &base)? {
             Item::End => return Ok(locations),
             Item::Base(selected) => base = selected,
             Item::Span(span) => {
-                let (first, expression) = read_expression(&mut cursor)?;
+                let (first, expression) = read_expression(cursor, version)?;
                 if !is_empty(&span) {
                     locations.push(RawLocation {
                         span,
@@ -68,15 +105,61 @@ pub fn read_locations(
     Err(ReadError::Faulty(cursor.fault(Kind::Truncated)))
 }
 
-/// The expression behind its length, which has two bytes, and the place of its first byte.
-#[tactic(auto, unfolding(crate::specs::Reading::expression_at, ds_base::specs::Reading::number_at, ds_base::specs::Reading::bytes_at))]
-fn read_expression<'a>(cursor: &mut Cursor<'a>) -> Result<(u64, &'a [u8]), Fault>
+/// The expression behind its length, and the place of its first byte.
+#[tactic(auto, unfolding(crate::specs::Reading::expression_at, ds_base::specs::Reading::bytes_at))]
+fn read_expression<'a>(cursor: &mut Cursor<'a>, version: u16) -> Result<(u64, &'a [u8]), Fault>
     requires small { IsSmall cursor.old }
-    ensures read { Reads (λ expression. (expression.0, expression.1.now)) result cursor.new (expression_at cursor.old) }
+    ensures read { Reads (λ expression. (expression.0, expression.1.now)) result cursor.new (expression_at version cursor.old) }
     ensures small { OnOk result (IsSmall cursor.new) }
 {
-    let len = cursor.u16()?;
+    let len = read_len(cursor, version)?;
     let first = cursor.place();
-    let bytes = cursor.skip(u64::from(len))?;
+    let bytes = cursor.skip(len)?;
     Ok((first, bytes))
+}
+
+/// The length of an expression: a ULEB in version 5, and two bytes before.
+fn read_len(cursor: &mut Cursor, version: u16) -> Result<u64, Fault>
+    requires small { IsSmall cursor.old }
+    ensures read { Moves (λ len. len) result cursor.old cursor.new (len_at (version == 5) cursor.old) }
+    ensures small { OnOk result (IsSmall cursor.new) }
+{
+    if version == 5 {
+        return cursor.uleb();
+    }
+    let len = cursor.u16()?;
+    Ok(u64::from(len))
+}
+
+/// The section in which a unit of this version has its location lists.
+fn bytes_of<'a>(sections: &Sections<'a>, version: u16) -> &'a [u8]
+    ensures { result.now ≡ location_bytes (bytes_in sections.now) version }
+{
+    if version == 5 {
+        sections.loclists
+    } else {
+        sections.loc
+    }
+}
+
+/// The part of the file that this section is.
+fn part_of(version: u16) -> Part
+    ensures { result ≡ location_part version }
+{
+    if version == 5 {
+        Part::Loclists
+    } else {
+        Part::Loc
+    }
+}
+
+/// How items are spelled there.
+fn form_of(version: u16) -> ListForm
+    ensures { result ≡ location_form version }
+{
+    if version == 5 {
+        ListForm::LocationEntries
+    } else {
+        ListForm::Words
+    }
 }

@@ -1,26 +1,31 @@
 //! One range list, from its place in the section.
 
-ghost use Rattle.std.specs.Prelude.{◌≡◌, ◌<◌, ◌^◌, length, IfOk};
+ghost use Rattle.std.specs.Prelude.{◌≡◌, ◌-◌, ◌<◌, ◌^◌, length, IfOk};
 ghost use Rattle.std.specs.List.{All};
 ghost use Rattle.ds_base.specs.Reading.{Gives};
+ghost use Rattle.ds_base.specs.Spot.{IsSmall};
 ghost use Rattle.dwarf_types.specs.SectionBytes.{bytes_in};
+ghost use Rattle.list_items.specs.Context.{context_in, IsSoundContext};
+ghost use Rattle.list_items.specs.Lists.{items_from, list_of, whole_at};
 ghost use Rattle.list_items.specs.Sound.{IsSoundSpan};
 ghost use Rattle.macho_read.specs.Sound.{IsSound as IsSoundImage};
 ghost use Rattle.reloc_table.specs.Sound.{IsSound};
-ghost use Rattle.range_lists.specs.Reading.{ranges_of};
+ghost use Rattle.range_lists.specs.Reading.{range_at, range_bytes, range_form, range_part, ranges_of};
 
 use ds_base::{Cursor, Kind, List, Part, ReadError};
 use dwarf_types::{Addr, RawSpan, Sections};
-use list_items::{Item, is_empty, read_item};
+use list_items::{Item, ListContext, ListForm, is_empty, read_item};
 use macho_read::Image;
 use reloc_table::Relocs;
 use std::alloc::Global;
 
-/// The spans of the range list at `offset` (DWARF 4, section 2.17.3), in their order, without the empty ones.
+/// The spans of the range list at `offset` (DWARF 4 and 5, section 2.17.3), in their order, without the empty ones.
 ///
-/// `offset` counts bytes from the start of `__debug_ranges`, and so do the places of faults, which are `Truncated` and
-/// `BadList`. `relocs` are those of that section. `base` is what numbers count from that no relocation changes, until
-/// the list selects another base. The version is the unit's; it isn't looked at, since lists of version 4 alone are read.
+/// `version` is the unit's. In version 5 the list stands in `__debug_rnglists`, else in `__debug_ranges`. `offset`
+/// counts bytes from the start of that section, and so do the places of faults. They are `Truncated` and `BadList`, in
+/// version 5 also `LebTooWide`, `BadIndex` and `UnknownListEntry`. `relocs` are those of that section, `addresses` those
+/// of `__debug_addr`, where the unit's table of addresses begins at `addr_base`. `base` is what offsets count from until
+/// the list selects another base; in version 4 all numbers are offsets that no relocation changes.
 pub fn read_ranges(
     alloc: Global,
     sections: &Sections,
@@ -29,24 +34,54 @@ pub fn read_ranges(
     offset: u32,
     version: u16,
     base: &Addr,
+    addresses: &Relocs,
+    addr_base: u64,
 ) -> Result<List<RawSpan>, ReadError>
-    requires inside { offset < length sections.now.ranges.now }
-    requires small { length sections.now.ranges.now < 2 ^ 32 }
+    requires inside { offset < length (range_bytes (bytes_in sections.now) version) }
+    requires small { length (range_bytes (bytes_in sections.now) version) < 2 ^ 32 }
+    requires small_addresses { length sections.now.addr.now < 2 ^ 32 }
     requires sound { IsSound image.now relocs.now }
+    requires sound_addresses { IsSound image.now addresses.now }
     requires sound_image { IsSoundImage image.now }
-    ensures exact { Gives (λ spans. spans) result (ranges_of (bytes_in sections.now) relocs.now image.now offset base.now) }
+    ensures exact { Gives (λ spans. spans) result (ranges_of (bytes_in sections.now) relocs.now image.now offset version base.now addresses.now addr_base) }
 
     // The ends of each span are of one class, and the low one is below the high one.
     ensures sound { IfOk result (All IsSoundSpan) }
 {
-    let _ = version;
-    let bytes = sections.ranges;
-    let mut cursor = Cursor::new(bytes, Part::Ranges, u64::from(offset), bytes.len() as u64);
+    let context = ListContext {
+        form: form_of(version),
+        image,
+        relocs,
+        sections,
+        addresses,
+        addr_base,
+    };
+    let bytes = bytes_of(sections, version);
+    let mut cursor = Cursor::new(
+        bytes,
+        part_of(version),
+        u64::from(offset),
+        bytes.len() as u64,
+    );
+    read_spans(alloc, &mut cursor, &context, base)
+}
+
+/// The spans of the list that begins where the cursor stands.
+fn read_spans(
+    alloc: Global,
+    cursor: &mut Cursor,
+    context: &ListContext<'_>,
+    base: &Addr,
+) -> Result<List<RawSpan>, ReadError>
+    requires sound { IsSoundContext (context_in context.now) }
+    requires small { IsSmall cursor.old }
+    ensures { Gives (λ spans. spans) result (list_of (items_from (whole_at (context_in context.now) range_at) (cursor.old.end - cursor.old.place) base.now cursor.old)) }
+{
     let mut base = *base;
     let mut spans = List::new(alloc);
     let left = cursor.left();
     for _ in 0..left {
-        match read_item(&mut cursor, relocs, image, &base)? {
+        match read_item(cursor, context, &base)? {
             Item::End => return Ok(spans),
             Item::Base(selected) => base = selected,
             Item::Span(span) => {
@@ -57,4 +92,37 @@ pub fn read_ranges(
         }
     }
     Err(ReadError::Faulty(cursor.fault(Kind::Truncated)))
+}
+
+/// The section in which a unit of this version has its range lists.
+fn bytes_of<'a>(sections: &Sections<'a>, version: u16) -> &'a [u8]
+    ensures { result.now ≡ range_bytes (bytes_in sections.now) version }
+{
+    if version == 5 {
+        sections.rnglists
+    } else {
+        sections.ranges
+    }
+}
+
+/// The part of the file that this section is.
+fn part_of(version: u16) -> Part
+    ensures { result ≡ range_part version }
+{
+    if version == 5 {
+        Part::Rnglists
+    } else {
+        Part::Ranges
+    }
+}
+
+/// How items are spelled there.
+fn form_of(version: u16) -> ListForm
+    ensures { result ≡ range_form version }
+{
+    if version == 5 {
+        ListForm::RangeEntries
+    } else {
+        ListForm::Words
+    }
 }

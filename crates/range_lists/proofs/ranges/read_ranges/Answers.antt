@@ -1,42 +1,12 @@
-use Rattle.std.proofs.Common.{◌∙◌, arith, refl, sym}
-use Rattle.std.proofs.lemmas.Result.{err_from_is_err_and}
-use Rattle.list_items.proofs.Turns.{list_starts, item_refused, list_ends, base_selected, span_kept, span_dropped, bytes_end}
-use Rattle.range_lists.specs.Reading.{range_at, ranges_of}
-use Rattle.range_lists.proofs.Spans.{ranges_sound}
-use Rattle.range_lists.proofs.ranges.read_ranges.Goals.{in-Base, in-Span+then-not-is_empty+in_ok-push-in-Span, in-Span+else-not-is_empty}
+use Rattle.dwarf_types.specs.SectionBytes.{bytes_in}
+use Rattle.range_lists.specs.Reading.{ranges_of}
+use Rattle.range_lists.proofs.Spans.{ranges_given}
 use Rattle.range_lists.proofs.ranges.read_ranges.Goals as goal
 
-pub loop-init : goal.loop-init
-unfolding ranges_of
-loop-init c = (
-  rw (c.new-cursor.ensures, c.from.ensures) (record { before_end = omega (arith, c.requires.inside); small = c.requires.small }),
-  rw (c.left-left.ensures, c.new-cursor.ensures, c.from.ensures, c.new-spans.ensures) (list_starts _ _ range_at _ _ _),
-)
-
-pub returns-in_err-read_item-clause-exact : goal.returns-in_err-read_item-clause-exact
-returns-in_err-read_item-clause-exact c =
-    let p = err_from_is_err_and c.from_residual.result c.from_residual.ensures.1 in
-    rw (p.1, p.2) (item_refused _ _ range_at _ c.loop.counter c.loop.spans _ c.loop.cursor _ _ (omega arith) c.in_err-read_item.ensures.read c.loop.invariant.1)
-
-pub returns-in-End : goal.returns-in-End
-returns-in-End c =
-    let exact = list_ends _ _ range_at _ c.loop.counter c.loop.spans _ c.loop.cursor c.read_item.new.cursor _ (omega arith) (rw (← c.in-End.is) c.in_ok-read_item.ensures.read) c.loop.invariant.1 in
-    record { exact = exact; sound = ranges_sound _ _ _ _ _ _ exact }
-
-pub loop-preserved : goal.loop-preserved
-loop-preserved c = (
-  c.in_ok-read_item.ensures.small,
-  elim c.match-branch-2.branch [
-    | in-Base w ↦
-        rw (w.base-is, w.spans-is) (base_selected _ _ range_at _ c.loop.counter c.loop.spans _ _ c.loop.cursor _ _ (omega arith) (rw (← w.in-Base.is) c.in_ok-read_item.ensures.read) c.loop.invariant.1)
-    | in-Span+then-not-is_empty+in_ok-push-in-Span w ↦
-        let some = sym w.is_empty.ensures ∙ w.if-not-is_empty.true in
-        rw (w.base-is, w.spans-is, w.in_ok-push-in-Span.ensures.ok) (span_kept _ _ range_at _ c.loop.counter c.loop.spans w.in-Span.span _ _ c.loop.cursor _ _ _ (omega arith) (rw (← w.in-Span.is) c.in_ok-read_item.ensures.read) refl some c.loop.invariant.1)
-    | in-Span+else-not-is_empty w ↦
-        let none = sym w.is_empty.ensures ∙ w.if-not-is_empty.false in
-        rw (w.base-is, w.spans-is) (span_dropped _ _ range_at _ c.loop.counter c.loop.spans w.in-Span.span _ _ c.loop.cursor _ _ _ (omega arith) (rw (← w.in-Span.is) c.in_ok-read_item.ensures.read) refl none c.loop.invariant.1)
-  ],
-)
-
 pub returns-clause-exact : goal.returns-clause-exact
-returns-clause-exact c = rw c.fault.ensures (bytes_end _ _ range_at _ c.loop.counter c.loop.spans _ c.loop.cursor _ (omega arith) c.loop.invariant.1)
+unfolding ranges_of
+returns-clause-exact c = rw (c.new-cursor.ensures, c.part_of.ensures, c.bytes_of-bytes.ensures, c.form_of.ensures, c.from.ensures) at c.read_spans.ensures
+
+pub returns-clause-sound : goal.returns-clause-sound
+unfolding ranges_of
+returns-clause-sound c = ranges_given (bytes_in c.args.sections.now) c.args.relocs.now c.args.image.now c.args.offset c.args.version c.args.base.now c.args.addresses.now c.args.addr_base c.read_spans.result (rw (c.new-cursor.ensures, c.part_of.ensures, c.bytes_of-bytes.ensures, c.form_of.ensures, c.from.ensures) at c.read_spans.ensures)

@@ -1,0 +1,14 @@
+-- An item that is a span.
+use Rattle.std.specs.Prelude.{not, Result, Ok}
+use Rattle.ds_base.specs.declared.fault.Fault.{Fault}
+use Rattle.ds_base.specs.declared.fault.Kind.TheVariants as kinds
+use Rattle.ds_base.specs.Spot.{Spot, fault_at}
+use Rattle.ds_base.specs.Reading.{◌>>=◌, refuse_if}
+use Rattle.dwarf_types.specs.declared.lists.RawSpan.{RawSpan}
+use Rattle.list_items.specs.declared.item.Item.{Item}
+use Rattle.list_items.specs.declared.item.Item.TheVariants as items
+use Rattle.list_items.specs.Ends.{belong_together}
+
+-- the item that begins at first, whose ends belong together
+abbrev pub span_at : Spot → RawSpan → Result Item Fault
+span_at first span = refuse_if (not (belong_together span)) (fault_at first kinds.BadList) >>= λ u. Ok (items.Span span)
