@@ -6,7 +6,8 @@ use Rattle.std.proofs.Math.Nat.{mul-add}
 use Rattle.std.proofs.lemmas.Bool.{ltb-false, le-ltb, eqb-true}
 use Rattle.std.proofs.lemmas.List.{take-append-drop, drop-take, drop-drop, length-take, flat_map_more, append-nil}
 use Rattle.std.proofs.Math.Seq.{take-length}
-use Rattle.ds_base.proofs.Passing.{guard_ok}
+use Rattle.ds_base.proofs.Passing.{bind_ok, passed, guard_ok, found_ok, ok_is}
+use Rattle.ds_base.proofs.Onward.{uleb_further}
 use Rattle.ds_base.proofs.LebLengths.{few_digits}
 use Rattle.ds_base.specs.declared.fault.Fault.{Fault}
 use Rattle.ds_base.specs.declared.fault.Kind.{Kind}
@@ -16,16 +17,16 @@ use Rattle.ds_base.specs.declared.fault.ReadError.{ReadError}
 use Rattle.ds_base.specs.declared.fault.ReadError.TheVariants as errors
 use Rattle.ds_base.specs.Spot.{Spot, rest, after, fault_at, start}
 use Rattle.ds_base.specs.Leb.{uleb_len_of, uleb_value, sleb_value, fits_i64}
-use Rattle.ds_base.specs.Reading.{◌>>=◌, Gives, or_fault, index_below, bytes_at, number_at, leb_at, uleb_at, sleb_at}
+use Rattle.ds_base.specs.Reading.{◌>>=◌, Gives, refuse_if, or_fault, index_below, bytes_at, number_at, leb_at, uleb_at, sleb_at}
 use Rattle.dwarf_types.specs.declared.expr.Op.{Op}
 use Rattle.dwarf_types.specs.declared.expr.PlainOp.{PlainOp}
 use Rattle.dwarf_types.specs.declared.operands.Named.{Named}
-use Rattle.dwarf_types.specs.declared.operands.Named.TheVariants.{Nothing, Address, BaseType}
+use Rattle.dwarf_types.specs.declared.operands.Named.TheVariants.{Nothing, Address, BaseType, Index}
 use Rattle.dwarf_types.specs.declared.operands.Operands.{Operands}
 use Rattle.dwarf_types.specs.declared.operands.Operands.TheVariants as operands
 use Rattle.dwarf_types.specs.Operations.{operands_of}
 use Rattle.expr_walk.specs.Length.{front_leb_len, respelled_len, plain_len, inner_len, op_len}
-use Rattle.expr_walk.specs.Reading.{naming, block_at, base_block_at, operands_at, bytes_up_to, code_at, plain_from, plain_at, all_at, expression_of, placed_from, inner_of, entry_value_from, op_from, op_at, address_in, base_in, alone, is_placed_below}
+use Rattle.expr_walk.specs.Reading.{naming, block_at, base_block_at, operands_at, bytes_up_to, is_outside, code_at, plain_from, plain_at, all_at, expression_of, placed_from, inner_of, entry_value_from, op_from, op_at, address_in, base_in, alone, is_placed_below}
 
 -- t stands at least so many bytes behind first, and not behind its end
 pub record Ahead (first : Spot) (low : ℕ) (t : Spot) : Type 0 where
@@ -138,6 +139,7 @@ operands_keep operands.UlebBase first low s a =
 operands_keep operands.ByteBase first low s a =
     keeps_bind first low low (number_at 1 s) (λ n. naming (λ base. BaseType base) (uleb_at n.1)) (number_keeps first low low 1 s a (omega arith)) (λ n e b. named_keeps first low (λ base. BaseType base) (uleb_at n.1) (uleb_keeps first low n.1 b))
 operands_keep operands.Base first low s a = named_keeps first low (λ base. BaseType base) (uleb_at s) (uleb_keeps first low s a)
+operands_keep operands.Index first low s a = named_keeps first low (λ index. Index index) (uleb_at s) (uleb_keeps first low s a)
 operands_keep operands.Expression first low s a = here first 0 first kinds.OpOutsideProfile (at_once first)
 operands_keep operands.Outside first low s a = here first 0 first kinds.OpOutsideProfile (at_once first)
 
@@ -194,49 +196,59 @@ holds_up_to items made first t a is short =
 
 -- ---- lengths in the output
 
-respelled_few : (bytes : List ℕ) (at : ℕ) → respelled_len bytes at ≤ length bytes + 4
-respelled_few bytes at = omega arith
+respelled_short : (bytes : List ℕ) (at n : ℕ) → 0 < n → length bytes ≤ n → respelled_len bytes at ≤ 5 * n
+respelled_short bytes at n some le = omega (arith, some, le)
 
-plain_few : (row : Option Operands) (bytes : List ℕ) → plain_len row bytes ≤ length bytes + 4
-plain_few (Some operands.Base) bytes = respelled_few bytes 1
-plain_few (Some operands.BaseBlock) bytes = respelled_few bytes 1
-plain_few (Some operands.ByteBase) bytes = respelled_few bytes 2
-plain_few (Some operands.UlebBase) bytes = respelled_few bytes (1 + front_leb_len (drop 1 bytes))
-plain_few other bytes = omega arith
+-- behind its code an index has a byte at least
+index_far : (first s : Spot) (named : Named × Spot) → naming (λ index. Index index) (uleb_at s) ≡ Ok named → Ahead first 1 s → (b : Ahead first 1 named.1) → 2 ≤ b.count
+index_far first s named e a b =
+    let n = bind_ok (uleb_at s) (λ x. Ok (Index x.0, x.1)) named e in
+    let further = uleb_further s n.0 n.1 in
+    let there : n.0.1.place ≡ named.1.place = ap (λ (x : Named × Spot). x.1.place) (ok_is (Index n.0.0, n.0.1) named n.2) in
+    omega (arith, further.some, there, ap (λ (u : Spot). u.place) a.is, ap (λ (u : Spot). u.place) b.is, a.some)
 
-plain_short : (row : Option Operands) (bytes : List ℕ) (n : ℕ) → 0 < n → length bytes ≤ n → plain_len row bytes ≤ 5 * n
-plain_short row bytes n some le = omega (arith, plain_few row bytes)
+plain_short : (row : Operands) (first s : Spot) (named : Named × Spot) → operands_at row first s ≡ Ok named → Ahead first 1 s → (b : Ahead first 1 named.1) → (bytes : List ℕ) → length bytes ≤ b.count
+    → plain_len (Some row) bytes ≤ 5 * b.count
+unfolding operands_at
+plain_short operands.Base first s named e a b bytes le = respelled_short bytes 1 b.count b.some le
+plain_short operands.BaseBlock first s named e a b bytes le = respelled_short bytes 1 b.count b.some le
+plain_short operands.ByteBase first s named e a b bytes le = respelled_short bytes 2 b.count b.some le
+plain_short operands.UlebBase first s named e a b bytes le = respelled_short bytes (1 + front_leb_len (drop 1 bytes)) b.count b.some le
+plain_short operands.Index first s named e a b bytes le = omega (arith, index_far first s named e a b)
+plain_short other first s named e a b bytes le = omega (arith, le)
 
 entry_short : (len n : ℕ) → 0 < n → len ≤ 5 * n → 1 + uleb_len_of len + len ≤ 16 * n
 entry_short len n some le = omega (arith, few_digits len)
 
-op_short : (row : Option Operands) (op : Op) (n : ℕ) → 0 < n → length op.bytes ≤ n → inner_len op.inner ≤ 5 * n → op_len row op ≤ 16 * n
+op_short : (row : Option Operands) (op : Op) (n : ℕ) → 0 < n → plain_len row op.bytes ≤ 5 * n → inner_len op.inner ≤ 5 * n → op_len row op ≤ 16 * n
 op_short (Some operands.Expression) op n some le inner = entry_short (inner_len op.inner) n some inner
-op_short other op n some le inner = omega (arith, plain_few other op.bytes)
+op_short other op n some le inner = omega (arith, le)
 
 abbrev pub with_row : ℕ → Operands → ℕ × Operands
 with_row code row = (code, row)
 
-row_keeps : (s : Spot) (code : ℕ × Spot) (row : Option Operands) → Ahead s 1 code.1 → Keeps s 1 (or_fault row (fault_at s kinds.UnknownOp) >>= λ o. Ok (with_row code.0 o, code.1))
-row_keeps s code None a = here s 0 s kinds.UnknownOp (at_once s)
-row_keeps s code (Some row) a = a
+allowed_keeps : (s : Spot) (code : ℕ × Spot) (row : Operands) (outside : Bool) → Ahead s 1 code.1 → Keeps s 1 (refuse_if outside (fault_at s kinds.OpOutsideProfile) >>= λ u. Ok (with_row code.0 row, code.1))
+allowed_keeps s code row true a = here s 0 s kinds.OpOutsideProfile (at_once s)
+allowed_keeps s code row false a = a
 
-pub code_keeps : (s : Spot) → Keeps s 1 (code_at s)
-unfolding code_at
-code_keeps s =
-    keeps_bind s 1 1 (number_at 1 s) (λ code. or_fault (operands_of code.0) (fault_at s kinds.UnknownOp) >>= λ o. Ok (with_row code.0 o, code.1)) (number_keeps s 0 1 1 s (at_once s) (omega arith))
-    (λ code e a. row_keeps s code (operands_of code.0) a)
+row_keeps : (version : ℕ) (s : Spot) (code : ℕ × Spot) (row : Option Operands) → Ahead s 1 code.1
+    → Keeps s 1 (or_fault row (fault_at s kinds.UnknownOp) >>= λ o. refuse_if (is_outside version o) (fault_at s kinds.OpOutsideProfile) >>= λ u. Ok (with_row code.0 o, code.1))
+row_keeps version s code None a = here s 0 s kinds.UnknownOp (at_once s)
+row_keeps version s code (Some row) a = allowed_keeps s code row (is_outside version row) a
 
-plain_from_cuts : (first : Spot) (code : ℕ) (row : Operands) (s : Spot) → Ahead first 1 s → Cuts plain_items first (plain_from first code row s)
+-- a code that is read, and its row
+pub record Coded (version : ℕ) (s : Spot) (c : (ℕ × Operands) × Spot) : Type 0 where
+  pub number : number_at 1 s ≡ Ok (c.0.0, c.1)
+  pub known : operands_of c.0.0 ≡ Some c.0.1
+  pub inside : is_outside version c.0.1 ≡ false
+
+plain_from_cuts : (first : Spot) (code : ℕ) (row : Operands) (s : Spot) → operands_of code ≡ Some row → Ahead first 1 s → Cuts plain_items first (plain_from first code row s)
 unfolding plain_from
-plain_from_cuts first code row s a =
+plain_from_cuts first code row s known a =
     cuts_bind plain_items first (operands_at row first s) (λ named. bytes_up_to named.1.place first >>= λ bytes. Ok (record { code = code; bytes = bytes; address = address_in named.0; base = base_in named.0 }, named.1))
     (operands_keep row first 1 s a)
-    (λ named e b. holds_up_to plain_items (λ bytes. record { code = code; bytes = bytes; address = address_in named.0; base = base_in named.0 }) first named.1 b (λ bytes. refl) (λ bytes le. plain_short (operands_of code) bytes b.count b.some le))
-
-pub plain_cuts : (s : Spot) → Cuts plain_items s (plain_at s)
-unfolding plain_at
-plain_cuts s = cuts_bind plain_items s (code_at s) (λ code. plain_from s code.0.0 code.0.1 code.1) (code_keeps s) (λ code e a. plain_from_cuts s code.0.0 code.0.1 code.1 a)
+    (λ named e b. holds_up_to plain_items (λ bytes. record { code = code; bytes = bytes; address = address_in named.0; base = base_in named.0 }) first named.1 b (λ bytes. refl)
+    (λ bytes le. subst (λ (o : Option Operands). plain_len o bytes ≤ 5 * b.count) (sym known) (plain_short row first s named e a b bytes le)))
 
 -- ---- operations one after the other
 
@@ -333,11 +345,6 @@ placed_is : (place limit : ℕ) (r : Result (List PlainOp) Fault) → ((ops : Li
 placed_is place limit (Ok ops) one h = one ops refl
 placed_is place limit (Err f) one h = (f.place, refl, h f refl)
 
-inner_placed : (bytes : List ℕ) (part : Part) (place : ℕ) → Placed place (length bytes) (inner_of bytes part place)
-unfolding inner_of
-inner_placed bytes part place =
-    placed_is place (length bytes) (expression_of plain_at part bytes) (λ ops e. (expression_whole plain_at plain_items plain_cuts part bytes ops e).1) (λ f e. expression_faults plain_at plain_items plain_cuts part bytes f e)
-
 -- the bytes are no more than were asked for, and than there were
 pub bytes_fit : (n : ℕ) (s : Spot) (p : List ℕ × Spot) → bytes_at n s ≡ Ok p → (length p.0 ≤ s.end - s.place) × (p.1.place ≡ s.place + n) × (length p.0 ≤ n)
 unfolding bytes_at
@@ -346,9 +353,9 @@ bytes_fit n s p e =
     let len = ap (λ (q : List ℕ × Spot). length q.0) g.1 in
     (omega (arith, len, length-take n (rest s), length_rest s), ap (λ (q : List ℕ × Spot). q.1.place) (sym g.1), omega (arith, len, length-take n (rest s)))
 
-inner_cuts : (first : Spot) (code : ℕ) (len : ℕ × Spot) (inside : List ℕ × Spot) (r : Result (List PlainOp) Fault) → Placed len.1.place (length inside.0) r → bytes_at len.0 len.1 ≡ Ok inside → Ahead first 1 len.1 → Ahead first 1 inside.1
+inner_cuts : (first : Spot) (code : ℕ) (len : ℕ × Spot) (inside : List ℕ × Spot) (r : Result (List PlainOp) Fault) → Placed len.1.place (length inside.0) r → bytes_at len.0 len.1 ≡ Ok inside → operands_of code ≡ Some operands.Expression → Ahead first 1 len.1 → Ahead first 1 inside.1
     → Cuts op_items first (r >>= λ inner. bytes_up_to inside.1.place first >>= λ bytes. Ok (record { code = code; bytes = bytes; address = None; base = None; inner = inner }, inside.1))
-inner_cuts first code len inside (Ok inner) few e a b =
+inner_cuts first code len inside (Ok inner) few e known a b =
     let place : len.1.place ≡ first.place + a.count = ap (λ (u : Spot). u.place) a.is in
     let end : inside.1.place ≡ first.place + b.count = ap (λ (u : Spot). u.place) b.is in
     let fits = bytes_fit len.0 len.1 inside e in
@@ -356,8 +363,8 @@ inner_cuts first code len inside (Ok inner) few e a b =
     let len-few = fits.2 in
     let inner-few : inner_len inner ≤ 5 * b.count = omega (arith, few, more, len-few) in
     holds_up_to op_items (λ bytes. record { code = code; bytes = bytes; address = None; base = None; inner = inner }) first inside.1 b (λ bytes. refl)
-    (λ bytes le. op_short (operands_of code) (record { code = code; bytes = bytes; address = None; base = None; inner = inner }) b.count b.some le inner-few)
-inner_cuts first code len inside (Err f) placed e a b =
+    (λ bytes le. subst (λ (o : Option Operands). op_len o (record { code = code; bytes = bytes; address = None; base = None; inner = inner }) ≤ 16 * b.count) (sym known) (entry_short (inner_len inner) b.count b.some inner-few))
+inner_cuts first code len inside (Err f) placed e known a b =
     let place : len.1.place ≡ first.place + a.count = ap (λ (u : Spot). u.place) a.is in
     let end : len.1.end ≡ first.end = ap (λ (u : Spot). u.end) a.is in
     let fits = (bytes_fit len.0 len.1 inside e).0 in
@@ -365,29 +372,58 @@ inner_cuts first code len inside (Err f) placed e a b =
     let few = placed.2 in
     record { count = a.count + placed.0; is = omega (arith, at); inside = omega (arith, fits, few, a.inside) }
 
-entry_value_cuts : (part : Part) (first : Spot) (code : ℕ) (s : Spot) → Ahead first 1 s → Cuts op_items first (entry_value_from part first code s)
-unfolding entry_value_from
-entry_value_cuts part first code s a =
-    cuts_bind op_items first (uleb_at s)
-    (λ len. bytes_at len.0 len.1 >>= λ inside. inner_of inside.0 part len.1.place >>= λ inner. bytes_up_to inside.1.place first >>= λ bytes. Ok (record { code = code; bytes = bytes; address = None; base = None; inner = inner }, inside.1))
-    (uleb_keeps first 1 s a)
-    (λ len e b. cuts_bind op_items first (bytes_at len.0 len.1)
-    (λ inside. inner_of inside.0 part len.1.place >>= λ inner. bytes_up_to inside.1.place first >>= λ bytes. Ok (record { code = code; bytes = bytes; address = None; base = None; inner = inner }, inside.1))
-    (bytes_keep first 1 len.0 len.1 b)
-    (λ inside i c. inner_cuts first code len inside (inner_of inside.0 part len.1.place) (inner_placed inside.0 part len.1.place) i b c))
-
 alone_cuts : (first : Spot) (r : Result (PlainOp × Spot) Fault) → Cuts plain_items first r → Cuts op_items first (r >>= λ op. Ok (alone op.0, op.1))
-alone_cuts first (Ok p) c = record { count = c.count; is = c.is; some = c.some; inside = c.inside; holds = c.holds; short = op_short (operands_of p.0.code) (alone p.0) c.count c.some (omega (arith, ap length c.holds, length-take c.count (rest first))) (omega arith) }
+alone_cuts first (Ok p) c = record { count = c.count; is = c.is; some = c.some; inside = c.inside; holds = c.holds; short = op_short (operands_of p.0.code) (alone p.0) c.count c.some c.short (omega arith) }
 alone_cuts first (Err f) c = c
 
-op_from_cuts : (part : Part) (first : Spot) (code : ℕ) (row : Operands) (s : Spot) → Ahead first 1 s → Cuts op_items first (op_from part first code row s)
-unfolding op_from
-op_from_cuts part first code operands.Expression s a = entry_value_cuts part first code s a
-op_from_cuts part first code row s a = alone_cuts first (plain_from first code row s) (plain_from_cuts first code row s a)
+-- ---- operations of a unit of a version
 
-pub op_cuts : (part : Part) (s : Spot) → Cuts op_items s (op_at part s)
-unfolding op_at
-op_cuts part s = cuts_bind op_items s (code_at s) (λ code. op_from part s code.0.0 code.0.1 code.1) (code_keeps s) (λ code e a. op_from_cuts part s code.0.0 code.0.1 code.1 a)
+module _ (version : ℕ) where
+  pub code_is : (s : Spot) (c : (ℕ × Operands) × Spot) → code_at version s ≡ Ok c → Coded version s c
+  unfolding code_at
+  code_is s c e =
+      let number = bind_ok (number_at 1 s) _ c e in
+      let row = bind_ok (or_fault (operands_of number.0.0) (fault_at s kinds.UnknownOp)) _ c number.2 in
+      let allowed = passed (is_outside version row.0) (fault_at s kinds.OpOutsideProfile) (Ok (with_row number.0.0 row.0, number.0.1)) c row.2 in
+      subst (Coded version s) (ok_is (with_row number.0.0 row.0, number.0.1) c allowed.1)
+      (record { number = number.1; known = found_ok (operands_of number.0.0) (fault_at s kinds.UnknownOp) row.0 row.1; inside = allowed.0 })
+
+  pub code_keeps : (s : Spot) → Keeps s 1 (code_at version s)
+  unfolding code_at
+  code_keeps s =
+      keeps_bind s 1 1 (number_at 1 s)
+      (λ code. or_fault (operands_of code.0) (fault_at s kinds.UnknownOp) >>= λ o. refuse_if (is_outside version o) (fault_at s kinds.OpOutsideProfile) >>= λ u. Ok (with_row code.0 o, code.1)) (number_keeps s 0 1 1 s (at_once s) (omega arith))
+      (λ code e a. row_keeps version s code (operands_of code.0) a)
+
+  pub plain_cuts : (s : Spot) → Cuts plain_items s (plain_at version s)
+  unfolding plain_at
+  plain_cuts s = cuts_bind plain_items s (code_at version s) (λ code. plain_from s code.0.0 code.0.1 code.1) (code_keeps s) (λ code e a. let c = code_is s code e in plain_from_cuts s code.0.0 code.0.1 code.1 c.known a)
+
+  inner_placed : (bytes : List ℕ) (part : Part) (place : ℕ) → Placed place (length bytes) (inner_of version bytes part place)
+  unfolding inner_of
+  inner_placed bytes part place =
+      placed_is place (length bytes) (expression_of (plain_at version) part bytes) (λ ops e. (expression_whole (plain_at version) plain_items plain_cuts part bytes ops e).1)
+      (λ f e. expression_faults (plain_at version) plain_items plain_cuts part bytes f e)
+
+  entry_value_cuts : (part : Part) (first : Spot) (code : ℕ) (s : Spot) → operands_of code ≡ Some operands.Expression → Ahead first 1 s → Cuts op_items first (entry_value_from version part first code s)
+  unfolding entry_value_from
+  entry_value_cuts part first code s known a =
+      cuts_bind op_items first (uleb_at s)
+      (λ len. bytes_at len.0 len.1 >>= λ inside. inner_of version inside.0 part len.1.place >>= λ inner. bytes_up_to inside.1.place first >>= λ bytes. Ok (record { code = code; bytes = bytes; address = None; base = None; inner = inner }, inside.1))
+      (uleb_keeps first 1 s a)
+      (λ len e b. cuts_bind op_items first (bytes_at len.0 len.1)
+      (λ inside. inner_of version inside.0 part len.1.place >>= λ inner. bytes_up_to inside.1.place first >>= λ bytes. Ok (record { code = code; bytes = bytes; address = None; base = None; inner = inner }, inside.1))
+      (bytes_keep first 1 len.0 len.1 b)
+      (λ inside i c. inner_cuts first code len inside (inner_of version inside.0 part len.1.place) (inner_placed inside.0 part len.1.place) i known b c))
+
+  op_from_cuts : (part : Part) (first : Spot) (code : ℕ) (row : Operands) (s : Spot) → operands_of code ≡ Some row → Ahead first 1 s → Cuts op_items first (op_from version part first code row s)
+  unfolding op_from
+  op_from_cuts part first code operands.Expression s known a = entry_value_cuts part first code s known a
+  op_from_cuts part first code row s known a = alone_cuts first (plain_from first code row s) (plain_from_cuts first code row s known a)
+
+  pub op_cuts : (part : Part) (s : Spot) → Cuts op_items s (op_at version part s)
+  unfolding op_at
+  op_cuts part s = cuts_bind op_items s (code_at version s) (λ code. op_from version part s code.0.0 code.0.1 code.1) (code_keeps s) (λ code e a. let c = code_is s code e in op_from_cuts part s code.0.0 code.0.1 code.1 c.known a)
 
 -- ---- the places of an expression's faults, in the part
 

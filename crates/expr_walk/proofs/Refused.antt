@@ -6,16 +6,16 @@ use Rattle.ds_base.specs.declared.fault.Kind.{Kind}
 use Rattle.ds_base.specs.declared.fault.Kind.TheVariants as kinds
 use Rattle.ds_base.specs.declared.fault.Part.{Part}
 use Rattle.ds_base.specs.Spot.{Spot, fault_at, start}
-use Rattle.ds_base.specs.Reading.{◌>>=◌, or_fault, bytes_at, number_at, uleb_at, sleb_at}
+use Rattle.ds_base.specs.Reading.{◌>>=◌, or_fault, refuse_if, bytes_at, number_at, uleb_at, sleb_at}
 use Rattle.dwarf_types.specs.declared.expr.Op.{Op}
 use Rattle.dwarf_types.specs.declared.expr.PlainOp.{PlainOp}
 use Rattle.dwarf_types.specs.declared.operands.Operands.{Operands}
 use Rattle.dwarf_types.specs.declared.operands.Operands.TheVariants as operands
 use Rattle.dwarf_types.specs.declared.operands.Named.{Named}
-use Rattle.dwarf_types.specs.declared.operands.Named.TheVariants.{Nothing, Address, BaseType}
+use Rattle.dwarf_types.specs.declared.operands.Named.TheVariants.{Nothing, Address, BaseType, Index}
 use Rattle.dwarf_types.specs.Operations.{operands_of}
-use Rattle.ds_base.proofs.FaultKinds.{FaultsAre, ok_kinds, err_kinds, bind_kinds, either_kinds, found_kinds, bytes_kinds, number_kinds, uleb_kinds, sleb_kinds}
-use Rattle.expr_walk.specs.Reading.{all_at, alone, base_block_at, block_at, bytes_up_to, code_at, entry_value_from, expression_of, inner_of, naming, op_at, op_from, operands_at, placed_from, plain_at, plain_from, walk_of}
+use Rattle.ds_base.proofs.FaultKinds.{FaultsAre, ok_kinds, err_kinds, bind_kinds, either_kinds, found_kinds, refuse_kinds, bytes_kinds, number_kinds, uleb_kinds, sleb_kinds}
+use Rattle.expr_walk.specs.Reading.{all_at, alone, base_block_at, block_at, bytes_up_to, code_at, entry_value_from, expression_of, inner_of, is_outside, naming, op_at, op_from, operands_at, placed_from, plain_at, plain_from, walk_of}
 
 abbrev pub IsOne : Kind → Type 0
 IsOne = Contains (kinds.Truncated ∷ kinds.LebTooWide ∷ kinds.UnknownOp ∷ kinds.OpOutsideProfile ∷ [])
@@ -67,6 +67,7 @@ operands_kinds operands.BaseBlock first s = base_block_kinds s
 operands_kinds operands.UlebBase first s = bind_kinds IsOne (uleb_at s) _ (uleb s) (λ n. naming_kinds (λ base. BaseType base) (uleb_at n.1) (uleb n.1))
 operands_kinds operands.ByteBase first s = bind_kinds IsOne (number_at 1 s) _ (number 1 s) (λ n. naming_kinds (λ base. BaseType base) (uleb_at n.1) (uleb n.1))
 operands_kinds operands.Base first s = naming_kinds (λ base. BaseType base) (uleb_at s) (uleb s)
+operands_kinds operands.Index first s = naming_kinds (λ index. Index index) (uleb_at s) (uleb s)
 operands_kinds operands.Expression first s = err_kinds IsOne (fault_at first kinds.OpOutsideProfile) outside
 operands_kinds operands.Outside first s = err_kinds IsOne (fault_at first kinds.OpOutsideProfile) outside
 
@@ -74,20 +75,10 @@ up_to_kinds : (end : ℕ) (s : Spot) → FaultsAre IsOne (bytes_up_to end s)
 unfolding bytes_up_to
 up_to_kinds end s = bind_kinds IsOne (bytes_at (end - s.place) s) _ (bytes (end - s.place) s) (λ b. ok_kinds IsOne _)
 
-code_kinds : (s : Spot) → FaultsAre IsOne (code_at s)
-unfolding code_at
-code_kinds s =
-    bind_kinds IsOne (number_at 1 s) _ (number 1 s) (λ code.
-    bind_kinds IsOne (or_fault (operands_of code.0) (fault_at s kinds.UnknownOp)) _ (found_kinds IsOne (operands_of code.0) (fault_at s kinds.UnknownOp) unknown) (λ row. ok_kinds IsOne _))
-
 plain_from_kinds : (first : Spot) (code : ℕ) (row : Operands) (s : Spot) → FaultsAre IsOne (plain_from first code row s)
 unfolding plain_from
 plain_from_kinds first code row s =
     bind_kinds IsOne (operands_at row first s) _ (operands_kinds row first s) (λ named. bind_kinds IsOne (bytes_up_to named.1.place first) _ (up_to_kinds named.1.place first) (λ b. ok_kinds IsOne _))
-
-plain_kinds : (s : Spot) → FaultsAre IsOne (plain_at s)
-unfolding plain_at
-plain_kinds s = bind_kinds IsOne (code_at s) _ (code_kinds s) (λ code. plain_from_kinds s code.0.0 code.0.1 code.1)
 
 all_kinds : {A : Type 0} (read : Spot → Result (A × Spot) Fault) → ((s : Spot) → FaultsAre IsOne (read s)) → (left : ℕ) (before : List A) (s : Spot) → FaultsAre IsOne (all_at read left before s)
 all_kinds read h zero before s = ok_kinds IsOne _
@@ -98,30 +89,47 @@ placed_kinds : {A : Type 0} (first : ℕ) (r : Result A Fault) → FaultsAre IsO
 placed_kinds first (Ok x) h = ok_kinds IsOne _
 placed_kinds {A} first (Err f) h = err_kinds {A = A} IsOne (record f { place = first + f.place }) (h f refl)
 
-inner_kinds : (inside : List ℕ) (part : Part) (first : ℕ) → FaultsAre IsOne (inner_of inside part first)
-unfolding inner_of
-inner_kinds inside part first = placed_kinds first (expression_of plain_at part inside) (all_kinds plain_at plain_kinds (length inside) [] (start part inside))
-
-entry_value_kinds : (part : Part) (first : Spot) (code : ℕ) (s : Spot) → FaultsAre IsOne (entry_value_from part first code s)
-unfolding entry_value_from
-entry_value_kinds part first code s =
-    bind_kinds IsOne (uleb_at s) _ (uleb s) (λ len.
-    bind_kinds IsOne (bytes_at len.0 len.1) _ (bytes len.0 len.1) (λ inside.
-    bind_kinds IsOne (inner_of inside.0 part len.1.place) _ (inner_kinds inside.0 part len.1.place) (λ inner.
-    bind_kinds IsOne (bytes_up_to inside.1.place first) _ (up_to_kinds inside.1.place first) (λ b. ok_kinds IsOne _))))
-
 alone_kinds : (r : Result (PlainOp × Spot) Fault) → FaultsAre IsOne r → FaultsAre {A = Op × Spot} IsOne (r >>= λ op. Ok (alone op.0, op.1))
 alone_kinds r h = let f : PlainOp × Spot → Result (Op × Spot) Fault = λ op. Ok (alone op.0, op.1) in bind_kinds IsOne r f h (λ op. ok_kinds IsOne _)
 
-op_from_kinds : (part : Part) (first : Spot) (code : ℕ) (row : Operands) (s : Spot) → FaultsAre IsOne (op_from part first code row s)
-unfolding op_from
-op_from_kinds part first code operands.Expression s = entry_value_kinds part first code s
-op_from_kinds part first code row s = alone_kinds (plain_from first code row s) (plain_from_kinds first code row s)
+-- ---- operations of a unit of a version
 
-op_kinds : (part : Part) (s : Spot) → FaultsAre IsOne (op_at part s)
-unfolding op_at
-op_kinds part s = bind_kinds IsOne (code_at s) _ (code_kinds s) (λ code. op_from_kinds part s code.0.0 code.0.1 code.1)
+module _ (version : ℕ) where
+  code_kinds : (s : Spot) → FaultsAre IsOne (code_at version s)
+  unfolding code_at
+  code_kinds s =
+      bind_kinds IsOne (number_at 1 s) _ (number 1 s) (λ code.
+      bind_kinds IsOne (or_fault (operands_of code.0) (fault_at s kinds.UnknownOp)) _ (found_kinds IsOne (operands_of code.0) (fault_at s kinds.UnknownOp) unknown) (λ row.
+      bind_kinds IsOne (refuse_if (is_outside version row) (fault_at s kinds.OpOutsideProfile)) _ (refuse_kinds IsOne (is_outside version row) (fault_at s kinds.OpOutsideProfile) outside) (λ u. ok_kinds IsOne _)))
 
-pub walk_faults : (bytes : List ℕ) (part : Part) (first : ℕ) → FaultsAre IsOne (walk_of bytes part first)
-unfolding walk_of
-walk_faults bytes part first = placed_kinds first (expression_of (op_at part) part bytes) (all_kinds (op_at part) (op_kinds part) (length bytes) [] (start part bytes))
+  plain_kinds : (s : Spot) → FaultsAre IsOne (plain_at version s)
+  unfolding plain_at
+  plain_kinds s = bind_kinds IsOne (code_at version s) _ (code_kinds s) (λ code. plain_from_kinds s code.0.0 code.0.1 code.1)
+
+  inner_kinds : (inside : List ℕ) (part : Part) (first : ℕ) → FaultsAre IsOne (inner_of version inside part first)
+  unfolding inner_of
+  inner_kinds inside part first = placed_kinds first (expression_of (plain_at version) part inside) (all_kinds (plain_at version) plain_kinds (length inside) [] (start part inside))
+
+  entry_value_kinds : (part : Part) (first : Spot) (code : ℕ) (s : Spot) → FaultsAre IsOne (entry_value_from version part first code s)
+  unfolding entry_value_from
+  entry_value_kinds part first code s =
+      bind_kinds IsOne (uleb_at s) _ (uleb s) (λ len.
+      bind_kinds IsOne (bytes_at len.0 len.1) _ (bytes len.0 len.1) (λ inside.
+      bind_kinds IsOne (inner_of version inside.0 part len.1.place) _ (inner_kinds inside.0 part len.1.place) (λ inner.
+      bind_kinds IsOne (bytes_up_to inside.1.place first) _ (up_to_kinds inside.1.place first) (λ b. ok_kinds IsOne _))))
+
+  op_from_kinds : (part : Part) (first : Spot) (code : ℕ) (row : Operands) (s : Spot) → FaultsAre IsOne (op_from version part first code row s)
+  unfolding op_from
+  op_from_kinds part first code operands.Expression s = entry_value_kinds part first code s
+  op_from_kinds part first code row s = alone_kinds (plain_from first code row s) (plain_from_kinds first code row s)
+
+  op_kinds : (part : Part) (s : Spot) → FaultsAre IsOne (op_at version part s)
+  unfolding op_at
+  op_kinds part s = bind_kinds IsOne (code_at version s) _ (code_kinds s) (λ code. op_from_kinds part s code.0.0 code.0.1 code.1)
+
+  walk_kinds : (bytes : List ℕ) (part : Part) (first : ℕ) → FaultsAre IsOne (walk_of bytes part first version)
+  unfolding walk_of
+  walk_kinds bytes part first = placed_kinds first (expression_of (op_at version part) part bytes) (all_kinds (op_at version part) (op_kinds part) (length bytes) [] (start part bytes))
+
+pub walk_faults : (bytes : List ℕ) (part : Part) (first version : ℕ) → FaultsAre IsOne (walk_of bytes part first version)
+walk_faults bytes part first version = walk_kinds version bytes part first

@@ -1,11 +1,11 @@
--- The length of an expression in the output, where each base type operand is spelled in four bytes.
+-- The length of an expression in the output, where each base type operand is spelled in four bytes, and an address or a constant that stood in a table stands in the operation.
 use Rattle.std.specs.Prelude.{ℕ, ◌+◌, ◌-◌, List, [], ◌∷◌, length, drop, Option, Some, nat_lt, if◌then◌else◌}
 use Rattle.std.specs.List.{sum_by}
 use Rattle.ds_base.specs.Leb.{uleb_len_of}
 use Rattle.dwarf_types.specs.declared.expr.Op.{Op}
 use Rattle.dwarf_types.specs.declared.expr.PlainOp.{PlainOp}
 use Rattle.dwarf_types.specs.declared.operands.Operands.{Operands}
-use Rattle.dwarf_types.specs.declared.operands.Operands.TheVariants.{Expression, BaseBlock, UlebBase, ByteBase, Base}
+use Rattle.dwarf_types.specs.declared.operands.Operands.TheVariants.{Expression, BaseBlock, UlebBase, ByteBase, Base, Index}
 use Rattle.dwarf_types.specs.Operations.{operands_of}
 
 -- the length of the LEB number at the front of some bytes: up to the first byte below 128 and with it
@@ -17,12 +17,13 @@ front_leb_len (b ∷ bytes) = if nat_lt b 128 then 1 else 1 + front_leb_len byte
 abbrev pub respelled_len : List ℕ → ℕ → ℕ
 respelled_len bytes at = length bytes - front_leb_len (drop at bytes) + 4
 
--- the length of an operation that is no entry value: a base type stands behind the code, or behind the code and another operand
+-- the length of an operation that is no entry value: a base type stands behind the code, or behind the code and another operand; what an index names is eight bytes behind a code
 abbrev pub plain_len : Option Operands → List ℕ → ℕ
 plain_len (Some Base) bytes = respelled_len bytes 1
 plain_len (Some BaseBlock) bytes = respelled_len bytes 1
 plain_len (Some ByteBase) bytes = respelled_len bytes 2
 plain_len (Some UlebBase) bytes = respelled_len bytes (1 + front_leb_len (drop 1 bytes))
+plain_len (Some Index) bytes = 9
 plain_len other bytes = length bytes
 
 abbrev pub inner_len : List PlainOp → ℕ

@@ -1,12 +1,12 @@
--- Reading an expression (DWARF 4, section 7.7.1): its operations, or the first fault.
-use Rattle.std.specs.Prelude.{ℕ, zero, suc, ◌+◌, ◌-◌, ◌^◌, ◌<◌, ◌==◌, min, List, [], ◌∷◌, ◌++◌, length, Option, Some, None, Result, Ok, Err, if◌then◌else◌}
+-- Reading an expression (DWARF 4 and 5, section 7.7.1) of a unit of a version: its operations, or the first fault.
+use Rattle.std.specs.Prelude.{ℕ, zero, suc, ◌+◌, ◌-◌, ◌^◌, ◌<◌, ◌==◌, min, Bool, false, not, List, [], ◌∷◌, ◌++◌, length, Option, Some, None, Result, Ok, Err, if◌then◌else◌}
 use Rattle.ds_base.specs.declared.fault.Fault.{Fault}
 use Rattle.ds_base.specs.declared.fault.Kind.TheVariants as kinds
 use Rattle.ds_base.specs.declared.fault.Part.{Part}
 use Rattle.ds_base.specs.declared.fault.ReadError.{ReadError}
 use Rattle.ds_base.specs.declared.fault.ReadError.TheVariants as errors
 use Rattle.ds_base.specs.Spot.{Spot, fault_at, start}
-use Rattle.ds_base.specs.Reading.{◌>>=◌, or_fault, bytes_at, number_at, uleb_at, sleb_at}
+use Rattle.ds_base.specs.Reading.{◌>>=◌, refuse_if, or_fault, bytes_at, number_at, uleb_at, sleb_at}
 use Rattle.dwarf_types.specs.declared.address.Addr.TheVariants as addresses
 use Rattle.dwarf_types.specs.declared.address.Place.{Place}
 use Rattle.dwarf_types.specs.declared.expr.Base.{Base}
@@ -16,7 +16,7 @@ use Rattle.dwarf_types.specs.declared.expr.PlainOp.{PlainOp}
 use Rattle.dwarf_types.specs.declared.operands.Operands.{Operands}
 use Rattle.dwarf_types.specs.declared.operands.Operands.TheVariants as operands
 use Rattle.dwarf_types.specs.declared.operands.Named.{Named}
-use Rattle.dwarf_types.specs.declared.operands.Named.TheVariants.{Nothing, Address, BaseType}
+use Rattle.dwarf_types.specs.declared.operands.Named.TheVariants.{Nothing, Address, BaseType, Index}
 use Rattle.dwarf_types.specs.Operations.{operands_of}
 
 -- what is named by what is read
@@ -51,14 +51,16 @@ operands_at operands.BaseBlock first s = base_block_at s
 operands_at operands.UlebBase first s = uleb_at s >>= λ n. naming (λ base. BaseType base) (uleb_at n.1)
 operands_at operands.ByteBase first s = number_at 1 s >>= λ n. naming (λ base. BaseType base) (uleb_at n.1)
 operands_at operands.Base first s = naming (λ base. BaseType base) (uleb_at s)
+operands_at operands.Index first s = naming (λ index. Index index) (uleb_at s)
 operands_at operands.Expression first s = Err (fault_at first kinds.OpOutsideProfile)
 operands_at operands.Outside first s = Err (fault_at first kinds.OpOutsideProfile)
 
--- an address as it is stored
+-- an address as it is stored, or the index of one
 abbrev pub address_in : Named → Option Place
 address_in Nothing = None
 address_in (Address n) = Some (record { at = addresses.Fixed n; linked = None; linked_end = None })
 address_in (BaseType n) = None
+address_in (Index n) = Some (record { at = addresses.Fixed n; linked = None; linked_end = None })
 
 -- A base type by its place in the unit. No entry stands past 32 bits, and none at the last such place, which stands for all behind it.
 abbrev pub base_of : ℕ → Base
@@ -67,6 +69,7 @@ base_of n = if n == 0 then bases.Generic else bases.Entry (min n (2 ^ 32 - 1))
 abbrev pub base_in : Named → Option Base
 base_in Nothing = None
 base_in (Address n) = None
+base_in (Index n) = None
 base_in (BaseType n) = Some (base_of n)
 
 -- the bytes up to a place
@@ -75,11 +78,17 @@ bytes_up_to end s = do
   bytes ← bytes_at (end - s.place) s
   Ok bytes.0
 
+-- in version 5 alone a unit has a table of addresses, of which an operation may name one
+abbrev pub is_outside : ℕ → Operands → Bool
+is_outside version operands.Index = not (version == 5)
+is_outside version other = false
+
 -- an operation's code, and its row of the table
-unfoldable pub code_at : Spot → Result ((ℕ × Operands) × Spot) Fault
-code_at s = do
+unfoldable pub code_at : ℕ → Spot → Result ((ℕ × Operands) × Spot) Fault
+code_at version s = do
   code ← number_at 1 s
   row ← or_fault (operands_of code.0) (fault_at s kinds.UnknownOp)
+  _ ← refuse_if (is_outside version row) (fault_at s kinds.OpOutsideProfile)
   Ok ((code.0, row), code.1)
 
 -- the operation that begins at first, behind its code: the bytes are all of it
@@ -90,9 +99,9 @@ plain_from first code row s = do
   Ok (record { code = code; bytes = bytes; address = address_in named.0; base = base_in named.0 }, named.1)
 
 -- an operation that is no entry value
-unfoldable pub plain_at : Spot → Result (PlainOp × Spot) Fault
-plain_at s = do
-  code ← code_at s
+unfoldable pub plain_at : ℕ → Spot → Result (PlainOp × Spot) Fault
+plain_at version s = do
+  code ← code_at version s
   plain_from s code.0.0 code.0.1 code.1
 
 -- Operations one after the other up to the end, behind those before. Each takes a byte at least, so the count of the bytes bounds them.
@@ -110,15 +119,15 @@ placed_from first (Ok x) = Ok x
 placed_from first (Err f) = Err (record f { place = first + f.place })
 
 -- the operations of the expression inside an entry value, whose first byte stands at a place
-unfoldable pub inner_of : List ℕ → Part → ℕ → Result (List PlainOp) Fault
-inner_of bytes part first = placed_from first (expression_of plain_at part bytes)
+unfoldable pub inner_of : ℕ → List ℕ → Part → ℕ → Result (List PlainOp) Fault
+inner_of version bytes part first = placed_from first (expression_of (plain_at version) part bytes)
 
 -- an entry value that begins at first, behind its code (DWARF 5, section 2.5.1.7)
-unfoldable pub entry_value_from : Part → Spot → ℕ → Spot → Result (Op × Spot) Fault
-entry_value_from part first code s = do
+unfoldable pub entry_value_from : ℕ → Part → Spot → ℕ → Spot → Result (Op × Spot) Fault
+entry_value_from version part first code s = do
   len ← uleb_at s
   inside ← bytes_at len.0 len.1
-  inner ← inner_of inside.0 part len.1.place
+  inner ← inner_of version inside.0 part len.1.place
   bytes ← bytes_up_to inside.1.place first
   Ok (record { code = code; bytes = bytes; address = None; base = None; inner = inner }, inside.1)
 
@@ -127,19 +136,19 @@ abbrev pub alone : PlainOp → Op
 alone op = record { code = op.code; bytes = op.bytes; address = op.address; base = op.base; inner = [] }
 
 -- the operation that begins at first, behind its code
-unfoldable pub op_from : Part → Spot → ℕ → Operands → Spot → Result (Op × Spot) Fault
-op_from part first code operands.Expression s = entry_value_from part first code s
-op_from part first code row s = plain_from first code row s >>= λ op. Ok (alone op.0, op.1)
+unfoldable pub op_from : ℕ → Part → Spot → ℕ → Operands → Spot → Result (Op × Spot) Fault
+op_from version part first code operands.Expression s = entry_value_from version part first code s
+op_from version part first code row s = plain_from first code row s >>= λ op. Ok (alone op.0, op.1)
 
 -- an operation of an outermost expression
-unfoldable pub op_at : Part → Spot → Result (Op × Spot) Fault
-op_at part s = do
-  code ← code_at s
-  op_from part s code.0.0 code.0.1 code.1
+unfoldable pub op_at : ℕ → Part → Spot → Result (Op × Spot) Fault
+op_at version part s = do
+  code ← code_at version s
+  op_from version part s code.0.0 code.0.1 code.1
 
--- the operations of an expression whose first byte stands at a place of a part
-unfoldable pub walk_of : List ℕ → Part → ℕ → Result (List Op) Fault
-walk_of bytes part first = placed_from first (expression_of (op_at part) part bytes)
+-- the operations of an expression whose first byte stands at a place of a part, in a unit of a version
+unfoldable pub walk_of : List ℕ → Part → ℕ → ℕ → Result (List Op) Fault
+walk_of bytes part first version = placed_from first (expression_of (op_at version part) part bytes)
 
 -- the same of a refusal
 abbrev pub error_from : ℕ → ReadError → ReadError

@@ -10,8 +10,9 @@ use dwarf_types::{InnerOpRef, InnerOpsRef, OpRef, Operands, OpsRef, operands_aft
 
 /// The length of an expression in the output, in bytes.
 ///
-/// There each base type is spelled in four bytes, whatever they were before, and the length of the
-/// expression inside an entry value in as few as it takes. All else keeps its length, addresses too.
+/// There each base type is spelled in four bytes, whatever they were before, and the length of the expression inside an
+/// entry value in as few as it takes. What an operation names by an index of a table of addresses stands in the operation,
+/// in eight bytes behind its code. All else keeps its length, addresses too.
 pub fn new_length(ops: &OpsRef<'_>) -> u64
     requires { ops_len ops.now < 2 ^ 64 }
     ensures { result ≡ ops_len ops.now }
@@ -65,6 +66,7 @@ fn plain_length(operands: Option<Operands>, bytes: &[u8]) -> u64
         Some(Operands::BaseBlock) => respelled_length(bytes, 1),
         Some(Operands::ByteBase) => respelled_length(bytes, 2),
         Some(Operands::UlebBase) => respelled_length(bytes, 1 + leb_len_at(bytes, 1)),
+        Some(Operands::Index) => 9,
         _ => bytes.len() as u64,
     }
 }

@@ -2,7 +2,8 @@
 //!
 //! Layer: object readers. Reads the operations of DWARF 4 (section 7.7.1) and DWARF 5 (section 7.7.1)
 //! that the table of `dwarf_types` lists (`operands_after`), and two of GNU's. [`walk`] gives `walk_of`
-//! of the expression's bytes (`specs/Reading.antt`), which goes by the same table, or the first fault;
+//! of the expression's bytes (`specs/Reading.antt`), which goes by the same table and by the version of the
+//! expression's unit, or the first fault;
 //! [`expressions_are_read_as_spelled`] says the same by a relation (`specs/Spelling.antt`), both ways.
 //! [`new_length`] is the length of the expression in the output (`specs/Length.antt`), and
 //! [`new_op_length`] and [`new_plain_length`] are those of single operations. An expression is cut and

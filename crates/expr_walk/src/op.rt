@@ -3,7 +3,7 @@
 ghost use Rattle.std.specs.Prelude.{◌≡◌, []};
 ghost use Rattle.ds_base.specs.Reading.{Finds, Reads, ReadsUnlessFull};
 ghost use Rattle.dwarf_types.specs.Seen.{inner_seen};
-ghost use Rattle.expr_walk.specs.Reading.{bytes_up_to, block_at, base_block_at, operands_at, address_in, base_of, base_in, code_at, plain_from, plain_at, entry_value_from, op_from, op_at};
+ghost use Rattle.expr_walk.specs.Reading.{bytes_up_to, block_at, base_block_at, operands_at, address_in, base_of, base_in, is_outside, code_at, plain_from, plain_at, entry_value_from, op_from, op_at};
 ghost use Rattle.expr_walk.specs.Steps.{behind};
 
 use crate::expression::read_inner;
@@ -12,13 +12,18 @@ use dwarf_types::{Addr, Base, InnerOpRef, Named, Operands, Ops, Place, operands_
 
 /// Reads the next operation of an outermost expression, and puts it behind the others.
 #[tactic(auto, unfolding(crate::specs::Reading::op_at))]
-pub(crate) fn read_op(cursor: &mut Cursor, part: Part, ops: &mut Ops) -> Result<(), ReadError>
+pub(crate) fn read_op(
+    cursor: &mut Cursor,
+    part: Part,
+    version: u16,
+    ops: &mut Ops,
+) -> Result<(), ReadError>
     requires { ops.old.inner ≡ [] }
-    ensures { ReadsUnlessFull (λ _. ops.new) result cursor.new (behind ops.old.ops (op_at part cursor.old)) }
+    ensures { ReadsUnlessFull (λ _. ops.new) result cursor.new (behind ops.old.ops (op_at version part cursor.old)) }
 {
     let first = cursor.fork();
-    let (code, operands) = read_code(cursor)?;
-    read_op_behind(cursor, part, &first, code, operands, ops)
+    let (code, operands) = read_code(cursor, version)?;
+    read_op_behind(cursor, part, version, &first, code, operands, ops)
 }
 
 /// Reads the operation that begins at `first`, behind its code.
@@ -26,16 +31,17 @@ pub(crate) fn read_op(cursor: &mut Cursor, part: Part, ops: &mut Ops) -> Result<
 fn read_op_behind<'a>(
     cursor: &mut Cursor<'a>,
     part: Part,
+    version: u16,
     first: &Cursor<'a>,
     code: u8,
     operands: Operands,
     ops: &mut Ops,
 ) -> Result<(), ReadError>
     requires { ops.old.inner ≡ [] }
-    ensures { ReadsUnlessFull (λ _. ops.new) result cursor.new (behind ops.old.ops (op_from part first.now code operands cursor.old)) }
+    ensures { ReadsUnlessFull (λ _. ops.new) result cursor.new (behind ops.old.ops (op_from version part first.now code operands cursor.old)) }
 {
     match operands {
-        Operands::Expression => read_entry_value(cursor, part, first, code, ops),
+        Operands::Expression => read_entry_value(cursor, part, version, first, code, ops),
         other => {
             let op = read_plain_behind(cursor, first, code, other)?;
             ops.push(&op)?;
@@ -49,18 +55,19 @@ fn read_op_behind<'a>(
 fn read_entry_value<'a>(
     cursor: &mut Cursor<'a>,
     part: Part,
+    version: u16,
     first: &Cursor<'a>,
     code: u8,
     ops: &mut Ops,
 ) -> Result<(), ReadError>
     requires { ops.old.inner ≡ [] }
-    ensures { ReadsUnlessFull (λ _. ops.new) result cursor.new (behind ops.old.ops (entry_value_from part first.now code cursor.old)) }
+    ensures { ReadsUnlessFull (λ _. ops.new) result cursor.new (behind ops.old.ops (entry_value_from version part first.now code cursor.old)) }
 {
     let len = cursor.uleb()?;
     let place = cursor.place();
     let inside = cursor.skip(len)?;
     let end = cursor.place();
-    read_inner(inside, part, place, ops)?;
+    read_inner(inside, part, place, version, ops)?;
     let bytes = read_up_to(end, first)?;
     ops.push(&InnerOpRef {
         code,
@@ -73,24 +80,40 @@ fn read_entry_value<'a>(
 
 /// The next operation of an expression inside an entry value.
 #[tactic(auto, unfolding(crate::specs::Reading::plain_at))]
-pub(crate) fn read_plain_op<'a>(cursor: &mut Cursor<'a>) -> Result<InnerOpRef<'a>, Fault>
-    ensures { Reads inner_seen result cursor.new (plain_at cursor.old) }
+pub(crate) fn read_plain_op<'a>(
+    cursor: &mut Cursor<'a>,
+    version: u16,
+) -> Result<InnerOpRef<'a>, Fault>
+    ensures { Reads inner_seen result cursor.new (plain_at version cursor.old) }
 {
     let first = cursor.fork();
-    let (code, operands) = read_code(cursor)?;
+    let (code, operands) = read_code(cursor, version)?;
     read_plain_behind(cursor, &first, code, operands)
 }
 
 /// The next operation's code and what stands behind it.
 #[tactic(auto, unfolding(crate::specs::Reading::code_at))]
-fn read_code(cursor: &mut Cursor) -> Result<(u8, Operands), Fault>
-    ensures { Reads (λ code. code) result cursor.new (code_at cursor.old) }
+fn read_code(cursor: &mut Cursor, version: u16) -> Result<(u8, Operands), Fault>
+    ensures { Reads (λ code. code) result cursor.new (code_at version cursor.old) }
 {
-    let unknown = cursor.fault(Kind::UnknownOp);
+    let first = cursor.fork();
     let code = cursor.u8()?;
-    match operands_after(code) {
-        Some(operands) => Ok((code, operands)),
-        None => Err(unknown),
+    let Some(operands) = operands_after(code) else {
+        return Err(first.fault(Kind::UnknownOp));
+    };
+    if is_outside(version, operands) {
+        return Err(first.fault(Kind::OpOutsideProfile));
+    }
+    Ok((code, operands))
+}
+
+/// Whether an operation names an address of a table that a unit of the version doesn't have.
+fn is_outside(version: u16, operands: Operands) -> bool
+    ensures { result ≡ is_outside version operands }
+{
+    match operands {
+        Operands::Index => version != 5,
+        _ => false,
     }
 }
 
@@ -167,6 +190,7 @@ fn read_operands(cursor: &mut Cursor, operands: Operands, first: &Cursor) -> Res
             Ok(Named::BaseType(cursor.uleb()?))
         }
         Operands::Base => Ok(Named::BaseType(cursor.uleb()?)),
+        Operands::Index => Ok(Named::Index(cursor.uleb()?)),
         Operands::Expression => Err(first.fault(Kind::OpOutsideProfile)),
         Operands::Outside => Err(first.fault(Kind::OpOutsideProfile)),
     }
@@ -192,12 +216,17 @@ fn read_base_block(cursor: &mut Cursor) -> Result<Named, Fault>
     Ok(Named::BaseType(base))
 }
 
-/// The address that is named, as it is stored.
+/// The address that is named, as it is stored, or its index.
 fn address_named(named: Named) -> Option<Place>
     ensures { result ≡ address_in named }
 {
     match named {
         Named::Address(n) => Some(Place {
+            at: Addr::Fixed(n),
+            linked: None,
+            linked_end: None,
+        }),
+        Named::Index(n) => Some(Place {
             at: Addr::Fixed(n),
             linked: None,
             linked_end: None,
@@ -215,6 +244,7 @@ fn base_named(named: Named) -> Option<Base>
         Named::BaseType(n) => Some(base_at(n)),
         Named::Nothing => None,
         Named::Address(_) => None,
+        Named::Index(_) => None,
     }
 }
 
