@@ -50,14 +50,14 @@ eight_of code row known e = elim (either (code == DW_OP_addr) (code == DW_OP_con
   | inr const8u ↦ inr (row_is row (operands.Fixed 8) (sym known ∙ ap operands_of (eqb-true code DW_OP_const8u const8u) ∙ const8u_row))
 ]
 
-eight_long : (op : PlainOp) (w : IsPlain op) → IsEight w.row → length w.spells.back ≡ 8
-eight_long op w (inl is) = let s = subst (λ (r : Operands). SpellsOperands r w.spells.back w.named) is w.spells.second in ap length s.spells.is
-eight_long op w (inr is) = let s = subst (λ (r : Operands). SpellsOperands r w.spells.back w.named) is w.spells.second in ap length s.spells.is ∙ s.spells.len
+eight_long : (version : ℕ) (op : PlainOp) (w : IsPlain version op) → IsEight w.row → length w.spells.back ≡ 8
+eight_long version op w (inl is) = let s = subst (λ (r : Operands). SpellsOperands r w.spells.back w.named) is w.spells.second in ap length s.spells.is
+eight_long version op w (inr is) = let s = subst (λ (r : Operands). SpellsOperands r w.spells.back w.named) is w.spells.second in ap length s.spells.is ∙ s.spells.len
 
-plain_cut : (op : PlainOp) → IsPlain op → IsPlainCut op
-plain_cut op w eight =
+plain_cut : (version : ℕ) (op : PlainOp) → IsPlain version op → IsPlainCut op
+plain_cut version op w eight =
     let code : length w.spells.front ≡ 1 = ap length w.spells.first.is in
-    let operand : length w.spells.back ≡ 8 = eight_long op w (eight_of op.code w.row w.known eight) in
+    let operand : length w.spells.back ≡ 8 = eight_long version op w (eight_of op.code w.row w.known eight) in
     omega (arith, ap length w.spells.is, length-append w.spells.front w.spells.back, code, operand)
 
 -- ---- operations
@@ -73,27 +73,27 @@ not_eight : IsEight operands.Expression → ⊥
 not_eight (inl is) = cc
 not_eight (inr is) = cc
 
-op_cut : (op : Op) → IsOp op → IsCut op
-op_cut op (an_entry_value w) =
+op_cut : (version : ℕ) (op : Op) → IsOp version op → IsCut op
+op_cut version op (an_entry_value w) =
     let block = w.spells.second in
     let inside : length block.back ≡ sum_by plain_size op.inner = ap length block.second.is ∙ length-flat_map (λ (inner : PlainOp). inner.bytes) op.inner in
     record {
       operand = λ eight. absurd (not_eight (eight_of op.code operands.Expression w.known eight));
-      inner = all_of IsPlain IsPlainCut plain_cut op.inner w.each;
+      inner = all_of (IsPlain version) IsPlainCut (plain_cut version) op.inner w.each;
       inside = omega (arith, ap length w.spells.is, length-append w.spells.front w.spells.back, ap length block.is, length-append block.front block.back, inside);
     }
-op_cut op (alone_it_is w) =
+op_cut version op (alone_it_is w) =
     let none = none_inside op.inner (length op.bytes) w.inner in
-    record { operand = plain_cut _ w.plain; inner = none.0; inside = none.1 }
+    record { operand = plain_cut version _ w.plain; inner = none.0; inside = none.1 }
 
-ops_cut : (bytes : List ℕ) (part : Part) (first : ℕ) (ops : List Op) → AreBytes bytes → walk_of bytes part first ≡ Ok ops → All IsCut ops
-ops_cut bytes part first ops sound e = let w = expression_spelled bytes part first ops sound e in all_of IsOp IsCut op_cut ops w.each
+ops_cut : (bytes : List ℕ) (part : Part) (first version : ℕ) (ops : List Op) → AreBytes bytes → walk_of bytes part first version ≡ Ok ops → All IsCut ops
+ops_cut bytes part first version ops sound e = let w = expression_spelled bytes part first version ops sound e in all_of (IsOp version) IsCut (op_cut version) ops w.each
 
 -- ---- what a call gave
 
-pub given_cut : (bytes : List ℕ) (part : Part) (first : ℕ) (r : Result (Unit {0}) ReadError) (ops : List Op) → AreBytes bytes → Gives (λ (_ : Unit {0}). ops) r (walk_of bytes part first) → OnOk r (All IsCut ops)
-given_cut bytes part first (Ok done) ops sound e = ops_cut bytes part first ops sound e
-given_cut bytes part first (Err error) ops sound e = tt
+pub given_cut : (bytes : List ℕ) (part : Part) (first version : ℕ) (r : Result (Unit {0}) ReadError) (ops : List Op) → AreBytes bytes → Gives (λ (_ : Unit {0}). ops) r (walk_of bytes part first version) → OnOk r (All IsCut ops)
+given_cut bytes part first version (Ok done) ops sound e = ops_cut bytes part first version ops sound e
+given_cut bytes part first version (Err error) ops sound e = tt
 
 pub given_size : (bytes : List ℕ) (r : Result (Unit {0}) ReadError) (ops : List Op) → OnOk r (flat_map (λ op. op.bytes) ops ≡ bytes) → OnOk r (sum_by op_size ops ≡ length bytes)
 given_size bytes (Ok done) ops whole = sym (length-flat_map (λ (op : Op). op.bytes) ops) ∙ ap length whole

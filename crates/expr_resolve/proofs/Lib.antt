@@ -1,5 +1,6 @@
 mod Bases
 mod Cutting
 mod Each
+mod Entries
 mod Meant
 pub mod Refused

@@ -7,7 +7,6 @@ use Rattle.std.proofs.lemmas.Bool.{eqb-true}
 use Rattle.std.proofs.lemmas.List.Sums.{sum_by-cons}
 use Rattle.std.proofs.lemmas.List.Elements.{All-append, All-cons, All-contains, All-head, All-map, All-nil, All-tail}
 use Rattle.ds_base.specs.declared.fault.Fault.{Fault}
-use Rattle.ds_base.specs.Leb.{uleb_len_of}
 use Rattle.ds_base.specs.declared.fault.Kind.TheVariants as kinds
 use Rattle.ds_base.specs.Reading.{or_fault}
 use Rattle.dwarf_types.specs.declared.expr.Base.{Base}
@@ -16,14 +15,13 @@ use Rattle.dwarf_types.specs.declared.expr.Op.{Op}
 use Rattle.dwarf_types.specs.declared.expr.PlainOp.{PlainOp}
 use Rattle.dwarf_types.specs.Live.{base_in, op_bases}
 use Rattle.ds_base.proofs.Passing.{bind_ok, found_ok, ok_is}
-use Rattle.dwarf_types.specs.declared.operands.Operands.{Operands}
-use Rattle.dwarf_types.specs.declared.operands.Operands.TheVariants as operands
-use Rattle.expr_walk.specs.Length.{inner_len, op_len, ops_len, plain_len}
+use Rattle.expr_walk.specs.Length.{op_len, ops_len, plain_len}
 use Rattle.dwarf_types.specs.Operations.{operands_of}
 use Rattle.expr_resolve.specs.declared.context.BaseType.{BaseType}
 use Rattle.expr_resolve.specs.Context.{Context}
-use Rattle.expr_resolve.specs.Expressions.{base_meant, base_named, each_from, fault_in, inner_start, is_conversion, op_meant, op_size, outer_part, plain_meant, plain_size, with_inner}
+use Rattle.expr_resolve.specs.Expressions.{base_meant, base_named, each_from, fault_in, inner_start, is_conversion, named_by, op_meant, op_size, operand_meant, outer_part, plain_meant, plain_size, with_inner}
 use Rattle.expr_resolve.specs.Sound.{IsKnown, NameKnown}
+use Rattle.expr_resolve.proofs.Entries.{operand_base, operand_len, outer_len}
 
 -- ---- items one after the other
 
@@ -90,18 +88,17 @@ base_known s place code (Some base) meant e =
 plain_known : (s : Context) (place : ℕ) (op meant : PlainOp) → plain_meant s place op ≡ Ok meant → Knows s meant.base
 plain_known s place op meant e =
     let base = bind_ok (base_meant s place op.code op.base) _ meant e in
-    subst (λ (m : PlainOp). Knows s m.base) (ok_is _ meant base.2) (base_known s place op.code op.base base.0 base.1)
+    let known = base_known s place op.code op.base base.0 base.1 in
+    let named : Knows s (operand_meant s place op base.0 (named_by s op.code op.address)).base = subst (Knows s) (sym (operand_base s place op base.0 (named_by s op.code op.address))) known in
+    subst (λ (m : PlainOp). Knows s m.base) (ok_is _ meant base.2) named
 
 abbrev plain_length : PlainOp → ℕ
 plain_length op = plain_len (operands_of op.code) op.bytes
 
-plain_same : (s : Context) (place : ℕ) (op meant : PlainOp) → plain_meant s place op ≡ Ok meant → (meant.code ≡ op.code) × (meant.bytes ≡ op.bytes)
-plain_same s place op meant e =
-    let base = bind_ok (base_meant s place op.code op.base) _ meant e in
-    subst (λ (m : PlainOp). (m.code ≡ op.code) × (m.bytes ≡ op.bytes)) (ok_is _ meant base.2) (refl, refl)
-
 plain_same_length : (s : Context) (place : ℕ) (op meant : PlainOp) → plain_meant s place op ≡ Ok meant → plain_length meant ≡ plain_length op
-plain_same_length s place op meant e = let same = plain_same s place op meant e in ap₂ (λ (code : ℕ) (bytes : List ℕ). plain_len (operands_of code) bytes) same.0 same.1
+plain_same_length s place op meant e =
+    let base = bind_ok (base_meant s place op.code op.base) _ meant e in
+    ap plain_length (sym (ok_is (operand_meant s place op base.0 (named_by s op.code op.address)) meant base.2)) ∙ operand_len s place op base.0
 
 -- ---- operations
 
@@ -126,10 +123,6 @@ op_known s place op meant e =
     let all : All (Knows s) (outer.0.base ∷ named) = All-cons (Knows s) outer.0.base named own (All-map (Knows s) (λ (m : PlainOp). m.base) inner.0 others) in
     subst (OpKnown s) (ok_is (with_inner outer.0 inner.0) meant inner.2) (all_known s (outer.0.base ∷ named) all)
 
-same_len : (row : Option Operands) (op meant : Op) → meant.bytes ≡ op.bytes → inner_len meant.inner ≡ inner_len op.inner → op_len row meant ≡ op_len row op
-same_len (Some operands.Expression) op meant bytes inner = ap (λ (n : ℕ). 1 + uleb_len_of n + n) inner
-same_len other op meant bytes inner = ap (plain_len other) bytes
-
 abbrev op_length : Op → ℕ
 op_length op = op_len (operands_of op.code) op
 
@@ -137,11 +130,11 @@ op_same_length : (s : Context) (place : ℕ) (op meant : Op) → op_meant s plac
 op_same_length s place op meant e =
     let outer = bind_ok (plain_meant s place (outer_part op)) _ meant e in
     let inner = bind_ok (each_from plain_size (plain_meant s) (inner_start place op) op.inner) _ meant outer.2 in
-    let same = plain_same s place (outer_part op) outer.0 outer.1 in
+    let base = bind_ok (base_meant s place op.code op.base) _ outer.0 outer.1 in
     let lengths = each_sum plain_length plain_size (plain_meant s) (plain_same_length s) (inner_start place op) op.inner inner.0 inner.1 in
     ap op_length (sym (ok_is (with_inner outer.0 inner.0) meant inner.2))
-    ∙ ap (λ (code : ℕ). op_len (operands_of code) (with_inner outer.0 inner.0)) same.0
-    ∙ same_len (operands_of op.code) op (with_inner outer.0 inner.0) same.1 lengths
+    ∙ ap (λ (m : PlainOp). op_length (with_inner m inner.0)) (sym (ok_is (operand_meant s place (outer_part op) base.0 (named_by s op.code op.address)) outer.0 base.2))
+    ∙ outer_len s place op base.0 inner.0 lengths
 
 -- ---- all operations
 

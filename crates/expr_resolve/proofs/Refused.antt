@@ -13,16 +13,16 @@ use Rattle.ds_base.proofs.FaultKinds.{FaultsAre, ok_kinds, err_kinds, bind_kinds
 use Rattle.expr_walk.specs.Reading.{walk_of}
 use Rattle.expr_walk.proofs.Refused.{walk_faults}
 use Rattle.expr_resolve.specs.Context.{Context}
-use Rattle.expr_resolve.specs.Expressions.{base_meant, base_named, branches_over, branches_tried, each_from, expression_of, fault_in, inner_start, inner_tried, op_meant, op_size, outer_part, plain_branches_over, plain_meant, plain_size}
+use Rattle.expr_resolve.specs.Expressions.{base_meant, base_named, branches_over, branches_tried, each_from, expression_of, fault_in, indices_tried, inner_start, inner_tried, is_lost, op_indexed, op_meant, op_size, outer_part, plain_branches_over, plain_indexed, plain_meant, plain_size}
 
 abbrev walks : List Kind
 walks = kinds.Truncated ∷ kinds.LebTooWide ∷ kinds.UnknownOp ∷ kinds.OpOutsideProfile ∷ []
 
 abbrev meant : List Kind
-meant = kinds.BadOperandType ∷ kinds.BranchOverRewrite ∷ []
+meant = kinds.BadOperandType ∷ kinds.BadIndex ∷ kinds.BranchOverRewrite ∷ []
 
 abbrev pub IsOne : Kind → Type 0
-IsOne = Contains (kinds.Truncated ∷ kinds.LebTooWide ∷ kinds.UnknownOp ∷ kinds.OpOutsideProfile ∷ kinds.BadOperandType ∷ kinds.BranchOverRewrite ∷ [])
+IsOne = Contains (kinds.Truncated ∷ kinds.LebTooWide ∷ kinds.UnknownOp ∷ kinds.OpOutsideProfile ∷ kinds.BadOperandType ∷ kinds.BadIndex ∷ kinds.BranchOverRewrite ∷ [])
 
 -- a test before what follows
 tried_kinds : {A : Type 0} (b : Bool) (f : Fault) (next : Result A Fault) → IsOne f.kind → FaultsAre IsOne next → FaultsAre IsOne (refuse_if b f >>= λ u. next)
@@ -31,8 +31,11 @@ tried_kinds b f next is later = bind_kinds IsOne (refuse_if b f) (λ u. next) (r
 no_type : IsOne kinds.BadOperandType
 no_type = (4, omega arith, refl)
 
+no_entry : IsOne kinds.BadIndex
+no_entry = (5, omega arith, refl)
+
 branches : IsOne kinds.BranchOverRewrite
-branches = (5, omega arith, refl)
+branches = (6, omega arith, refl)
 
 base_kinds : (s : Context) (place code : ℕ) (base : Option Base) → FaultsAre IsOne (base_meant s place code base)
 base_kinds s place code None = ok_kinds IsOne _
@@ -52,6 +55,17 @@ op_kinds s place op =
     bind_kinds IsOne (plain_meant s place (outer_part op)) _ (plain_kinds s place (outer_part op)) (λ outer.
     bind_kinds IsOne (each_from plain_size (plain_meant s) (inner_start place op) op.inner) _ (each_kinds plain_size (plain_meant s) (plain_kinds s) (inner_start place op) op.inner) (λ inner. ok_kinds IsOne _))
 
+plain_index_kinds : (s : Context) (place : ℕ) (op : PlainOp) → FaultsAre IsOne (plain_indexed s place op)
+plain_index_kinds s place op = refuse_kinds IsOne (is_lost s op.code op.address) (fault_in s kinds.BadIndex place) no_entry
+
+index_kinds : (s : Context) (place : ℕ) (op : Op) → FaultsAre IsOne (op_indexed s place op)
+index_kinds s place op =
+    bind_kinds IsOne (plain_indexed s place (outer_part op)) _ (plain_index_kinds s place (outer_part op)) (λ u.
+    bind_kinds IsOne (each_from plain_size (plain_indexed s) (inner_start place op) op.inner) _ (each_kinds plain_size (plain_indexed s) (plain_index_kinds s) (inner_start place op) op.inner) (λ v. ok_kinds IsOne _))
+
+indices_kinds : (s : Context) (first : ℕ) (ops : List Op) → FaultsAre IsOne (indices_tried s first ops)
+indices_kinds s first ops = bind_kinds IsOne (each_from op_size (op_indexed s) first ops) _ (each_kinds op_size (op_indexed s) (index_kinds s) first ops) (λ u. ok_kinds IsOne _)
+
 inner_kinds : (s : Context) (place : ℕ) (op : Op) → FaultsAre IsOne (inner_tried s place op)
 inner_kinds s place op = either_kinds IsOne (plain_branches_over op.inner) (Err (fault_in s kinds.BranchOverRewrite (inner_start place op))) (Ok tt) (err_kinds IsOne (fault_in s kinds.BranchOverRewrite (inner_start place op)) branches) (ok_kinds IsOne _)
 
@@ -63,6 +77,7 @@ branches_kinds s first ops =
 pub expression_faults : (s : Context) (bytes : List ℕ) (first : ℕ) → FaultsAre IsOne (expression_of s bytes first)
 unfolding expression_of
 expression_faults s bytes first =
-    bind_kinds IsOne (walk_of bytes s.part first) _ (λ f e. Contains-append_left walks meant f.kind (walk_faults bytes s.part first f e)) (λ ops.
+    bind_kinds IsOne (walk_of bytes s.part first s.version) _ (λ f e. Contains-append_left walks meant f.kind (walk_faults bytes s.part first s.version f e)) (λ ops.
     bind_kinds IsOne (each_from op_size (op_meant s) first ops) _ (each_kinds op_size (op_meant s) (op_kinds s) first ops) (λ meant.
-    bind_kinds IsOne (branches_tried s first ops) _ (branches_kinds s first ops) (λ u. ok_kinds IsOne _)))
+    bind_kinds IsOne (indices_tried s first ops) _ (indices_kinds s first ops) (λ u.
+    bind_kinds IsOne (branches_tried s first ops) _ (branches_kinds s first ops) (λ v. ok_kinds IsOne _))))

@@ -1,14 +1,15 @@
--- What an expression of an object is understood by: where it stands, and the base types that it may name.
+-- What an expression of an object is understood by: where it stands, and the base types and the addresses that it may name.
 use Rattle.std.specs.Prelude.{ℕ, ◌<◌, List}
 use Rattle.std.specs.List.{AllPairs}
 use Rattle.ds_base.specs.declared.fault.Part.{Part}
+use Rattle.dwarf_types.specs.SectionBytes.{SectionBytes, bytes_in}
 use Rattle.macho_read.specs.declared.image.Image.{Image}
 use Rattle.reloc_table.specs.declared.relocation.Relocs.{Relocs}
 use Rattle.addr_map.specs.declared.map.AddrMap.{AddrMap}
 use Rattle.expr_resolve.specs.declared.context.BaseType.{BaseType}
 use Rattle.expr_resolve.specs.declared.context.ExprContext.{ExprContext}
 
--- the object, and where in it the expression stands: its part of the file with the relocations there, and its unit by number and first byte
+-- the object, and where in it the expression stands: its part of the file with the relocations there, and its unit by number, first byte and version; the addresses that the unit names by indices stand in __debug_addr
 pub record Context : Type 0 where
   pub image : Image
   pub map : AddrMap
@@ -17,9 +18,25 @@ pub record Context : Type 0 where
   pub relocs : Relocs
   pub unit : ℕ
   pub start : ℕ
+  pub version : ℕ
+  pub sections : SectionBytes
+  pub addresses : Relocs
+  pub addr_base : ℕ
 
 abbrev pub context_in : ExprContext → Context
-context_in c = record { image = c.image.now; map = c.map.now; bases = c.bases.now; part = c.part; relocs = c.relocs.now; unit = c.unit; start = c.start }
+context_in c = record {
+  image = c.image.now;
+  map = c.map.now;
+  bases = c.bases.now;
+  part = c.part;
+  relocs = c.relocs.now;
+  unit = c.unit;
+  start = c.start;
+  version = c.version;
+  sections = bytes_in c.sections.now;
+  addresses = c.addresses.now;
+  addr_base = c.addr_base;
+}
 
 -- each stands behind those before it
 abbrev pub AreInOrder : List BaseType → Type 0

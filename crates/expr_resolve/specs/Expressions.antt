@@ -1,18 +1,21 @@
--- The operations of an object's expression (DWARF 4, section 7.7.1) with what their operands mean, or the first fault.
-use Rattle.std.specs.Prelude.{ℕ, ◌+◌, ◌-◌, ◌==◌, ◌&&◌, ◌||◌, not, Bool, List, [], ◌∷◌, length, drop, Option, Some, None, is_some, Result, Ok, if◌then◌else◌}
+-- The operations of an object's expression (DWARF 4 and 5, section 7.7.1) with what their operands mean, or the first fault.
+use Rattle.std.specs.Prelude.{ℕ, ◌+◌, ◌-◌, ◌==◌, ◌&&◌, ◌||◌, not, Bool, List, [], ◌∷◌, length, take, drop, Option, Some, None, is_some, is_none, Result, Ok, if◌then◌else◌}
 use Rattle.std.specs.List.{find, list_any, sum_by}
-use Rattle.std.specs.Option.{option_map}
+use Rattle.std.specs.Option.{option_map, option_and_then}
 use Rattle.byteorder.specs.Endian.{little_number}
-use Rattle.ds_base.specs.declared.dwarf.TheConstants.{DW_OP_addr, DW_OP_bra, DW_OP_const8u, DW_OP_convert, DW_OP_reinterpret, DW_OP_skip}
+use Rattle.ds_base.specs.declared.dwarf.TheConstants.{DW_OP_addr, DW_OP_addrx, DW_OP_bra, DW_OP_const8u, DW_OP_constx, DW_OP_convert, DW_OP_reinterpret, DW_OP_skip}
 use Rattle.ds_base.specs.declared.fault.Fault.{Fault}
 use Rattle.ds_base.specs.declared.fault.Kind.{Kind}
 use Rattle.ds_base.specs.declared.fault.Kind.TheVariants as kinds
 use Rattle.ds_base.specs.Reading.{◌>>=◌, or_fault, refuse_if}
+use Rattle.dwarf_types.specs.declared.address.Addr.{Addr}
+use Rattle.dwarf_types.specs.declared.address.Addr.TheVariants as addrs
 use Rattle.dwarf_types.specs.declared.address.Place.{Place}
 use Rattle.dwarf_types.specs.declared.expr.Base.{Base}
 use Rattle.dwarf_types.specs.declared.expr.Base.TheVariants as bases
 use Rattle.dwarf_types.specs.declared.expr.Op.{Op}
 use Rattle.dwarf_types.specs.declared.expr.PlainOp.{PlainOp}
+use Rattle.index_tables.specs.Tables.{address_place, stored}
 use Rattle.reloc_table.specs.Address.{address_of, reloc_at}
 use Rattle.expr_walk.specs.Length.{op_len, plain_len}
 use Rattle.expr_walk.specs.Reading.{walk_of}
@@ -53,11 +56,59 @@ abbrev pub base_meant : Context → ℕ → ℕ → Option Base → Result (Opti
 base_meant s place code None = Ok None
 base_meant s place code (Some base) = or_fault (base_named s code base) (fault_in s kinds.BadOperandType place) >>= λ meant. Ok (Some meant)
 
+-- ---- entries of the table of addresses
+
+-- an operation of such a code names an entry by its index (DWARF 5, sections 2.5.1.1 and 2.6.1.1)
+abbrev pub names_entry : ℕ → Bool
+names_entry code = code == DW_OP_addrx || code == DW_OP_constx
+
+-- the index, as it is read
+abbrev pub number_in : Addr → Option ℕ
+number_in (addrs.Fixed n) = Some n
+number_in other = None
+
+abbrev pub index_in : Option Place → Option ℕ
+index_in None = None
+index_in (Some place) = number_in place.at
+
+-- the place in __debug_addr of the entry at an index, if it is there
+abbrev pub entry_of : Context → Option Place → Option ℕ
+entry_of s address = option_and_then (λ index. address_place s.sections s.addr_base index) (index_in address)
+
+-- what the entry at a place means, and where that went
+abbrev pub entry_meant : Context → ℕ → Place
+entry_meant s at = place_of s.map (address_of s.image s.addresses at (stored 8 s.sections.addr at))
+
+-- The code of the operation that holds an entry in its eight bytes: of an address, or of a constant.
+abbrev pub holding : ℕ → ℕ
+holding code = if code == DW_OP_addrx then DW_OP_addr else DW_OP_const8u
+
+-- An entry is an address, and so is a constant where a relocation stands at it.
+abbrev pub entry_address : Context → ℕ → ℕ → Option Place
+entry_address s code at = if code == DW_OP_addrx || is_some (reloc_at s.addresses at) then Some (entry_meant s at) else None
+
+-- the operation in the place of one that names the entry at a place
+abbrev pub held : Context → ℕ → Option Base → ℕ → PlainOp
+held s code base at = record { code = holding code; bytes = holding code ∷ take 8 (drop at s.sections.addr); address = entry_address s code at; base = base }
+
+-- the place of the entry that an operation names, if it names one that is there
+abbrev pub named_by : Context → ℕ → Option Place → Option ℕ
+named_by s code address = if names_entry code then entry_of s address else None
+
+-- an operation names an entry that is not there
+abbrev pub is_lost : Context → ℕ → Option Place → Bool
+is_lost s code address = names_entry code && is_none (entry_of s address)
+
 -- ---- operations
+
+-- the operation at a place where it names no entry that is there, and the one that holds the entry
+abbrev pub operand_meant : Context → ℕ → PlainOp → Option Base → Option ℕ → PlainOp
+operand_meant s place op base None = record op { address = address_meant s place op; base = base }
+operand_meant s place op base (Some at) = held s op.code base at
 
 -- an operation that begins at a place, and is no entry value
 abbrev pub plain_meant : Context → ℕ → PlainOp → Result PlainOp Fault
-plain_meant s place op = base_meant s place op.code op.base >>= λ base. Ok (record op { address = address_meant s place op; base = base })
+plain_meant s place op = base_meant s place op.code op.base >>= λ base. Ok (operand_meant s place op base (named_by s op.code op.address))
 
 -- items one after the other, the first of which begins at a place
 abbrev pub each_from : {A B : Type 0} → (A → ℕ) → (ℕ → A → Result B Fault) → ℕ → List A → Result (List B) Fault
@@ -91,6 +142,22 @@ op_meant s place op = do
   inner ← each_from plain_size (plain_meant s) (inner_start place op) op.inner
   Ok (with_inner outer inner)
 
+-- ---- indices
+
+-- an operation that begins at a place, and is no entry value, names no entry that is not there
+abbrev pub plain_indexed : Context → ℕ → PlainOp → Result (Unit {0}) Fault
+plain_indexed s place op = refuse_if (is_lost s op.code op.address) (fault_in s kinds.BadIndex place)
+
+-- the same of an operation and of those inside
+abbrev pub op_indexed : Context → ℕ → Op → Result (Unit {0}) Fault
+op_indexed s place op = do
+  _ ← plain_indexed s place (outer_part op)
+  _ ← each_from plain_size (plain_indexed s) (inner_start place op) op.inner
+  Ok tt
+
+abbrev pub indices_tried : Context → ℕ → List Op → Result (Unit {0}) Fault
+indices_tried s first ops = each_from op_size (op_indexed s) first ops >>= λ _. Ok tt
+
 -- ---- branches
 
 abbrev pub is_branch : ℕ → Bool
@@ -123,10 +190,11 @@ branches_tried s first ops = do
 
 -- ---- the expression
 
--- first all its operations, then what their operands mean, then its branches
+-- first all its operations, then the base types that they name, then the entries, then its branches
 unfoldable pub expression_of : Context → List ℕ → ℕ → Result (List Op) Fault
 expression_of s bytes first = do
-  ops ← walk_of bytes s.part first
+  ops ← walk_of bytes s.part first s.version
   meant ← each_from op_size (op_meant s) first ops
+  _ ← indices_tried s first ops
   _ ← branches_tried s first ops
   Ok meant

@@ -1,5 +1,5 @@
 -- What the calls of this crate ask of each other, a sound object and operations that hold all their bytes, and what they tell each other.
-use Rattle.std.specs.Prelude.{◌≡◌, ◌≤◌, ◌==◌, ◌||◌, ℕ, true, List, [], length, slice_set, None, Result, Ok}
+use Rattle.std.specs.Prelude.{◌≡◌, ◌≤◌, ◌<◌, ◌^◌, ◌==◌, ◌||◌, ℕ, true, List, [], ◌∷◌, ◌++◌, length, None, Result, Ok}
 use Rattle.std.specs.List.{All, sum_by}
 use Rattle.ds_base.specs.declared.dwarf.TheConstants.{DW_OP_addr, DW_OP_const8u}
 use Rattle.ds_base.specs.declared.fault.Fault.{Fault}
@@ -9,11 +9,12 @@ use Rattle.dwarf_types.specs.declared.expr.Op.{Op}
 use Rattle.dwarf_types.specs.declared.expr.PlainOp.{PlainOp}
 use Rattle.dwarf_types.specs.Gathered.{Gathered}
 use Rattle.expr_resolve.specs.declared.operand.Meaning.{Meaning}
+use Rattle.expr_resolve.specs.declared.operand.Meaning.TheVariants as meanings
 use Rattle.macho_read.specs.Sound.{IsSound as IsSoundImage}
 use Rattle.reloc_table.specs.Sound.{IsSound as AreSoundRelocs}
 use Rattle.addr_map.specs.Sound.{IsSound as IsSoundMap}
 use Rattle.expr_resolve.specs.Context.{Context, AreInOrder}
-use Rattle.expr_resolve.specs.Expressions.{branches_over, each_from, fault_in, inner_tried, op_size, plain_size}
+use Rattle.expr_resolve.specs.Expressions.{branches_over, each_from, fault_in, inner_tried, op_size, plain_indexed, plain_size}
 
 -- all by which an operand is understood is sound
 pub record IsSoundContext (c : Context) : Type 0 where
@@ -21,6 +22,8 @@ pub record IsSoundContext (c : Context) : Type 0 where
   pub relocs : AreSoundRelocs c.image c.relocs
   pub map : IsSoundMap c.map
   pub order : AreInOrder c.bases
+  pub addresses : AreSoundRelocs c.image c.addresses
+  pub small : length c.sections.addr < 2 ^ 32
 
 -- an operation as its code and bytes alone
 abbrev pub bare : ℕ → List ℕ → PlainOp
@@ -39,13 +42,18 @@ pub record IsCut (op : Op) : Type 0 where
   pub inner : All IsPlainCut op.inner
   pub inside : sum_by plain_size op.inner ≤ length op.bytes
 
--- an operation that no entry value holds, with what its operands mean
+-- an operation that no entry value holds, as what it becomes
 abbrev pub with_meaning : PlainOp → Meaning → PlainOp
-with_meaning op m = record op { address = m.address; base = m.base }
+with_meaning op (meanings.Stands address base) = record op { address = address; base = base }
+with_meaning op (meanings.Holds code bytes address base) = record { code = code; bytes = bytes; address = address; base = base }
 
--- operations of which the one at a place becomes what is read
-abbrev pub put_at : List Op → ℕ → Result Op Fault → Result Gathered Fault
-put_at ops k read = read >>= λ op. Ok (record { ops = slice_set ops k op; inner = [] })
+-- an operation that is understood, behind others
+abbrev pub put_behind : List Op → Result Op Fault → Result Gathered Fault
+put_behind ops read = read >>= λ op. Ok (record { ops = ops ++ op ∷ []; inner = [] })
+
+-- the entries that operations inside name
+abbrev pub inner_indexed : Context → ℕ → List PlainOp → Result (Unit {0}) Fault
+inner_indexed s first ops = each_from plain_size (plain_indexed s) first ops >>= λ _. Ok tt
 
 -- the two parts of trying branches: the outermost expression, and then those inside its operations
 abbrev pub outermost_tried : Context → ℕ → List Op → Result (Unit {0}) Fault

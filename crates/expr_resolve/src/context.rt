@@ -2,6 +2,7 @@
 
 use addr_map::AddrMap;
 use ds_base::Part;
+use dwarf_types::Sections;
 use macho_read::Image;
 use reloc_table::Relocs;
 
@@ -31,4 +32,12 @@ pub struct ExprContext<'a> {
     pub unit: u32,
     /// Of the first byte of its unit in `__debug_info`.
     pub start: u32,
+    /// The version of its unit.
+    pub version: u16,
+    /// The debug sections of the object.
+    pub sections: &'a Sections<'a>,
+    /// The relocations of `__debug_addr`.
+    pub addresses: &'a Relocs,
+    /// The place in `__debug_addr` of the first address of its unit's table.
+    pub addr_base: u64,
 }

@@ -1,6 +1,6 @@
 //! An expression: its operations, understood.
 
-ghost use Rattle.std.specs.Prelude.{◌≡◌, ◌+◌, ◌*◌, ◌^◌, ◌≤◌, ◌<◌, [], length, OnOk};
+ghost use Rattle.std.specs.Prelude.{◌≡◌, ◌+◌, ◌*◌, ◌^◌, ◌≤◌, ◌<◌, length, OnOk};
 ghost use Rattle.std.specs.List.{All, sum_by};
 ghost use Rattle.ds_base.specs.Reading.{Gives};
 ghost use Rattle.macho_read.specs.Sound.{IsSound as IsSoundImage};
@@ -15,32 +15,38 @@ ghost use Rattle.expr_resolve.specs.Sound.{NameKnown};
 
 use crate::branches::try_branches;
 use crate::context::ExprContext;
+use crate::indices::try_indices;
 use crate::operations::resolve_ops;
 use ds_base::ReadError;
 use dwarf_types::Ops;
 use expr_walk::walk;
 
-/// Reads the operations of an expression, with what their operands mean (DWARF 4, section 7.7.1), in place of those that
-/// are in `ops`.
+/// Reads the operations of an expression, with what their operands mean (DWARF 4 and 5, section 7.7.1), in place of those
+/// that are in `ops`. `stored` is for the operations as they are stored, in place of those that are there.
 ///
 /// `first` is the place of its first byte, in bytes from the start of its part of the file, and faults are placed from
 /// there too. The operand of `DW_OP_addr` is an address, and so is that of `DW_OP_const8u` where a relocation stands at
-/// it. A base type is told by the number of its entry in the object. First all operations are cut, with the faults of
-/// `walk`. Then each in order, and those inside an entry value behind it, is `BadOperandType` at its first byte where it
-/// names no base type of the unit; the generic type, spelled 0, may be named in conversions alone. Last comes
-/// `BranchOverRewrite` at the first byte of an expression that branches while one of its operations has another length
-/// in the output, the outermost expression before those inside.
+/// it. `DW_OP_addrx` becomes the `DW_OP_addr` that holds the entry of the unit's table of addresses, and `DW_OP_constx`
+/// the `DW_OP_const8u` that does, which is an address where a relocation stands at the entry. A base type is told by the
+/// number of its entry in the object. First all operations are cut, with the faults of `walk`. Then each in order, and
+/// those inside an entry value behind it, is `BadOperandType` at its first byte where it names no base type of the unit;
+/// the generic type, spelled 0, may be named in conversions alone. Then each, in the same order, is `BadIndex` at its
+/// first byte where it names no entry of the table. Last comes `BranchOverRewrite` at the first byte of an expression that
+/// branches while one of its operations has another length in the output, the outermost expression before those inside.
 #[tactic(auto, unfolding(crate::specs::Expressions::expression_of))]
 pub fn read_expression(
     context: &ExprContext,
     bytes: &[u8],
     first: u64,
+    stored: &mut Ops,
     ops: &mut Ops,
 ) -> Result<(), ReadError>
     requires image { IsSoundImage context.now.image.now }
     requires relocs { AreSoundRelocs context.now.image.now context.now.relocs.now }
     requires map { IsSoundMap context.now.map.now }
     requires order { AreInOrder context.now.bases.now }
+    requires addresses { AreSoundRelocs context.now.image.now context.now.addresses.now }
+    requires small { length context.now.sections.now.addr.now < 2 ^ 32 }
     requires inside { first + length bytes.now < 2 ^ 32 }
     ensures exact { Gives (λ _. ops.new.ops) result (expression_of (context_in context.now) bytes.now first) }
 
@@ -50,22 +56,22 @@ pub fn read_expression(
     // The length in the output has a bound, so that `new_length` may be called.
     ensures short { OnOk result (ops_len ops.new.ops ≤ 16 * length bytes.now) }
 {
-    cut(context, bytes, first, ops)?;
-    // Told last: what is wrong with an operand comes before it.
-    let branches = try_branches(context, first, &ops.as_ref());
-    resolve_ops(context, first, ops)?;
-    branches?;
+    cut(context, bytes, first, stored)?;
+    ops.clear();
+    let stored = stored.as_ref();
+    resolve_ops(context, first, &stored, ops)?;
+    try_indices(context, first, &stored)?;
+    try_branches(context, first, &stored)?;
     Ok(())
 }
 
 /// The operations of an expression as they are stored.
 fn cut(context: &ExprContext, bytes: &[u8], first: u64, ops: &mut Ops) -> Result<(), ReadError>
     requires { first + length bytes.now < 2 ^ 32 }
-    ensures exact { Gives (λ _. ops.new.ops) result (walk_of bytes.now context.now.part first) }
-    ensures none { OnOk result (ops.new.inner ≡ []) }
+    ensures exact { Gives (λ _. ops.new.ops) result (walk_of bytes.now context.now.part first context.now.version) }
     ensures cut { OnOk result (All IsCut ops.new.ops) }
     ensures size { OnOk result (sum_by op_size ops.new.ops ≡ length bytes.now) }
     ensures short { OnOk result (ops_len ops.new.ops ≤ 16 * length bytes.now) }
 {
-    walk(bytes, context.part, first, ops)
+    walk(bytes, context.part, first, context.version, ops)
 }

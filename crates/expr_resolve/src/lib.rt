@@ -1,13 +1,15 @@
 //! Expressions of an object, with what their operands mean.
 //!
-//! Layer: object readers. [`read_expression`] cuts an expression into its operations (DWARF 4, section 7.7.1) and gives
-//! `expression_of` it (`specs/Expressions.antt`): addresses with where they went, base types by their entries, or the
-//! first fault. An expression is never run.
+//! Layer: object readers. [`read_expression`] cuts an expression into its operations (DWARF 4 and 5, section 7.7.1) and
+//! gives `expression_of` it (`specs/Expressions.antt`): addresses with where they went, base types by their entries, what
+//! an index names in the operation itself, or the first fault. An expression is never run.
 #![tactic(auto)]
 
 mod branches;
 mod context;
+mod entry;
 mod expression;
+mod indices;
 mod laws;
 mod length;
 mod lookup;

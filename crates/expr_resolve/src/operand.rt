@@ -1,17 +1,19 @@
 //! Operands: the address or the base type that an operation names.
 
-ghost use Rattle.std.specs.Prelude.{◌≡◌, ◌+◌, ◌^◌, ◌<◌, ◌≤◌, [], length};
+ghost use Rattle.std.specs.Prelude.{◌≡◌, ◌+◌, ◌^◌, ◌<◌, ◌≤◌, [], ◌∷◌, length};
 ghost use Rattle.ds_base.specs.Reading.{Finds};
+ghost use Rattle.dwarf_types.specs.declared.expr.PlainOp.{PlainOp as APlainOp};
 ghost use Rattle.dwarf_types.specs.Seen.{inner_seen};
 ghost use Rattle.expr_resolve.specs.Context.{context_in, AreInOrder};
 ghost use Rattle.expr_resolve.specs.Steps.{bare, HoldsOperand, IsSoundContext, with_meaning};
-ghost use Rattle.expr_resolve.specs.Expressions.{address_meant, base_meant, base_named, fault_in, holds_address, is_conversion, operand_place, plain_meant};
+ghost use Rattle.expr_resolve.specs.Expressions.{address_meant, base_meant, base_named, fault_in, held, holds_address, is_conversion, operand_place, plain_meant};
 
 use crate::context::ExprContext;
+use crate::entry::{entry_address, find_entry, holding_code};
 use crate::lookup::{find_base, is_relocated};
 use byteorder::{ByteOrder, LittleEndian};
 use ds_base::dwarf::{DW_OP_addr, DW_OP_const8u, DW_OP_convert, DW_OP_reinterpret};
-use ds_base::{Fault, Kind};
+use ds_base::{Fault, Kind, cut};
 use dwarf_types::{Base, InnerOpRef, Place};
 use moved_parts::place as place_of;
 use reloc_table::resolve;
@@ -27,14 +29,23 @@ pub(crate) fn fault_at(context: &ExprContext, kind: Kind, place: u64) -> Fault
     }
 }
 
-/// What the operands of an operation mean.
+/// What an operation becomes: it stands as it was stored, with what its operands mean, or it holds an entry of the unit's
+/// table of addresses in its eight bytes.
 #[derive(Clone, Copy)]
-pub(crate) struct Meaning {
-    pub(crate) address: Option<Place>,
-    pub(crate) base: Option<Base>,
+pub(crate) enum Meaning {
+    Stands {
+        address: Option<Place>,
+        base: Option<Base>,
+    },
+    Holds {
+        code: u8,
+        bytes: [u8; 9],
+        address: Option<Place>,
+        base: Option<Base>,
+    },
 }
 
-/// What the operands of an operation mean, whatever stands inside it. `place` is that of its first byte.
+/// What an operation becomes, whatever stands inside it. `place` is that of its first byte.
 pub(crate) fn meaning_of(
     context: &ExprContext,
     place: u64,
@@ -46,8 +57,38 @@ pub(crate) fn meaning_of(
     ensures { Finds (with_meaning (inner_seen op.now)) result (plain_meant (context_in context.now) place (inner_seen op.now)) }
 {
     let base = resolve_base(context, place, op.code, op.base)?;
-    let address = address_in(context, place, op.code, op.bytes);
-    Ok(Meaning { address, base })
+    match find_entry(context, op.code, op.address) {
+        Some(at) => Ok(hold_entry(context, op.code, base, at)),
+        None => Ok(Meaning::Stands {
+            address: address_in(context, place, op.code, op.bytes),
+            base,
+        }),
+    }
+}
+
+/// The operation that holds the entry at a place, in place of one of this code.
+fn hold_entry(context: &ExprContext, code: u8, base: Option<Base>, at: u32) -> Meaning
+    requires sound { IsSoundContext (context_in context.now) }
+    requires inside { at + 8 ≤ length context.now.sections.now.addr.now }
+    ensures { (op : APlainOp) → with_meaning op result ≡ held (context_in context.now) code base at }
+{
+    let holding = holding_code(code);
+    Meaning::Holds {
+        code: holding,
+        bytes: coded_bytes(holding, cut(context.sections.addr, at as usize, 8)),
+        address: entry_address(context, code, at),
+        base,
+    }
+}
+
+/// A code and the eight bytes behind it.
+fn coded_bytes(code: u8, operand: &[u8]) -> [u8; 9]
+    requires { length operand.now ≡ 8 }
+    ensures { result ≡ code ∷ operand.now }
+{
+    let mut bytes = [code; 9];
+    bytes[1..].copy_from_slice(operand);
+    bytes
 }
 
 /// The entry of the base type that an operation names, where it names one. `place` is that of its first byte.

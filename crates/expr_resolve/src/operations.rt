@@ -1,55 +1,113 @@
 //! Operations, one after the other.
 
-ghost use Rattle.std.specs.Prelude.{◌≡◌, ◌+◌, ◌^◌, ◌<◌, ◌≤◌, [], length, slice_get, slice_set, Some, OnOk};
+ghost use Rattle.std.specs.Prelude.{◌≡◌, ◌+◌, ◌++◌, ◌^◌, ◌<◌, ◌≤◌, [], ◌∷◌, length, OnOk};
 ghost use Rattle.std.specs.List.{All, sum_by};
 ghost use Rattle.ds_base.specs.Reading.{Gives};
 ghost use Rattle.dwarf_types.specs.Seen.{inner_seen, op_seen};
-ghost use Rattle.dwarf_types.specs.declared.expr.Op.{Op as AnOp};
 ghost use Rattle.expr_resolve.specs.Context.{context_in};
-ghost use Rattle.expr_resolve.specs.Steps.{IsCut, IsPlainCut, IsSoundContext, put_at};
-ghost use Rattle.expr_resolve.specs.Expressions.{each_from, inner_start, op_meant, op_size, outer_part, plain_meant, plain_size};
+ghost use Rattle.expr_resolve.specs.Steps.{IsCut, IsPlainCut, IsSoundContext, put_behind, with_meaning};
+ghost use Rattle.expr_resolve.specs.Expressions.{each_from, inner_start, op_meant, op_size, outer_part, plain_meant, plain_size, with_inner};
 
 use crate::context::ExprContext;
-use crate::operand::meaning_of;
-use ds_base::ReadError;
-use dwarf_types::{InnerOpRef, InnerOpsRef, OpRef, Ops};
+use crate::operand::{Meaning, meaning_of};
+use ds_base::{NoMemory, ReadError};
+use dwarf_types::{InnerOpRef, InnerOpsRef, OpRef, Ops, OpsRef};
 
-/// Puts in place what the operands of an expression's operations mean. `first` is the place of its first byte.
-pub(crate) fn resolve_ops(context: &ExprContext, first: u64, ops: &mut Ops) -> Result<(), ReadError>
+/// Puts what the operations of an expression become, one behind the other. `first` is the place of its first byte.
+pub(crate) fn resolve_ops(
+    context: &ExprContext,
+    first: u64,
+    stored: &OpsRef<'_>,
+    ops: &mut Ops,
+) -> Result<(), ReadError>
     requires sound { IsSoundContext (context_in context.now) }
-    requires none { ops.old.inner ≡ [] }
-    requires cut { All IsCut ops.old.ops }
-    requires inside { first + sum_by op_size ops.old.ops < 2 ^ 32 }
-    ensures { Gives (λ _. ops.new.ops) result (each_from op_size (op_meant (context_in context.now)) first ops.old.ops) }
+    requires none { ops.old ≡ record { ops = []; inner = [] } }
+    requires cut { All IsCut stored.now }
+    requires inside { first + sum_by op_size stored.now < 2 ^ 32 }
+    ensures { Gives (λ _. ops.new.ops) result (each_from op_size (op_meant (context_in context.now)) first stored.now) }
 {
     let mut place = first;
-    for k in 0..ops.len() {
-        let size = ops.op(k).bytes.len() as u64;
-        resolve_op(context, place, ops, k)?;
-        place += size;
+    for k in 0..stored.len() {
+        let op = stored.op(k);
+        resolve_op(context, place, &op, ops)?;
+        place += op.bytes.len() as u64;
     }
     Ok(())
 }
 
-/// Puts in place what the operands of operation `k` mean: first its own, then those of the operations inside.
-fn resolve_op(context: &ExprContext, place: u64, ops: &mut Ops, k: usize) -> Result<(), ReadError>
+/// Puts what an operation becomes behind the others: first it is understood, then those inside are.
+fn resolve_op(
+    context: &ExprContext,
+    place: u64,
+    op: &OpRef<'_>,
+    ops: &mut Ops,
+) -> Result<(), ReadError>
     requires sound { IsSoundContext (context_in context.now) }
     requires none { ops.old.inner ≡ [] }
-    requires within { k < length ops.old.ops }
-    requires cut { (op : AnOp) → slice_get ops.old.ops k ≡ Some op → IsCut op }
-    requires inside { (op : AnOp) → slice_get ops.old.ops k ≡ Some op → place + length op.bytes < 2 ^ 32 }
-    ensures { (op : AnOp) → slice_get ops.old.ops k ≡ Some op → Gives (λ _. ops.new) result (put_at ops.old.ops k (op_meant (context_in context.now) place op)) }
+    requires cut { IsCut (op_seen op.now) }
+    requires inside { place + length op.now.bytes.now < 2 ^ 32 }
+    ensures { Gives (λ _. ops.new) result (put_behind ops.old.ops (op_meant (context_in context.now) place (op_seen op.now))) }
 {
-    let op = ops.op(k);
-    let meaning = meaning_of(context, place, &outer_part(&op))?;
-    let first = inner_first(place, &op);
-    resolve_inner(context, first, ops, k)?;
-    ops.set_operand(k, meaning.address, meaning.base)?;
+    let outer = outer_part(op);
+    let meaning = meaning_of(context, place, &outer)?;
+    let first = inner_first(place, op);
+    resolve_inner(context, first, &op.inner, ops)?;
+    push(&outer, &meaning, ops)?;
     Ok(())
 }
 
+/// Puts an operation behind the others, as what it becomes. Those that were put with `push_inner` stand inside it.
+fn push(op: &InnerOpRef<'_>, meaning: &Meaning, ops: &mut Ops) -> Result<(), NoMemory>
+    ensures { OnOk result (ops.new ≡ record { ops = ops.old.ops ++ with_inner (with_meaning (inner_seen op.now) meaning.now) ops.old.inner ∷ []; inner = [] }) }
+{
+    match meaning {
+        Meaning::Stands { address, base } => ops.push(&InnerOpRef {
+            code: op.code,
+            bytes: op.bytes,
+            address: *address,
+            base: *base,
+        }),
+        Meaning::Holds {
+            code,
+            bytes,
+            address,
+            base,
+        } => ops.push(&InnerOpRef {
+            code: *code,
+            bytes,
+            address: *address,
+            base: *base,
+        }),
+    }
+}
+
+/// Puts an operation behind those that will stand inside the next one, as what it becomes.
+fn push_inner(op: &InnerOpRef<'_>, meaning: &Meaning, ops: &mut Ops) -> Result<(), NoMemory>
+    ensures { OnOk result (ops.new ≡ record ops.old { inner = ops.old.inner ++ with_meaning (inner_seen op.now) meaning.now ∷ [] }) }
+{
+    match meaning {
+        Meaning::Stands { address, base } => ops.push_inner(&InnerOpRef {
+            code: op.code,
+            bytes: op.bytes,
+            address: *address,
+            base: *base,
+        }),
+        Meaning::Holds {
+            code,
+            bytes,
+            address,
+            base,
+        } => ops.push_inner(&InnerOpRef {
+            code: *code,
+            bytes,
+            address: *address,
+            base: *base,
+        }),
+    }
+}
+
 /// An operation without those inside.
-fn outer_part<'a>(op: &OpRef<'a>) -> InnerOpRef<'a>
+pub(crate) fn outer_part<'a>(op: &OpRef<'a>) -> InnerOpRef<'a>
     ensures { inner_seen result ≡ outer_part (op_seen op.now) }
 {
     InnerOpRef {
@@ -81,29 +139,26 @@ fn inner_size(ops: &InnerOpsRef<'_>) -> u64
     size
 }
 
-/// Puts the operations inside operation `k` again, with what their operands mean. `first` is the place of their first byte.
+/// Puts what the operations inside the next one become, one behind the other. `first` is the place of their first byte.
 fn resolve_inner(
     context: &ExprContext,
     first: u64,
+    stored: &InnerOpsRef<'_>,
     ops: &mut Ops,
-    k: usize,
 ) -> Result<(), ReadError>
     requires sound { IsSoundContext (context_in context.now) }
     requires none { ops.old.inner ≡ [] }
-    requires within { k < length ops.old.ops }
-    requires cut { (op : AnOp) → slice_get ops.old.ops k ≡ Some op → All IsPlainCut op.inner }
-    requires inside { (op : AnOp) → slice_get ops.old.ops k ≡ Some op → first + sum_by plain_size op.inner < 2 ^ 32 }
-    ensures inner { (op : AnOp) → slice_get ops.old.ops k ≡ Some op → Gives (λ _. ops.new.inner) result (each_from plain_size (plain_meant (context_in context.now)) first op.inner) }
+    requires cut { All IsPlainCut stored.now }
+    requires inside { first + sum_by plain_size stored.now < 2 ^ 32 }
+    ensures inner { Gives (λ _. ops.new.inner) result (each_from plain_size (plain_meant (context_in context.now)) first stored.now) }
     ensures others { OnOk result (ops.new.ops ≡ ops.old.ops) }
 {
     let mut place = first;
-    let count = ops.op(k).inner.len();
-    for j in 0..count {
-        let op = ops.op(k).inner.op(j);
-        let size = op.bytes.len() as u64;
+    for j in 0..stored.len() {
+        let op = stored.op(j);
         let meaning = meaning_of(context, place, &op)?;
-        ops.repeat_inner(k, j, meaning.address, meaning.base)?;
-        place += size;
+        push_inner(&op, &meaning, ops)?;
+        place += op.bytes.len() as u64;
     }
     Ok(())
 }

@@ -1,0 +1,120 @@
+//! Entries of a unit's table of addresses, which operations name by their indices.
+
+ghost use Rattle.std.specs.Prelude.{◌≡◌, ◌+◌, ◌≤◌, length, IfSome};
+ghost use Rattle.index_tables.specs.Tables.{stored};
+ghost use Rattle.expr_resolve.specs.Context.{context_in};
+ghost use Rattle.expr_resolve.specs.Steps.{IsSoundContext};
+ghost use Rattle.expr_resolve.specs.Expressions.{entry_address, entry_meant, entry_of, holding, index_in, is_lost, named_by, names_entry};
+
+use crate::context::ExprContext;
+use crate::lookup::is_relocated;
+use byteorder::{ByteOrder, LittleEndian};
+use ds_base::bytes_from;
+use ds_base::dwarf::{DW_OP_addr, DW_OP_addrx, DW_OP_const8u, DW_OP_constx};
+use dwarf_types::{Addr, Place};
+use index_tables::address_at;
+use moved_parts::place as place_of;
+use reloc_table::resolve;
+
+/// The place in `__debug_addr` of the entry that an operation of this code names, if it names one and that is there.
+/// `address` is the index, as it was read.
+pub(crate) fn find_entry(context: &ExprContext, code: u8, address: Option<Place>) -> Option<u32>
+    requires sound { IsSoundContext (context_in context.now) }
+    ensures is { result ≡ named_by (context_in context.now) code address }
+    ensures inside { IfSome result (λ at. at + 8 ≤ length context.now.sections.now.addr.now) }
+{
+    if names_entry(code) {
+        entry_at(context, address)
+    } else {
+        None
+    }
+}
+
+/// Whether an operation of this code names an entry that is not there.
+pub(crate) fn is_lost(context: &ExprContext, code: u8, address: Option<Place>) -> bool
+    requires sound { IsSoundContext (context_in context.now) }
+    ensures { result ≡ is_lost (context_in context.now) code address }
+{
+    names_entry(code) && entry_at(context, address).is_none()
+}
+
+/// Whether an operation of this code names an entry.
+fn names_entry(code: u8) -> bool
+    ensures { result ≡ names_entry code }
+{
+    code == DW_OP_addrx || code == DW_OP_constx
+}
+
+/// The place of the entry at an index.
+fn entry_at(context: &ExprContext, address: Option<Place>) -> Option<u32>
+    requires sound { IsSoundContext (context_in context.now) }
+    ensures is { result ≡ entry_of (context_in context.now) address }
+    ensures inside { IfSome result (λ at. at + 8 ≤ length context.now.sections.now.addr.now) }
+{
+    let Some(index) = index_of(address) else {
+        return None;
+    };
+    match address_at(context.sections, context.addr_base, index) {
+        Ok(at) => Some(at),
+        Err(_) => None,
+    }
+}
+
+/// The index, as it was read.
+fn index_of(address: Option<Place>) -> Option<u64>
+    ensures { result ≡ index_in address }
+{
+    let Some(place) = address else {
+        return None;
+    };
+    match place.at {
+        Addr::Fixed(index) => Some(index),
+        _ => None,
+    }
+}
+
+/// The code of the operation that holds the entry, in place of one of this code.
+pub(crate) fn holding_code(code: u8) -> u8
+    ensures { result ≡ holding code }
+{
+    if code == DW_OP_addrx {
+        DW_OP_addr
+    } else {
+        DW_OP_const8u
+    }
+}
+
+/// The address that an entry is, if it is one: that of `DW_OP_addrx` always, and that of `DW_OP_constx` where a relocation
+/// stands at it.
+pub(crate) fn entry_address(context: &ExprContext, code: u8, at: u32) -> Option<Place>
+    requires sound { IsSoundContext (context_in context.now) }
+    requires inside { at + 8 ≤ length context.now.sections.now.addr.now }
+    ensures { result ≡ entry_address (context_in context.now) code at }
+{
+    if code == DW_OP_addrx || is_relocated(context.addresses, u64::from(at)) {
+        Some(entry_place(context, at))
+    } else {
+        None
+    }
+}
+
+/// What an entry means, and where that went.
+fn entry_place(context: &ExprContext, at: u32) -> Place
+    requires sound { IsSoundContext (context_in context.now) }
+    requires inside { at + 8 ≤ length context.now.sections.now.addr.now }
+    ensures { result ≡ entry_meant (context_in context.now) at }
+{
+    let stored = stored_at(context.sections.addr, at);
+    place_of(
+        context.map,
+        resolve(context.addresses, context.image, at, stored),
+    )
+}
+
+/// The number in eight bytes from a place on.
+fn stored_at(section: &[u8], place: u32) -> u64
+    requires { place + 8 ≤ length section.now }
+    ensures { result ≡ stored 8 section.now place }
+{
+    LittleEndian::read_u64(bytes_from(section, place as usize))
+}

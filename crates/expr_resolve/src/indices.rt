@@ -1,0 +1,71 @@
+//! Indices: each names an entry of the unit's table of addresses.
+
+ghost use Rattle.std.specs.Prelude.{◌≡◌, ◌+◌, ◌^◌, ◌<◌, ◌≤◌, length};
+ghost use Rattle.std.specs.List.{All, sum_by};
+ghost use Rattle.ds_base.specs.Reading.{Finds};
+ghost use Rattle.dwarf_types.specs.Seen.{inner_seen, op_seen};
+ghost use Rattle.expr_resolve.specs.Context.{context_in};
+ghost use Rattle.expr_resolve.specs.Steps.{IsCut, IsSoundContext, inner_indexed};
+ghost use Rattle.expr_resolve.specs.Expressions.{indices_tried, op_indexed, op_size, plain_indexed, plain_size};
+
+use crate::context::ExprContext;
+use crate::entry::is_lost;
+use crate::operand::fault_at;
+use crate::operations::{inner_first, outer_part};
+use ds_base::{Fault, Kind};
+use dwarf_types::{InnerOpRef, InnerOpsRef, OpRef, OpsRef};
+
+/// Tests that each entry is there that an operation of an expression names, or one inside, in order. The first byte of the
+/// expression stands at `first`. The fault is `BadIndex`, placed at the first byte of its operation.
+pub(crate) fn try_indices(context: &ExprContext, first: u64, ops: &OpsRef<'_>) -> Result<(), Fault>
+    requires sound { IsSoundContext (context_in context.now) }
+    requires cut { All IsCut ops.now }
+    requires inside { first + sum_by op_size ops.now < 2 ^ 32 }
+    ensures { Finds (λ _. tt) result (indices_tried (context_in context.now) first ops.now) }
+{
+    let mut place = first;
+    for k in 0..ops.len() {
+        let op = ops.op(k);
+        try_op(context, place, &op)?;
+        place += op.bytes.len() as u64;
+    }
+    Ok(())
+}
+
+/// Tests an operation that begins at `place`, and then those inside.
+fn try_op(context: &ExprContext, place: u64, op: &OpRef<'_>) -> Result<(), Fault>
+    requires sound { IsSoundContext (context_in context.now) }
+    requires inner { sum_by plain_size op.now.inner ≤ length op.now.bytes.now }
+    requires inside { place + length op.now.bytes.now < 2 ^ 32 }
+    ensures { Finds (λ _. tt) result (op_indexed (context_in context.now) place (op_seen op.now)) }
+{
+    try_plain(context, place, &outer_part(op))?;
+    let first = inner_first(place, op);
+    try_inner(context, first, &op.inner)
+}
+
+/// Tests the operations inside, the first of which begins at `first`.
+fn try_inner(context: &ExprContext, first: u64, ops: &InnerOpsRef<'_>) -> Result<(), Fault>
+    requires sound { IsSoundContext (context_in context.now) }
+    requires inside { first + sum_by plain_size ops.now < 2 ^ 32 }
+    ensures { Finds (λ _. tt) result (inner_indexed (context_in context.now) first ops.now) }
+{
+    let mut place = first;
+    for k in 0..ops.len() {
+        let op = ops.op(k);
+        try_plain(context, place, &op)?;
+        place += op.bytes.len() as u64;
+    }
+    Ok(())
+}
+
+/// Tests an operation that begins at `place`, whatever stands inside it.
+fn try_plain(context: &ExprContext, place: u64, op: &InnerOpRef<'_>) -> Result<(), Fault>
+    requires sound { IsSoundContext (context_in context.now) }
+    ensures { Finds (λ _. tt) result (plain_indexed (context_in context.now) place (inner_seen op.now)) }
+{
+    if is_lost(context, op.code, op.address) {
+        return Err(fault_at(context, Kind::BadIndex, place));
+    }
+    Ok(())
+}
