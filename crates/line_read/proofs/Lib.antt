@@ -1,5 +1,6 @@
 pub mod Inside
 pub mod NameLoop
+pub mod EntryLoop
 pub mod UlebLoop
 pub mod OperationPlaces
 pub mod ProgramLoop

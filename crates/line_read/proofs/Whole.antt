@@ -11,17 +11,18 @@ use Rattle.ds_base.proofs.Onward.{Onward, Further, end_kept, onward_then}
 use Rattle.ds_base.proofs.Passing.{bind_ok, passed, ok_is}
 use Rattle.dwarf_types.specs.declared.lines.FileName.{FileName}
 use Rattle.dwarf_types.specs.declared.lines.RawLines.{RawLines}
+use Rattle.dwarf_types.specs.SectionBytes.{SectionBytes}
 use Rattle.macho_read.specs.declared.image.Image.{Image}
 use Rattle.reloc_table.specs.declared.relocation.Relocs.{Relocs}
 use Rattle.line_read.specs.declared.header.LineHeader.{LineHeader}
 use Rattle.line_read.specs.declared.operation.LineOp.{LineOp}
-use Rattle.line_read.specs.Header.{bad, table_at, version_at, program_at, fields_at}
-use Rattle.line_read.specs.Names.{dir_at, file_at, table_of}
+use Rattle.line_read.specs.Header.{bad, table_at, version_at, sizes_at, program_at, fields_at}
+use Rattle.line_read.specs.Tables.{dirs_at, files_at}
 use Rattle.line_read.specs.Operation.{op_at}
 use Rattle.line_read.specs.Program.{Listing, listed, ops_at, all_rise, matrix, unless_stopped, program_of, header_end, lines_from}
 use Rattle.line_read.specs.Registers.{initial}
 use Rattle.line_read.specs.Whole.{Fill, IsWhole}
-use Rattle.line_read.proofs.OperationPlaces.{op_further, version_onward, program_onward}
+use Rattle.line_read.proofs.OperationPlaces.{op_further, version_onward, sizes_onward, program_onward}
 
 -- ---- operations in turn
 
@@ -89,19 +90,21 @@ onward_inside s t o inside =
     let place : t.place ≡ s.place + o.by = ap (λ (x : Spot). x.place) o.is in
     omega (arith, o.fits, place, end_kept s t o, inside)
 
-pub table_whole : (image : Image) (relocs : Relocs) (first : Spot) (lines : RawLines) → lines_from image relocs first ≡ Ok lines → IsWhole image relocs first lines
+pub table_whole : (image : Image) (relocs : Relocs) (sections : SectionBytes) (unit : ℕ) (first : Spot) (lines : RawLines) → lines_from image relocs sections unit first ≡ Ok lines → IsWhole image relocs unit first lines
 unfolding lines_from
-table_whole image relocs first lines e =
+table_whole image relocs sections unit first lines e =
     let table = bind_ok (table_at first) _ lines e in
-    let version = bind_ok (version_at table.0) _ lines table.2 in
-    let program = bind_ok (program_at first version.0.1) _ lines version.2 in
+    let version = bind_ok (version_at unit table.0) _ lines table.2 in
+    let sizes = bind_ok (sizes_at first version.0.0 version.0.1) _ lines version.2 in
+    let program = bind_ok (program_at first sizes.0.1) _ lines sizes.2 in
     let header = bind_ok (fields_at first version.0.0 program.0.1) _ lines program.2 in
-    let dirs = bind_ok (table_of (dir_at (header_end first program.0.0)) header.0.1) _ lines header.2 in
-    let files = bind_ok (table_of (file_at (header_end first program.0.0)) dirs.0.1) _ lines dirs.2 in
+    let dirs = bind_ok (dirs_at (header_end first program.0.0) sections version.0.0 header.0.1) _ lines header.2 in
+    let files = bind_ok (files_at (header_end first program.0.0) sections version.0.0 dirs.0.1) _ lines dirs.2 in
     let s : Spot = program.0.0 in
     let read = op_at header.0.0 image relocs in
     let listing : Listing = ops_at read (s.end - s.place) s in
-    let on = onward_then table.0 version.0.1 s (version_onward table.0 version.0 version.1) (program_onward first version.0.1 program.0 program.1) in
+    let behind = onward_then table.0 version.0.1 sizes.0.1 (version_onward unit table.0 version.0 version.1) (sizes_onward first version.0.0 version.0.1 sizes.0 sizes.1) in
+    let on = onward_then table.0 sizes.0.1 s behind (program_onward first sizes.0.1 program.0 program.1) in
     let inside = onward_inside table.0 s on (table_inside first table.0 table.1) in
     let none = program_whole header.0.0 dirs.0.0 files.0.0 listing lines files.2 in
     record {
@@ -110,7 +113,7 @@ table_whole image relocs first lines e =
       files = files.0.0;
       program = s;
       ops = listing.ops;
-      stands = (table.0, version.0, program.0.1, table.1, version.1, program.1, end_kept table.0 s on);
+      stands = record { table = table.0; version = version.0; sizes = sizes.0; behind = program.0.1; opened = table.1; versioned = version.1; sized = sizes.1; placed = program.1; ended = end_kept table.0 s on };
       filled = ops_fill read (op_further header.0.0 image relocs) (s.end - s.place) s inside none;
       means = means_all header.0.0 dirs.0.0 files.0.0 listing lines none files.2;
     }

@@ -1,8 +1,9 @@
--- The operations of line programs by their codes (DWARF 4, section 7.21, figures 37 and 38).
-use Rattle.std.specs.Prelude.{ℕ, ◌==◌, Option, Some, None, if◌then◌else◌}
+-- The operations of line programs by their codes (DWARF 4, section 7.21, figures 37 and 38; DWARF 5, section 7.22, tables 7.25 and 7.26).
+use Rattle.std.specs.Prelude.{ℕ, ◌==◌, nat_lt, Option, Some, None, if◌then◌else◌}
 use Rattle.ds_base.specs.declared.dwarf.TheConstants.{DW_LNS_copy, DW_LNS_advance_pc, DW_LNS_advance_line, DW_LNS_set_file, DW_LNS_set_column, DW_LNS_negate_stmt, DW_LNS_set_basic_block, DW_LNS_const_add_pc, DW_LNS_fixed_advance_pc, DW_LNS_set_prologue_end, DW_LNS_set_epilogue_begin, DW_LNS_set_isa, DW_LNE_end_sequence, DW_LNE_set_address, DW_LNE_define_file, DW_LNE_set_discriminator}
 use Rattle.line_read.specs.declared.codes.StandardOp.{StandardOp}
 use Rattle.line_read.specs.declared.codes.StandardOp.TheVariants as standard
+use Rattle.line_read.specs.declared.header.TheConstants.{FORMATS_SINCE}
 use Rattle.line_read.specs.declared.codes.ExtendedOp.{ExtendedOp}
 use Rattle.line_read.specs.declared.codes.ExtendedOp.TheVariants as extended
 
@@ -23,11 +24,15 @@ standard_of code =
     else if code == DW_LNS_set_isa then Some standard.SetIsa
     else None
 
--- the extended operation of a code
-unfoldable pub extended_of : ℕ → Option ExtendedOp
-extended_of code =
+-- the operation that defines a file, which version 5 does not have
+abbrev pub file_definition_of : ℕ → Option ExtendedOp
+file_definition_of version = if nat_lt version FORMATS_SINCE then Some extended.DefineFile else None
+
+-- the extended operation of a code in tables of a version
+unfoldable pub extended_of : ℕ → ℕ → Option ExtendedOp
+extended_of version code =
     if code == DW_LNE_end_sequence then Some extended.EndSequence
     else if code == DW_LNE_set_address then Some extended.SetAddress
-    else if code == DW_LNE_define_file then Some extended.DefineFile
+    else if code == DW_LNE_define_file then file_definition_of version
     else if code == DW_LNE_set_discriminator then Some extended.SetDiscriminator
     else None

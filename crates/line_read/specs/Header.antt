@@ -1,14 +1,15 @@
--- The header of a line table (DWARF 4, section 6.2.4), from the table's first byte.
-use Rattle.std.specs.Prelude.{ℕ, ◌+◌, ◌-◌, ◌==◌, ◌||◌, not, [], List, length, nat_lt, nat_le, Result, Ok, if◌then◌else◌}
+-- The header of a line table (DWARF 4 and DWARF 5, section 6.2.4), from the table's first byte.
+use Rattle.std.specs.Prelude.{ℕ, ◌+◌, ◌-◌, ◌==◌, ◌||◌, not, [], List, length, nat_lt, nat_le, Option, Some, None, Result, Ok, Err, if◌then◌else◌}
 use Rattle.std.specs.Int.{cast_signed, w8}
 use Rattle.ds_base.specs.declared.fault.Fault.{Fault}
 use Rattle.ds_base.specs.declared.fault.Kind.TheVariants as kinds
 use Rattle.ds_base.specs.declared.fault.Part.TheVariants as parts
 use Rattle.ds_base.specs.Spot.{Spot, after, fault_at}
 use Rattle.ds_base.specs.Reading.{◌>>=◌, refuse_if, number_at, items_at}
+use Rattle.dwarf_types.specs.SectionBytes.{SectionBytes}
 use Rattle.line_read.specs.declared.header.LineHeader.{LineHeader}
-use Rattle.ds_base.specs.declared.dwarf.TheConstants.{LENGTH_RESERVED}
-use Rattle.line_read.specs.declared.header.TheConstants.{FIRST_VERSION, LAST_VERSION, OPERATIONS_SINCE, MOST_OPERATIONS}
+use Rattle.ds_base.specs.declared.dwarf.TheConstants.{ADDRESS_SIZE, LENGTH_RESERVED}
+use Rattle.line_read.specs.declared.header.TheConstants.{FIRST_VERSION, LAST_VERSION, LAST_WITHOUT_FORMATS, OPERATIONS_SINCE, FORMATS_SINCE, MOST_OPERATIONS}
 
 -- a place of the section
 abbrev pub line_at : List ℕ → ℕ → Spot
@@ -25,11 +26,24 @@ table_at first = do
   _ ← refuse_if (nat_le LENGTH_RESERVED len.0 || nat_lt (len.1.end - len.1.place) len.0) (bad first)
   Ok (record len.1 { end = len.1.place + len.0 })
 
-unfoldable pub version_at : Spot → Result (ℕ × Spot) Fault
-version_at s = do
+-- the last version of tables that units of a version have
+abbrev pub last_version : ℕ → ℕ
+last_version unit = if nat_lt unit FORMATS_SINCE then LAST_WITHOUT_FORMATS else LAST_VERSION
+
+-- the table's own version, where it stands in a unit of a version
+unfoldable pub version_at : ℕ → Spot → Result (ℕ × Spot) Fault
+version_at unit s = do
   version ← number_at 2 s
-  _ ← refuse_if (nat_lt version.0 FIRST_VERSION || nat_lt LAST_VERSION version.0) (fault_at s kinds.LineVersion)
+  _ ← refuse_if (nat_lt version.0 FIRST_VERSION || nat_lt (last_version unit) version.0) (fault_at s kinds.LineVersion)
   Ok version
+
+-- address_size and segment_selector_size, which version 5 is the first to have
+unfoldable pub sizes_at : Spot → ℕ → Spot → Result (Unit {0} × Spot) Fault
+sizes_at first version s =
+    if nat_le FORMATS_SINCE version then
+    (number_at 1 s >>= λ address_size. refuse_if (not (address_size.0 == ADDRESS_SIZE)) (bad first) >>= λ _.
+    number_at 1 address_size.1 >>= λ selector_size. refuse_if (not (selector_size.0 == 0)) (bad first) >>= λ _. Ok (tt, selector_size.1))
+    else Ok (tt, s)
 
 -- where the program begins, which header_length tells from behind itself
 unfoldable pub program_at : Spot → Spot → Result (Spot × Spot) Fault
@@ -59,6 +73,7 @@ fields_at first version s = do
   lengths ← items_at (number_at 1) (opcode_base.0 - 1) [] opcode_base.1
   Ok (
     record {
+      version = version;
       minimum_instruction_length = shortest.0;
       default_is_stmt = not (is_stmt.0 == 0);
       line_base = cast_signed w8 line_base.0;
@@ -68,3 +83,12 @@ fields_at first version s = do
     },
     lengths.1,
   )
+
+-- a number that is there
+abbrev pub there : Result (ℕ × Spot) Fault → Option ℕ
+there (Ok n) = Some n.0
+there (Err f) = None
+
+-- the version that the table at a place of the section tells, where its bytes are there
+abbrev pub version_of : SectionBytes → ℕ → Option ℕ
+version_of sections offset = there (number_at 4 (line_at sections.line offset) >>= λ len. number_at 2 len.1)

@@ -1,5 +1,8 @@
 pub mod Header
 pub mod Names
+pub mod Formats
+pub mod Entries
+pub mod Tables
 pub mod Codes
 pub mod Operation
 pub mod Registers

@@ -1,4 +1,4 @@
--- The directories and files of a line table (DWARF 4, section 6.2.4, include_directories and file_names).
+-- The directories and files of a line table before version 5 (DWARF 4, section 6.2.4, include_directories and file_names).
 use Rattle.std.specs.Prelude.{ℕ, zero, suc, ◌-◌, ◌==◌, List, [], ◌∷◌, ◌++◌, length, nat_lt, Option, Some, None, Result, Ok, Err, if◌then◌else◌}
 use Rattle.std.specs.Option.{option_map_or}
 use Rattle.ds_base.specs.declared.fault.Fault.{Fault}

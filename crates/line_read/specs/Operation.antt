@@ -1,4 +1,4 @@
--- One operation of a line program (DWARF 4, section 6.2.5): what its bytes say, or the first fault.
+-- One operation of a line program (DWARF 4 and DWARF 5, section 6.2.5): what its bytes say, or the first fault.
 use Rattle.std.specs.Prelude.{ℕ, zero, suc, ◌-◌, ◌==◌, not, length, nat_le, slice_get, Option, Some, None, Result, Ok, Err, if◌then◌else◌}
 use Rattle.std.specs.Option.{option_map_or}
 use Rattle.ds_base.specs.declared.dwarf.TheConstants.{DW_LNS_extended_op}
@@ -83,10 +83,10 @@ filled_at image relocs first (Some op) s = do
   Ok x.0
 
 -- the body of an extended operation, up to where it ends
-unfoldable pub body_at : Image → Relocs → Spot → Spot → Result LineOp Fault
-body_at image relocs first s = do
+unfoldable pub body_at : LineHeader → Image → Relocs → Spot → Spot → Result LineOp Fault
+body_at header image relocs first s = do
   code ← number_at 1 s
-  filled_at image relocs first (extended_of code.0) code.1
+  filled_at image relocs first (extended_of header.version code.0) code.1
 
 -- what does not end in the body
 abbrev pub fault_inside : Spot → Kind → Fault → Fault
@@ -104,12 +104,12 @@ part_at n s = do
   Ok (record s { end = bytes.1.place }, bytes.1)
 
 -- an extended operation that begins at first: behind the zero the length of the body, and the body
-unfoldable pub extended_at : Image → Relocs → Spot → Spot → Result (LineOp × Spot) Fault
-extended_at image relocs first s = do
+unfoldable pub extended_at : LineHeader → Image → Relocs → Spot → Spot → Result (LineOp × Spot) Fault
+extended_at header image relocs first s = do
   len ← uleb_at s
   _ ← refuse_if (len.0 == 0) (bad_op first)
   body ← part_at len.0 len.1
-  op ← inside first (body_at image relocs first body.0)
+  op ← inside first (body_at header image relocs first body.0)
   Ok (op, body.1)
 
 -- an operation; a special one is told by its code less opcode_base (section 6.2.5.1)
@@ -117,5 +117,5 @@ unfoldable pub op_at : LineHeader → Image → Relocs → Spot → Result (Line
 op_at header image relocs s = do
   code ← number_at 1 s
   if nat_le header.opcode_base code.0 then Ok (ops.Special (code.0 - header.opcode_base), code.1)
-      else if code.0 == DW_LNS_extended_op then extended_at image relocs s code.1
+      else if code.0 == DW_LNS_extended_op then extended_at header image relocs s code.1
       else low_at header code.0 (standard_of code.0) code.1

@@ -1,4 +1,4 @@
--- A line program (DWARF 4, section 6.2): the list of its operations, the matrix of rows that they give, and its sequences.
+-- A line program (DWARF 4 and DWARF 5, section 6.2): the list of its operations, the matrix of rows that they give, and its sequences.
 use Rattle.std.specs.Prelude.{ℕ, zero, suc, ◌-◌, ◌==◌, Bool, true, false, List, [], ◌∷◌, ◌++◌, Option, Some, None, Result, Ok, Err, nat_lt, if◌then◌else◌}
 use Rattle.ds_base.specs.declared.fault.Fault.{Fault}
 use Rattle.ds_base.specs.declared.fault.Kind.TheVariants as kinds
@@ -11,14 +11,15 @@ use Rattle.dwarf_types.specs.declared.lines.FileName.{FileName}
 use Rattle.dwarf_types.specs.declared.lines.RawLines.{RawLines}
 use Rattle.dwarf_types.specs.declared.lines.RawRow.{RawRow}
 use Rattle.dwarf_types.specs.declared.lines.RawSequence.{RawSequence}
+use Rattle.dwarf_types.specs.SectionBytes.{SectionBytes}
 use Rattle.macho_read.specs.declared.image.Image.{Image}
 use Rattle.reloc_table.specs.declared.relocation.Relocs.{Relocs}
 use Rattle.line_read.specs.declared.header.LineHeader.{LineHeader}
 use Rattle.line_read.specs.declared.names.HeaderEnd.{HeaderEnd}
 use Rattle.line_read.specs.declared.operation.LineOp.{LineOp}
 use Rattle.line_read.specs.declared.operation.LineOp.TheVariants as ops
-use Rattle.line_read.specs.Header.{line_at, bad, table_at, version_at, program_at, fields_at}
-use Rattle.line_read.specs.Names.{dir_at, file_at, table_of}
+use Rattle.line_read.specs.Header.{line_at, bad, table_at, version_at, sizes_at, program_at, fields_at}
+use Rattle.line_read.specs.Tables.{dirs_at, files_at}
 use Rattle.line_read.specs.Operation.{op_at}
 use Rattle.line_read.specs.Registers.{initial, changed, next}
 
@@ -115,19 +116,20 @@ program_of header dirs files listing = do
 
 -- where the header of a table ends, which begins at first
 abbrev pub header_end : Spot → Spot → HeaderEnd
-header_end first program = record { place = program.place; passed = bad first }
+header_end first program = record { place = program.place; passed = bad first; bad_format = fault_at first kinds.BadEntryFormat }
 
--- the line table that begins at first
-unfoldable pub lines_from : Image → Relocs → Spot → Result RawLines Fault
-lines_from image relocs first = do
+-- the line table that begins at first, of a unit of a version
+unfoldable pub lines_from : Image → Relocs → SectionBytes → ℕ → Spot → Result RawLines Fault
+lines_from image relocs sections unit first = do
   s ← table_at first
-  version ← version_at s
-  program ← program_at first version.1
+  version ← version_at unit s
+  sizes ← sizes_at first version.0 version.1
+  program ← program_at first sizes.1
   header ← fields_at first version.0 program.1
-  dirs ← table_of (dir_at (header_end first program.0)) header.1
-  files ← table_of (file_at (header_end first program.0)) dirs.1
+  dirs ← dirs_at (header_end first program.0) sections version.0 header.1
+  files ← files_at (header_end first program.0) sections version.0 dirs.1
   program_of header.0 dirs.0 files.0 (ops_at (op_at header.0 image relocs) (program.0.end - program.0.place) program.0)
 
 -- the line table that begins at a place of the section
-abbrev pub lines_of : Image → Relocs → List ℕ → ℕ → Result RawLines Fault
-lines_of image relocs bytes offset = lines_from image relocs (line_at bytes offset)
+abbrev pub lines_of : Image → Relocs → SectionBytes → ℕ → ℕ → Result RawLines Fault
+lines_of image relocs sections version offset = lines_from image relocs sections version (line_at sections.line offset)

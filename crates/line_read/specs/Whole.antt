@@ -8,7 +8,7 @@ use Rattle.macho_read.specs.declared.image.Image.{Image}
 use Rattle.reloc_table.specs.declared.relocation.Relocs.{Relocs}
 use Rattle.line_read.specs.declared.header.LineHeader.{LineHeader}
 use Rattle.line_read.specs.declared.operation.LineOp.{LineOp}
-use Rattle.line_read.specs.Header.{table_at, version_at, program_at}
+use Rattle.line_read.specs.Header.{table_at, version_at, sizes_at, program_at}
 use Rattle.line_read.specs.Operation.{op_at}
 use Rattle.line_read.specs.Program.{program_of}
 
@@ -18,16 +18,24 @@ Fill read s [] = s.place ≡ s.end
 Fill read s (op ∷ more) = (t : Spot) × (op.0 ≡ s.place) × (read s ≡ Ok (op.1, t)) × (s.place < t.place) × Fill read t more
 
 -- the program of the table that begins at first: it begins where header_length says, and ends where unit_length says
-abbrev pub IsProgram : Spot → Spot → Type 0
-IsProgram first program = (table : Spot) × (version : ℕ × Spot) × (behind : Spot) × (table_at first ≡ Ok table) × (version_at table ≡ Ok version) × (program_at first version.1 ≡ Ok (program, behind)) × (program.end ≡ table.end)
+pub record IsProgram (unit : ℕ) (first program : Spot) : Type 0 where
+  pub table : Spot
+  pub version : ℕ × Spot
+  pub sizes : Unit {0} × Spot
+  pub behind : Spot
+  pub opened : table_at first ≡ Ok table
+  pub versioned : version_at unit table ≡ Ok version
+  pub sized : sizes_at first version.0 version.1 ≡ Ok sizes
+  pub placed : program_at first sizes.1 ≡ Ok (program, behind)
+  pub ended : program.end ≡ table.end
 
 -- a table that is read: operations fill its program, and it is what they mean
-pub record IsWhole (image : Image) (relocs : Relocs) (first : Spot) (lines : RawLines) : Type 0 where
+pub record IsWhole (image : Image) (relocs : Relocs) (unit : ℕ) (first : Spot) (lines : RawLines) : Type 0 where
   pub header : LineHeader
   pub dirs : List (List ℕ)
   pub files : List FileName
   pub program : Spot
   pub ops : List (ℕ × LineOp)
-  pub stands : IsProgram first program
+  pub stands : IsProgram unit first program
   pub filled : Fill (op_at header image relocs) program ops
   pub means : program_of header dirs files (record { ops = ops; stop = None }) ≡ Ok lines

@@ -1,8 +1,10 @@
-//! The operations of line programs, as two tables from their codes (DWARF 4, section 7.21, figures 37 and 38).
+//! The operations of line programs, as two tables from their codes (DWARF 4, section 7.21, figures 37 and 38; DWARF 5,
+//! section 7.22, tables 7.25 and 7.26).
 
 ghost use Rattle.std.specs.Prelude.{◌≡◌};
-ghost use Rattle.line_read.specs.Codes.{standard_of, extended_of};
+ghost use Rattle.line_read.specs.Codes.{standard_of, extended_of, file_definition_of};
 
+use crate::header::FORMATS_SINCE;
 use ds_base::dwarf::{
     DW_LNE_define_file, DW_LNE_end_sequence, DW_LNE_set_address, DW_LNE_set_discriminator,
     DW_LNS_advance_line, DW_LNS_advance_pc, DW_LNS_const_add_pc, DW_LNS_copy,
@@ -58,16 +60,28 @@ pub(crate) fn standard_op(code: u8) -> Option<StandardOp>
     }
 }
 
-/// The extended operation of a code, or `None` where the standard has none.
+/// The extended operation of a code in tables of a version, or `None` where the standard has none. Version 5 has no
+/// operation that defines a file.
 #[tactic(auto, unfolding(crate::specs::Codes::extended_of))]
-pub(crate) fn extended_op(code: u8) -> Option<ExtendedOp>
-    ensures { result ≡ extended_of code }
+pub(crate) fn extended_op(version: u16, code: u8) -> Option<ExtendedOp>
+    ensures { result ≡ extended_of version code }
 {
     match code {
         DW_LNE_end_sequence => Some(ExtendedOp::EndSequence),
         DW_LNE_set_address => Some(ExtendedOp::SetAddress),
-        DW_LNE_define_file => Some(ExtendedOp::DefineFile),
+        DW_LNE_define_file => file_definition(version),
         DW_LNE_set_discriminator => Some(ExtendedOp::SetDiscriminator),
         _ => None,
+    }
+}
+
+/// The operation that defines a file, which version 5 does not have.
+fn file_definition(version: u16) -> Option<ExtendedOp>
+    ensures { result ≡ file_definition_of version }
+{
+    if version < FORMATS_SINCE {
+        Some(ExtendedOp::DefineFile)
+    } else {
+        None
     }
 }

@@ -3,17 +3,25 @@
 ghost use Rattle.std.specs.Prelude.{◌≡◌, ◌<◌, ◌≤◌, [], length, IfOk};
 ghost use Rattle.ds_base.specs.Reading.{Finds, Reads, ReadsUnlessFull, items_at, number_at};
 ghost use Rattle.line_read.specs.Bounds.{IsInside};
-ghost use Rattle.line_read.specs.Header.{line_at, table_at, version_at, program_at, operations_at, fields_at};
+ghost use Rattle.line_read.specs.Header;
+ghost use Rattle.line_read.specs.Header.{line_at, table_at, version_at, sizes_at, program_at, operations_at, fields_at};
 
-use ds_base::dwarf::LENGTH_RESERVED;
+use ds_base::dwarf::{ADDRESS_SIZE, LENGTH_RESERVED};
 use ds_base::{Cursor, Fault, Kind, List, Part, ReadError};
 use std::alloc::Global;
 
 /// The version of the tables of DWARF 2, the first.
 const FIRST_VERSION: u16 = 2;
 
+/// The version of the tables of DWARF 5.
+const LAST_VERSION: u16 = 5;
+
 /// The version of the tables of DWARF 4.
-const LAST_VERSION: u16 = 4;
+const LAST_WITHOUT_FORMATS: u16 = 4;
+
+/// The first version whose directories and files have entry formats. Its header tells the sizes of an address and of a
+/// segment selector, and its units are the first that have such tables.
+pub(crate) const FORMATS_SINCE: u16 = 5;
 
 /// The first version that has maximum_operations_per_instruction.
 const OPERATIONS_SINCE: u16 = 4;
@@ -21,9 +29,11 @@ const OPERATIONS_SINCE: u16 = 4;
 /// The most operations that an instruction may have: programs for VLIW machines are not read.
 const MOST_OPERATIONS: u8 = 1;
 
-/// What a header says of the program (DWARF 4, section 6.2.4), under the standard's names.
+/// What a header says of the program (DWARF 4 and DWARF 5, section 6.2.4), under the standard's names.
 #[derive(Drop)]
 pub(crate) struct LineHeader {
+    /// The table's own version.
+    pub(crate) version: u16,
     /// In bytes.
     pub(crate) minimum_instruction_length: u8,
     pub(crate) default_is_stmt: bool,
@@ -60,17 +70,45 @@ pub(crate) fn open_table(bytes: &[u8], place: u64) -> Result<Cursor, Fault>
     Ok(Cursor::new(bytes, Part::Line, body, body + u64::from(len)))
 }
 
-/// The table's own version, which is not that of its unit.
+/// The table's own version, in a unit of version `unit`.
 #[tactic(auto, unfolding(crate::specs::Header::version_at))]
-pub(crate) fn read_version(cursor: &mut Cursor) -> Result<u16, Fault>
-    ensures { Reads (λ version. version) result cursor.new (version_at cursor.old) }
+pub(crate) fn read_version(cursor: &mut Cursor, unit: u16) -> Result<u16, Fault>
+    ensures { Reads (λ version. version) result cursor.new (version_at unit cursor.old) }
 {
     let field = cursor.fork();
     let version = cursor.u16()?;
-    if version < FIRST_VERSION || version > LAST_VERSION {
+    if version < FIRST_VERSION || version > last_version(unit) {
         return Err(field.fault(Kind::LineVersion));
     }
     Ok(version)
+}
+
+/// The last version of the tables that units of a version have.
+fn last_version(unit: u16) -> u16
+    ensures { result ≡ Header.last_version unit }
+{
+    if unit < FORMATS_SINCE {
+        LAST_WITHOUT_FORMATS
+    } else {
+        LAST_VERSION
+    }
+}
+
+/// Reads address_size and segment_selector_size, which version 5 is the first to have. `first` is where the table begins.
+#[tactic(auto, unfolding(crate::specs::Header::sizes_at))]
+pub(crate) fn check_sizes(cursor: &mut Cursor, first: &Cursor, version: u16) -> Result<(), Fault>
+    ensures { Reads (λ _. tt) result cursor.new (sizes_at first.now version cursor.old) }
+{
+    if version < FORMATS_SINCE {
+        return Ok(());
+    }
+    if cursor.u8()? != ADDRESS_SIZE {
+        return Err(first.fault(Kind::BadLineHeader));
+    }
+    if cursor.u8()? != 0 {
+        return Err(first.fault(Kind::BadLineHeader));
+    }
+    Ok(())
 }
 
 /// A cursor at the program, as header_length tells. `first` is where the table begins.
@@ -111,6 +149,7 @@ pub(crate) fn read_fields(
     }
     let standard_opcode_lengths = read_lengths(alloc, cursor, opcode_base - 1)?;
     Ok(LineHeader {
+        version,
         minimum_instruction_length,
         default_is_stmt: is_stmt != 0,
         line_base: line_base.cast_signed(),

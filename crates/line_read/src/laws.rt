@@ -1,10 +1,11 @@
 //! What the definition of a line table says of one.
 
-ghost use Rattle.std.specs.Prelude.{◌≡◌, ℕ, List as Listed, [], ◌∷◌, Ok, Err};
+ghost use Rattle.std.specs.Prelude.{◌≡◌, ℕ, [], ◌∷◌, Ok, Err};
 ghost use Rattle.std.specs.List.{Contains};
 ghost use Rattle.ds_base.specs.declared.fault.Fault.{Fault};
-ghost use Rattle.ds_base.specs.declared.fault.Kind.TheVariants.{Truncated, LebTooWide, LineVersion, BadLineHeader, VliwLine, BadLineOp, LineBackwards};
+ghost use Rattle.ds_base.specs.declared.fault.Kind.TheVariants.{Truncated, LebTooWide, BadOffset, LineVersion, BadLineHeader, VliwLine, BadLineOp, LineBackwards, BadEntryFormat};
 ghost use Rattle.dwarf_types.specs.declared.lines.RawLines.{RawLines};
+ghost use Rattle.dwarf_types.specs.SectionBytes.{SectionBytes};
 ghost use Rattle.macho_read.specs.declared.image.Image.{Image};
 ghost use Rattle.reloc_table.specs.declared.relocation.Relocs.{Relocs};
 ghost use Rattle.line_read.specs.Header.{line_at};
@@ -14,12 +15,12 @@ ghost use Rattle.line_read.specs.Whole.{IsWhole};
 /// The program of a table that is read is read whole: operations follow each other without a gap from its first byte to
 /// the table's end, and the table is what they mean.
 pub fn operations_fill_the_program()
-    ensures { (image : Image) (relocs : Relocs) (bytes : Listed ℕ) (offset : ℕ) (lines : RawLines) →
-        lines_of image relocs bytes offset ≡ Ok lines → IsWhole image relocs (line_at bytes offset) lines }
+    ensures { (image : Image) (relocs : Relocs) (sections : SectionBytes) (version offset : ℕ) (lines : RawLines) →
+        lines_of image relocs sections version offset ≡ Ok lines → IsWhole image relocs version (line_at sections.line offset) lines }
 {}
 
 /// Each fault of a table is of one of these kinds.
 pub fn kinds_of_line_faults()
-    ensures { (image : Image) (relocs : Relocs) (bytes : Listed ℕ) (offset : ℕ) (f : Fault) →
-        lines_of image relocs bytes offset ≡ Err f → Contains (Truncated ∷ LebTooWide ∷ LineVersion ∷ BadLineHeader ∷ VliwLine ∷ BadLineOp ∷ LineBackwards ∷ []) f.kind }
+    ensures { (image : Image) (relocs : Relocs) (sections : SectionBytes) (version offset : ℕ) (f : Fault) →
+        lines_of image relocs sections version offset ≡ Err f → Contains (Truncated ∷ LebTooWide ∷ BadOffset ∷ LineVersion ∷ BadLineHeader ∷ VliwLine ∷ BadLineOp ∷ LineBackwards ∷ BadEntryFormat ∷ []) f.kind }
 {}

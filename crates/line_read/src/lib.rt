@@ -1,16 +1,19 @@
 //! Line programs: `__debug_line` of an object, as sequences of rows.
 //!
-//! Layer: object readers. Reads tables of versions 2, 3 and 4 (DWARF 4, section 6.2) in the 32-bit format.
-//! [`read_lines`] is the crate's one call. It gives `lines_of` the section's bytes (`specs/Program.antt`), or the
-//! first fault in the order of the table's items. The definition goes in the standard's order: the header's fields
-//! (`specs/Header.antt`), directories and files (`specs/Names.antt`), one operation from its bytes
-//! (`specs/Operation.antt`), what an operation does to the registers (`specs/Registers.antt`), and the matrix of
-//! rows that the list of operations gives, cut into sequences (`specs/Program.antt`). Addresses stay the object's:
-//! `addr_map` moves them. Tables of version 5 are refused. No byte of a program that is read is left out
-//! ([`operations_fill_the_program`]), and faults are of the kinds that [`kinds_of_line_faults`] names.
+//! Layer: object readers. Reads tables of versions 2 to 5 (DWARF 4 and DWARF 5, section 6.2) in the 32-bit format; one of
+//! version 5 stands in a unit of version 5 alone. [`read_lines`] gives `lines_of` the sections' bytes
+//! (`specs/Program.antt`), or the first fault in the order of the table's items. The definition goes in the standard's
+//! order: the header's fields (`specs/Header.antt`), directories and files (`specs/Tables.antt`) as versions 2 to 4 have
+//! them (`specs/Names.antt`) or by the entry formats of version 5 (`specs/Formats.antt`, `specs/Entries.antt`), one
+//! operation from its bytes (`specs/Operation.antt`), what an operation does to the registers (`specs/Registers.antt`),
+//! and the matrix of rows that the list of operations gives, cut into sequences (`specs/Program.antt`). Addresses stay the
+//! object's: `addr_map` moves them. [`table_version`] tells a table's own version. No byte of a program that is read is
+//! left out ([`operations_fill_the_program`]), and faults are of the kinds that [`kinds_of_line_faults`] names.
 #![tactic(auto)]
 
 mod codes;
+mod entries;
+mod formats;
 mod header;
 mod laws;
 mod names;
@@ -20,4 +23,4 @@ mod registers;
 mod table;
 
 pub use laws::{kinds_of_line_faults, operations_fill_the_program};
-pub use table::read_lines;
+pub use table::{read_lines, table_version};

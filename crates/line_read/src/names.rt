@@ -1,4 +1,4 @@
-//! The directories and files of a line table.
+//! The directories and files of a line table before version 5.
 
 ghost use Rattle.ds_base.specs.Reading.{Reads, ReadsUnlessFull, text_at, uleb_at};
 ghost use Rattle.line_read.specs.Names.{within, dir_at, file_of, file_at, table_of};
@@ -14,6 +14,8 @@ pub(crate) struct HeaderEnd {
     pub(crate) place: u64,
     /// The fault of a table that passes it.
     pub(crate) passed: Fault,
+    /// The fault of a table whose entry format is wrong.
+    pub(crate) bad_format: Fault,
 }
 
 /// The directories, up to the empty name (DWARF 4, section 6.2.4, include_directories).
@@ -120,7 +122,7 @@ fn read_name<'a>(cursor: &mut Cursor<'a>, header: HeaderEnd) -> Result<&'a [u8],
 }
 
 /// A number that does not pass the header's end.
-fn read_number(cursor: &mut Cursor, header: HeaderEnd) -> Result<u64, Fault>
+pub(crate) fn read_number(cursor: &mut Cursor, header: HeaderEnd) -> Result<u64, Fault>
     ensures { Reads (λ n. n) result cursor.new (within header (uleb_at cursor.old)) }
 {
     let n = cursor.uleb()?;

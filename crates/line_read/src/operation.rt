@@ -18,7 +18,7 @@ use macho_read::Image;
 use reloc_table::{Relocs, resolve};
 use std::alloc::Global;
 
-/// An operation of a line program (DWARF 4, section 6.2.5), with its operands.
+/// An operation of a line program (DWARF 4 and DWARF 5, section 6.2.5), with its operands.
 #[derive(Drop)]
 pub(crate) enum LineOp {
     /// A special operation, by its code less opcode_base.
@@ -39,7 +39,7 @@ pub(crate) enum LineOp {
     SetAddress(Addr),
     DefineFile(FileName),
     SetDiscriminator(u64),
-    /// One that the standard does not have, which is passed over.
+    /// One that the standard does not have, or not in this version, which is passed over.
     Unknown,
 }
 
@@ -65,7 +65,7 @@ pub(crate) fn read_op(
         return Ok(LineOp::Special(code - header.opcode_base));
     }
     if code == DW_LNS_extended_op {
-        return read_extended(alloc, bytes, relocs, image, &first, cursor);
+        return read_extended(alloc, header, bytes, relocs, image, &first, cursor);
     }
     Ok(read_low(cursor, header, code)?)
 }
@@ -131,6 +131,7 @@ fn read_standard(op: StandardOp, cursor: &mut Cursor) -> Result<LineOp, Fault>
 #[tactic(auto, unfolding(crate::specs::Operation::extended_at))]
 fn read_extended(
     alloc: Global,
+    header: &LineHeader,
     bytes: &[u8],
     relocs: &Relocs,
     image: &Image,
@@ -141,14 +142,14 @@ fn read_extended(
     requires small { length bytes.now < 2 ^ 32 }
     requires sound { IsSound image.now relocs.now }
     requires sound_image { IsSoundImage image.now }
-    ensures { ReadsUnlessFull (λ op. op) result cursor.new (extended_at image.now relocs.now first.now cursor.old) }
+    ensures { ReadsUnlessFull (λ op. op) result cursor.new (extended_at header.now image.now relocs.now first.now cursor.old) }
 {
     let len = cursor.uleb()?;
     if len == 0 {
         return Err(ReadError::Faulty(first.fault(Kind::BadLineOp)));
     }
     let body = read_part(bytes, cursor, len)?;
-    match read_body(alloc, relocs, image, first, body) {
+    match read_body(alloc, header, relocs, image, first, body) {
         Ok(op) => Ok(op),
         Err(ReadError::Faulty(fault)) => Err(ReadError::Faulty(fault_in_body(first, fault))),
         Err(ReadError::NoMemory) => Err(ReadError::NoMemory),
@@ -182,6 +183,7 @@ fn fault_in_body(first: &Cursor, fault: Fault) -> Fault
 #[tactic(auto, unfolding(crate::specs::Operation::body_at, crate::specs::Operation::filled_at))]
 fn read_body(
     alloc: Global,
+    header: &LineHeader,
     relocs: &Relocs,
     image: &Image,
     first: &Cursor,
@@ -190,11 +192,11 @@ fn read_body(
     requires small { IsSmall body }
     requires sound { IsSound image.now relocs.now }
     requires sound_image { IsSoundImage image.now }
-    ensures { Gives (λ op. op) result (body_at image.now relocs.now first.now body.entry) }
+    ensures { Gives (λ op. op) result (body_at header.now image.now relocs.now first.now body.entry) }
 {
     let mut body = body;
     let code = body.u8()?;
-    match extended_op(code) {
+    match extended_op(header.version, code) {
         Some(op) => read_filled(alloc, relocs, image, first, op, body),
         None => Ok(LineOp::Unknown),
     }
