@@ -19,7 +19,7 @@ bytes_in_turn (b ∷ bytes) before s more h =
 
 pub fields_again : (first s : Spot) (more : List ℕ) → At s (1 ∷ 1 ∷ 1 ∷ 0xfb ∷ 14 ∷ 13 ∷ (standard_opcode_lengths ++ more)) →
     fields_at first 4 s ≡ Ok (
-      record { minimum_instruction_length = 1; default_is_stmt = true; line_base = negsuc 4; line_range = 14; opcode_base = 13; standard_opcode_lengths = standard_opcode_lengths },
+      record { version = 4; minimum_instruction_length = 1; default_is_stmt = true; line_base = negsuc 4; line_range = 14; opcode_base = 13; standard_opcode_lengths = standard_opcode_lengths },
       after s 18,
     )
 unfolding fields_at operations_at

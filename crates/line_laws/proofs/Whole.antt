@@ -1,6 +1,6 @@
 -- A written line table is read again, whatever follows it.
-use Rattle.std.proofs.Common.{◌≡◌, ℕ, ◌+◌, ◌-◌, ◌<◌, true, false, negsuc, List, [], ◌∷◌, ◌++◌, length, take, Ok, refl, sym, ap, subst, ◌∙◌, append_assoc, arith, length-append}
-use Rattle.std.specs.Prelude.{nat_le}
+use Rattle.std.proofs.Common.{◌≡◌, ℕ, ◌+◌, ◌-◌, ◌<◌, Bool, true, false, negsuc, List, [], ◌∷◌, ◌++◌, length, take, Ok, refl, sym, ap, subst, ◌∙◌, append_assoc, arith, length-append}
+use Rattle.std.specs.Prelude.{nat_lt, nat_le, if◌then◌else◌}
 use Rattle.std.specs.List.{flat_map}
 use Rattle.std.proofs.lemmas.Bool.{le-ltb}
 use Rattle.std.proofs.lemmas.List.{drop_at, take_all}
@@ -11,10 +11,12 @@ use Rattle.ds_base.specs.Texts.{ended}
 use Rattle.dwarf_types.specs.declared.lines.OutLines.{OutLines}
 use Rattle.dwarf_types.specs.LineTable.{fields_bytes, file_bytes, line_table_bytes, program_bytes, standard_opcode_lengths, tables_bytes}
 use Rattle.dwarf_types.specs.WellLines.{IsLineTable}
+use Rattle.dwarf_types.specs.SectionBytes.{SectionBytes}
 use Rattle.macho_read.specs.declared.image.Image.{Image}
 use Rattle.reloc_table.specs.declared.relocation.Relocs.{Relocs}
-use Rattle.line_read.specs.Header.{line_at, table_at, version_at, program_at}
+use Rattle.line_read.specs.Header.{line_at, table_at, last_version, version_at, sizes_at, program_at}
 use Rattle.line_read.specs.Operation.{op_at}
+use Rattle.line_read.specs.Tables.{dirs_at, files_at}
 use Rattle.line_read.specs.Program.{ops_at, program_of, lines_from}
 use Rattle.line_read.proofs.Programs.{program_is}
 use Rattle.line_laws.specs.Again.{read_again}
@@ -51,22 +53,30 @@ module _ (image : Image) (relocs : Relocs) (none : relocs.list ≡ []) (lines : 
   -- the program
   rows_again : (s : Spot) → At s (program_bytes lines) →
       program_of
-      (record { minimum_instruction_length = 1; default_is_stmt = true; line_base = negsuc 4; line_range = 14; opcode_base = 13; standard_opcode_lengths = standard_opcode_lengths })
+      (record { version = 4; minimum_instruction_length = 1; default_is_stmt = true; line_base = negsuc 4; line_range = 14; opcode_base = 13; standard_opcode_lengths = standard_opcode_lengths })
       lines.dirs lines.files
       (ops_at
-      (op_at (record { minimum_instruction_length = 1; default_is_stmt = true; line_base = negsuc 4; line_range = 14; opcode_base = 13; standard_opcode_lengths = standard_opcode_lengths }) image relocs)
+      (op_at (record { version = 4; minimum_instruction_length = 1; default_is_stmt = true; line_base = negsuc 4; line_range = 14; opcode_base = 13; standard_opcode_lengths = standard_opcode_lengths }) image relocs)
       (s.end - s.place) s)
       ≡ Ok (read_again lines)
   rows_again s h =
       sym (program_is
-      (op_at (record { minimum_instruction_length = 1; default_is_stmt = true; line_base = negsuc 4; line_range = 14; opcode_base = 13; standard_opcode_lengths = standard_opcode_lengths }) image relocs)
-      (record { minimum_instruction_length = 1; default_is_stmt = true; line_base = negsuc 4; line_range = 14; opcode_base = 13; standard_opcode_lengths = standard_opcode_lengths })
+      (op_at (record { version = 4; minimum_instruction_length = 1; default_is_stmt = true; line_base = negsuc 4; line_range = 14; opcode_base = 13; standard_opcode_lengths = standard_opcode_lengths }) image relocs)
+      (record { version = 4; minimum_instruction_length = 1; default_is_stmt = true; line_base = negsuc 4; line_range = 14; opcode_base = 13; standard_opcode_lengths = standard_opcode_lengths })
       lines.dirs lines.files (s.end - s.place) s)
       ∙ program_again image relocs none lines.dirs lines.files lines.sequences s sound.sequences h
 
-  pub table_again : (first : Spot) (more : List ℕ) → length (line_table_bytes lines) < LENGTH_RESERVED + 4 → At first (line_table_bytes lines ++ more) → lines_from image relocs first ≡ Ok (read_again lines)
-  unfolding lines_from table_at version_at program_at
-  table_again first more small h =
+  -- units of every version have tables of version 4
+  four_stands : (unit : ℕ) → nat_lt (last_version unit) 4 ≡ false
+  four_stands unit = by (nat_lt unit 5)
+    where
+      by : (b : Bool) → nat_lt (if b then 4 else 5) 4 ≡ false
+      by true = refl
+      by false = refl
+
+  pub table_again : (sections : SectionBytes) (unit : ℕ) (first : Spot) (more : List ℕ) → length (line_table_bytes lines) < LENGTH_RESERVED + 4 → At first (line_table_bytes lines ++ more) → lines_from image relocs sections unit first ≡ Ok (read_again lines)
+  unfolding lines_from table_at version_at sizes_at program_at dirs_at files_at
+  table_again sections unit first more small h =
       let body = body_of lines in
       let fields = fields_bytes lines in
       let program = program_bytes lines in
@@ -101,6 +111,7 @@ module _ (image : Image) (relocs : Relocs) (none : relocs.list ≡ []) (lines : 
         reserved,
         le-ltb (first.end - (first.place + 4)) (length body) (omega (arith, h1.end_is, length-append body more)),
         number_again 2 4 s0 (little_bytes 4 (length fields) ++ (fields ++ program)) (omega arith) h2,
+        four_stands unit,
         number_again 4 (length fields) s1 (fields ++ program) (omega (arith, few, body_len)) h3,
         le-ltb (s2.end - s2.place) (length fields) (omega (arith, h4.end_is, length-append fields program)),
         fields_again first s2 (tables ++ program) h4,

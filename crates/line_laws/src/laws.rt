@@ -4,19 +4,20 @@ ghost use Rattle.std.specs.Prelude.{◌≡◌, ◌+◌, ◌<◌, ◌++◌, ℕ, 
 ghost use Rattle.ds_base.specs.declared.dwarf.TheConstants.{LENGTH_RESERVED};
 ghost use Rattle.dwarf_types.specs.declared.lines.OutLines.{OutLines};
 ghost use Rattle.dwarf_types.specs.LineTable.{line_table_bytes};
+ghost use Rattle.dwarf_types.specs.SectionBytes.{SectionBytes};
 ghost use Rattle.dwarf_types.specs.WellLines.{IsLineTable};
 ghost use Rattle.macho_read.specs.declared.image.Image.{Image};
 ghost use Rattle.reloc_table.specs.declared.relocation.Relocs.{Relocs};
 ghost use Rattle.line_read.specs.Program.{lines_of};
 ghost use Rattle.line_laws.specs.Again.{read_again};
 
-/// A table that is written is read back whole, wherever it stands in `__debug_line` and whatever follows it there
-/// (DWARF 4, sections 6.2.4 and 6.2.5).
+/// A table that is written is read back whole, wherever it stands in `__debug_line`, whatever follows it there, and in
+/// units of every version (DWARF 4, sections 6.2.4 and 6.2.5).
 ///
 /// No relocation stands in the section, so each address is a plain number. A table's length has four bytes, and its
 /// greatest values are reserved (DWARF 4, section 7.4).
 pub fn line_tables_are_read_as_written()
-    ensures { (lines : OutLines) (front more : Listed ℕ) (image : Image) (relocs : Relocs) →
+    ensures { (lines : OutLines) (front more : Listed ℕ) (image : Image) (relocs : Relocs) (sections : SectionBytes) (version : ℕ) →
         IsLineTable lines → length (line_table_bytes lines) < LENGTH_RESERVED + 4 → relocs.list ≡ [] →
-        lines_of image relocs (front ++ (line_table_bytes lines ++ more)) (length front) ≡ Ok (read_again lines) }
+        lines_of image relocs (record sections { line = front ++ (line_table_bytes lines ++ more) }) version (length front) ≡ Ok (read_again lines) }
 {}

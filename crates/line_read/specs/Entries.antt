@@ -1,5 +1,5 @@
 -- The tables of directories and files of version 5 (DWARF 5, section 6.2.4, from directory_entry_format_count to file_names).
-use Rattle.std.specs.Prelude.{ℕ, ◌==◌, not, List, [], ◌∷◌, length, take, drop, nat_lt, Option, Some, None, Result, Ok, ◌&&◌}
+use Rattle.std.specs.Prelude.{ℕ, ◌==◌, not, List, [], ◌∷◌, take, drop, Option, Some, None, Result, Ok, ◌&&◌}
 use Rattle.std.specs.List.{list_any}
 use Rattle.std.specs.Option.{option_map, unwrap_or}
 use Rattle.ds_base.specs.declared.fault.Fault.{Fault}
