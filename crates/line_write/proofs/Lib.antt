@@ -1,1 +1,4 @@
+pub mod Naming
 pub mod Operations
+pub mod Pieces
+pub mod Parts

@@ -1,113 +1,135 @@
-//! Line tables (DWARF 4, section 6.2.4).
+//! Line tables (DWARF 4, section 6.2.4; DWARF 5, section 6.2.4).
 
-ghost use Rattle.std.specs.Prelude.{◌≡◌, ◌++◌, length, OnOk};
-ghost use Rattle.std.specs.List.{flat_map};
+ghost use Rattle.std.specs.Prelude.{ℕ, List as Listed, ◌≡◌, ◌+◌, ◌++◌, length, OnOk};
 ghost use Rattle.byteorder.specs.Endian.{little_bytes};
-ghost use Rattle.ds_base.specs.Texts.{ended};
-ghost use Rattle.dwarf_types.specs.LineTable.{fields_bytes, file_bytes, line_table_bytes, program_bytes, tables_bytes};
+ghost use Rattle.dwarf_types.specs.LineTable.{fields_bytes, line_table_bytes, names_bytes, version_bytes};
+ghost use Rattle.line_write.specs.Named.{AppendsNamed, table_of, texts_in};
+ghost use Rattle.patches.specs.Filling.{Filling, filled};
 
+use crate::names::append_entries;
 use crate::sequences::append_sequences;
-use appending::{append_u16, append_uleb, close_length, open_length};
+use crate::tables::append_tables;
 use ds_base::dwarf::{LINE_BASE, LINE_RANGE, OPCODE_BASE};
 use ds_base::{Bytes, NoMemory};
-use dwarf_types::{FileName, OutLines};
+use dwarf_types::OutLines;
+use patches::Buffer;
+use std::alloc::Global;
+use text_pool::Names;
 
-/// The version of the tables that are written.
-const TABLE_VERSION: u16 = 4;
+/// The version whose tables name their texts by places.
+const DWARF_5: u16 = 5;
+
+/// The version of all other tables.
+const DWARF_4: u16 = 4;
+
+/// How many bytes an address has.
+const ADDRESS_SIZE: u8 = 8;
 
 /// How many operands each standard operation has, from `DW_LNS_copy` on.
 const STANDARD_OPCODE_LENGTHS: [u8; 12] = [0, 1, 1, 1, 1, 0, 0, 0, 1, 0, 0, 1];
 
-/// Puts a line table of version 4 last.
+/// Puts a line table last: of version 5, or of version 4 for every other number.
 ///
-/// Of a file's digest nothing is written. A length that has no place in four bytes is written by its lowest four.
-pub fn append_lines(out: &mut Bytes, lines: &OutLines) -> Result<(), NoMemory>
-    ensures { OnOk result (out.new ≡ out.old ++ line_table_bytes lines.now) }
+/// In version 5 the place of a text is a hole with the text's number among `names`, which grow by the directories and
+/// then the files. In version 4 nothing is written of a file's digest. A length that has no place in four bytes is
+/// written by its lowest four.
+pub fn append_lines(
+    alloc: Global,
+    out: &mut Buffer,
+    names: &mut Names,
+    version: u16,
+    lines: &OutLines,
+) -> Result<(), NoMemory>
+    ensures table { OnOk result (AppendsNamed out.old out.new names.old names.new (λ text. line_table_bytes version text lines.now) (texts_in version lines.now)) }
+
+    // Whatever is put into the holes, it is as long.
+    ensures size { OnOk result ((f : Filling) → length (filled out.new f) ≡ length (filled out.old f) + length (line_table_bytes version (λ text. 0) lines.now)) }
 {
-    let unit_length = open_length(out)?;
-    append_unit(out, lines)?;
-    close_length(out, unit_length);
+    let mut fields = Buffer::new(alloc);
+    append_fields(&mut fields, names, version, lines)?;
+    let mut program = Bytes::new(alloc);
+    append_sequences(&mut program, lines.sequences.as_slice())?;
+    append_parts(out, version, &fields, program.as_slice())?;
     Ok(())
 }
 
-/// Puts last what unit_length counts: the version, the header and the program.
-fn append_unit(out: &mut Bytes, lines: &OutLines) -> Result<(), NoMemory>
-    ensures { OnOk result (out.new ≡ out.old ++ (little_bytes 2 4 ++ ((little_bytes 4 (length (fields_bytes lines.now)) ++ fields_bytes lines.now) ++ program_bytes lines.now))) }
+/// Puts a table of these fields and this program last.
+fn append_parts(
+    out: &mut Buffer,
+    version: u16,
+    fields: &Buffer,
+    program: &[u8],
+) -> Result<(), NoMemory>
+    ensures table { OnOk result ((f : Filling) → filled out.new f ≡ filled out.old f ++ table_of version (filled fields.now f) program.now) }
+    ensures size { (f g : Filling) → length (filled fields.now f) ≡ length (filled fields.now g) }
 {
-    append_u16(out, TABLE_VERSION)?;
-    append_header(out, lines)?;
-    append_sequences(out, lines.sequences.as_slice())?;
+    let header_length = fields.len() as u128;
+    let unit_length = version_len(version) + 4 + header_length + program.len() as u128;
+    append_length(out, unit_length)?;
+    append_version(out, version)?;
+    append_length(out, header_length)?;
+    out.append(fields)?;
+    out.extend(program)?;
     Ok(())
 }
 
-/// Puts last header_length and the fields that it counts.
-fn append_header(out: &mut Bytes, lines: &OutLines) -> Result<(), NoMemory>
-    ensures { OnOk result (out.new ≡ out.old ++ (little_bytes 4 (length (fields_bytes lines.now)) ++ fields_bytes lines.now)) }
+/// Puts the four lowest bytes of a length last.
+fn append_length(out: &mut Buffer, n: u128) -> Result<(), NoMemory>
+    ensures { OnOk result ((f : Filling) → filled out.new f ≡ filled out.old f ++ little_bytes 4 n) }
 {
-    let header_length = open_length(out)?;
-    append_fields(out, lines)?;
-    close_length(out, header_length);
+    out.extend(&n.to_le_bytes()[..4])?;
+    Ok(())
+}
+
+/// How many bytes stand between unit_length and header_length.
+fn version_len(version: u16) -> u128
+    ensures { result ≡ length (version_bytes version) }
+{
+    if version == DWARF_5 { 4 } else { 2 }
+}
+
+/// Puts the version last, and in version 5 address_size and segment_selector_size.
+fn append_version(out: &mut Buffer, version: u16) -> Result<(), NoMemory>
+    ensures { OnOk result ((f : Filling) → filled out.new f ≡ filled out.old f ++ version_bytes version) }
+{
+    if version == DWARF_5 {
+        out.extend_lowest(u64::from(DWARF_5), 2)?;
+        out.extend(&[ADDRESS_SIZE, 0])?;
+    } else {
+        out.extend_lowest(u64::from(DWARF_4), 2)?;
+    }
     Ok(())
 }
 
 /// Puts last the fields of the header that its length counts.
-fn append_fields(out: &mut Bytes, lines: &OutLines) -> Result<(), NoMemory>
-    ensures { OnOk result (out.new ≡ out.old ++ fields_bytes lines.now) }
+fn append_fields(
+    out: &mut Buffer,
+    names: &mut Names,
+    version: u16,
+    lines: &OutLines,
+) -> Result<(), NoMemory>
+    ensures { OnOk result (AppendsNamed out.old out.new names.old names.new (λ text. fields_bytes version text lines.now) (texts_in version lines.now)) }
 {
     // minimum_instruction_length, maximum_operations_per_instruction and default_is_stmt are 1.
     out.extend(&[1, 1, 1, LINE_BASE, LINE_RANGE, OPCODE_BASE])?;
     out.extend(&STANDARD_OPCODE_LENGTHS)?;
+    append_names(out, names, version, lines)?;
+    Ok(())
+}
+
+/// Puts the directories and files last.
+fn append_names(
+    out: &mut Buffer,
+    names: &mut Names,
+    version: u16,
+    lines: &OutLines,
+) -> Result<(), NoMemory>
+    ensures { OnOk result (AppendsNamed out.old out.new names.old names.new (λ text. names_bytes version text lines.now) (texts_in version lines.now)) }
+{
+    if version == DWARF_5 {
+        append_entries(out, names, lines)?;
+        return Ok(());
+    }
     append_tables(out, lines)?;
-    Ok(())
-}
-
-/// Puts last the directories and the files, each table ended by an empty text.
-fn append_tables(out: &mut Bytes, lines: &OutLines) -> Result<(), NoMemory>
-    ensures { OnOk result (out.new ≡ out.old ++ tables_bytes lines.now) }
-{
-    append_dirs(out, lines.dirs.as_slice())?;
-    out.push(0)?;
-    append_files(out, lines.files.as_slice())?;
-    out.push(0)?;
-    Ok(())
-}
-
-/// Puts the directories last.
-fn append_dirs(out: &mut Bytes, dirs: &[Bytes]) -> Result<(), NoMemory>
-    ensures { OnOk result (out.new ≡ out.old ++ flat_map ended dirs.now) }
-{
-    for dir in dirs {
-        append_text(out, dir)?;
-    }
-    Ok(())
-}
-
-/// Puts the files last.
-fn append_files(out: &mut Bytes, files: &[FileName]) -> Result<(), NoMemory>
-    ensures { OnOk result (out.new ≡ out.old ++ flat_map file_bytes files.now) }
-{
-    for file in files {
-        append_file(out, file)?;
-    }
-    Ok(())
-}
-
-/// Puts a file last: its path, the number of its directory, when it was changed, and its size.
-fn append_file(out: &mut Bytes, file: &FileName) -> Result<(), NoMemory>
-    ensures { OnOk result (out.new ≡ out.old ++ file_bytes file.now) }
-{
-    append_text(out, &file.name)?;
-    append_uleb(out, file.dir)?;
-    append_uleb(out, file.time)?;
-    append_uleb(out, file.size)?;
-    Ok(())
-}
-
-/// Puts a text last, which a zero byte ends.
-fn append_text(out: &mut Bytes, text: &Bytes) -> Result<(), NoMemory>
-    ensures { OnOk result (out.new ≡ out.old ++ ended text.now) }
-{
-    out.extend(text.as_slice())?;
-    out.push(0)?;
     Ok(())
 }

@@ -46,19 +46,20 @@ fn holes_are_filled_where_they_were_left(rt: HostRuntime) -> Result<(), Fail> {
     buffer.leave(Outer::Entry(Target { unit: 0, node: 1 }))?;
     buffer.leave(Outer::Entry(Target { unit: 5, node: 0 }))?;
     buffer.leave(Outer::Ranges(16))?;
+    buffer.leave(Outer::LineText(1))?;
     settle(&mut buffer);
     let mut nodes = List::new(alloc);
     nodes.push(11u32)?;
     nodes.push(12u32)?;
     let mut units = List::new(alloc);
     units.push(Placed { start: 0x100, nodes, len: 20 })?;
-    let outside = Outside { table: 0, lines: 0, ranges: 0x40, locations: 0, texts: &[0, 7], units: units.as_slice(), end: 0x200 };
+    let outside = Outside { table: 0, lines: 0, ranges: 0x40, locations: 0, texts: &[0, 7], line_texts: &[0, 9], units: units.as_slice(), end: 0x200 };
     let bytes = [
         12, 0, 0, 0,  b'a', b'b',  4, 3,  0x80, 1,  0xff, 0x7e,
         8,  0x8d, 0x80, 0x80, 0,  7, 0, 0, 0,
-        16, 0, 0, 0,  0x0c, 1, 0, 0,  0, 2, 0, 0,  0x50, 0, 0, 0,
+        16, 0, 0, 0,  0x0c, 1, 0, 0,  0, 2, 0, 0,  0x50, 0, 0, 0,  9, 0, 0, 0,
     ];
-    is_filled(&rt, &buffer, &outside, &mut [0; 37], &bytes);
+    is_filled(&rt, &buffer, &outside, &mut [0; 41], &bytes);
     buffer.patch(&outside);
     assert_eq!(rt; buffer.into_bytes().as_slice(), bytes.as_slice());
     Ok(())
