@@ -27,8 +27,8 @@ use Rattle.type_names.specs.Heads as heads
 use Rattle.type_names.specs.Names.{Named, named_of}
 use Rattle.type_names.specs.Objects.{object_of}
 use Rattle.type_names.specs.Paths.{Piece, path_of}
-use Rattle.link_graph.specs.Graph.{IsPool, IsShape, Source, source_of}
-use Rattle.link_graph.specs.Merged.{image_in, images_in, kept_object, kept_objects, linked_names, pool_origin, pool_root, pool_units, shape_of}
+use Rattle.link_graph.specs.Graph.{IsPool, IsShape, Source, pool_version, source_of, units_in}
+use Rattle.link_graph.specs.Merged.{image_in, images_in, kept_object, kept_objects, linked_names, object_units, pool_count, pool_origin, pool_root, pool_units, shape_of}
 use Rattle.link_graph.specs.Passes.{image_behind, images_of, kept_with, path_target, plain_before, put_each, units_before, units_of}
 use Rattle.link_graph.specs.Pool.{by_bids, children_of, is_child, is_outbid, node_of_path, pool_names, preorder, winners, with_bid}
 use Rattle.link_graph.proofs.Gathered.{All-flat_map, enumerate_at, enumerate_more, map_same}
@@ -55,7 +55,7 @@ image_cases false f g x y e h = h
 
 -- where references to the entries of an object lead, behind the pool's unit and the units of the objects before
 pub images_are : (odr : Bool) (seen : List Analysis) (live : List (List Bool)) (i before : ℕ) (o : heads.Object) → slice_get (objects_of seen live) i ≡ Some o → IsSound o.seen
-    → before ≡ length (pool_units (linked_names odr seen live)) + length (units_before (kept_objects odr seen live) i)
+    → before ≡ pool_count (linked_names odr seen live) + length (units_before (kept_objects odr seen live) i)
     → put_each (path_target (linked_names odr seen live)) (named_in odr (i + 1) o) (images_of before i (kept_object odr o)) ≡ images_in odr seen live (i, o)
 images_are odr seen live i before o at sound place =
     same_lists (put_each f ws own) (images_in odr seen live (i, o)) (put_length f ws own ∙ own_long ∙ sym all_long)
@@ -87,11 +87,11 @@ images_are odr seen live i before o at sound place =
 
     here : (k : ℕ) (d : Option Target) (e : Entry) → slice_get (entries_of o) k ≡ Some e → k < length (entries_of o) → get_or (put_each f ws own) k d ≡ get_or (images_in odr seen live (i, o)) k d
     here k d e stands within =
-        let own_there : get_or own k d ≡ plain_target (length (pool_units names)) (kept_objects odr seen live) i k =
+        let own_there : get_or own k d ≡ plain_target (pool_count names) (kept_objects odr seen live) i k =
         get_or-map (image_behind before i (kept_object odr o)) (numbered (kept_object odr o)) k (k, e) d (omega (arith, within, numbered_length (kept_object odr o)))
         ∙ ap (image_behind before i (kept_object odr o)) (numbered_at (kept_object odr o) k (k, e) within ∙ ap (λ (x : Entry). (k, x)) (get_or_from_slice_get (entries_of o) k e e stands))
         ∙ ap (λ (n : ℕ). image_behind n i (kept_object odr o) (k, e)) place
-        ∙ sym (image_is (length (pool_units names)) (kept_objects odr seen live) i (kept_object odr o) k e (kept_there odr seen live i o at) stands sound) in
+        ∙ sym (image_is (pool_count names) (kept_objects odr seen live) i (kept_object odr o) k e (kept_there odr seen live i o at) stands sound) in
         put_named f odr (i + 1) o own k e d stands (omega (arith, within, own_long))
         ∙ image_cases (odr && is_pooled o k) (f (named_of (i + 1) o k e)) (option_map (λ node. record { unit = 0; node = node }) (node_of_path names (path_of (i + 1) o k))) (get_or own k d) _ refl own_there
         ∙ sym (get_or-map image (enumerate_from 0 (entries_of o)) k (k, e) d (omega (arith, within, length-enumerate_from 0 (entries_of o)))
@@ -99,15 +99,20 @@ images_are odr seen live i before o at sound place =
 
 -- ---- the shape so far
 
+-- the pool's unit is one, of whichever version
+pub pools_counted : (version : ℕ) (names : List Named) → length (pool_units version names) ≡ pool_count names
+pools_counted version [] = refl
+pools_counted version (n ∷ names) = refl
+
 -- the units and rows of the objects below i
 pub record IsShapedTo (odr : Bool) (seen : List Analysis) (live : List (List Bool)) (units : List ShapeUnit) (plain : List (List (Option ℕ))) (images : List (List (Option Target))) (i : ℕ) : Type 0 where
-  pub are_units : units ≡ pool_units (linked_names odr seen live) ++ units_before (kept_objects odr seen live) i
+  pub are_units : units ≡ pool_units 4 (linked_names odr seen live) ++ units_before (kept_objects odr seen live) i
   pub are_plain : plain ≡ plain_before (kept_objects odr seen live) i
   pub are_images : images ≡ map (images_in odr seen live) (take i (enumerate_from 0 (objects_of seen live)))
 
-pub shaped_begin : (odr : Bool) (seen : List Analysis) (live : List (List Bool)) (names : List Named) (units : List ShapeUnit) → names ≡ linked_names odr seen live → units ≡ pool_units names → IsShapedTo odr seen live units [] [] 0
+pub shaped_begin : (odr : Bool) (seen : List Analysis) (live : List (List Bool)) (names : List Named) (units : List ShapeUnit) → names ≡ linked_names odr seen live → units ≡ pool_units 4 names → IsShapedTo odr seen live units [] [] 0
 shaped_begin odr seen live names units same is = record {
-  are_units = is ∙ ap pool_units same ∙ sym (append-nil (pool_units (linked_names odr seen live)));
+  are_units = is ∙ ap (pool_units 4) same ∙ sym (append-nil (pool_units 4 (linked_names odr seen live)));
   are_plain = refl;
   are_images = refl;
 }
@@ -118,8 +123,8 @@ pub shaped_more : (odr : Bool) (seen : List Analysis) (live : List (List Bool)) 
     → IsShapedTo odr seen live units plain images i → IsShapedTo odr seen live later (plain ++ nodes ∷ []) (images ++ leading ∷ []) (i + 1)
 shaped_more odr seen live names ws i o units later plain images nodes leading at sound same own units_are nodes_are leading_are so_far = record {
   are_units = units_are ∙ ap (λ (k : Object). units ++ units_of i k) kept ∙ ap (λ (us : List ShapeUnit). us ++ units_of i (kept_object odr o)) so_far.are_units
-      ∙ append_assoc (pool_units (linked_names odr seen live)) (units_before objects i) (units_of i (kept_object odr o))
-      ∙ ap (λ (us : List ShapeUnit). pool_units (linked_names odr seen live) ++ us) (sym (units_before_more objects i (kept_object odr o) there));
+      ∙ append_assoc (pool_units 4 (linked_names odr seen live)) (units_before objects i) (units_of i (kept_object odr o))
+      ∙ ap (λ (us : List ShapeUnit). pool_units 4 (linked_names odr seen live) ++ us) (sym (units_before_more objects i (kept_object odr o) there));
   are_plain = ap (λ (row : List (Option ℕ)). plain ++ row ∷ []) (nodes_are ∙ ap plain_in kept) ∙ ap (λ (rows : List (List (Option ℕ))). rows ++ plain_in (kept_object odr o) ∷ []) so_far.are_plain
       ∙ sym (plain_before_more objects i (kept_object odr o) there);
   are_images = ap (λ (row : List (Option Target)). images ++ row ∷ []) led ∙ ap (λ (rows : List (List (Option Target))). rows ++ images_in odr seen live (i, o) ∷ []) so_far.are_images
@@ -140,29 +145,43 @@ shaped_more odr seen live names ws i o units later plain images nodes leading at
         ∙ ap (λ (ns : List Named). put_each (path_target ns) ws (images_of (length units) i (kept_with o.seen o.live ws))) same
         ∙ ap (λ (k : Object). put_each (path_target (linked_names odr seen live)) ws (images_of (length units) i k)) kept
         ∙ ap (λ (vs : List Named). put_each (path_target (linked_names odr seen live)) vs (images_of (length units) i (kept_object odr o))) own
-        ∙ images_are odr seen live i (length units) o at sound (ap length so_far.are_units ∙ length-append (pool_units (linked_names odr seen live)) (units_before objects i))
+        ∙ images_are odr seen live i (length units) o at sound (ap length so_far.are_units ∙ length-append (pool_units 4 (linked_names odr seen live)) (units_before objects i)
+        ∙ ap (λ (n : ℕ). n + length (units_before objects i)) (pools_counted 4 (linked_names odr seen live)))
 
--- all objects make the shape
-pub shape_whole : (odr : Bool) (seen : List Analysis) (live : List (List Bool)) (i : ℕ) (units : List ShapeUnit) (plain : List (List (Option ℕ))) (images : List (List (Option Target))) → length live ≡ length seen → length seen ≤ i
-    → IsShapedTo odr seen live units plain images i → record { units = units; plain = plain; images = images } ≡ shape_of odr seen live
-shape_whole odr seen live i units plain images each le is =
+-- the units of all objects stand behind the pool's
+pub units_whole : (odr : Bool) (seen : List Analysis) (live : List (List Bool)) (i : ℕ) (units : List ShapeUnit) (plain : List (List (Option ℕ))) (images : List (List (Option Target))) → length live ≡ length seen → length seen ≤ i
+    → IsShapedTo odr seen live units plain images i → units ≡ pool_units 4 (linked_names odr seen live) ++ object_units odr seen live
+units_whole odr seen live i units plain images each le is =
     let objects = kept_objects odr seen live in
     let long : length objects ≡ length seen = length-map (objects_of seen live) (kept_object odr) ∙ length_objects seen live each in
-    let pool = pool_units (linked_names odr seen live) in
-    let a : units ≡ pool ++ filter_map (shape_in objects) (sources objects) = is.are_units ∙ ap (λ (us : List ShapeUnit). pool ++ us) (units_all objects i (omega (arith, le, long)) ∙ sym (units_shaped objects)) in
-    let b : plain ≡ map plain_in objects = is.are_plain ∙ ap (map plain_in) (take_all i objects (omega (arith, le, long))) in
-    let c : images ≡ map (images_in odr seen live) (enumerate_from 0 (objects_of seen live)) =
-    is.are_images ∙ ap (map (images_in odr seen live)) (take_all i (enumerate_from 0 (objects_of seen live)) (omega (arith, le, length-enumerate_from 0 (objects_of seen live), length_objects seen live each))) in
-    ap (λ (us : List ShapeUnit). made us plain images) a ∙ ap (λ (rows : List (List (Option ℕ))). made (pool ++ filter_map (shape_in objects) (sources objects)) rows images) b
-    ∙ ap (made (pool ++ filter_map (shape_in objects) (sources objects)) (map plain_in objects)) c
+    is.are_units ∙ ap (λ (us : List ShapeUnit). pool_units 4 (linked_names odr seen live) ++ us) (units_all objects i (omega (arith, le, long)) ∙ sym (units_shaped objects))
   where
-    made : List ShapeUnit → List (List (Option ℕ)) → List (List (Option Target)) → Shape
-    made us rows ims = record { units = us; plain = rows; images = ims }
-
     units_all : (objects : List Object) (i : ℕ) → length objects ≤ i → units_before objects i ≡ units_before objects (length objects)
     units_all objects i le =
         let long = length-enumerate_from 0 objects in
         ap (flat_map (λ (o : ℕ × Object). units_of o.0 o.1)) (take_all i (enumerate_from 0 objects) (omega (arith, le, long)) ∙ sym (take_all (length objects) (enumerate_from 0 objects) (omega (arith, long))))
+
+-- by the names at hand
+pub units_by : (odr : Bool) (seen : List Analysis) (live : List (List Bool)) (names : List Named) (i : ℕ) (units : List ShapeUnit) (plain : List (List (Option ℕ))) (images : List (List (Option Target))) → names ≡ linked_names odr seen live → length live ≡ length seen
+    → length seen ≤ i → IsShapedTo odr seen live units plain images i → units ≡ pool_units 4 names ++ object_units odr seen live
+units_by odr seen live names i units plain images same each le is =
+    units_whole odr seen live i units plain images each le is ∙ ap (λ (ns : List Named). pool_units 4 ns ++ object_units odr seen live) (sym same)
+
+-- all objects make the shape, once the pool's unit has its version
+pub shape_whole : (odr : Bool) (seen : List Analysis) (live : List (List Bool)) (i : ℕ) (units settled : List ShapeUnit) (plain : List (List (Option ℕ))) (images : List (List (Option Target))) → length live ≡ length seen → length seen ≤ i
+    → settled ≡ pool_units (pool_version (object_units odr seen live)) (linked_names odr seen live) ++ object_units odr seen live
+    → IsShapedTo odr seen live units plain images i → record { units = settled; plain = plain; images = images } ≡ shape_of odr seen live
+shape_whole odr seen live i units settled plain images each le a is =
+    let objects = kept_objects odr seen live in
+    let long : length objects ≡ length seen = length-map (objects_of seen live) (kept_object odr) ∙ length_objects seen live each in
+    let all = pool_units (pool_version (object_units odr seen live)) (linked_names odr seen live) ++ object_units odr seen live in
+    let b : plain ≡ map plain_in objects = is.are_plain ∙ ap (map plain_in) (take_all i objects (omega (arith, le, long))) in
+    let c : images ≡ map (images_in odr seen live) (enumerate_from 0 (objects_of seen live)) =
+    is.are_images ∙ ap (map (images_in odr seen live)) (take_all i (enumerate_from 0 (objects_of seen live)) (omega (arith, le, length-enumerate_from 0 (objects_of seen live), length_objects seen live each))) in
+    ap (λ (us : List ShapeUnit). made us plain images) a ∙ ap (λ (rows : List (List (Option ℕ))). made all rows images) b ∙ ap (made all (map plain_in objects)) c
+  where
+    made : List ShapeUnit → List (List (Option ℕ)) → List (List (Option Target)) → Shape
+    made us rows ims = record { units = us; plain = rows; images = ims }
 
 -- ---- the objects of the shape
 
@@ -246,10 +265,11 @@ names_sourced odr seen live =
     (λ x at. All-weaker (IsNameOf x.0 x.1) (IsSourced seen) (λ w is. sourced seen live x.0 x.1 w at.0 at.1 is) (named_in odr x.0 x.1) (are_names_of odr x.0 x.1))
     (enumerate_from 1 (objects_of seen live)) (one_on (objects_of seen live))))
 
-pool_is : (all : List Analysis) (shape : Shape) (names : List Named) → All (IsSourced all) names → (pool_units names ≡ []) ⊎ ((unit : ShapeUnit) × (pool_units names ≡ unit ∷ []) × IsPool all shape unit)
-pool_is all shape [] are = inl refl
-pool_is all shape (n ∷ names) are =
-    let unit : ShapeUnit = record { version = 4; nodes = pool_root ∷ map (pool_origin (n ∷ names)) (pool_names (n ∷ names)) } in
+pool_is : (all : List Analysis) (shape : Shape) (version : ℕ) (names : List Named) → version ≡ pool_version (units_in all shape) → All (IsSourced all) names
+    → (pool_units version names ≡ []) ⊎ ((unit : ShapeUnit) × (pool_units version names ≡ unit ∷ []) × IsPool all shape unit)
+pool_is all shape version [] same are = inl refl
+pool_is all shape version (n ∷ names) same are =
+    let unit : ShapeUnit = record { version = version; nodes = pool_root ∷ map (pool_origin (n ∷ names)) (pool_names (n ∷ names)) } in
     inr (
       unit,
       refl,
@@ -258,7 +278,7 @@ pool_is all shape (n ∷ names) are =
         below = map (pool_origin (n ∷ names)) (pool_names (n ∷ names));
         nodes = refl;
         is_root = refl;
-        version = refl;
+        version = same;
         each = All-map (λ (origin : Origin). (source : Source) × (source_of all origin ≡ Some source)) (pool_origin (n ∷ names)) (pool_names (n ∷ names)) (preorder_all (IsSourced all) (length (n ∷ names)) (n ∷ names) [] are);
       },
     )
@@ -283,9 +303,9 @@ shape_is odr seen live shape sound each is = record {
   images = subst (λ (ims : List (List (Option Target))). All (λ row. length row.1 ≡ length row.0.entries) (zip seen ims)) (sym (ap (λ (s : Shape). s.images) is))
       (images_long (images_in odr seen live) 0 seen live (λ o. length-map (enumerate_from 0 (entries_of o.1)) _ ∙ length-enumerate_from 0 (entries_of o.1)));
   rows = ap (λ (s : Shape). length s.images) is ∙ length-map (enumerate_from 0 (objects_of seen live)) (images_in odr seen live) ∙ length-enumerate_from 0 (objects_of seen live) ∙ length_objects seen live each;
-  pool = pool_units (linked_names odr seen live);
-  is_pool = pool_is seen shape (linked_names odr seen live) (names_sourced odr seen live);
-  units = ap (λ (s : Shape). s.units) is ∙ ap (λ (os : List Object). pool_units (linked_names odr seen live) ++ filter_map (shape_in os) (sources os)) (sym same);
+  pool = pool_units (pool_version (object_units odr seen live)) (linked_names odr seen live);
+  is_pool = pool_is seen shape (pool_version (object_units odr seen live)) (linked_names odr seen live) (ap pool_version (sym own)) (names_sourced odr seen live);
+  units = ap (λ (s : Shape). s.units) is ∙ ap (λ (us : List ShapeUnit). pool_units (pool_version (object_units odr seen live)) (linked_names odr seen live) ++ us) (sym own);
 }
   where
     objects : List Object
@@ -293,3 +313,6 @@ shape_is odr seen live shape sound each is = record {
 
     same : objects_in seen shape ≡ objects
     same = shape_objects odr seen live shape sound is
+
+    own : units_in seen shape ≡ object_units odr seen live
+    own = ap (λ (os : List Object). filter_map (shape_in os) (sources os)) same

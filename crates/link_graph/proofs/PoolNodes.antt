@@ -123,12 +123,12 @@ maps_joined f g [] = refl
 maps_joined {A} {B} {C} f g (x ∷ xs) = ap (λ (more : List C). g (f x) ∷ more) (maps_joined f g xs)
 
 pub units_some : (names : List Named) (order : List ℕ) (origins : List Origin) → 0 < length names → map (name_at names) order ≡ pool_names names → origins ≡ pool_root ∷ map (λ w. pool_origin names (name_at names w)) order
-    → pool_unit_of origins ∷ [] ≡ pool_units names
+    → pool_unit_of origins ∷ [] ≡ pool_units 4 names
 units_some [] order origins some whole made = absurd (omega (arith, some))
 units_some (n ∷ names) order origins some whole made =
     ap (λ (nodes : List Origin). pool_unit_of nodes ∷ [])
     (made ∙ ap (λ (nodes : List Origin). pool_root ∷ nodes) (sym (maps_joined (name_at (n ∷ names)) (pool_origin (n ∷ names)) order) ∙ ap (map (pool_origin (n ∷ names))) whole))
 
-pub units_none : (names : List Named) → length names ≤ 0 → [] ≡ pool_units names
+pub units_none : (names : List Named) → length names ≤ 0 → [] ≡ pool_units 4 names
 units_none [] none = refl
 units_none (n ∷ names) none = absurd (omega (arith, none))

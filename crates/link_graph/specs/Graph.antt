@@ -1,6 +1,6 @@
 -- The graph that a shape stands for: each node says what its entry says, and references lead where the shape tells.
 use Rattle.std.specs.Prelude.{◌≡◌, ◌⊎◌, ℕ, ◌-◌, ◌==◌, List, [], ◌∷◌, ◌++◌, length, map, slice_get, Option, Some, None, if◌then◌else◌, codes}
-use Rattle.std.specs.List.{All, filter_map, flat_map, zip}
+use Rattle.std.specs.List.{All, filter_map, flat_map, list_any, zip}
 use Rattle.std.specs.Option.{option_and_then, option_map, option_map_or}
 use Rattle.ds_base.specs.declared.dwarf.TheConstants.{DW_AT_language, DW_AT_name, DW_AT_stmt_list, DW_FORM_data2, DW_LANG_C_plus_plus, DW_TAG_compile_unit}
 use Rattle.ds_base.specs.FirstUse.{once}
@@ -60,13 +60,13 @@ pool_node image all files origin =
       attrs = attrs_written (image source.object) (Some (number_among files source.seen source.entry.unit)) source.entry;
     }) (source_of all origin)
 
--- the root, and behind it the nodes that stand for entries
-abbrev pub pool_unit : (ℕ → ℕ → Option Target) → List Analysis → List Origin → OutUnit
-pool_unit image all origins =
+-- of a version: the root, and behind it the nodes that stand for entries
+abbrev pub pool_unit : (ℕ → ℕ → Option Target) → List Analysis → ℕ → List Origin → OutUnit
+pool_unit image all version origins =
     record {
-      version = 4;
+      version = version;
       nodes = pool_root_node ∷ filter_map (pool_node image all (files_of all origins)) origins;
-      lines = Some (table_of (files_of all origins));
+      lines = Some (table_of version (files_of all origins));
       ranges = [];
     }
 
@@ -76,15 +76,15 @@ pool_unit image all origins =
 abbrev pub image_of : Shape → ℕ → ℕ → Option Target
 image_of shape object k = option_and_then (λ images. option_and_then (λ image. image) (slice_get images k)) (slice_get shape.images object)
 
--- the nodes of the pool's unit, where a shape has one: its root stands for no entry
-abbrev pub pool_in : ShapeUnit → Option (List Origin)
-pool_in unit = option_and_then (λ root. if root.object == 0 then Some unit.nodes else None) (slice_get unit.nodes 0)
+-- the pool's unit, where a shape has one: its root stands for no entry
+abbrev pub pool_in : ShapeUnit → Option ShapeUnit
+pool_in unit = option_and_then (λ root. if root.object == 0 then Some unit else None) (slice_get unit.nodes 0)
 
-abbrev pub pool_of : Shape → Option (List Origin)
+abbrev pub pool_of : Shape → Option ShapeUnit
 pool_of shape = option_and_then pool_in (slice_get shape.units 0)
 
 abbrev pub pools : List Analysis → Shape → List OutUnit
-pools all shape = option_map_or (λ origins. pool_unit (image_of shape) all origins ∷ []) (pool_of shape) []
+pools all shape = option_map_or (λ unit. pool_unit (image_of shape) all unit.version unit.nodes ∷ []) (pool_of shape) []
 
 -- the units of a shape, behind the pool's if there is one, and the frames that the objects keep
 abbrev pub graph_in : List Analysis → Shape → Graph
@@ -92,13 +92,21 @@ graph_in all shape = linked_behind (pools all shape) (image_of shape) (objects_i
 
 -- ---- shapes
 
+-- the version of the pool's unit before the units of the objects: 5 where one of these has it, else 4
+abbrev pub pool_version : List ShapeUnit → ℕ
+pool_version units = if list_any (λ unit. unit.version == 5) units then 5 else 4
+
+-- the units of the objects of a shape
+abbrev pub units_in : List Analysis → Shape → List ShapeUnit
+units_in all shape = filter_map (shape_in (objects_in all shape)) (sources (objects_in all shape))
+
 -- the unit of a shape that holds merged entries: all nodes but its root stand for entries
 pub record IsPool (all : List Analysis) (shape : Shape) (unit : ShapeUnit) : Type 0 where
   pub root : Origin
   pub below : List Origin
   pub nodes : unit.nodes ≡ root ∷ below
   pub is_root : root.object ≡ 0
-  pub version : unit.version ≡ 4
+  pub version : unit.version ≡ pool_version (units_in all shape)
   pub each : All (λ origin. (source : Source) × (source_of all origin ≡ Some source)) below
 
 -- A shape of these analyses: of its units the pool's comes first, if there is one, and the others are those of the entries that have nodes.
@@ -109,4 +117,4 @@ pub record IsShape (all : List Analysis) (shape : Shape) : Type 0 where
   pub rows : length shape.images ≡ length all
   pub pool : List ShapeUnit
   pub is_pool : (pool ≡ []) ⊎ ((unit : ShapeUnit) × (pool ≡ unit ∷ []) × IsPool all shape unit)
-  pub units : shape.units ≡ pool ++ filter_map (shape_in (objects_in all shape)) (sources (objects_in all shape))
+  pub units : shape.units ≡ pool ++ units_in all shape

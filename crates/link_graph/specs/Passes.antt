@@ -124,3 +124,10 @@ kept_with seen live ws = marked seen (kept_of seen.entries live (merged_by (leng
 -- the node of a name's path in the first unit
 abbrev pub path_target : List Named → Named → Option Target
 path_target names w = target_in 0 (node_of_path names w.path)
+
+-- ---- the pool's unit
+
+-- units of which the first is of a version
+abbrev pub with_version : ℕ → List ShapeUnit → List ShapeUnit
+with_version version [] = []
+with_version version (first ∷ units) = record { version = version; nodes = first.nodes } ∷ units

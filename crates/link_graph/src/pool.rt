@@ -3,13 +3,15 @@
 //! The winners are put in order by what stands above them and then by their bids, so those right below a path are one
 //! run. The runs are gone over in preorder with a stack of the runs that are not yet done.
 
-ghost use Rattle.std.specs.Prelude.{◌≡◌, ◌<◌, ◌≤◌, ◌+◌, ◌^◌, ℕ, ◌∷◌, None, length, map, slice_index_or, IfOk};
-ghost use Rattle.std.specs.List.{All};
+ghost use Rattle.std.specs.Prelude.{◌≡◌, ◌<◌, ◌≤◌, ◌+◌, ◌^◌, ◌==◌, ◌++◌, ℕ, ◌∷◌, None, length, map, slice_index_or, IfOk, List as Listed};
+ghost use Rattle.std.specs.List.{All, list_any};
 ghost use Rattle.std.specs.List.Sorted.{IsNonDecreasingBy, IsPartitionPoint, IsPermutation};
 ghost use Rattle.std.specs.Option.{ForSome};
 ghost use Rattle.odr_names.specs.Book.{path_at};
 ghost use Rattle.odr_names.specs.Winners.{AreWinners};
+ghost use Rattle.link_graph.specs.Graph.{pool_version};
 ghost use Rattle.link_graph.specs.Merged.{pool_origin, pool_root, pool_units};
+ghost use Rattle.link_graph.specs.Passes.{with_version};
 ghost use Rattle.link_graph.specs.Pool.{node_above, node_of_path, pool_names};
 ghost use Rattle.link_graph.specs.PoolOrder.{AreApart, AreChildrenTo, AreInOrder, AreNodes, AreNodesFrom, IsFamily, IsLinkedUp, IsPreorder, IsRunOf, key_of, name_at};
 
@@ -17,6 +19,11 @@ use ds_base::{List, NoMemory};
 use dwarf_types::{Origin, ShapeUnit};
 use odr_names::{PathBook, above, count, number, occurrence};
 use std::alloc::Global;
+
+/// The versions of DWARF that a unit may have.
+const DWARF_4: u16 = 4;
+
+const DWARF_5: u16 = 5;
 
 /// The nodes of merged entries.
 #[derive(Drop)]
@@ -55,7 +62,7 @@ pub(crate) struct Tree<'a, 'b> {
 pub(crate) fn pool_of(alloc: Global, names: &PathBook, winners: &[u32]) -> Result<Pool, NoMemory>
     requires apart { AreApart names.now }
     requires winners { AreWinners names.now winners.now }
-    ensures units { IfOk result (λ pool. pool.units ≡ pool_units names.now) }
+    ensures units { IfOk result (λ pool. pool.units ≡ pool_units 4 names.now) }
     ensures nodes { IfOk result (λ pool. (length pool.nodes.items ≡ length names.now) × ((x : ℕ) → x < length names.now → slice_index_or pool.nodes.items x None ≡ node_of_path names.now (path_at names.now x))) }
 {
     let mut children = children_of(alloc, names, winners)?;
@@ -216,7 +223,7 @@ fn nodes_by(
     Ok(nodes)
 }
 
-/// The unit of merged entries, if there is any.
+/// The unit of merged entries, if there is any, before the units of the objects are known.
 fn units_of(
     alloc: Global,
     names: &PathBook,
@@ -226,16 +233,52 @@ fn units_of(
     requires within { All (λ w. w < length names.now) order.now }
     requires order { map (name_at names.now) order.now ≡ pool_names names.now }
     requires nodes { AreNodes names.now nodes.now }
-    ensures { IfOk result (λ units. units ≡ pool_units names.now) }
+    ensures { IfOk result (λ units. units ≡ pool_units 4 names.now) }
 {
     let mut units = List::new(alloc);
     if count(names) > 0 {
         units.push(ShapeUnit {
-            version: 4,
+            version: DWARF_4,
             nodes: origins_of(alloc, names, order, nodes)?,
         })?;
     }
     Ok(units)
+}
+
+/// Gives the pool's unit, if there is one before those of the objects, the version that goes with theirs.
+pub(crate) fn settle_version(names: &PathBook, units: &mut List<ShapeUnit>)
+    requires { (own : Listed ShapeUnit) × (units.old ≡ pool_units 4 names.now ++ own) }
+    ensures { (own : Listed ShapeUnit) → units.old ≡ pool_units 4 names.now ++ own → units.new ≡ pool_units (pool_version own) names.now ++ own }
+{
+    if count(names) > 0 {
+        settle_first(units.as_mut_slice());
+    }
+}
+
+/// Gives the first of some units, which has no later version than the others, the version that goes with them.
+fn settle_first(units: &mut [ShapeUnit])
+    requires { 0 < length units.old }
+    ensures { units.new ≡ with_version (pool_version units.old) units.old }
+{
+    units[0].version = version_for(units);
+}
+
+/// The version of the pool's unit beside some units: 5 where one of them has it, else 4.
+fn version_for(units: &[ShapeUnit]) -> u16
+    ensures { result ≡ pool_version units.now }
+{
+    if some_of_version_5(units) {
+        DWARF_5
+    } else {
+        DWARF_4
+    }
+}
+
+/// Whether one of some units is of version 5.
+fn some_of_version_5(units: &[ShapeUnit]) -> bool
+    ensures { result ≡ list_any (λ unit. unit.version == 5) units.now }
+{
+    units.iter().any(|unit| unit.version == DWARF_5)
 }
 
 /// The nodes of that unit: its root, and behind it those of the winners.

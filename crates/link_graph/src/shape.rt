@@ -8,7 +8,7 @@ ghost use Rattle.link_graph.specs.Graph.{IsShape};
 ghost use Rattle.link_graph.specs.Merged.{linked_names, shape_of};
 
 use crate::merged::{add_kept, lead_to_paths, names_end};
-use crate::pool::pool_of;
+use crate::pool::{pool_of, settle_version};
 use ds_base::{BitRow, List, NoMemory};
 use dwarf_types::{Analysis, Shape};
 use odr_names::PathBook;
@@ -20,7 +20,8 @@ use std::alloc::Global;
 /// A row tells of each object which of its entries are live. The entries that `names` names are merged: of the names
 /// of one path the winner stands in the pool's unit, and references to all of them lead there. Kept are the live entries
 /// that are not merged, and merged namespaces above them. A kept entry keeps the unit in which it stands, and units keep
-/// the order of the objects and of their places there.
+/// the order of the objects and of their places there, and their versions. The pool's unit is of version 5 where another
+/// unit is, else of version 4.
 pub fn build(
     alloc: Global,
     seen: &[Analysis],
@@ -51,6 +52,7 @@ pub fn build(
         images.push(rows.images)?;
         from = end;
     }
+    settle_version(names, &mut units);
     Ok(Shape {
         units,
         plain,

@@ -1,4 +1,4 @@
-use Rattle.std.proofs.Common.{◌≡◌, ◌+◌, ◌++◌, ◌<◌, ◌∙◌, ℕ, Some, length, take, drop, slice_get, refl, ap, subst, sym, arith}
+use Rattle.std.proofs.Common.{◌≡◌, ◌+◌, ◌++◌, ◌<◌, ◌∙◌, ℕ, List, Some, length, take, drop, slice_get, refl, ap, subst, sym, arith}
 use Rattle.std.specs.List.{All}
 use Rattle.std.proofs.lemmas.Option.{slice_get_read}
 use Rattle.odr_names.specs.Book.{objects_of}
@@ -6,10 +6,12 @@ use Rattle.odr_names.proofs.MakingBooks.{object_made}
 use Rattle.type_names.specs.Heads.{Object}
 use Rattle.type_names.specs.Names.{Named}
 use Rattle.type_names.specs.Objects.{object_of}
+use Rattle.link_graph.specs.Graph.{pool_version}
+use Rattle.link_graph.specs.Merged.{object_units, pool_units}
 use Rattle.link_graph.specs.Passes.{kept_with, names_between, path_target, put_each}
 use Rattle.link_graph.specs.PoolOrder.{AreApart}
 use Rattle.link_graph.proofs.Gathered.{lent_all}
-use Rattle.link_graph.proofs.Joined.{object_sound, shape_is, shape_whole, shaped_begin, shaped_more}
+use Rattle.link_graph.proofs.Joined.{object_sound, shape_is, shape_whole, shaped_begin, shaped_more, units_by}
 use Rattle.link_graph.proofs.LinkedApart.{linked_apart}
 use Rattle.link_graph.proofs.Merging.{named_in, names_begin, names_from, names_next, names_on, own_entries, own_names}
 use Rattle.link_graph.proofs.Objects.{images_length}
@@ -87,11 +89,24 @@ loop-i-preserved c =
           at (object_sound seen live i o c.requires.sound at) is own c.in_ok-rows.ensures.units c.in_ok-rows.ensures.plain led (c.loop-i.invariant.shaped odr is)));
     }
 
+pub settle_version-requires : goal.settle_version-requires
+settle_version-requires c =
+    let odr = c.requires.book.0 in
+    let seen = c.args.seen.now in
+    let live = c.args.live.now in
+    (object_units odr seen live, units_by odr seen live c.args.names.now c.loop-i.i c.loop-i.units c.loop-i.plain c.loop-i.images c.requires.book.1 c.requires.marked.each c.loop-i-test.false (c.loop-i.invariant.shaped odr c.requires.book.1))
+
 pub returns-clause-exact : goal.returns-clause-exact
-returns-clause-exact c = λ odr is. shape_whole odr c.args.seen.now c.args.live.now c.loop-i.i c.loop-i.units c.loop-i.plain c.loop-i.images c.requires.marked.each c.loop-i-test.false (c.loop-i.invariant.shaped odr is)
+returns-clause-exact c = λ odr is. (
+    let seen = c.args.seen.now in
+    let live = c.args.live.now in
+    let so_far = c.loop-i.invariant.shaped odr is in
+    let before = units_by odr seen live c.args.names.now c.loop-i.i c.loop-i.units c.loop-i.plain c.loop-i.images is c.requires.marked.each c.loop-i-test.false so_far in
+    let settled = c.settle_version.ensures (object_units odr seen live) before ∙ ap (λ (names : List Named). pool_units (pool_version (object_units odr seen live)) names ++ object_units odr seen live) is in
+    shape_whole odr seen live c.loop-i.i c.loop-i.units c.settle_version.new.units c.loop-i.plain c.loop-i.images c.requires.marked.each c.loop-i-test.false settled so_far)
 
 pub returns-clause-is : goal.returns-clause-is
 returns-clause-is c =
     let odr = c.requires.book.0 in
     shape_is odr c.args.seen.now c.args.live.now _ c.requires.sound c.requires.marked.each
-    (shape_whole odr c.args.seen.now c.args.live.now c.loop-i.i c.loop-i.units c.loop-i.plain c.loop-i.images c.requires.marked.each c.loop-i-test.false (c.loop-i.invariant.shaped odr c.requires.book.1))
+    (returns-clause-exact c odr c.requires.book.1)
