@@ -78,6 +78,16 @@ address_fits : (tag : ℕ) (a : Attr) (place : Place) (n : ℕ) → a.value ≡ 
 address_fits tag a place n is given moved =
     place_fits (tells_end tag a.name) place n given (sym (ap (λ (v : Value). option_and_then (λ p. cond (tells_end tag a.name) p.linked_end p.linked) (place_in v)) is) ∙ moved)
 
+-- ---- versions
+
+-- what an entry of a unit of one version says may stand in a unit of another
+pub record Allows (from to : ℕ) : Type 0 where
+  pub five : from ≡ 5 → to ≡ 5
+  pub four : to ≡ 4 → from ≡ 4
+
+pub allows_itself : (version : ℕ) → Allows version version
+allows_itself version = record { five = λ is. is; four = λ is. is }
+
 -- ---- by the image of each entry, the graph and the nodes of the unit
 
 module _ (image : ℕ → Option Target) (graph : Graph) (nodes : List Node) where
@@ -106,100 +116,104 @@ module _ (image : ℕ → Option Target) (graph : Graph) (nodes : List Node) whe
   ops_go : (ops : List Op) → All BaseGoes (flat_map op_bases ops) → All (OpGoes image nodes) ops
   ops_go ops h = All-weaker (λ op. All BaseGoes (op_bases op)) (OpGoes image nodes) op_goes ops (all_of_each BaseGoes op_bases ops h)
 
-  -- ---- location lists
-
-  location_by : (item : Location) (y : OutLocation) → IsGivenLocation item → All (OpGoes image nodes) item.ops → location_written image item ≡ Some y → IsLocation nodes y
-  location_by item y given goes e =
-      let is = when_some (all_move item.ops) (record { span = item.span; parts = parts_of image item.ops }) y e in
-      let own : IsLocation nodes (record { span = item.span; parts = parts_of image item.ops }) = record {
-        span = given.span;
-        whole = expression_whole image nodes item.ops given.ops goes;
-        short = omega (arith, given.short, expression_long image (λ k. None) item.ops);
-      } in
-      subst (IsLocation nodes) (sym is) own
-
-  locations_by : (items : List Location) → All IsGivenLocation items → All (λ item. All (OpGoes image nodes) item.ops) items → All (IsLocation nodes) (filter_map (location_written image) items)
-  locations_by [] given goes = All-nil (IsLocation nodes)
-  locations_by (item ∷ items) given goes =
-      All-filter_map (IsLocation nodes) (location_written image) (item ∷ items)
-      (λ k d lt y e. location_by _ y (given k d lt) (goes k d lt) e)
-
   items_go : (items : List Location) → All BaseGoes (flat_map op_bases (flat_map (λ item. item.ops) items)) → All (λ item. All (OpGoes image nodes) item.ops) items
   items_go items h = all_of_each (OpGoes image nodes) (λ item. item.ops) items (ops_go (flat_map (λ item. item.ops) items) h)
 
-  -- ---- values
+  -- ---- of a unit that says what one of a version may say
 
-  pub record ValueHolds (name : ℕ) (y : OutValue) : Type 0 where
-    pub value : IsValue graph nodes y
-    pub stands : MayStand name y
+  module _ (from to : ℕ) (allows : Allows from to) where
+    -- ---- location lists
 
-  holds_as : (name : ℕ) (x y : OutValue) → y ≡ x → IsValue graph nodes x → MayStand name x → ValueHolds name y
-  holds_as name x y is value stands = subst (ValueHolds name) (sym is) (record { value = value; stands = stands })
+    location_by : (item : Location) (y : OutLocation) → IsGivenLocation from item → All (OpGoes image nodes) item.ops → location_written image item ≡ Some y → IsLocation to nodes y
+    location_by item y given goes e =
+        let is = when_some (all_move item.ops) (record { span = item.span; parts = parts_of image item.ops }) y e in
+        let own : IsLocation to nodes (record { span = item.span; parts = parts_of image item.ops }) = record {
+          span = given.span;
+          whole = expression_whole image nodes item.ops given.ops goes;
+          short = λ four. (let short = given.short (allows.four four) in omega (arith, short, expression_long image (λ k. None) item.ops));
+        } in
+        subst (IsLocation to nodes) (sym is) own
 
-  value_holds : (e : Entry) (a : Attr) (v : Value) (y : OutValue) → a.value ≡ v → (a.name == DW_AT_sibling) ≡ false → IsGivenValue a.name v → Refers a → All BaseGoes (flat_map op_bases (operations_of v))
-      → value_written image e a v ≡ Some y → ValueHolds a.name y
-  value_holds e a (values.Address place) y is sibling given refers goes written =
-      let h = mapped_some (λ n. out.Address n) (address_moved e.tag a) y written in
-      holds_as a.name (out.Address h.0) y h.2 (address_fits e.tag a place h.0 is given h.1) tt
-  value_holds e a (values.Text text) y is sibling given refers goes written = holds_as a.name (out.Text text) y (sym (same_Some _ y written)) given tt
-  value_holds e a (values.Number form bits) y is sibling given refers goes written =
-      holds_as a.name (out.Number form bits) y (unless_some (not (is_flag form) && loses_low_pc e a) _ y written) given tt
-  value_holds e a (values.Wide bytes) y is sibling given refers goes written = absurd given
-  value_holds e a (values.Block form bytes) y is sibling given refers goes written = holds_as a.name (out.Block form bytes) y (sym (same_Some _ y written)) given tt
-  value_holds e a (values.Expr ops) y is sibling given refers goes written =
-      holds_as a.name (out.Expr (parts_of image ops)) y (when_some (all_move ops) _ y written) (expression_whole image nodes ops given (ops_go ops goes)) tt
-  value_holds e a (values.Ref k) y is sibling given refers goes written =
-      let h = mapped_some (λ target. out.Ref target) (image k) y written in
-      holds_as a.name (out.Ref h.0) y h.2 (refers k h.0 sibling (ap target_in is) h.1) tt
-  value_holds e a (values.Ranges spans) y is sibling given refers goes written = holds_as a.name (out.Ranges spans) y (made_of (λ list. out.Ranges list) spans y written) given.1 given.0
-  value_holds e a (values.Locations items) y is sibling given refers goes written =
-      holds_as a.name (out.Locations (filter_map (location_written image) items)) y (made_of (λ list. out.Locations list) (filter_map (location_written image) items) y written)
-      (locations_by items given.1 (items_go items goes)) given.0
-  value_holds e a values.Lines y is sibling given refers goes written = holds_as a.name out.Lines y (sym (same_Some _ y written)) tt tt
-  value_holds e a (values.Offset n) y is sibling given refers goes written = absurd cc
+    locations_by : (items : List Location) → All (IsGivenLocation from) items → All (λ item. All (OpGoes image nodes) item.ops) items → All (IsLocation to nodes) (filter_map (location_written image) items)
+    locations_by [] given goes = All-nil (IsLocation to nodes)
+    locations_by (item ∷ items) given goes =
+        All-filter_map (IsLocation to nodes) (location_written image) (item ∷ items)
+        (λ k d lt y e. location_by _ y (given k d lt) (goes k d lt) e)
 
-  -- ---- attributes
+    -- ---- values
 
-  -- the number of a source file is a number of 64 bits
-  abbrev pub FilesFit : FileNumbers → Type 0
-  FilesFit files = IfSome files (λ number. (n m : ℕ) → number n ≡ Some m → m < 2 ^ 64)
+    pub record ValueHolds (name : ℕ) (y : OutValue) : Type 0 where
+      pub value : IsValue graph to nodes y
+      pub stands : MayStand name y
 
-  file_holds : (files : FileNumbers) → FilesFit files → (e : Entry) (a : Attr) (v : Value) (y : OutValue) → a.value ≡ v → (a.name == DW_AT_sibling) ≡ false → IsGivenValue a.name v → Refers a → All BaseGoes (flat_map op_bases (operations_of v))
-      → file_written image files e a v ≡ Some y → ValueHolds a.name y
-  file_holds None fit e a v y is sibling given refers goes written = value_holds e a v y is sibling given refers goes written
-  file_holds (Some number) fit e a (values.Number form bits) y is sibling given refers goes written =
-      let h = mapped_some (λ n. out.Number DW_FORM_udata n) (number bits) y written in
-      holds_as a.name (out.Number DW_FORM_udata h.0) y h.2 (in_udata refl (fit bits h.0 h.1)) tt
-  file_holds (Some number) fit e a (values.Address place) y is sibling given refers goes written = absurd cc
-  file_holds (Some number) fit e a (values.Text text) y is sibling given refers goes written = absurd cc
-  file_holds (Some number) fit e a (values.Wide bytes) y is sibling given refers goes written = absurd cc
-  file_holds (Some number) fit e a (values.Block form bytes) y is sibling given refers goes written = absurd cc
-  file_holds (Some number) fit e a (values.Expr ops) y is sibling given refers goes written = absurd cc
-  file_holds (Some number) fit e a (values.Ref k) y is sibling given refers goes written = absurd cc
-  file_holds (Some number) fit e a (values.Ranges spans) y is sibling given refers goes written = absurd cc
-  file_holds (Some number) fit e a (values.Locations items) y is sibling given refers goes written = absurd cc
-  file_holds (Some number) fit e a values.Lines y is sibling given refers goes written = absurd cc
-  file_holds (Some number) fit e a (values.Offset n) y is sibling given refers goes written = absurd cc
+    holds_as : (name : ℕ) (x y : OutValue) → y ≡ x → IsValue graph to nodes x → MayStand name x → ValueHolds name y
+    holds_as name x y is value stands = subst (ValueHolds name) (sym is) (record { value = value; stands = stands })
 
-  said_holds : (files : FileNumbers) → FilesFit files → (b : Bool) (e : Entry) (a : Attr) (y : OutValue) → (a.name == DW_AT_sibling) ≡ false → IsGivenValue a.name a.value → Refers a → All BaseGoes (flat_map op_bases (operations_of a.value))
-      → cond b (file_written image files e a a.value) (value_written image e a a.value) ≡ Some y → ValueHolds a.name y
-  said_holds files fit true e a y sibling given refers goes written = file_holds files fit e a a.value y refl sibling given refers goes written
-  said_holds files fit false e a y sibling given refers goes written = value_holds e a a.value y refl sibling given refers goes written
+    value_holds : (e : Entry) (a : Attr) (v : Value) (y : OutValue) → a.value ≡ v → (a.name == DW_AT_sibling) ≡ false → IsGivenValue from a.name v → Refers a → All BaseGoes (flat_map op_bases (operations_of v))
+        → value_written image e a v ≡ Some y → ValueHolds a.name y
+    value_holds e a (values.Address place) y is sibling given refers goes written =
+        let h = mapped_some (λ n. out.Address n) (address_moved e.tag a) y written in
+        holds_as a.name (out.Address h.0) y h.2 (address_fits e.tag a place h.0 is given h.1) tt
+    value_holds e a (values.Text text) y is sibling given refers goes written = holds_as a.name (out.Text text) y (sym (same_Some _ y written)) given tt
+    value_holds e a (values.Number form bits) y is sibling given refers goes written =
+        holds_as a.name (out.Number form bits) y (unless_some (not (is_flag form) && loses_low_pc e a) _ y written) given tt
+    value_holds e a (values.Wide bytes) y is sibling given refers goes written =
+        holds_as a.name (out.Wide bytes) y (unless_some (loses_low_pc e a) _ y written) (allows.five given.0, given.1, given.2) tt
+    value_holds e a (values.Block form bytes) y is sibling given refers goes written = holds_as a.name (out.Block form bytes) y (sym (same_Some _ y written)) given tt
+    value_holds e a (values.Expr ops) y is sibling given refers goes written =
+        holds_as a.name (out.Expr (parts_of image ops)) y (when_some (all_move ops) _ y written) (expression_whole image nodes ops given (ops_go ops goes)) tt
+    value_holds e a (values.Ref k) y is sibling given refers goes written =
+        let h = mapped_some (λ target. out.Ref target) (image k) y written in
+        holds_as a.name (out.Ref h.0) y h.2 (refers k h.0 sibling (ap target_in is) h.1) tt
+    value_holds e a (values.Ranges spans) y is sibling given refers goes written = holds_as a.name (out.Ranges spans) y (made_of (λ list. out.Ranges list) spans y written) given.1 given.0
+    value_holds e a (values.Locations items) y is sibling given refers goes written =
+        holds_as a.name (out.Locations (filter_map (location_written image) items)) y (made_of (λ list. out.Locations list) (filter_map (location_written image) items) y written)
+        (locations_by items given.1 (items_go items goes)) given.0
+    value_holds e a values.Lines y is sibling given refers goes written = holds_as a.name out.Lines y (sym (same_Some _ y written)) tt tt
+    value_holds e a (values.Offset n) y is sibling given refers goes written = absurd cc
 
-  pub attribute_holds : (files : FileNumbers) → FilesFit files → (e : Entry) (a : Attr) (y : OutAttr) → IsGivenAttr a → Refers a → All BaseGoes (flat_map op_bases (operations_of a.value)) → attr_written image files e a ≡ Some y
-      → IsAttribute graph nodes y
-  attribute_holds files fit e a y given refers goes written =
-      let said : Option OutValue = cond (a.name == DW_AT_decl_file) (file_written image files e a a.value) (value_written image e a a.value) in
-      let left = unless_left (is_left_out image e a.name) (option_map (λ value. record { name = a.name; value = value }) said) y written in
-      let made = mapped_some (λ value. record { name = a.name; value = value }) said y left.1 in
-      let dropped = neither (is_dropped a.name) _ left.0 in
-      let sibling = neither (a.name == DW_AT_sibling) _ dropped in
-      let h = said_holds files fit (a.name == DW_AT_decl_file) e a made.0 sibling given.value refers goes made.1 in
-      let own : IsAttribute graph nodes (record { name = a.name; value = made.0 }) = record { some = given.some; fits = given.fits; kept = dropped; value = h.value; stands = h.stands } in
-      subst (IsAttribute graph nodes) (sym made.2) own
+    -- ---- attributes
 
-  -- all of an entry
-  pub attributes_hold : (files : FileNumbers) → FilesFit files → (e : Entry) → All IsGivenAttr e.attrs → All Refers e.attrs → All (λ a. All BaseGoes (flat_map op_bases (operations_of a.value))) e.attrs
-      → All (IsAttribute graph nodes) (attrs_written image files e)
-  attributes_hold files fit e given refers goes =
-      All-filter_map (IsAttribute graph nodes) (attr_written image files e) e.attrs (λ k d lt y written. attribute_holds files fit e _ y (given k d lt) (refers k d lt) (goes k d lt) written)
+    -- the number of a source file is a number of 64 bits
+    abbrev pub FilesFit : FileNumbers → Type 0
+    FilesFit files = IfSome files (λ number. (n m : ℕ) → number n ≡ Some m → m < 2 ^ 64)
+
+    file_holds : (files : FileNumbers) → FilesFit files → (e : Entry) (a : Attr) (v : Value) (y : OutValue) → a.value ≡ v → (a.name == DW_AT_sibling) ≡ false → IsGivenValue from a.name v → Refers a → All BaseGoes (flat_map op_bases (operations_of v))
+        → file_written image files e a v ≡ Some y → ValueHolds a.name y
+    file_holds None fit e a v y is sibling given refers goes written = value_holds e a v y is sibling given refers goes written
+    file_holds (Some number) fit e a (values.Number form bits) y is sibling given refers goes written =
+        let h = mapped_some (λ n. out.Number DW_FORM_udata n) (number bits) y written in
+        holds_as a.name (out.Number DW_FORM_udata h.0) y h.2 (in_udata refl (fit bits h.0 h.1)) tt
+    file_holds (Some number) fit e a (values.Address place) y is sibling given refers goes written = absurd cc
+    file_holds (Some number) fit e a (values.Text text) y is sibling given refers goes written = absurd cc
+    file_holds (Some number) fit e a (values.Wide bytes) y is sibling given refers goes written = absurd cc
+    file_holds (Some number) fit e a (values.Block form bytes) y is sibling given refers goes written = absurd cc
+    file_holds (Some number) fit e a (values.Expr ops) y is sibling given refers goes written = absurd cc
+    file_holds (Some number) fit e a (values.Ref k) y is sibling given refers goes written = absurd cc
+    file_holds (Some number) fit e a (values.Ranges spans) y is sibling given refers goes written = absurd cc
+    file_holds (Some number) fit e a (values.Locations items) y is sibling given refers goes written = absurd cc
+    file_holds (Some number) fit e a values.Lines y is sibling given refers goes written = absurd cc
+    file_holds (Some number) fit e a (values.Offset n) y is sibling given refers goes written = absurd cc
+
+    said_holds : (files : FileNumbers) → FilesFit files → (b : Bool) (e : Entry) (a : Attr) (y : OutValue) → (a.name == DW_AT_sibling) ≡ false → IsGivenValue from a.name a.value → Refers a → All BaseGoes (flat_map op_bases (operations_of a.value))
+        → cond b (file_written image files e a a.value) (value_written image e a a.value) ≡ Some y → ValueHolds a.name y
+    said_holds files fit true e a y sibling given refers goes written = file_holds files fit e a a.value y refl sibling given refers goes written
+    said_holds files fit false e a y sibling given refers goes written = value_holds e a a.value y refl sibling given refers goes written
+
+    pub attribute_holds : (files : FileNumbers) → FilesFit files → (e : Entry) (a : Attr) (y : OutAttr) → IsGivenAttr from a → Refers a → All BaseGoes (flat_map op_bases (operations_of a.value)) → attr_written image files e a ≡ Some y
+        → IsAttribute graph to nodes y
+    attribute_holds files fit e a y given refers goes written =
+        let said : Option OutValue = cond (a.name == DW_AT_decl_file) (file_written image files e a a.value) (value_written image e a a.value) in
+        let left = unless_left (is_left_out image e a.name) (option_map (λ value. record { name = a.name; value = value }) said) y written in
+        let made = mapped_some (λ value. record { name = a.name; value = value }) said y left.1 in
+        let dropped = neither (is_dropped a.name) _ left.0 in
+        let sibling = neither (a.name == DW_AT_sibling) _ dropped in
+        let h = said_holds files fit (a.name == DW_AT_decl_file) e a made.0 sibling given.value refers goes made.1 in
+        let own : IsAttribute graph to nodes (record { name = a.name; value = made.0 }) = record { some = given.some; fits = given.fits; kept = dropped; value = h.value; stands = h.stands } in
+        subst (IsAttribute graph to nodes) (sym made.2) own
+
+    -- all of an entry
+    pub attributes_hold : (files : FileNumbers) → FilesFit files → (e : Entry) → All (IsGivenAttr from) e.attrs → All Refers e.attrs → All (λ a. All BaseGoes (flat_map op_bases (operations_of a.value))) e.attrs
+        → All (IsAttribute graph to nodes) (attrs_written image files e)
+    attributes_hold files fit e given refers goes =
+        All-filter_map (IsAttribute graph to nodes) (attr_written image files e) e.attrs (λ k d lt y written. attribute_holds files fit e _ y (given k d lt) (refers k d lt) (goes k d lt) written)

@@ -1,7 +1,7 @@
 -- A unit that is written is well, and so is the graph.
 use Rattle.std.proofs.Common.{◌≡◌, ◌<◌, ◌+◌, ◌==◌, ℕ, suc, Bool, true, false, cond, eqb, List, [], ◌∷◌, ◌++◌, length, map, drop, get_or, slice_get, Option, Some, None, inl, inr, refl, sym, ap, subst, ◌∙◌, append-nil, arith}
 use Rattle.std.specs.List.{All, Contains, filter_map, flat_map, list_any}
-use Rattle.std.specs.Option.{is_none, option_and_then, option_map}
+use Rattle.std.specs.Option.{is_none, option_and_then, option_map, option_map_or}
 use Rattle.std.proofs.lemmas.Bool.{cases_lt, eqb-false, eqb-true}
 use Rattle.std.proofs.lemmas.List.{length-map}
 use Rattle.std.proofs.lemmas.List.Elements.{All-append, All-cons, All-contains_itself, All-map, All-nil, All-weaker}
@@ -30,10 +30,10 @@ use Rattle.dwarf_types.specs.WellRoots.{EndsWith, IsRoot, closing_pair, is_code_
 use Rattle.dwarf_types.specs.WellValues.{IsTarget}
 use Rattle.link_graph.proofs.Gathered.{All-filter_map, All-flat_map}
 use Rattle.link_graph.proofs.Units.{unit_has}
-use Rattle.linked_laws.specs.Given.{IsGivenEntry, IsGivenUnit}
+use Rattle.linked_laws.specs.Given.{IsGivenEntry, IsGivenUnit, version_of}
 use Rattle.linked_laws.specs.Given as given
 use Rattle.linked_laws.specs.Kept.{IsWhole, Leads}
-use Rattle.linked_laws.proofs.Attributes.{BaseGoes, Refers, attributes_hold, mapped_some}
+use Rattle.linked_laws.proofs.Attributes.{BaseGoes, Refers, allows_itself, attributes_hold, mapped_some}
 use Rattle.linked_laws.proofs.Chains.{entry_of_unit, root_kept}
 use Rattle.linked_laws.proofs.Images.{IsSource, all_sources, entry_placed, goes, source_written}
 use Rattle.linked_laws.proofs.Lists.{all_of_each}
@@ -93,34 +93,39 @@ module _
 
       -- ---- nodes
 
-      closing_attrs : All (IsAttribute graph nodes) (closing_pair spans)
+      closing_attrs : All (IsAttribute graph unit.version nodes) (closing_pair spans)
       closing_attrs =
           let low : OutAttr = record { name = DW_AT_low_pc; value = out.Address 0 } in
           let ranges : OutAttr = record { name = DW_AT_ranges; value = out.Ranges spans } in
-          All-cons (IsAttribute graph nodes) low (ranges ∷ []) (record { some = omega arith; fits = omega arith; kept = refl; value = omega arith; stands = tt })
-          (All-cons (IsAttribute graph nodes) ranges [] (record { some = omega arith; fits = omega arith; kept = refl; value = code_spans o s.unit whole.given.code; stands = refl }) (All-nil (IsAttribute graph nodes)))
+          All-cons (IsAttribute graph unit.version nodes) low (ranges ∷ []) (record { some = omega arith; fits = omega arith; kept = refl; value = omega arith; stands = tt })
+          (All-cons (IsAttribute graph unit.version nodes) ranges [] (record { some = omega arith; fits = omega arith; kept = refl; value = code_spans o s.unit whole.given.code; stands = refl }) (All-nil (IsAttribute graph unit.version nodes)))
 
-      closing_by : (root none : Bool) → All (IsAttribute graph nodes) (cond root (cond none [] (closing_pair spans)) [])
-      closing_by true true = All-nil (IsAttribute graph nodes)
+      closing_by : (root none : Bool) → All (IsAttribute graph unit.version nodes) (cond root (cond none [] (closing_pair spans)) [])
+      closing_by true true = All-nil (IsAttribute graph unit.version nodes)
       closing_by true false = closing_attrs
-      closing_by false none = All-nil (IsAttribute graph nodes)
+      closing_by false none = All-nil (IsAttribute graph unit.version nodes)
 
-      pub node_holds : (x : ℕ × Entry) → IsWritten o s.unit x → IsNode graph nodes (f x)
+      pub node_holds : (x : ℕ × Entry) → IsWritten o s.unit x → IsNode graph unit.version nodes (f x)
       node_holds x w =
-          let e_given = given_of x.0 x.1 w.stands in
+          let e_given = given_of x.0 x.1 w.stands w.unit in
           record {
             some = e_given.some;
             fits = e_given.fits;
-            attrs = All-append (IsAttribute graph nodes) (attrs_written image None x.1) (closing x.1 spans)
-                (attributes_hold image graph nodes None tt x.1 e_given.attrs (refers x.1) (bases x.0 x.1 w.stands w.unit w.kept))
+            attrs = All-append (IsAttribute graph unit.version nodes) (attrs_written image None x.1) (closing x.1 spans)
+                (attributes_hold image graph nodes unit.version unit.version (allows_itself unit.version) None tt x.1 e_given.attrs (refers x.1) (bases x.0 x.1 w.stands w.unit w.kept))
                 (closing_by (is_none x.1.parent) (eqb (length spans) 0));
           }
         where
-          given_of : (k : ℕ) (e : Entry) → Stands o.seen.entries k e → IsGivenEntry e
-          given_of k e stands = subst IsGivenEntry (get_or_from_slice_get o.seen.entries k e e stands) (whole.given.entries k e (slice_get_within o.seen.entries k e stands))
+          its_version : (e : Entry) → e.unit ≡ s.unit → version_of o.seen.units e.unit ≡ unit.version
+          its_version e same = ap (version_of o.seen.units) same ∙ ap (λ (found : Option InUnit). option_map_or (λ (u : InUnit). u.version) found 0) is
 
-      pub all_nodes : All (IsNode graph nodes) nodes
-      all_nodes = All-map (IsNode graph nodes) f kept (All-weaker (IsWritten o s.unit) (λ x. IsNode graph nodes (f x)) node_holds kept (all_written o s.unit))
+          given_of : (k : ℕ) (e : Entry) → Stands o.seen.entries k e → e.unit ≡ s.unit → IsGivenEntry unit.version e
+          given_of k e stands same =
+              subst (λ (version : ℕ). IsGivenEntry version e) (its_version e same)
+              (subst (λ (x : Entry). IsGivenEntry (version_of o.seen.units x.unit) x) (get_or_from_slice_get o.seen.entries k e e stands) (whole.given.entries k e (slice_get_within o.seen.entries k e stands)))
+
+      pub all_nodes : All (IsNode graph unit.version nodes) nodes
+      all_nodes = All-map (IsNode graph unit.version nodes) f kept (All-weaker (IsWritten o s.unit) (λ x. IsNode graph unit.version nodes (f x)) node_holds kept (all_written o s.unit))
 
       -- ---- the root
 

@@ -1,6 +1,7 @@
--- What an analysis of version 4 keeps to beside being sound: its entries say what the bytes of an object can say.
-use Rattle.std.specs.Prelude.{◌≡◌, ◌<◌, ◌+◌, ◌^◌, ◌==◌, ◌&&◌, not, ℕ, zero, suc, Bool, true, false, IsTrue, List, [], ◌∷◌, length, drop, Option, Some, None, is_none, is_some, IfSome, if◌then◌else◌}
+-- What an analysis keeps to beside being sound: its entries say what the bytes of an object can say.
+use Rattle.std.specs.Prelude.{◌≡◌, ◌⊎◌, ◌<◌, ◌+◌, ◌^◌, ◌==◌, ◌&&◌, not, ℕ, zero, suc, Bool, true, false, IsTrue, List, [], ◌∷◌, length, drop, slice_get, Option, Some, None, is_none, is_some, IfSome, if◌then◌else◌}
 use Rattle.std.specs.List.{All, list_any}
+use Rattle.std.specs.Option.{option_map_or}
 use Rattle.ds_base.specs.declared.dwarf.TheConstants.{DW_AT_ranges, DW_AT_stmt_list, DW_TAG_compile_unit}
 use Rattle.dwarf_types.specs.declared.address.Place.{Place}
 use Rattle.dwarf_types.specs.declared.analysis.Analysis.{Analysis}
@@ -55,41 +56,42 @@ pub data IsGivenOp (op : Op) : Type 0 where
 
 -- ---- values
 
--- an item of a location list; its expression is short enough for a length of two bytes, wherever its base types go
-pub record IsGivenLocation (item : Location) : Type 0 where
+-- an item of a location list of a unit of a version; in version 4 its expression is short enough for a length of two bytes, wherever its base types go
+pub record IsGivenLocation (version : ℕ) (item : Location) : Type 0 where
   pub span : IsSpan item.span
   pub ops : All IsGivenOp item.ops
-  pub short : expression_len (parts_of (λ k. None) item.ops) < 2 ^ 16
+  pub short : version ≡ 4 → expression_len (parts_of (λ k. None) item.ops) < 2 ^ 16
 
 pub record IsGivenPlace (place : Place) : Type 0 where
   pub linked : IfSome place.linked (λ n. n < 2 ^ 64)
   pub linked_end : IfSome place.linked_end (λ n. n < 2 ^ 64)
 
--- the value of an attribute of a name; a list stands under an attribute of its kind alone
-abbrev pub IsGivenValue : ℕ → Value → Type 0
-IsGivenValue name (values.Address place) = IsGivenPlace place
-IsGivenValue name (values.Text text) = AreTextBytes text
-IsGivenValue name (values.Number form bits) = FitsForm form bits
-IsGivenValue name (values.Wide bytes) = ⊥
-IsGivenValue name (values.Block form bytes) = FitsBlock form (length bytes) × AreBytes bytes
-IsGivenValue name (values.Expr ops) = All IsGivenOp ops
-IsGivenValue name (values.Ref k) = Unit {0}
-IsGivenValue name (values.Ranges spans) = (name ≡ DW_AT_ranges) × All IsSpan spans
-IsGivenValue name (values.Locations items) = IsTrue (has_locations name) × All IsGivenLocation items
-IsGivenValue name values.Lines = Unit {0}
-IsGivenValue name (values.Offset n) = Unit {0}
+-- the value of an attribute of a name, in a unit of a version; a list stands under an attribute of its kind alone, and constants of 16 bytes stand in units of version 5 alone
+abbrev pub IsGivenValue : ℕ → ℕ → Value → Type 0
+IsGivenValue version name (values.Address place) = IsGivenPlace place
+IsGivenValue version name (values.Text text) = AreTextBytes text
+IsGivenValue version name (values.Number form bits) = FitsForm form bits
+IsGivenValue version name (values.Wide bytes) = (version ≡ 5) × (length bytes ≡ 16) × AreBytes bytes
+IsGivenValue version name (values.Block form bytes) = FitsBlock form (length bytes) × AreBytes bytes
+IsGivenValue version name (values.Expr ops) = All IsGivenOp ops
+IsGivenValue version name (values.Ref k) = Unit {0}
+IsGivenValue version name (values.Ranges spans) = (name ≡ DW_AT_ranges) × All IsSpan spans
+IsGivenValue version name (values.Locations items) = IsTrue (has_locations name) × All (IsGivenLocation version) items
+IsGivenValue version name values.Lines = Unit {0}
+IsGivenValue version name (values.Offset n) = Unit {0}
 
 -- ---- entries
 
-pub record IsGivenAttr (a : Attr) : Type 0 where
+pub record IsGivenAttr (version : ℕ) (a : Attr) : Type 0 where
   pub some : 0 < a.name
   pub fits : a.name < 2 ^ 16
-  pub value : IsGivenValue a.name a.value
+  pub value : IsGivenValue version a.name a.value
 
-pub record IsGivenEntry (e : Entry) : Type 0 where
+-- an entry of a unit of a version
+pub record IsGivenEntry (version : ℕ) (e : Entry) : Type 0 where
   pub some : 0 < e.tag
   pub fits : e.tag < 2 ^ 16
-  pub attrs : All IsGivenAttr e.attrs
+  pub attrs : All (IsGivenAttr version) e.attrs
 
 -- ---- line tables are named by roots
 
@@ -113,9 +115,9 @@ pub record IsGivenRoot (unit : InUnit) (root : Entry) : Type 0 where
   pub lines : is_some unit.lines ≡ has_lines root.attrs
 
 pub record IsGivenUnit (entries : List Entry) (unit : InUnit) : Type 0 where
-  pub version : unit.version ≡ 4
+  pub version : (unit.version ≡ 4) ⊎ (unit.version ≡ 5)
   pub root : (e : Entry) → Stands entries unit.first e → IsGivenRoot unit e
-  pub lines : IfSome unit.lines IsLineTable
+  pub lines : IfSome unit.lines (IsLineTable unit.version)
 
 -- ---- preorder
 
@@ -130,9 +132,13 @@ ArePreorder entries = (k p : ℕ) (e : Entry) → Stands entries (k + 1) e → e
 
 -- ---- analyses
 
+-- the version of the unit of a number
+abbrev pub version_of : List InUnit → ℕ → ℕ
+version_of units u = option_map_or (λ unit. unit.version) (slice_get units u) 0
+
 pub record IsGiven (a : Analysis) : Type 0 where
   pub units : All (IsGivenUnit a.entries) a.units
-  pub entries : All IsGivenEntry a.entries
+  pub entries : All (λ e. IsGivenEntry (version_of a.units e.unit) e) a.entries
   -- only roots name line tables
   pub no_lines : All (λ e. is_none e.parent ≡ false → has_lines e.attrs ≡ false) a.entries
   pub preorder : ArePreorder a.entries

@@ -12,7 +12,7 @@ ghost use Rattle.dwarf_types.specs.Well.{IsWell, IsWellUnit};
 ghost use Rattle.linked_laws.specs.Ends.{Ends};
 ghost use Rattle.linked_laws.specs.Kept.{IsWhole, Leads};
 
-/// What is linked of objects of version 4 is well.
+/// What is linked of objects is well, in versions 4 and 5.
 ///
 /// Each object is sound and given, and its entries that are written keep to each other (`specs/Kept.antt`).
 pub fn linked_is_well()
