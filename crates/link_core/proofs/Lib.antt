@@ -4,7 +4,5 @@ pub mod LastPart
 pub mod Marking
 pub mod Members
 pub mod Graphs
-pub mod Turns
-pub mod ObjectsRead
 pub mod Refusing
 pub mod Bundling

@@ -9,5 +9,3 @@ mod bytes;
 mod objects;
 #[cfg(test)]
 mod tests;
-#[cfg(test)]
-mod tests_workers;
