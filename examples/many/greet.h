@@ -1,0 +1,2 @@
+int greet(int times);
+int square(int side);
