@@ -3,6 +3,7 @@ pub mod DraftRuns
 pub mod Folds
 pub mod GraphParts
 pub mod Limits
+pub mod LineLengths
 pub mod Numbered
 pub mod OfDrafts
 pub mod Outsides

@@ -1,5 +1,5 @@
 -- What drafts give is what their graph has.
-use Rattle.std.proofs.Common.{◌≡◌, ℕ, suc, ◌+◌, ◌^◌, ◌<◌, List, [], ◌∷◌, ◌++◌, length, map, fold, get_or, slice_get, Some, None, nat_le, refl, sym, subst, ap, ◌∙◌, append_assoc, append-nil, arith, length-append}
+use Rattle.std.proofs.Common.{◌≡◌, ◌==◌, ℕ, suc, ◌+◌, ◌^◌, ◌<◌, Bool, true, false, if◌then◌else◌, List, [], ◌∷◌, ◌++◌, length, map, fold, get_or, slice_get, Some, None, nat_le, refl, sym, subst, ap, ◌∙◌, append_assoc, append-nil, arith, length-append}
 use Rattle.std.specs.List.{enumerate_from, find, flat_map}
 use Rattle.std.specs.Option.{option_map}
 use Rattle.std.specs.Str.{bytes_eq}
@@ -11,9 +11,9 @@ use Rattle.dwarf_types.specs.declared.address.Span.{Span}
 use Rattle.dwarf_types.specs.declared.graph.Graph.{Graph}
 use Rattle.dwarf_types.specs.declared.graph.OutUnit.{OutUnit}
 use Rattle.dwarf_types.specs.Aranges.{aranges_bytes}
+use Rattle.dwarf_types.specs.Abbreviations.{same_flag}
 use Rattle.dwarf_types.specs.Entries.{node_place, unit_len}
-use Rattle.dwarf_types.specs.Layout.{numbered_units, texts_of, texts_of_node, unit_start}
-use Rattle.dwarf_types.specs.Lists.{locations_bytes, locations_len, ranges_bytes, ranges_len}
+use Rattle.dwarf_types.specs.Layout.{line_texts_of, line_texts_of_unit, lines_place, lists_start, locations_before, numbered_units, ranges_before, table_place, texts_of, texts_of_node, unit_locations_len, unit_ranges_len, unit_start}
 use Rattle.patches.specs.declared.outside.Placed.{Placed}
 use Rattle.unit_draft.specs.declared.unit.Draft.{Draft}
 use Rattle.unit_draft.specs.Drafted.{IsDraft, node_places}
@@ -23,23 +23,56 @@ use Rattle.layout.specs.declared.placing.PartPlaces.{PartPlaces}
 use Rattle.layout.specs.declared.placing.Placing.{Placing}
 use Rattle.layout.specs.declared.starts.Starts.{Starts}
 use Rattle.layout.specs.Laid.{AreDrafts, long_unit, part_places}
-use Rattle.layout.specs.Pass.{behind_draft, behind_unit, no_starts, none_placed, place_in, starts_of, with_draft}
+use Rattle.layout.specs.Pass.{behind_draft, behind_unit, in_five, in_others, no_starts, none_placed, nothing, parts_of, place_in, starts_of, with_draft}
 use Rattle.layout.proofs.GraphParts.{by_all, starts_more}
-use Rattle.layout.proofs.SectionLengths.{locations_each, over_values_len, ranges_each}
+use Rattle.layout.proofs.SectionLengths.{unit_locations_size, unit_ranges_size}
 
 -- ---- one draft
 
+-- lists of version 5 stand in their own sections, all others in the others
+others_same : (five : Bool) (n : ℕ) → (if five then 0 else n) ≡ (if same_flag five false then n else 0)
+others_same true n = refl
+others_same false n = refl
+
+five_same : (five : Bool) (n : ℕ) → (if five then n else 0) ≡ (if same_flag five true then n else 0)
+five_same true n = refl
+five_same false n = refl
+
+module _ (version : ℕ) (unit : OutUnit) (len n : ℕ) (versions : version ≡ unit.version) (lens : len ≡ n) where
+  others_are : in_others version 0 len ≡ (if same_flag (unit.version == 5) false then n else 0)
+  others_are = ap (λ (v : ℕ). in_others v 0 len) versions ∙ ap (in_others unit.version 0) lens ∙ others_same (unit.version == 5) n
+
+  five_are : in_five version 0 len ≡ (if same_flag (unit.version == 5) true then n else 0)
+  five_are = ap (λ (v : ℕ). in_five v 0 len) versions ∙ ap (in_five unit.version 0) lens ∙ five_same (unit.version == 5) n
+
 behind_is : (at : Starts) (u : ℕ) (unit : OutUnit) (d : Draft) → IsDraft u unit d → behind_draft at d ≡ behind_unit at u unit
 behind_is at u unit d is =
-    by_all _ _ _ _ _ _ _ _ _ _ (ap (λ (n : ℕ). at.info + n) is.len) (ap (λ (bytes : List ℕ). at.tables + length bytes) is.table) (ap (λ (bytes : List ℕ). at.line + length bytes) is.lines)
-    (ap (λ (n : ℕ). at.ranges + n) (ap length is.ranges ∙ over_values_len ranges_bytes ranges_len ranges_each unit))
-    (ap (λ (n : ℕ). at.loc + n) (ap length is.locations ∙ over_values_len (locations_bytes (node_place u unit)) locations_len (locations_each (node_place u unit)) unit))
+    let ranges = ap length is.ranges ∙ unit_ranges_size unit in
+    let locations = ap length is.locations ∙ unit_locations_size (node_place u unit) unit in
+    by_all _ _ _ _ _ _ _ _ _ _ _ _ _ _ (ap (λ (n : ℕ). at.info + n) is.len) (ap (λ (bytes : List ℕ). at.tables + length bytes) is.table) (ap (λ (n : ℕ). at.line + n) (is.lines_size nothing))
+    (ap (λ (n : ℕ). at.ranges + n) (others_are d.version unit (length d.ranges) _ is.version ranges))
+    (ap (λ (n : ℕ). at.rnglists + n) (five_are d.version unit (length d.ranges) _ is.version ranges))
+    (ap (λ (n : ℕ). at.loc + n) (others_are d.version unit (length d.locations) _ is.version locations))
+    (ap (λ (n : ℕ). at.loclists + n) (five_are d.version unit (length d.locations) _ is.version locations))
 
 abbrev placed_by : ℕ → List ℕ → ℕ → Placed
 placed_by start nodes len = record { start = start; nodes = nodes; len = len }
 
-abbrev parts_by : Starts → PartPlaces
-parts_by s = record { table = s.tables; lines = s.line; ranges = s.ranges; locations = s.loc }
+-- where the parts of a unit stand, by its version
+module _ (graph : Graph) (u : ℕ) where
+  abbrev parts_by : ℕ → ℕ → PartPlaces
+  parts_by ranges locations = record { table = table_place graph u; lines = lines_place graph u; ranges = ranges; locations = locations }
+
+  from_zero : (n : ℕ) → n ≡ 0 + n
+  from_zero n = omega arith
+
+  parts_by_version : (five : Bool) → parts_by (if five then 12 + ranges_before true graph u else ranges_before false graph u) (if five then 12 + locations_before true graph u else locations_before false graph u)
+      ≡ parts_by (lists_start five + ranges_before five graph u) (lists_start five + locations_before five graph u)
+  parts_by_version true = refl
+  parts_by_version false = ap (λ (n : ℕ). parts_by n (locations_before false graph u)) (from_zero (ranges_before false graph u)) ∙ ap (parts_by (0 + ranges_before false graph u)) (from_zero (locations_before false graph u))
+
+  parts_same : (unit : OutUnit) → parts_of unit.version (starts_of graph u) ≡ part_places graph u unit
+  parts_same unit = parts_by_version (unit.version == 5)
 
 -- ---- drafts of the units from a number on
 
@@ -68,16 +101,22 @@ from_graph graph drafts are =
 
 -- ---- texts
 
-names_from : (n : ℕ) (us : List OutUnit) (ds : List Draft) → From n us ds → flat_map (λ d. d.names) ds ≡ flat_map (λ unit. once bytes_eq (flat_map texts_of_node unit.nodes)) us
-names_from n [] [] f = refl
-names_from n [] (d ∷ ds) f = absurd f
-names_from n (u ∷ us) [] f = absurd f
-names_from n (u ∷ us) (d ∷ ds) f =
-    ap (λ (names : List (List ℕ)). names ++ flat_map (λ (e : Draft). e.names) ds) f.0.names ∙ ap (λ (rest : List (List ℕ)). once bytes_eq (flat_map texts_of_node u.nodes) ++ rest) (names_from (n + 1) us ds f.1)
+module _ (names : Draft → List (List ℕ)) (uses : OutUnit → List (List ℕ)) (same : (u : ℕ) (unit : OutUnit) (d : Draft) → IsDraft u unit d → names d ≡ once bytes_eq (uses unit)) where
+  names_from : (n : ℕ) (us : List OutUnit) (ds : List Draft) → From n us ds → flat_map names ds ≡ flat_map (λ unit. once bytes_eq (uses unit)) us
+  names_from n [] [] f = refl
+  names_from n [] (d ∷ ds) f = absurd f
+  names_from n (u ∷ us) [] f = absurd f
+  names_from n (u ∷ us) (d ∷ ds) f =
+      ap (λ (some : List (List ℕ)). some ++ flat_map names ds) (same n u d f.0) ∙ ap (λ (rest : List (List ℕ)). once bytes_eq (uses u) ++ rest) (names_from (n + 1) us ds f.1)
+
+  names_are : (graph : Graph) (drafts : List Draft) → AreDrafts graph drafts → fold with_text [] (flat_map names drafts) ≡ once bytes_eq (flat_map uses graph.units)
+  names_are graph drafts are = ap (fold with_text []) (names_from 0 graph.units drafts (from_graph graph drafts are)) ∙ once_of_onces uses graph.units
 
 pub texts_are : (graph : Graph) (drafts : List Draft) → AreDrafts graph drafts → fold with_text [] (flat_map (λ d. d.names) drafts) ≡ texts_of graph
-texts_are graph drafts are =
-    ap (fold with_text []) (names_from 0 graph.units drafts (from_graph graph drafts are)) ∙ once_of_onces (λ (unit : OutUnit). flat_map texts_of_node unit.nodes) graph.units
+texts_are = names_are (λ d. d.names) (λ (unit : OutUnit). flat_map texts_of_node unit.nodes) (λ u unit d is. is.names)
+
+pub line_texts_are : (graph : Graph) (drafts : List Draft) → AreDrafts graph drafts → fold with_text [] (flat_map (λ d. d.line_names) drafts) ≡ line_texts_of graph
+line_texts_are = names_are (λ d. d.line_names) line_texts_of_unit (λ u unit d is. is.line_names)
 
 -- ---- no unit is too long
 
@@ -117,10 +156,11 @@ module _ (graph : Graph) where
   ends_are drafts are = ends_from 0 [] graph.units drafts no_starts refl refl (from_graph graph drafts are) refl
 
   -- what is known of drafts that follow the first ones
-  record Follow (p : Placing) (n : ℕ) (us : List OutUnit) (texts : List (List ℕ)) (new : Placing) : Type 0 where
+  record Follow (p : Placing) (n : ℕ) (us : List OutUnit) (texts line_texts : List (List ℕ)) (new : Placing) : Type 0 where
     units : new.units ≡ p.units ++ map (λ m. placed graph m.0 m.1) (enumerate_from n us)
-    parts : new.parts ≡ p.parts ++ map (λ m. part_places graph m.0) (enumerate_from n us)
+    parts : new.parts ≡ p.parts ++ map (λ m. part_places graph m.0 m.1) (enumerate_from n us)
     text_places : new.text_places ≡ p.text_places ++ map (λ m. map (place_in texts) (once bytes_eq (flat_map texts_of_node m.1.nodes))) (enumerate_from n us)
+    line_text_places : new.line_text_places ≡ p.line_text_places ++ map (λ m. map (place_in line_texts) (once bytes_eq (line_texts_of_unit m.1))) (enumerate_from n us)
     aranges : new.aranges ≡ p.aranges ++ flat_map (λ m. aranges_bytes (unit_start graph m.0) m.1.ranges) (enumerate_from n us)
     at : new.at ≡ starts_of graph (n + length us)
 
@@ -128,31 +168,33 @@ module _ (graph : Graph) where
   one_more : {X : Type 0} (xs ys more all : List X) (x y : X) → ys ≡ (xs ++ x ∷ []) ++ more → x ≡ y → all ≡ y ∷ more → ys ≡ xs ++ all
   one_more {X} xs ys more all x y is same whole = is ∙ append_assoc xs (x ∷ []) more ∙ ap (λ (z : X). xs ++ z ∷ more) same ∙ ap (λ (zs : List X). xs ++ zs) (sym whole)
 
-  follow_from : (n : ℕ) (front us : List OutUnit) (ds : List Draft) (p : Placing) (texts : List (List ℕ)) → graph.units ≡ front ++ us → length front ≡ n → From n us ds → p.at ≡ starts_of graph n
-      → Follow p n us texts (fold (with_draft texts) p ds)
-  follow_from n front [] [] p texts parts len f same =
+  follow_from : (n : ℕ) (front us : List OutUnit) (ds : List Draft) (p : Placing) (texts line_texts : List (List ℕ)) → graph.units ≡ front ++ us → length front ≡ n → From n us ds → p.at ≡ starts_of graph n
+      → Follow p n us texts line_texts (fold (with_draft texts line_texts) p ds)
+  follow_from n front [] [] p texts line_texts parts len f same =
       let end : n ≡ n + 0 = omega arith in
       record {
         units = sym (append-nil p.units);
         parts = sym (append-nil p.parts);
         text_places = sym (append-nil p.text_places);
+        line_text_places = sym (append-nil p.line_text_places);
         aranges = sym (append-nil p.aranges);
         at = same ∙ ap (starts_of graph) end;
       }
-  follow_from n front [] (d ∷ ds) p texts parts len f same = absurd f
-  follow_from n front (u ∷ us) [] p texts parts len f same = absurd f
-  follow_from n front (u ∷ us) (d ∷ ds) p texts parts len f same =
-      let next = with_draft texts p d in
-      let h = follow_from (n + 1) (front ++ u ∷ []) us ds next texts (next_front front us u parts) (omega (arith, len, length-append front (u ∷ []))) f.1 (next_starts n front us u d p.at parts len f.0 same) in
+  follow_from n front [] (d ∷ ds) p texts line_texts parts len f same = absurd f
+  follow_from n front (u ∷ us) [] p texts line_texts parts len f same = absurd f
+  follow_from n front (u ∷ us) (d ∷ ds) p texts line_texts parts len f same =
+      let next = with_draft texts line_texts p d in
+      let h = follow_from (n + 1) (front ++ u ∷ []) us ds next texts line_texts (next_front front us u parts) (omega (arith, len, length-append front (u ∷ []))) f.1 (next_starts n front us u d p.at parts len f.0 same) in
       let info : p.at.info ≡ unit_start graph n = ap (λ (s : Starts). s.info) same in
       let unit : placed_by p.at.info d.places d.len ≡ placed_by (unit_start graph n) (node_places n u) (unit_len n u) =
       ap (λ (s : ℕ). placed_by s d.places d.len) info ∙ ap (λ (ns : List ℕ). placed_by (unit_start graph n) ns d.len) f.0.places ∙ ap (placed_by (unit_start graph n) (node_places n u)) f.0.len in
-      let part = ap parts_by same in
+      let part = ap (λ (v : ℕ). parts_of v p.at) f.0.version ∙ ap (parts_of u.version) same ∙ parts_same graph n u in
       let end : n + 1 + length us ≡ n + suc (length us) = omega arith in
       record {
         units = one_more _ _ _ _ _ _ h.units unit refl;
         parts = one_more _ _ _ _ _ _ h.parts part refl;
         text_places = one_more _ _ _ _ _ _ h.text_places (ap (map (place_in texts)) f.0.names) refl;
+        line_text_places = one_more _ _ _ _ _ _ h.line_text_places (ap (map (place_in line_texts)) f.0.line_names) refl;
         aranges = h.aranges ∙ append_assoc p.aranges (aranges_bytes p.at.info d.code) _
             ∙ ap (λ (s : ℕ). p.aranges ++ (aranges_bytes s d.code ++ flat_map (λ m. aranges_bytes (unit_start graph m.0) m.1.ranges) (enumerate_from (n + 1) us))) info
             ∙ ap (λ (spans : List Span). p.aranges ++ (aranges_bytes (unit_start graph n) spans ++ flat_map (λ m. aranges_bytes (unit_start graph m.0) m.1.ranges) (enumerate_from (n + 1) us))) f.0.code;
@@ -160,33 +202,39 @@ module _ (graph : Graph) where
       }
 
   -- all drafts
-  pub record AllPlaced (texts : List (List ℕ)) (new : Placing) : Type 0 where
+  pub record AllPlaced (texts line_texts : List (List ℕ)) (new : Placing) : Type 0 where
     pub units : new.units ≡ map (λ m. placed graph m.0 m.1) (numbered_units graph)
-    pub parts : new.parts ≡ map (λ m. part_places graph m.0) (numbered_units graph)
+    pub parts : new.parts ≡ map (λ m. part_places graph m.0 m.1) (numbered_units graph)
     pub text_places : new.text_places ≡ map (λ m. map (place_in texts) (once bytes_eq (flat_map texts_of_node m.1.nodes))) (numbered_units graph)
+    pub line_text_places : new.line_text_places ≡ map (λ m. map (place_in line_texts) (once bytes_eq (line_texts_of_unit m.1))) (numbered_units graph)
     pub aranges : new.aranges ≡ flat_map (λ m. aranges_bytes (unit_start graph m.0) m.1.ranges) (numbered_units graph)
     pub at : new.at ≡ starts_of graph (length graph.units)
 
-  pub placed_all : (drafts : List Draft) (texts : List (List ℕ)) → AreDrafts graph drafts → AllPlaced texts (fold (with_draft texts) none_placed drafts)
-  placed_all drafts texts are =
-      let h = follow_from 0 [] graph.units drafts none_placed texts refl refl (from_graph graph drafts are) refl in
+  pub placed_all : (drafts : List Draft) (texts line_texts : List (List ℕ)) → AreDrafts graph drafts → AllPlaced texts line_texts (fold (with_draft texts line_texts) none_placed drafts)
+  placed_all drafts texts line_texts are =
+      let h = follow_from 0 [] graph.units drafts none_placed texts line_texts refl refl (from_graph graph drafts are) refl in
       let end : 0 + length graph.units ≡ length graph.units = omega arith in
-      record { units = h.units; parts = h.parts; text_places = h.text_places; aranges = h.aranges; at = h.at ∙ ap (starts_of graph) end }
+      record { units = h.units; parts = h.parts; text_places = h.text_places; line_text_places = h.line_text_places; aranges = h.aranges; at = h.at ∙ ap (starts_of graph) end }
 
 -- ---- whatever the graph
 
 -- the places behind all drafts
-pub at_end : (texts : List (List ℕ)) (drafts : List Draft) (p : Placing) → (fold (with_draft texts) p drafts).at ≡ fold behind_draft p.at drafts
-at_end texts [] p = refl
-at_end texts (d ∷ drafts) p = at_end texts drafts (with_draft texts p d)
+pub at_end : (texts line_texts : List (List ℕ)) (drafts : List Draft) (p : Placing) → (fold (with_draft texts line_texts) p drafts).at ≡ fold behind_draft p.at drafts
+at_end texts line_texts [] p = refl
+at_end texts line_texts (d ∷ drafts) p = at_end texts line_texts drafts (with_draft texts line_texts p d)
 
 -- each draft has its places in all lists
-pub as_many : (texts : List (List ℕ)) (drafts : List Draft) (p : Placing) → length p.parts ≡ length p.units → length p.text_places ≡ length p.units
-    → (length (fold (with_draft texts) p drafts).parts ≡ length (fold (with_draft texts) p drafts).units) × (length (fold (with_draft texts) p drafts).text_places ≡ length (fold (with_draft texts) p drafts).units)
-as_many texts [] p parts places = (parts, places)
-as_many texts (d ∷ drafts) p parts places =
-    let next = with_draft texts p d in
+pub record AsMany (p : Placing) : Type 0 where
+  pub parts : length p.parts ≡ length p.units
+  pub text_places : length p.text_places ≡ length p.units
+  pub line_text_places : length p.line_text_places ≡ length p.units
+
+pub as_many : (texts line_texts : List (List ℕ)) (drafts : List Draft) (p : Placing) → AsMany p → AsMany (fold (with_draft texts line_texts) p drafts)
+as_many texts line_texts [] p h = h
+as_many texts line_texts (d ∷ drafts) p h =
+    let next = with_draft texts line_texts p d in
     let units : length next.units ≡ length p.units + 1 = length-append p.units _ in
     let more : length next.parts ≡ length p.parts + 1 = length-append p.parts _ in
     let others : length next.text_places ≡ length p.text_places + 1 = length-append p.text_places _ in
-    as_many texts drafts next (omega (arith, units, more, parts)) (omega (arith, units, others, places))
+    let lines : length next.line_text_places ≡ length p.line_text_places + 1 = length-append p.line_text_places _ in
+    as_many texts line_texts drafts next (record { parts = omega (arith, units, more, h.parts); text_places = omega (arith, units, others, h.text_places); line_text_places = omega (arith, units, lines, h.line_text_places) })

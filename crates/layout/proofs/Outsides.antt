@@ -5,13 +5,13 @@ use Rattle.std.proofs.lemmas.List.FromFn.{get_or-enumerate_from, length-enumerat
 use Rattle.std.proofs.lemmas.Option.{get_or_from_slice_get, slice_get-get_or, slice_get_within}
 use Rattle.dwarf_types.specs.declared.graph.Graph.{Graph}
 use Rattle.dwarf_types.specs.declared.graph.OutUnit.{OutUnit}
-use Rattle.dwarf_types.specs.Layout.{numbered_units, text_place}
+use Rattle.dwarf_types.specs.Layout.{line_text_place, numbered_units, text_place}
 use Rattle.patches.specs.declared.outside.Outside.{Outside}
 use Rattle.unit_draft.specs.declared.unit.Draft.{Draft}
 use Rattle.unit_draft.specs.Drafted.{IsDraft}
 use Rattle.unit_draft.specs.Outside.{IsOutside, placed}
 use Rattle.layout.specs.declared.placing.PartPlaces.{PartPlaces}
-use Rattle.layout.specs.Laid.{AreDrafts, Laid, laid, part_places, text_places}
+use Rattle.layout.specs.Laid.{AreDrafts, Laid, laid, line_text_places, part_places, text_places}
 use Rattle.layout.proofs.SectionLengths.{info_end}
 
 blank : OutUnit
@@ -29,25 +29,31 @@ module _ (graph : Graph) (u : ℕ) (within : u < length graph.units) where
 text_told : (f : List ℕ → ℕ) (names : List (List ℕ)) (i : ℕ) (t : List ℕ) → slice_get names i ≡ Some t → slice_index (map f names) i ≡ f t
 text_told f names i t at = get_or-map f names i t 0 (slice_get_within names i t at) ∙ ap f (get_or_from_slice_get names i t t at)
 
-module _ (graph : Graph) (layout : Laid) (u : ℕ) (draft : Draft) (part d : PartPlaces) (places : List ℕ) (o : Outside) where
-  pub outside_is : layout ≡ laid graph layout.drafts → AreDrafts graph layout.drafts → u < length layout.units → slice_get layout.drafts u ≡ Some draft
-      → part ≡ get_or layout.parts u d → places ≡ get_or layout.text_places u places
-      → o.table ≡ part.table → o.lines ≡ part.lines → o.ranges ≡ part.ranges → o.locations ≡ part.locations → o.texts.now ≡ places → o.units.now ≡ layout.units → o.end ≡ layout.sizes.info
-      → IsOutside graph u draft.names o
-  outside_is whole are lt there part_is places_is table lines ranges locations texts units end =
+module _ (graph : Graph) (layout : Laid) (u : ℕ) (unit : OutUnit) (draft : Draft) (part d : PartPlaces) (places line_places : List ℕ) (o : Outside) where
+  pub outside_is : layout ≡ laid graph layout.drafts → AreDrafts graph layout.drafts → slice_get graph.units u ≡ Some unit → slice_get layout.drafts u ≡ Some draft
+      → part ≡ get_or layout.parts u d → places ≡ get_or layout.text_places u places → line_places ≡ get_or layout.line_text_places u line_places
+      → o.table ≡ part.table → o.lines ≡ part.lines → o.ranges ≡ part.ranges → o.locations ≡ part.locations → o.texts.now ≡ places → o.line_texts.now ≡ line_places
+      → o.units.now ≡ layout.units → o.end ≡ layout.sizes.info → IsOutside graph u unit draft.names draft.line_names o
+  outside_is whole are here there part_is places_is line_places_is table lines ranges locations texts line_texts units end =
       let units_are : layout.units ≡ map (λ n. placed graph n.0 n.1) (numbered_units graph) = ap (λ (l : Laid). l.units) whole in
-      let within : u < length graph.units = omega (arith, lt, ap length units_are, length-map (numbered_units graph) (λ (n : ℕ × OutUnit). placed graph n.0 n.1), length-enumerate_from 0 graph.units) in
-      let unit : OutUnit = get_or graph.units u blank in
-      let here : IsDraft u unit draft = are.each u unit draft (slice_get-get_or graph.units u blank within) there in
-      let parts : part ≡ part_places graph u = part_is ∙ ap (λ (l : Laid). get_or l.parts u d) whole ∙ told graph u within (λ (n : ℕ × OutUnit). part_places graph n.0) d in
+      let within : u < length graph.units = slice_get_within graph.units u unit here in
+      let its : get_or graph.units u blank ≡ unit = get_or_from_slice_get graph.units u unit blank here in
+      let is : IsDraft u unit draft = are.each u unit draft here there in
+      let parts : part ≡ part_places graph u unit =
+      part_is ∙ ap (λ (l : Laid). get_or l.parts u d) whole ∙ told graph u within (λ (n : ℕ × OutUnit). part_places graph n.0 n.1) d ∙ ap (part_places graph u) its in
       let text_list : o.texts.now ≡ map (text_place graph) draft.names =
-      texts ∙ places_is ∙ ap (λ (l : Laid). get_or l.text_places u places) whole ∙ told graph u within (λ (n : ℕ × OutUnit). text_places graph n.1) places ∙ ap (map (text_place graph)) (sym here.names) in
+      texts ∙ places_is ∙ ap (λ (l : Laid). get_or l.text_places u places) whole ∙ told graph u within (λ (n : ℕ × OutUnit). text_places graph n.1) places ∙ ap (text_places graph) its
+      ∙ ap (map (text_place graph)) (sym is.names) in
+      let line_list : o.line_texts.now ≡ map (line_text_place graph) draft.line_names =
+      line_texts ∙ line_places_is ∙ ap (λ (l : Laid). get_or l.line_text_places u line_places) whole ∙ told graph u within (λ (n : ℕ × OutUnit). line_text_places graph n.1) line_places
+      ∙ ap (line_text_places graph) its ∙ ap (map (line_text_place graph)) (sym is.line_names) in
       record {
         table = table ∙ ap (λ (p : PartPlaces). p.table) parts;
         lines = lines ∙ ap (λ (p : PartPlaces). p.lines) parts;
         ranges = ranges ∙ ap (λ (p : PartPlaces). p.ranges) parts;
         locations = locations ∙ ap (λ (p : PartPlaces). p.locations) parts;
         texts = λ i t at. ap (λ (ps : List ℕ). slice_index ps i) text_list ∙ text_told (text_place graph) draft.names i t at;
+        line_texts = λ i t at. ap (λ (ps : List ℕ). slice_index ps i) line_list ∙ text_told (line_text_place graph) draft.line_names i t at;
         units = units ∙ units_are;
         end = end ∙ ap (λ (l : Laid). l.sizes.info) whole ∙ sym (info_end graph);
       }

@@ -1,5 +1,5 @@
 -- How long the sections of a graph are.
-use Rattle.std.proofs.Common.{◌≡◌, ℕ, ◌+◌, List, [], ◌∷◌, length, refl, sym, ap, ◌∙◌, arith}
+use Rattle.std.proofs.Common.{◌≡◌, ◌==◌, ℕ, ◌+◌, Bool, true, false, List, [], ◌∷◌, ◌++◌, length, if◌then◌else◌, refl, sym, ap, ◌∙◌, arith, length-append}
 use mathlib.Core.Path.{fun_ext}
 use Rattle.std.specs.List.{enumerate_from, flat_map, sum_by}
 use Rattle.std.proofs.lemmas.List.Concat.{length-flat_map}
@@ -11,17 +11,17 @@ use Rattle.dwarf_types.specs.declared.graph.OutUnit.{OutUnit}
 use Rattle.dwarf_types.specs.declared.graph.OutValue.{OutValue}
 use Rattle.dwarf_types.specs.declared.graph.OutValue.TheVariants as values
 use Rattle.dwarf_types.specs.Abbreviations.{table_bytes}
-use Rattle.dwarf_types.specs.Encode.{abbrev_section, info_section, line_section, loc_section, over_units, over_values, ranges_section}
+use Rattle.dwarf_types.specs.Encode.{abbrev_section, all_locations, all_ranges, info_section, line_section, loc_section, loclists_section, over_units, over_values, ranges_section, rnglists_section, unit_locations, unit_ranges}
 use Rattle.dwarf_types.specs.Entries.{node_locations_len, node_ranges_len, unit_bytes, unit_len}
-use Rattle.dwarf_types.specs.Layout.{before_unit, lists_place, numbered_units, places_of, table_place}
+use Rattle.dwarf_types.specs.Layout.{before_unit, line_text_place, lists_place, numbered_units, places_of, stands_in, table_place, unit_locations_len, unit_ranges_len}
 use Rattle.dwarf_types.specs.LineTable.{lines_bytes}
-use Rattle.dwarf_types.specs.Lists.{locations_bytes, locations_len, ranges_bytes, ranges_len}
+use Rattle.dwarf_types.specs.Lists.{behind_header, lists_header, locations_bytes, locations_len, ranges_bytes, ranges_len}
 use Rattle.dwarf_types.specs.Places.{own_node}
 use Rattle.dwarf_types.proofs.Lengths.{length-location_list, length-range_list, length-unit}
 use Rattle.layout.specs.declared.sizes.Sizes.{Sizes}
 use Rattle.layout.specs.declared.starts.Starts.{Starts}
 use Rattle.layout.specs.Laid.{sizes_of}
-use Rattle.layout.specs.Pass.{sized, starts_of}
+use Rattle.layout.specs.Pass.{lists_size, sized, starts_of}
 use Rattle.layout.proofs.Numbered.{all_numbered}
 
 -- ---- sums
@@ -35,35 +35,56 @@ unnumbered {X} len n (x ∷ xs) = omega (arith, sum_by-cons (λ (m : ℕ × X). 
 
 -- ---- values
 
-pub ranges_each : (value : OutValue) → length (ranges_bytes value) ≡ ranges_len value
-ranges_each (values.Ranges spans) = length-range_list spans
-ranges_each (values.Address n) = refl
-ranges_each (values.Text t) = refl
-ranges_each (values.Number f n) = refl
-ranges_each (values.Wide b) = refl
-ranges_each (values.Block f b) = refl
-ranges_each (values.Expr p) = refl
-ranges_each (values.Ref t) = refl
-ranges_each (values.Locations l) = refl
-ranges_each values.Lines = refl
+ranges_each : (version : ℕ) (value : OutValue) → length (ranges_bytes version value) ≡ ranges_len version value
+ranges_each version (values.Ranges spans) = length-range_list version spans
+ranges_each version (values.Address n) = refl
+ranges_each version (values.Text t) = refl
+ranges_each version (values.Number f n) = refl
+ranges_each version (values.Wide b) = refl
+ranges_each version (values.Block f b) = refl
+ranges_each version (values.Expr p) = refl
+ranges_each version (values.Ref t) = refl
+ranges_each version (values.Locations l) = refl
+ranges_each version values.Lines = refl
 
-pub locations_each : (place : ℕ → ℕ) (value : OutValue) → length (locations_bytes place value) ≡ locations_len value
-locations_each place (values.Locations items) = length-location_list place items
-locations_each place (values.Address n) = refl
-locations_each place (values.Text t) = refl
-locations_each place (values.Number f n) = refl
-locations_each place (values.Wide b) = refl
-locations_each place (values.Block f b) = refl
-locations_each place (values.Expr p) = refl
-locations_each place (values.Ref t) = refl
-locations_each place (values.Ranges s) = refl
-locations_each place values.Lines = refl
+locations_each : (version : ℕ) (place : ℕ → ℕ) (value : OutValue) → length (locations_bytes version place value) ≡ locations_len version value
+locations_each version place (values.Locations items) = length-location_list version place items
+locations_each version place (values.Address n) = refl
+locations_each version place (values.Text t) = refl
+locations_each version place (values.Number f n) = refl
+locations_each version place (values.Wide b) = refl
+locations_each version place (values.Block f b) = refl
+locations_each version place (values.Expr p) = refl
+locations_each version place (values.Ref t) = refl
+locations_each version place (values.Ranges s) = refl
+locations_each version place values.Lines = refl
 
-pub over_values_len : (part : OutValue → List ℕ) (len : OutValue → ℕ) → ((value : OutValue) → length (part value) ≡ len value) → (unit : OutUnit)
+over_values_len : (part : OutValue → List ℕ) (len : OutValue → ℕ) → ((value : OutValue) → length (part value) ≡ len value) → (unit : OutUnit)
     → length (over_values part unit) ≡ sum_by (λ node. sum_by (λ a. len a.value) node.attrs) unit.nodes
 over_values_len part len each unit =
     over (λ (node : Node). flat_map (λ (a : OutAttr). part a.value) node.attrs) (λ (node : Node). sum_by (λ (a : OutAttr). len a.value) node.attrs)
     (λ (node : Node). over (λ (a : OutAttr). part a.value) (λ (a : OutAttr). len a.value) (λ (a : OutAttr). each a.value) node.attrs) unit.nodes
+
+-- ---- lists
+
+-- the lists of a unit, and what of them stands in some sections
+pub unit_ranges_size : (unit : OutUnit) → length (unit_ranges unit) ≡ sum_by (node_ranges_len unit.version) unit.nodes
+unit_ranges_size unit = over_values_len (ranges_bytes unit.version) (ranges_len unit.version) (ranges_each unit.version) unit
+
+pub unit_locations_size : (place : ℕ → ℕ) (unit : OutUnit) → length (unit_locations place unit) ≡ sum_by (node_locations_len unit.version) unit.nodes
+unit_locations_size place unit = over_values_len (locations_bytes unit.version place) (locations_len unit.version) (locations_each unit.version place) unit
+
+chosen : (b : Bool) (lists : List ℕ) (n : ℕ) → length lists ≡ n → length (if b then lists else []) ≡ (if b then n else 0)
+chosen true lists n e = e
+chosen false lists n e = refl
+
+-- the header counts where there are lists
+pub behind_size : (lists : List ℕ) → lists_size (length lists) ≡ length (behind_header lists)
+behind_size lists = by (length lists == 0)
+  where
+    by : (none : Bool) → (if none then 0 else 12 + length lists) ≡ length (if none then [] else lists_header (length lists) ++ lists)
+    by true = refl
+    by false = omega (arith, length-append (lists_header (length lists)) lists)
 
 -- ---- sections
 
@@ -86,28 +107,49 @@ module _ (graph : Graph) where
   tables_end = numbered table_bytes (λ u unit. length (table_bytes u unit)) (λ u unit. refl)
 
   pub info_end : ends.info ≡ length (info_section graph)
-  info_end = numbered (λ u. unit_bytes (places_of graph u) (lists_place graph u) (table_place graph u)) unit_len (λ u unit. length-unit (places_of graph u) (lists_place graph u) (table_place graph u) unit)
+  info_end =
+      numbered (λ u unit. unit_bytes (places_of graph u unit) (lists_place graph u unit) (table_place graph u) unit) unit_len
+      (λ u unit. length-unit (places_of graph u unit) (lists_place graph u unit) (table_place graph u) unit)
 
   line_end : ends.line ≡ length (line_section graph)
-  line_end = plain lines_bytes (λ unit. length (lines_bytes unit)) (λ unit. refl)
+  line_end = plain (lines_bytes (line_text_place graph)) (λ unit. length (lines_bytes (line_text_place graph) unit)) (λ unit. refl)
 
-  ranges_end : ends.ranges ≡ length (ranges_section graph)
-  ranges_end = plain (over_values ranges_bytes) (λ unit. sum_by node_ranges_len unit.nodes) (over_values_len ranges_bytes ranges_len ranges_each)
+  all_ranges_end : (five : Bool) → before_unit graph (λ u unit. unit_ranges_len five unit) (length graph.units) ≡ length (all_ranges five graph)
+  all_ranges_end five =
+      plain (λ unit. if stands_in five unit then unit_ranges unit else []) (unit_ranges_len five) (λ unit. chosen (stands_in five unit) (unit_ranges unit) _ (unit_ranges_size unit))
 
-  loc_end : ends.loc ≡ length (loc_section graph)
-  loc_end =
-      numbered (λ u. over_values (locations_bytes (own_node (places_of graph u)))) (λ u unit. sum_by node_locations_len unit.nodes)
-      (λ u unit. over_values_len (locations_bytes (own_node (places_of graph u))) locations_len (locations_each (own_node (places_of graph u))) unit)
+  all_locations_end : (five : Bool) → before_unit graph (λ u unit. unit_locations_len five unit) (length graph.units) ≡ length (all_locations five graph)
+  all_locations_end five =
+      numbered (λ u unit. if stands_in five unit then unit_locations (own_node (places_of graph u unit)) unit else []) (λ u unit. unit_locations_len five unit)
+      (λ u unit. chosen (stands_in five unit) (unit_locations (own_node (places_of graph u unit)) unit) _ (unit_locations_size (own_node (places_of graph u unit)) unit))
 
-  abbrev by : ℕ → ℕ → ℕ → ℕ → ℕ → ℕ → ℕ → ℕ → Sizes
-  by tables info texts line ranges loc aranges frames = record { tables = tables; info = info; texts = texts; line = line; ranges = ranges; loc = loc; aranges = aranges; frames = frames }
+  rnglists_end : lists_size ends.rnglists ≡ length (rnglists_section graph)
+  rnglists_end = ap lists_size (all_ranges_end true) ∙ behind_size (all_ranges true graph)
 
-  all_same : (a b c d e f g h a' b' c' d' e' f' g' h' : ℕ) → a ≡ a' → b ≡ b' → c ≡ c' → d ≡ d' → e ≡ e' → f ≡ f' → g ≡ g' → h ≡ h' → by a b c d e f g h ≡ by a' b' c' d' e' f' g' h'
-  all_same a b c d e f g h a' b' c' d' e' f' g' h' ea eb ec ed ee ef eg eh =
-      ap (λ (x : ℕ). by x b c d e f g h) ea ∙ ap (λ (x : ℕ). by a' x c d e f g h) eb ∙ ap (λ (x : ℕ). by a' b' x d e f g h) ec ∙ ap (λ (x : ℕ). by a' b' c' x e f g h) ed
-      ∙ ap (λ (x : ℕ). by a' b' c' d' x f g h) ee ∙ ap (λ (x : ℕ). by a' b' c' d' e' x g h) ef ∙ ap (λ (x : ℕ). by a' b' c' d' e' f' x h) eg ∙ ap (by a' b' c' d' e' f' g') eh
+  loclists_end : lists_size ends.loclists ≡ length (loclists_section graph)
+  loclists_end = ap lists_size (all_locations_end true) ∙ behind_size (all_locations true graph)
 
-  pub sizes_are : (at : Starts) (texts aranges frames : ℕ) → at ≡ ends → texts ≡ (sizes_of graph).texts → aranges ≡ (sizes_of graph).aranges → frames ≡ (sizes_of graph).frames → sized at texts aranges frames ≡ sizes_of graph
-  sizes_are at texts aranges frames e t a f =
-      all_same _ _ _ _ _ _ _ _ _ _ _ _ _ _ _ _ (ap (λ (s : Starts). s.tables) e ∙ tables_end) (ap (λ (s : Starts). s.info) e ∙ info_end) t (ap (λ (s : Starts). s.line) e ∙ line_end)
-      (ap (λ (s : Starts). s.ranges) e ∙ ranges_end) (ap (λ (s : Starts). s.loc) e ∙ loc_end) a f
+  abbrev by : ℕ → ℕ → ℕ → ℕ → ℕ → ℕ → ℕ → ℕ → ℕ → ℕ → ℕ → Sizes
+  by tables info texts line line_texts ranges rnglists loc loclists aranges frames = record {
+    tables = tables;
+    info = info;
+    texts = texts;
+    line = line;
+    line_texts = line_texts;
+    ranges = ranges;
+    rnglists = rnglists;
+    loc = loc;
+    loclists = loclists;
+    aranges = aranges;
+    frames = frames;
+  }
+
+  all_same : (a b c d e f g h i j k a' b' c' d' e' f' g' h' i' j' k' : ℕ) → a ≡ a' → b ≡ b' → c ≡ c' → d ≡ d' → e ≡ e' → f ≡ f' → g ≡ g' → h ≡ h' → i ≡ i' → j ≡ j' → k ≡ k'
+      → by a b c d e f g h i j k ≡ by a' b' c' d' e' f' g' h' i' j' k'
+  all_same a b c d e f g h i j k a' b' c' d' e' f' g' h' i' j' k' ea eb ec ed ee ef eg eh ei ej ek = rw (ea, eb, ec, ed, ee, ef, eg, eh, ei, ej, ek) refl
+
+  pub sizes_are : (at : Starts) (texts line_texts aranges frames : ℕ) → at ≡ ends → texts ≡ (sizes_of graph).texts → line_texts ≡ (sizes_of graph).line_texts
+      → aranges ≡ (sizes_of graph).aranges → frames ≡ (sizes_of graph).frames → sized at texts line_texts aranges frames ≡ sizes_of graph
+  sizes_are at texts line_texts aranges frames e t l a f =
+      ap (λ (s : Starts). sized s texts line_texts aranges frames) e
+      ∙ all_same _ _ _ _ _ _ _ _ _ _ _ _ _ _ _ _ _ _ _ _ _ _ tables_end info_end t line_end l (all_ranges_end false) rnglists_end (all_locations_end false) loclists_end a f

@@ -13,100 +13,131 @@ use Rattle.dwarf_types.specs.declared.graph.Graph.{Graph}
 use Rattle.dwarf_types.specs.declared.graph.OutUnit.{OutUnit}
 use Rattle.dwarf_types.specs.Encode.{aranges_section, frame_section}
 use Rattle.dwarf_types.specs.Frames.{frames_bytes}
-use Rattle.dwarf_types.specs.Layout.{numbered_units, texts_of, texts_of_node}
+use Rattle.dwarf_types.specs.Layout.{line_texts_of, line_texts_of_unit, numbered_units, texts_of, texts_of_node}
 use Rattle.patches.specs.declared.outside.Placed.{Placed}
 use Rattle.unit_draft.specs.declared.unit.Draft.{Draft}
 use Rattle.layout.specs.declared.placing.PartPlaces.{PartPlaces}
 use Rattle.layout.specs.declared.placing.Placing.{Placing}
 use Rattle.layout.specs.declared.sizes.Sizes.{Sizes}
 use Rattle.layout.specs.declared.starts.Starts.{Starts}
-use Rattle.layout.specs.Laid.{AreDrafts, Laid, laid, long_section, long_unit, sizes_of, text_places}
-use Rattle.layout.specs.Pass.{AreBelow, behind_draft, long_drafted, long_other, no_starts, none_placed, place_in, sized, with_draft}
+use Rattle.layout.specs.declared.text.TextsOf.TheVariants as owners
+use Rattle.layout.specs.Laid.{AreDrafts, Laid, laid, line_text_places, long_section, long_unit, sizes_of, text_places}
+use Rattle.layout.specs.Pass.{AreBelow, behind_draft, long_back, long_front, long_other, names_in, no_starts, none_placed, place_in, sized, with_draft}
 use Rattle.layout.proofs.Behind.{same_below}
-use Rattle.layout.proofs.Limits.{below_limit, ends_small, long_is}
-use Rattle.layout.proofs.OfDrafts.{AllPlaced, as_many, at_end, ends_are, none_long, placed_all, texts_are}
+use Rattle.layout.proofs.Limits.{ends_small, long_is}
+use Rattle.layout.proofs.OfDrafts.{AllPlaced, AsMany, as_many, at_end, ends_are, line_texts_are, none_long, placed_all, texts_are}
 use Rattle.layout.proofs.SectionLengths.{sizes_are}
 
-abbrev pub names_in : List Draft → List (List ℕ)
-names_in drafts = flat_map (λ d. d.names) drafts
+-- the texts of drafts by first use
+abbrev pub entry_texts : List Draft → List (List ℕ)
+entry_texts drafts = fold with_text [] (flat_map (names_in owners.Entries) drafts)
 
-abbrev laid_by : List Placed → List PartPlaces → List (List ℕ) → List (List ℕ) → List ℕ → List ℕ → Sizes → List Draft → Laid
-laid_by units places texts text_places aranges frames sizes drafts =
-    record { units = units; parts = places; texts = texts; text_places = text_places; aranges = aranges; frames = frames; sizes = sizes; drafts = drafts }
+abbrev pub table_texts : List Draft → List (List ℕ)
+table_texts drafts = fold with_text [] (flat_map (names_in owners.Lines) drafts)
 
-all_same : (drafts : List Draft) (a a' : List Placed) (b b' : List PartPlaces) (c c' d d' : List (List ℕ)) (e e' f f' : List ℕ) (g g' : Sizes) → a ≡ a' → b ≡ b' → c ≡ c' → d ≡ d' → e ≡ e' → f ≡ f' → g ≡ g'
-    → laid_by a b c d e f g drafts ≡ laid_by a' b' c' d' e' f' g' drafts
-all_same drafts a a' b b' c c' d d' e e' f f' g g' ea eb ec ed ee ef eg =
-    ap (λ (x : List Placed). laid_by x b c d e f g drafts) ea ∙ ap (λ (x : List PartPlaces). laid_by a' x c d e f g drafts) eb ∙ ap (λ (x : List (List ℕ)). laid_by a' b' x d e f g drafts) ec
-    ∙ ap (λ (x : List (List ℕ)). laid_by a' b' c' x e f g drafts) ed ∙ ap (λ (x : List ℕ). laid_by a' b' c' d' x f g drafts) ee ∙ ap (λ (x : List ℕ). laid_by a' b' c' d' e' x g drafts) ef
-    ∙ ap (λ (x : Sizes). laid_by a' b' c' d' e' f' x drafts) eg
+abbrev laid_by : List Placed → List PartPlaces → List (List ℕ) → List (List ℕ) → List (List ℕ) → List (List ℕ) → List ℕ → List ℕ → Sizes → List Draft → Laid
+laid_by units places texts text_places line_texts line_places aranges frames sizes drafts =
+    record { units = units; parts = places; texts = texts; text_places = text_places; line_texts = line_texts; line_text_places = line_places; aranges = aranges; frames = frames; sizes = sizes; drafts = drafts }
 
-module _ (graph : Graph) (drafts : List Draft) (are : AreDrafts graph drafts) (pool : List (List ℕ)) (pool_is : pool ≡ fold with_text [] (names_in drafts)) (ends : Starts) (ends_is : ends ≡ fold behind_draft no_starts drafts) (size : ℕ) (size_is : size ≡ length (section_of pool)) where
-  texts_same : pool ≡ texts_of graph
-  texts_same = pool_is ∙ texts_are graph drafts are
+all_same : (drafts : List Draft) (a a' : List Placed) (b b' : List PartPlaces) (c c' d d' e e' f f' : List (List ℕ)) (g g' h h' : List ℕ) (i i' : Sizes) → a ≡ a' → b ≡ b' → c ≡ c' → d ≡ d' → e ≡ e' → f ≡ f' → g ≡ g' → h ≡ h' → i ≡ i'
+    → laid_by a b c d e f g h i drafts ≡ laid_by a' b' c' d' e' f' g' h' i' drafts
+all_same drafts a a' b b' c c' d d' e e' f f' g g' h h' i i' ea eb ec ed ee ef eg eh ei = rw (ea, eb, ec, ed, ee, ef, eg, eh, ei) refl
 
-  sizes_same : (aranges frames : ℕ) → aranges ≡ length (aranges_section graph) → frames ≡ length (frame_section graph) → sized ends size aranges frames ≡ sizes_of graph
-  sizes_same aranges frames a f = sizes_are graph ends size aranges frames (ends_is ∙ ends_are graph drafts are) (size_is ∙ ap (λ (texts : List (List ℕ)). length (section_of texts)) texts_same) a f
+module _ (graph : Graph) (drafts : List Draft) (are : AreDrafts graph drafts) where
+  -- the sizes of the two sections of texts
+  pub texts_size : length (section_of (entry_texts drafts)) ≡ (sizes_of graph).texts
+  texts_size = ap (λ (texts : List (List ℕ)). length (section_of texts)) (texts_are graph drafts are)
 
-  -- a section of texts or drafts is too long
-  pub stopped_early : (part : Part) → long_drafted ends size ≡ Some part → (long_unit graph ≡ None) × (long_section graph ≡ Some part)
-  stopped_early part e = (
-    none_long graph drafts are,
-    long_is graph ends size _ _ (sizes_same _ _ refl refl) ∙ ap (λ (o : Option Part). option_or o (long_other (length (aranges_section graph)) (length (frame_section graph)))) e,
-  )
+  pub line_texts_size : length (section_of (table_texts drafts)) ≡ (sizes_of graph).line_texts
+  line_texts_size = ap (λ (texts : List (List ℕ)). length (section_of texts)) (line_texts_are graph drafts are)
 
-  module _ (placing : Placing) (placing_is : placing ≡ fold (with_draft pool) none_placed drafts) (frames : List OutFrame) (frames_same : graph.frames ≡ frames) (described : List ℕ) (described_is : described ≡ frames_bytes frames) where
-    h : AllPlaced graph pool (fold (with_draft pool) none_placed drafts)
-    h = placed_all graph drafts pool are
+  module _ (ends : Starts) (ends_is : ends ≡ fold behind_draft no_starts drafts) (texts : ℕ) (texts_is : texts ≡ length (section_of (entry_texts drafts))) where
+    sizes_same : (line_texts aranges frames : ℕ) → line_texts ≡ (sizes_of graph).line_texts → aranges ≡ (sizes_of graph).aranges → frames ≡ (sizes_of graph).frames → sized ends texts line_texts aranges frames ≡ sizes_of graph
+    sizes_same line_texts aranges frames = sizes_are graph ends texts line_texts aranges frames (ends_is ∙ ends_are graph drafts are) (texts_is ∙ texts_size)
 
-    aranges_same : placing.aranges ≡ aranges_section graph
-    aranges_same = ap (λ (p : Placing). p.aranges) placing_is ∙ h.aranges
-
-    described_same : described ≡ frame_section graph
-    described_same = described_is ∙ ap frames_bytes (sym frames_same)
-
-    all_sizes : sized ends size (length placing.aranges) (length described) ≡ sizes_of graph
-    all_sizes = sizes_same (length placing.aranges) (length described) (ap length aranges_same) (ap length described_same)
-
-    long_now : (first other : Option Part) → long_drafted ends size ≡ first → long_other (length placing.aranges) (length described) ≡ other → long_section graph ≡ option_or first other
-    long_now first other e f =
-        long_is graph ends size _ _ all_sizes ∙ ap (λ (o : Option Part). option_or o (long_other (length placing.aranges) (length described))) e ∙ ap (option_or first) f
-
-    -- one of the two others is
-    pub stopped_late : (part : Part) → long_drafted ends size ≡ None → long_other (length placing.aranges) (length described) ≡ Some part → (long_unit graph ≡ None) × (long_section graph ≡ Some part)
-    stopped_late part e f = (none_long graph drafts are, long_now None (Some part) e f)
-
-    -- none is
-    pub all_laid : (sizes : Sizes) → sizes ≡ sized ends size (length placing.aranges) (length described) → long_drafted ends size ≡ None → long_other (length placing.aranges) (length described) ≡ None
-        → (laid_by placing.units placing.parts pool placing.text_places placing.aranges described sizes drafts ≡ laid graph drafts) × (long_unit graph ≡ None) × (long_section graph ≡ None) × AreDrafts graph drafts
-    all_laid sizes sizes_is e f = (
-      all_same drafts _ _ _ _ _ _ _ _ _ _ _ _ _ _ (ap (λ (p : Placing). p.units) placing_is ∙ h.units) (ap (λ (p : Placing). p.parts) placing_is ∙ h.parts) texts_same
-          (ap (λ (p : Placing). p.text_places) placing_is ∙ h.text_places ∙ places_same) aranges_same described_same (sizes_is ∙ all_sizes),
+    -- a section up to that of the line tables is too long
+    pub stopped_front : (part : Part) → long_front ends texts ≡ Some part → (long_unit graph ≡ None) × (long_section graph ≡ Some part)
+    stopped_front part e = (
       none_long graph drafts are,
-      long_now None None e f,
-      are,
+      long_is graph ends texts _ _ _ (sizes_same _ _ _ refl refl refl)
+          ∙ ap (λ (o : Option Part). option_or o (option_or (long_back ends (sizes_of graph).line_texts) (long_other (sizes_of graph).aranges (sizes_of graph).frames))) e,
     )
-      where
-        places_same : map (λ m. map (place_in pool) (once bytes_eq (flat_map texts_of_node m.1.nodes))) (numbered_units graph) ≡ map (λ n. text_places graph n.1) (numbered_units graph)
-        places_same = ap (λ (texts : List (List ℕ)). map (λ (m : ℕ × OutUnit). map (place_in texts) (once bytes_eq (flat_map texts_of_node m.1.nodes))) (numbered_units graph)) texts_same
 
--- the texts alone are too long
-pub long_texts : (drafts : List Draft) → 2 ^ 32 - 1 ≤ length (section_of (fold with_text [] (names_in drafts)))
-    → long_drafted (fold behind_draft no_starts drafts) (length (section_of (fold with_text [] (names_in drafts)))) ≡ Some parts.Str
-long_texts drafts long = rw (le-leb (2 ^ 32 - 1) (length (section_of (fold with_text [] (names_in drafts)))) long) refl
+    module _ (front : long_front ends texts ≡ None) (line_texts : ℕ) (line_texts_is : line_texts ≡ length (section_of (table_texts drafts))) where
+      long_now : (aranges frames : ℕ) → aranges ≡ (sizes_of graph).aranges → frames ≡ (sizes_of graph).frames → (back other : Option Part) → long_back ends line_texts ≡ back → long_other aranges frames ≡ other → long_section graph ≡ option_or back other
+      long_now aranges frames a f back other e h =
+          long_is graph ends texts line_texts aranges frames (sizes_same line_texts aranges frames (line_texts_is ∙ line_texts_size) a f)
+          ∙ ap (λ (o : Option Part). option_or o (option_or (long_back ends line_texts) (long_other aranges frames))) front
+          ∙ ap (λ (o : Option Part). option_or o (long_other aranges frames)) e ∙ ap (option_or back) h
 
--- the places behind all drafts have four bytes
-pub placing_below : (placing : Placing) (drafts : List Draft) (pool : List (List ℕ)) (ends : Starts) (size : ℕ) → placing ≡ fold (with_draft pool) none_placed drafts → ends ≡ fold behind_draft no_starts drafts
-    → long_drafted ends size ≡ None → AreBelow (2 ^ 32) placing.at
-placing_below placing drafts pool ends size is ends_is none =
-    same_below placing.at ends (2 ^ 32) (ap (λ (p : Placing). p.at) is ∙ at_end pool drafts none_placed ∙ sym ends_is) (below_limit ends (ends_small ends size none))
+      -- one of those behind it is
+      pub stopped_back : (part : Part) → long_back ends line_texts ≡ Some part → (long_unit graph ≡ None) × (long_section graph ≡ Some part)
+      stopped_back part e = (none_long graph drafts are, long_now _ _ refl refl (Some part) _ e refl)
 
-pub placing_whole : (placing : Placing) (drafts : List Draft) (pool : List (List ℕ)) (ends : Starts) (size info : ℕ) → placing ≡ fold (with_draft pool) none_placed drafts → ends ≡ fold behind_draft no_starts drafts
-    → long_drafted ends size ≡ None → info ≡ placing.at.info → (info < 2 ^ 32) × (length placing.parts ≡ length placing.units) × (length placing.text_places ≡ length placing.units)
-placing_whole placing drafts pool ends size info is ends_is none info_is =
-    let same = as_many pool drafts none_placed refl refl in
-    let below = placing_below placing drafts pool ends size is ends_is none in (
-      omega (arith, info_is, below.0),
-      ap (λ (p : Placing). length p.parts) is ∙ same.0 ∙ sym (ap (λ (p : Placing). length p.units) is),
-      ap (λ (p : Placing). length p.text_places) is ∙ same.1 ∙ sym (ap (λ (p : Placing). length p.units) is),
-    )
+      module _ (back : long_back ends line_texts ≡ None) (pool line_pool : List (List ℕ)) (pool_is : pool ≡ entry_texts drafts) (line_pool_is : line_pool ≡ table_texts drafts) (placing : Placing) (placing_is : placing ≡ fold (with_draft pool line_pool) none_placed drafts) (frames : List OutFrame) (frames_same : graph.frames ≡ frames) (described : List ℕ) (described_is : described ≡ frames_bytes frames) where
+        h : AllPlaced graph pool line_pool (fold (with_draft pool line_pool) none_placed drafts)
+        h = placed_all graph drafts pool line_pool are
+
+        texts_same : pool ≡ texts_of graph
+        texts_same = pool_is ∙ texts_are graph drafts are
+
+        line_texts_same : line_pool ≡ line_texts_of graph
+        line_texts_same = line_pool_is ∙ line_texts_are graph drafts are
+
+        aranges_same : placing.aranges ≡ aranges_section graph
+        aranges_same = ap (λ (p : Placing). p.aranges) placing_is ∙ h.aranges
+
+        described_same : described ≡ frame_section graph
+        described_same = described_is ∙ ap frames_bytes (sym frames_same)
+
+        long_last : (other : Option Part) → long_other (length placing.aranges) (length described) ≡ other → long_section graph ≡ other
+        long_last other = long_now (length placing.aranges) (length described) (ap length aranges_same) (ap length described_same) None other back
+
+        -- one of the two others is
+        pub stopped_late : (part : Part) → long_other (length placing.aranges) (length described) ≡ Some part → (long_unit graph ≡ None) × (long_section graph ≡ Some part)
+        stopped_late part e = (none_long graph drafts are, long_last (Some part) e)
+
+        -- none is
+        pub all_laid : (sizes : Sizes) → sizes ≡ sized ends texts line_texts (length placing.aranges) (length described) → long_other (length placing.aranges) (length described) ≡ None
+            → (laid_by placing.units placing.parts pool placing.text_places line_pool placing.line_text_places placing.aranges described sizes drafts ≡ laid graph drafts) × (long_unit graph ≡ None) × (long_section graph ≡ None) × AreDrafts graph drafts
+        all_laid sizes sizes_is e = (
+          all_same drafts _ _ _ _ _ _ _ _ _ _ _ _ _ _ _ _ _ _ (ap (λ (p : Placing). p.units) placing_is ∙ h.units) (ap (λ (p : Placing). p.parts) placing_is ∙ h.parts) texts_same
+              (ap (λ (p : Placing). p.text_places) placing_is ∙ h.text_places ∙ places_same) line_texts_same (ap (λ (p : Placing). p.line_text_places) placing_is ∙ h.line_text_places ∙ line_places_same)
+              aranges_same described_same (sizes_is ∙ sizes_same line_texts _ _ (line_texts_is ∙ line_texts_size) (ap length aranges_same) (ap length described_same)),
+          none_long graph drafts are,
+          long_last None e,
+          are,
+        )
+          where
+            places_same : map (λ m. map (place_in pool) (once bytes_eq (flat_map texts_of_node m.1.nodes))) (numbered_units graph) ≡ map (λ n. text_places graph n.1) (numbered_units graph)
+            places_same = ap (λ (all : List (List ℕ)). map (λ (m : ℕ × OutUnit). map (place_in all) (once bytes_eq (flat_map texts_of_node m.1.nodes))) (numbered_units graph)) texts_same
+
+            line_places_same : map (λ m. map (place_in line_pool) (once bytes_eq (line_texts_of_unit m.1))) (numbered_units graph) ≡ map (λ n. line_text_places graph n.1) (numbered_units graph)
+            line_places_same = ap (λ (all : List (List ℕ)). map (λ (m : ℕ × OutUnit). map (place_in all) (once bytes_eq (line_texts_of_unit m.1))) (numbered_units graph)) line_texts_same
+
+-- texts alone are too long
+pub long_texts : (ends : Starts) (texts : ℕ) → 2 ^ 32 - 1 ≤ texts → long_front ends texts ≡ Some parts.Str
+long_texts ends texts long = rw (le-leb (2 ^ 32 - 1) texts long) refl
+
+pub long_line_texts : (ends : Starts) (texts : ℕ) → 2 ^ 32 - 1 ≤ texts → long_back ends texts ≡ Some parts.LineStr
+long_line_texts ends texts long = rw (le-leb (2 ^ 32 - 1) texts long) refl
+
+module _ (drafts : List Draft) (ends : Starts) (ends_is : ends ≡ fold behind_draft no_starts drafts) (texts line_texts : ℕ) (front : long_front ends texts ≡ None) (back : long_back ends line_texts ≡ None) where
+  -- the places behind all drafts have four bytes
+  pub ends_below : AreBelow (2 ^ 32) (fold behind_draft no_starts drafts)
+  ends_below = same_below _ ends (2 ^ 32) (sym ends_is) (ends_small ends texts line_texts front back)
+
+  module _ (placing : Placing) (pool line_pool : List (List ℕ)) (is : placing ≡ fold (with_draft pool line_pool) none_placed drafts) where
+    pub placing_below : AreBelow (2 ^ 32) placing.at
+    placing_below = same_below placing.at _ (2 ^ 32) (ap (λ (p : Placing). p.at) is ∙ at_end pool line_pool drafts none_placed) ends_below
+
+    pub placing_whole : (info : ℕ) → info ≡ placing.at.info
+        → (info < 2 ^ 32) × (length placing.parts ≡ length placing.units) × (length placing.text_places ≡ length placing.units) × (length placing.line_text_places ≡ length placing.units)
+    placing_whole info info_is =
+        let same : AsMany (fold (with_draft pool line_pool) none_placed drafts) = as_many pool line_pool drafts none_placed (record { parts = refl; text_places = refl; line_text_places = refl }) in
+        let units : length placing.units ≡ length (fold (with_draft pool line_pool) none_placed drafts).units = ap (λ (p : Placing). length p.units) is in (
+          omega (arith, info_is, placing_below.info),
+          ap (λ (p : Placing). length p.parts) is ∙ same.parts ∙ sym units,
+          ap (λ (p : Placing). length p.text_places) is ∙ same.text_places ∙ sym units,
+          ap (λ (p : Placing). length p.line_text_places) is ∙ same.line_text_places ∙ sym units,
+        )

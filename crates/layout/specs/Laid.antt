@@ -8,9 +8,9 @@ use Rattle.ds_base.specs.declared.fault.Part.TheVariants as parts
 use Rattle.ds_base.specs.FirstUse.{once}
 use Rattle.dwarf_types.specs.declared.graph.Graph.{Graph}
 use Rattle.dwarf_types.specs.declared.graph.OutUnit.{OutUnit}
-use Rattle.dwarf_types.specs.Encode.{abbrev_section, info_section, str_section, line_section, ranges_section, loc_section, aranges_section, frame_section}
+use Rattle.dwarf_types.specs.Encode.{abbrev_section, info_section, str_section, line_section, line_str_section, ranges_section, rnglists_section, loc_section, loclists_section, aranges_section, frame_section}
 use Rattle.dwarf_types.specs.Entries.{unit_len}
-use Rattle.dwarf_types.specs.Layout.{lines_place, lists_place, numbered_units, table_place, text_place, texts_of, texts_of_node}
+use Rattle.dwarf_types.specs.Layout.{line_text_place, line_texts_of, line_texts_of_unit, lines_place, lists_place, numbered_units, table_place, text_place, texts_of, texts_of_node}
 use Rattle.patches.specs.declared.outside.Placed.{Placed}
 use Rattle.unit_draft.specs.declared.unit.Draft.{Draft}
 use Rattle.unit_draft.specs.Drafted.{IsDraft}
@@ -30,17 +30,21 @@ pub record AreDrafts (graph : Graph) (drafts : List Draft) : Type 0 where
 -- ---- units
 
 -- where the parts of the unit of a number stand, but for its entries
-abbrev pub part_places : Graph → ℕ → PartPlaces
-part_places graph u = record {
+abbrev pub part_places : Graph → ℕ → OutUnit → PartPlaces
+part_places graph u unit = record {
   table = table_place graph u;
   lines = lines_place graph u;
-  ranges = (lists_place graph u).ranges;
-  locations = (lists_place graph u).locations;
+  ranges = (lists_place graph u unit).ranges;
+  locations = (lists_place graph u unit).locations;
 }
 
 -- where each text of a unit stands, by first use
 abbrev pub text_places : Graph → OutUnit → List ℕ
 text_places graph unit = map (text_place graph) (once bytes_eq (flat_map texts_of_node unit.nodes))
+
+-- and each text of its line table
+abbrev pub line_text_places : Graph → OutUnit → List ℕ
+line_text_places graph unit = map (line_text_place graph) (once bytes_eq (line_texts_of_unit unit))
 
 -- ---- the graph
 
@@ -51,8 +55,11 @@ sizes_of graph = record {
   info = length (info_section graph);
   texts = length (str_section graph);
   line = length (line_section graph);
+  line_texts = length (line_str_section graph);
   ranges = length (ranges_section graph);
+  rnglists = length (rnglists_section graph);
   loc = length (loc_section graph);
+  loclists = length (loclists_section graph);
   aranges = length (aranges_section graph);
   frames = length (frame_section graph);
 }
@@ -62,8 +69,11 @@ size_in sizes parts.Abbrev = sizes.tables
 size_in sizes parts.Info = sizes.info
 size_in sizes parts.Str = sizes.texts
 size_in sizes parts.Line = sizes.line
+size_in sizes parts.LineStr = sizes.line_texts
 size_in sizes parts.Ranges = sizes.ranges
+size_in sizes parts.Rnglists = sizes.rnglists
 size_in sizes parts.Loc = sizes.loc
+size_in sizes parts.Loclists = sizes.loclists
 size_in sizes parts.Aranges = sizes.aranges
 size_in sizes parts.Frame = sizes.frames
 size_in sizes _ = 0
@@ -76,6 +86,9 @@ pub record Laid : Type 0 where
   -- the texts of the string section, and where those of each unit stand
   pub texts : List (List ℕ)
   pub text_places : List (List ℕ)
+  -- the same of the texts of line tables
+  pub line_texts : List (List ℕ)
+  pub line_text_places : List (List ℕ)
   -- the two sections that don't come from drafts
   pub aranges : List ℕ
   pub frames : List ℕ
@@ -85,9 +98,11 @@ pub record Laid : Type 0 where
 abbrev pub laid : Graph → List Draft → Laid
 laid graph drafts = record {
   units = map (λ n. placed graph n.0 n.1) (numbered_units graph);
-  parts = map (λ n. part_places graph n.0) (numbered_units graph);
+  parts = map (λ n. part_places graph n.0 n.1) (numbered_units graph);
   texts = texts_of graph;
   text_places = map (λ n. text_places graph n.1) (numbered_units graph);
+  line_texts = line_texts_of graph;
+  line_text_places = map (λ n. line_text_places graph n.1) (numbered_units graph);
   aranges = aranges_section graph;
   frames = frame_section graph;
   sizes = sizes_of graph;
@@ -104,7 +119,7 @@ long_unit graph = option_map (λ n. n.0) (find (λ n. nat_le (2 ^ 28) (unit_len 
 abbrev pub long_section : Graph → Option Part
 long_section graph =
     find (λ part. nat_le (2 ^ 32 - 1) (size_in (sizes_of graph) part))
-    (parts.Str ∷ parts.Abbrev ∷ parts.Info ∷ parts.Line ∷ parts.Ranges ∷ parts.Loc ∷ parts.Aranges ∷ parts.Frame ∷ [])
+    (parts.Str ∷ parts.Abbrev ∷ parts.Info ∷ parts.Line ∷ parts.LineStr ∷ parts.Ranges ∷ parts.Rnglists ∷ parts.Loc ∷ parts.Loclists ∷ parts.Aranges ∷ parts.Frame ∷ [])
 
 -- what measuring a graph answers: its layout, where nothing is too long; else the first unit that is, and else the first section. Want of memory says nothing.
 abbrev pub Measures : Graph → Result Laid LayoutError → Type 0

@@ -1,20 +1,23 @@
 //! The layout of a graph, and what writers ask of it.
 
-ghost use Rattle.std.specs.Prelude.{◌≡◌, ◌-◌, ◌^◌, ◌<◌, length, Some, Ok, slice_get};
+ghost use Rattle.std.specs.Prelude.{◌≡◌, ◌-◌, ◌^◌, ◌<◌, [], fold, length, Some, None, Ok, slice_get};
+ghost use Rattle.std.specs.List.{flat_map};
 ghost use Rattle.std.specs.Option.{option_map};
 ghost use Rattle.dwarf_types.specs.declared.graph.Graph.{Graph as Program};
-ghost use Rattle.ds_base.specs.Texts.{section_of};
+ghost use Rattle.dwarf_types.specs.declared.graph.OutUnit.{OutUnit as Clone};
+ghost use Rattle.ds_base.specs.Texts.{section_of, with_text};
 ghost use Rattle.layout.specs.Laid.{AreDrafts, Measures, size_in};
-ghost use Rattle.layout.specs.Pass.{AreBelow, sized};
+ghost use Rattle.layout.specs.declared.text.TextsOf.TheVariants as owners;
+ghost use Rattle.layout.specs.Pass.{AreBelow, behind_draft, long_front, names_in, no_starts, sized};
 ghost use Rattle.unit_draft.specs.declared.unit.Draft.{Draft as ADraft};
 ghost use Rattle.unit_draft.specs.Outside.{IsOutside};
 
 use crate::drafting::draft_units;
 use crate::error::LayoutError;
 use crate::placing::{PartPlaces, Placing, place_all};
-use crate::sizes::{Sizes, first_long, last_long, size_of};
-use crate::starts::ends_of;
-use crate::text::texts_in;
+use crate::sizes::{Sizes, first_long, last_long, next_long, size_of, size_of_lists};
+use crate::starts::{Starts, ends_of};
+use crate::text::{TextsOf, texts_in};
 use ds_base::{Bytes, List, Part};
 use dwarf_types::{Graph, OutFrames};
 use frame_write::append_frames;
@@ -26,13 +29,16 @@ use unit_draft::Draft;
 
 /// The layout of a graph, with the drafts of its units.
 ///
-/// A contract sees where everything stands, the texts of the string section, the size of each section, and the drafts.
+/// A contract sees where everything stands, the texts of the two sections of texts, the size of each section, and the
+/// drafts.
 #[derive(Drop)]
 pub struct Layout {
     units: List<Placed>,
     parts: List<PartPlaces>,
     texts: TextPool,
     text_places: List<List<u32>>,
+    line_texts: TextPool,
+    line_text_places: List<List<u32>>,
     aranges: Bytes,
     frames: Bytes,
     sizes: Sizes,
@@ -45,9 +51,9 @@ impl Model for Layout {
 
     ghost Value = { Laid };
 
-    ghost view = { λ a. record { units = a.units; parts = a.parts; texts = a.texts; text_places = a.text_places; aranges = a.aranges; frames = a.frames; sizes = a.sizes; drafts = a.drafts } };
+    ghost view = { λ a. record { units = a.units; parts = a.parts; texts = a.texts; text_places = a.text_places; line_texts = a.line_texts; line_text_places = a.line_text_places; aranges = a.aranges; frames = a.frames; sizes = a.sizes; drafts = a.drafts } };
 
-    ghost invariant = { λ a. (a.sizes.info < 2 ^ 32) × (length a.parts ≡ length a.units) × (length a.text_places ≡ length a.units) };
+    ghost invariant = { λ a. (a.sizes.info < 2 ^ 32) × (length a.parts ≡ length a.units) × (length a.text_places ≡ length a.units) × (length a.line_text_places ≡ length a.units) };
 }
 
 /// Measures a graph: drafts its units, and gives the drafts their places.
@@ -73,7 +79,7 @@ pub fn place_drafts(
     requires few { length drafts < 2 ^ 32 - 1 }
     ensures { (graph : Program) → AreDrafts graph drafts → graph.frames ≡ frames.now → Measures graph result }
 {
-    let texts = match texts_in(alloc, drafts.as_slice()) {
+    let texts = match texts_in(alloc, drafts.as_slice(), TextsOf::Entries) {
         Ok(texts) => texts,
         Err(TextError::Long) => return Err(LayoutError::Section { part: Part::Str }),
         Err(TextError::NoMemory) => return Err(LayoutError::NoMemory),
@@ -82,18 +88,48 @@ pub fn place_drafts(
     if let Some(part) = first_long(&ends, pool_size(&texts)) {
         return Err(LayoutError::Section { part });
     }
-    let placing = place_all(alloc, &texts, drafts.as_slice())?;
+    place_behind(alloc, drafts, frames, texts, ends)
+}
+
+/// The layout by drafts whose texts are these and whose parts end there, none of the sections up to that of the line
+/// tables being too long.
+fn place_behind(
+    alloc: Global,
+    drafts: List<Draft>,
+    frames: &OutFrames,
+    texts: TextPool,
+    ends: Starts,
+) -> Result<Layout, LayoutError>
+    requires texts { texts ≡ fold with_text [] (flat_map (names_in owners.Entries) drafts) }
+    requires ends { ends ≡ fold behind_draft no_starts drafts }
+    requires room { AreBelow (2 ^ 127) ends }
+    requires front { long_front ends (length (section_of texts)) ≡ None }
+    ensures { (graph : Program) → AreDrafts graph drafts → graph.frames ≡ frames.now → Measures graph result }
+{
+    let line_texts = match texts_in(alloc, drafts.as_slice(), TextsOf::Lines) {
+        Ok(texts) => texts,
+        Err(TextError::Long) => return Err(LayoutError::Section {
+            part: Part::LineStr,
+        }),
+        Err(TextError::NoMemory) => return Err(LayoutError::NoMemory),
+    };
+    if let Some(part) = next_long(&ends, pool_size(&line_texts)) {
+        return Err(LayoutError::Section { part });
+    }
+    let placing = place_all(alloc, &texts, &line_texts, drafts.as_slice())?;
     let mut described = Bytes::new(alloc);
     append_frames(alloc, &mut described, frames)?;
     if let Some(part) = last_long(placing.aranges.len(), described.len()) {
         return Err(LayoutError::Section { part });
     }
-    let sizes = sizes_from(&placing, &texts, &described);
+    let sizes = sizes_from(&placing, &texts, &line_texts, &described);
     Ok(Layout {
         units: placing.units,
         parts: placing.parts,
         texts,
         text_places: placing.text_places,
+        line_texts,
+        line_text_places: placing.line_text_places,
         aranges: placing.aranges,
         frames: described,
         sizes,
@@ -102,17 +138,20 @@ pub fn place_drafts(
 }
 
 /// The sizes of the sections, of which none is too long.
-fn sizes_from(placing: &Placing, texts: &TextPool, frames: &Bytes) -> Sizes
+fn sizes_from(placing: &Placing, texts: &TextPool, line_texts: &TextPool, frames: &Bytes) -> Sizes
     requires small { AreBelow (2 ^ 32) placing.now.at }
-    ensures { result ≡ sized placing.now.at (length (section_of texts.now)) (length placing.now.aranges) (length frames.now) }
+    ensures { result ≡ sized placing.now.at (length (section_of texts.now)) (length (section_of line_texts.now)) (length placing.now.aranges) (length frames.now) }
 {
     Sizes {
         tables: placing.at.tables as u64,
         info: placing.at.info as u64,
         texts: pool_size(texts),
         line: placing.at.line as u64,
+        line_texts: pool_size(line_texts),
         ranges: placing.at.ranges as u64,
+        rnglists: size_of_lists(placing.at.rnglists) as u64,
         loc: placing.at.loc as u64,
+        loclists: size_of_lists(placing.at.loclists) as u64,
         aranges: placing.aranges.len() as u64,
         frames: frames.len() as u64,
     }
@@ -129,7 +168,7 @@ pub fn unit_start(layout: &Layout, unit: u32) -> u32
 /// What stands outside of a unit, as its draft asks for it.
 pub fn outside_of(layout: &Layout, unit: u32) -> Outside<'_>
     requires { unit < length layout.now.units }
-    ensures { (graph : Program) (draft : ADraft) → Measures graph (Ok layout.now) → slice_get layout.now.drafts unit ≡ Some draft → IsOutside graph unit draft.names result }
+    ensures { (graph : Program) (it : Clone) (draft : ADraft) → Measures graph (Ok layout.now) → slice_get graph.units unit ≡ Some it → slice_get layout.now.drafts unit ≡ Some draft → IsOutside graph unit it draft.names draft.line_names result }
 {
     let parts = layout.parts.as_slice()[unit as usize];
     Outside {
@@ -138,6 +177,7 @@ pub fn outside_of(layout: &Layout, unit: u32) -> Outside<'_>
         ranges: parts.ranges,
         locations: parts.locations,
         texts: layout.text_places.as_slice()[unit as usize].as_slice(),
+        line_texts: layout.line_text_places.as_slice()[unit as usize].as_slice(),
         units: layout.units.as_slice(),
         end: layout.sizes.info as u32,
     }
@@ -155,6 +195,13 @@ pub fn texts(layout: &Layout) -> &TextPool
     ensures { result.now ≡ layout.now.texts }
 {
     &layout.texts
+}
+
+/// The texts of the section of line tables' texts.
+pub fn line_texts(layout: &Layout) -> &TextPool
+    ensures { result.now ≡ layout.now.line_texts }
+{
+    &layout.line_texts
 }
 
 /// The bytes of `__debug_aranges`.

@@ -1,9 +1,11 @@
 //! Drafts that have their places.
 
-ghost use Rattle.std.specs.Prelude.{◌≡◌, ◌<◌, ◌^◌, fold, IfOk, OnOk};
-ghost use Rattle.layout.specs.Pass.{AreBelow, behind_draft, no_starts, none_placed, with_draft};
+ghost use Rattle.std.specs.Prelude.{◌≡◌, ◌+◌, ◌<◌, ◌^◌, fold, IfOk, OnOk};
+ghost use Rattle.layout.specs.Pass.{AreBelow, behind_draft, next_list, no_starts, none_placed, parts_of, with_draft};
+ghost use Rattle.dwarf_types.specs.Lists.{lists_header_len};
 
-use crate::starts::{Starts, behind, first_starts};
+use crate::sizes::LISTS_HEADER_LEN;
+use crate::starts::{LISTS_VERSION, Starts, behind, first_starts};
 use crate::text::places_in;
 use ds_base::{Bytes, List, NoMemory};
 use frame_write::append_aranges;
@@ -32,30 +34,34 @@ pub(crate) struct Placing {
     pub(crate) parts: List<PartPlaces>,
     /// Where the texts of each draft stand.
     pub(crate) text_places: List<List<u32>>,
+    /// Where the texts of each draft's line table stand.
+    pub(crate) line_text_places: List<List<u32>>,
     /// `__debug_aranges`.
     pub(crate) aranges: Bytes,
     /// Where the parts of the next draft stand.
     pub(crate) at: Starts,
 }
 
-/// Gives drafts their places, whose texts stand in a pool.
+/// Gives drafts their places, whose texts, and those of whose line tables, stand in two pools.
 pub(crate) fn place_all(
     alloc: Global,
-    pool: &TextPool,
+    texts: &TextPool,
+    line_texts: &TextPool,
     drafts: &[Draft],
 ) -> Result<Placing, NoMemory>
     requires small { AreBelow (2 ^ 32) (fold behind_draft no_starts drafts.now) }
-    ensures { IfOk result (λ placing. placing ≡ fold (with_draft pool.now) none_placed drafts.now) }
+    ensures { IfOk result (λ placing. placing ≡ fold (with_draft texts.now line_texts.now) none_placed drafts.now) }
 {
     let mut placing = Placing {
         units: List::new(alloc),
         parts: List::new(alloc),
         text_places: List::new(alloc),
+        line_text_places: List::new(alloc),
         aranges: Bytes::new(alloc),
         at: first_starts(),
     };
     for draft in drafts {
-        place_draft(alloc, &mut placing, pool, draft)?;
+        place_draft(alloc, &mut placing, texts, line_texts, draft)?;
     }
     Ok(placing)
 }
@@ -64,19 +70,22 @@ pub(crate) fn place_all(
 fn place_draft(
     alloc: Global,
     placing: &mut Placing,
-    pool: &TextPool,
+    texts: &TextPool,
+    line_texts: &TextPool,
     draft: &Draft,
 ) -> Result<(), NoMemory>
     requires small { AreBelow (2 ^ 32) placing.old.at }
-    ensures { OnOk result (placing.new ≡ with_draft pool.now placing.old draft.now) }
+    ensures { OnOk result (placing.new ≡ with_draft texts.now line_texts.now placing.old draft.now) }
 {
     let at = placing.at;
     let unit = placed_at(alloc, at, draft)?;
-    let texts = places_in(alloc, pool, &draft.names)?;
+    let text_places = places_in(alloc, texts, &draft.names)?;
+    let line_text_places = places_in(alloc, line_texts, &draft.line_names)?;
     append_aranges(&mut placing.aranges, at.info as u32, draft.code.as_slice())?;
     placing.units.push(unit)?;
-    placing.parts.push(parts_at(at))?;
-    placing.text_places.push(texts)?;
+    placing.parts.push(parts_at(draft.version, at))?;
+    placing.text_places.push(text_places)?;
+    placing.line_text_places.push(line_text_places)?;
     placing.at = behind(at, draft);
     Ok(())
 }
@@ -94,15 +103,29 @@ fn placed_at(alloc: Global, at: Starts, draft: &Draft) -> Result<Placed, NoMemor
     })
 }
 
-/// The other parts of a draft that stand there.
-fn parts_at(at: Starts) -> PartPlaces
+/// The other parts of a draft of a version that stand there.
+fn parts_at(version: u16, at: Starts) -> PartPlaces
     requires small { AreBelow (2 ^ 32) at }
-    ensures { result ≡ record { table = at.tables; lines = at.line; ranges = at.ranges; locations = at.loc } }
+    ensures { result ≡ parts_of version at }
 {
     PartPlaces {
         table: at.tables as u32,
         lines: at.line as u32,
-        ranges: at.ranges as u32,
-        locations: at.loc as u32,
+        ranges: list_place(version, at.ranges, at.rnglists),
+        locations: list_place(version, at.loc, at.loclists),
+    }
+}
+
+/// Where the next list of a version stands: behind the header and the lists of a section of version 5, or else behind
+/// those of the other section.
+fn list_place(version: u16, others: u128, five: u128) -> u32
+    requires others { others < 2 ^ 32 }
+    requires five { lists_header_len + five < 2 ^ 32 }
+    ensures { result ≡ next_list version others five }
+{
+    if version == LISTS_VERSION {
+        LISTS_HEADER_LEN + five as u32
+    } else {
+        others as u32
     }
 }

@@ -3,7 +3,7 @@
 ghost use Rattle.std.specs.Prelude.{◌≡◌, ◌-◌, ◌^◌, ◌<◌, ◌≤◌, [], Err, Some, IfOk, OnOk, fold, length, map, slice_get};
 ghost use Rattle.std.specs.List.{flat_map};
 ghost use Rattle.ds_base.specs.Texts.{section_of, with_text};
-ghost use Rattle.layout.specs.Pass.{place_in};
+ghost use Rattle.layout.specs.Pass.{names_in, place_in};
 ghost use Rattle.text_pool.specs.declared.pool.TextError.TheVariants as errors;
 
 use ds_base::{List, NoMemory};
@@ -11,16 +11,35 @@ use std::alloc::Global;
 use text_pool::{Names, TextError, TextPool, add, new_pool, offset_of};
 use unit_draft::Draft;
 
+/// Whose texts they are. Each have a section.
+#[derive(Clone, Copy, Debug, PartialEq, Eq)]
+pub(crate) enum TextsOf {
+    /// Those of the entries: `__debug_str`.
+    Entries,
+    /// Those of the line tables: `__debug_line_str`.
+    Lines,
+}
+
 /// The texts of drafts by first use, each once.
-pub(crate) fn texts_in(alloc: Global, drafts: &[Draft]) -> Result<TextPool, TextError>
-    ensures ok { IfOk result (λ pool. pool ≡ fold with_text [] (flat_map (λ d. d.names) drafts.now)) }
-    ensures long { result ≡ Err errors.Long → 2 ^ 32 - 1 ≤ length (section_of (fold with_text [] (flat_map (λ d. d.names) drafts.now))) }
+pub(crate) fn texts_in(alloc: Global, drafts: &[Draft], of: TextsOf) -> Result<TextPool, TextError>
+    ensures ok { IfOk result (λ pool. pool ≡ fold with_text [] (flat_map (names_in of) drafts.now)) }
+    ensures long { result ≡ Err errors.Long → 2 ^ 32 - 1 ≤ length (section_of (fold with_text [] (flat_map (names_in of) drafts.now))) }
 {
     let mut pool = new_pool(alloc);
     for draft in drafts {
-        add_names(&mut pool, &draft.names)?;
+        add_names(&mut pool, names_of(draft, of))?;
     }
     Ok(pool)
+}
+
+/// The texts of a draft.
+fn names_of(draft: &Draft, of: TextsOf) -> &Names
+    ensures { result.now ≡ names_in of draft.now }
+{
+    match of {
+        TextsOf::Entries => &draft.names,
+        TextsOf::Lines => &draft.line_names,
+    }
 }
 
 /// Adds the texts of a draft.
