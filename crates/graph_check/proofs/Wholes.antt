@@ -1,5 +1,5 @@
 -- What tests of the parts make of the whole.
-use Rattle.std.proofs.Common.{◌≡◌, ℕ, Bool, true, false, List, ◌∷◌, Some, None, slice_get, is_some, IfSome, sym, ◌∙◌, subst}
+use Rattle.std.proofs.Common.{◌≡◌, ◌⊎◌, ℕ, Bool, true, false, List, ◌∷◌, Some, None, slice_get, is_some, IfSome, sym, ◌∙◌, subst}
 use Rattle.std.specs.Bool.{OnTrue}
 use Rattle.std.specs.List.{All}
 use Rattle.ds_base.specs.declared.dwarf.TheConstants.{DW_TAG_compile_unit}
@@ -19,14 +19,14 @@ root_is false unit root top ends lines = tt
 root_is true unit root top ends lines = record { parent = top.0; tag = top.1; whole = top.2; ends = ends; stmt_list = lines.0; lines = lines.1 }
 
 -- the nodes of the unit
-abbrev AreUnitNodes : Graph → List Node → List Node → Type 0
-AreUnitNodes graph below nodes =
-    ((k : ℕ) (node : Node) → slice_get below k ≡ Some node → IsPreorderParent nodes k node.parent) × All (IsNode graph nodes) nodes
+abbrev AreUnitNodes : Graph → ℕ → List Node → List Node → Type 0
+AreUnitNodes graph version below nodes =
+    ((k : ℕ) (node : Node) → slice_get below k ≡ Some node → IsPreorderParent nodes k node.parent) × All (IsNode graph version nodes) nodes
 
-pub unit_is : (test : Bool) (graph : Graph) (unit : OutUnit) (root : Node) (below nodes : List Node) (spans : List Span) → unit.version ≡ 4 → nodes ≡ unit.nodes → nodes ≡ root ∷ below
-    → IsRoot unit root → AreUnitNodes graph below nodes → All (λ node. has_lines node ≡ false) below → IfSome unit.lines IsLineTable
+pub unit_is : (test : Bool) (graph : Graph) (unit : OutUnit) (root : Node) (below nodes : List Node) (spans : List Span) → (unit.version ≡ 4) ⊎ (unit.version ≡ 5) → nodes ≡ unit.nodes → nodes ≡ root ∷ below
+    → IsRoot unit root → AreUnitNodes graph unit.version below nodes → All (λ node. has_lines node ≡ false) below → IfSome unit.lines (IsLineTable unit.version)
     → spans ≡ unit.ranges → OnTrue test (All IsSpan spans) → OnTrue test (IsWellUnit graph unit)
-unit_is false graph unit root below nodes spans four is split top each none lines same ranges = tt
-unit_is true graph unit root below nodes spans four is split top each none lines same ranges =
-    let own = subst (AreUnitNodes graph below) is each in
-    record { version = four; root = root; below = below; nodes = sym is ∙ split; is_root = top; preorder = own.0; no_lines = none; each = own.1; lines = lines; ranges = subst (All IsSpan) same ranges }
+unit_is false graph unit root below nodes spans known is split top each none lines same ranges = tt
+unit_is true graph unit root below nodes spans known is split top each none lines same ranges =
+    let own = subst (AreUnitNodes graph unit.version below) is each in
+    record { version = known; root = root; below = below; nodes = sym is ∙ split; is_root = top; preorder = own.0; no_lines = none; each = own.1; lines = lines; ranges = subst (All IsSpan) same ranges }

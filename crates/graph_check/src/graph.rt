@@ -1,18 +1,16 @@
 //! A graph, and its units.
 
+ghost use Rattle.std.specs.Prelude.{◌≡◌, ◌⊎◌};
 ghost use Rattle.std.specs.Bool.{OnTrue};
 ghost use Rattle.std.specs.List.{All};
 ghost use Rattle.dwarf_types.specs.Well.{IsWell, IsWellUnit};
 
-use crate::lines::{are_frames, are_lines};
+use crate::lines::{DWARF_4, DWARF_5, are_frames, are_lines};
 use crate::nodes::are_nodes;
 use crate::roots::is_root;
 use crate::spans::are_spans;
 use crate::tree::{are_in_preorder, name_no_lines};
 use dwarf_types::{Graph, OutUnit};
-
-/// The version of DWARF of every unit.
-const VERSION: u16 = 4;
 
 /// Whether a graph is well. One that is not accepted may be well all the same.
 pub fn is_well(graph: &Graph) -> bool
@@ -42,14 +40,21 @@ fn is_unit(graph: &Graph, unit: &OutUnit) -> bool
     let Some((root, below)) = nodes.split_first() else {
         return false;
     };
-    if unit.version != VERSION || !is_root(unit, root) {
+    if !is_version(unit.version) || !is_root(unit, root) {
         return false;
     }
     if !are_in_preorder(nodes, below) || !name_no_lines(below) {
         return false;
     }
-    if !are_nodes(graph, nodes) || !are_lines(&unit.lines) {
+    if !are_nodes(graph, unit.version, nodes) || !are_lines(unit.version, &unit.lines) {
         return false;
     }
     are_spans(unit.ranges.as_slice())
+}
+
+/// Whether a unit may be of this version.
+fn is_version(version: u16) -> bool
+    ensures { OnTrue result ((version ≡ 4) ⊎ (version ≡ 5)) }
+{
+    version == DWARF_4 || version == DWARF_5
 }

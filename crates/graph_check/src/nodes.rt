@@ -12,32 +12,32 @@ use ds_base::dwarf::{
 };
 use dwarf_types::{Graph, Node, OutAttr, OutValue};
 
-/// Whether these are nodes of a unit.
-pub(crate) fn are_nodes(graph: &Graph, nodes: &[Node]) -> bool
-    ensures { OnTrue result (All (IsNode graph.now nodes.now) nodes.now) }
+/// Whether these are the nodes of a unit of a version.
+pub(crate) fn are_nodes(graph: &Graph, version: u16, nodes: &[Node]) -> bool
+    ensures { OnTrue result (All (IsNode graph.now version nodes.now) nodes.now) }
 {
     for node in nodes {
-        if !is_node(graph, nodes, node) {
+        if !is_node(graph, version, nodes, node) {
             return false;
         }
     }
     true
 }
 
-/// Whether this is a node of a unit with these nodes.
-fn is_node(graph: &Graph, nodes: &[Node], node: &Node) -> bool
-    ensures { OnTrue result (IsNode graph.now nodes.now node.now) }
+/// Whether this is a node of a unit of a version with these nodes.
+fn is_node(graph: &Graph, version: u16, nodes: &[Node], node: &Node) -> bool
+    ensures { OnTrue result (IsNode graph.now version nodes.now node.now) }
 {
     let tag = node.tag;
-    tag != 0 && are_attributes(graph, nodes, node.attrs.as_slice())
+    tag != 0 && are_attributes(graph, version, nodes, node.attrs.as_slice())
 }
 
 /// Whether these are attributes of such a node.
-fn are_attributes(graph: &Graph, nodes: &[Node], attrs: &[OutAttr]) -> bool
-    ensures { OnTrue result (All (IsAttribute graph.now nodes.now) attrs.now) }
+fn are_attributes(graph: &Graph, version: u16, nodes: &[Node], attrs: &[OutAttr]) -> bool
+    ensures { OnTrue result (All (IsAttribute graph.now version nodes.now) attrs.now) }
 {
     for attr in attrs {
-        if !is_attribute(graph, nodes, attr) {
+        if !is_attribute(graph, version, nodes, attr) {
             return false;
         }
     }
@@ -45,14 +45,14 @@ fn are_attributes(graph: &Graph, nodes: &[Node], attrs: &[OutAttr]) -> bool
 }
 
 /// Whether this is an attribute of such a node.
-fn is_attribute(graph: &Graph, nodes: &[Node], attr: &OutAttr) -> bool
-    ensures { OnTrue result (IsAttribute graph.now nodes.now attr.now) }
+fn is_attribute(graph: &Graph, version: u16, nodes: &[Node], attr: &OutAttr) -> bool
+    ensures { OnTrue result (IsAttribute graph.now version nodes.now attr.now) }
 {
     let name = attr.name;
     if name == 0 || is_always_dropped(name) {
         return false;
     }
-    is_value(graph, nodes, &attr.value) && may_stand(name, &attr.value)
+    is_value(graph, version, nodes, &attr.value) && may_stand(name, &attr.value)
 }
 
 /// Whether an attribute speaks of how the input was laid out.

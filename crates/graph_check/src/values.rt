@@ -3,10 +3,12 @@
 ghost use Rattle.std.specs.Prelude.{◌≡◌, ◌<◌, ◌^◌, length};
 ghost use Rattle.std.specs.Bool.{OnTrue};
 ghost use Rattle.std.specs.List.{All};
+ghost use Rattle.dwarf_types.specs.Expressions.{expression_len};
 ghost use Rattle.dwarf_types.specs.Spelled.{AreBytes};
 ghost use Rattle.dwarf_types.specs.WellValues.{FitsBlock, IsLocation, IsTarget, IsValue, MayStand, has_locations};
 
 use crate::expressions::{is_short, is_whole};
+use crate::lines::{DWARF_4, DWARF_5};
 use crate::numbers::{fits_block, fits_form, is_number};
 use crate::spans::{are_spans, is_span};
 use crate::texts::{are_bytes, are_text_bytes};
@@ -16,22 +18,22 @@ use ds_base::dwarf::{
     DW_AT_segment, DW_AT_static_link, DW_AT_string_length, DW_AT_use_location,
     DW_AT_vtable_elem_location,
 };
-use dwarf_types::{Graph, Node, OutLocation, OutValue, Target};
+use dwarf_types::{ExprPart, Graph, Node, OutLocation, OutValue, Target};
 
-/// Whether this is a value of a unit with these nodes.
-pub(crate) fn is_value(graph: &Graph, nodes: &[Node], value: &OutValue) -> bool
-    ensures { OnTrue result (IsValue graph.now nodes.now value.now) }
+/// Whether this is a value of a unit of a version with these nodes.
+pub(crate) fn is_value(graph: &Graph, version: u16, nodes: &[Node], value: &OutValue) -> bool
+    ensures { OnTrue result (IsValue graph.now version nodes.now value.now) }
 {
     match value {
         OutValue::Address(address) => is_address(*address),
         OutValue::Text(text) => are_text_bytes(text.as_slice()),
         OutValue::Number { form, bits } => fits_form(*form, *bits),
-        OutValue::Wide(_) => false,
+        OutValue::Wide(bytes) => is_wide(version, bytes),
         OutValue::Block { form, bytes } => is_block(*form, bytes),
         OutValue::Expr(parts) => is_whole(nodes, parts.as_slice()),
         OutValue::Ref(target) => is_target(graph, *target),
         OutValue::Ranges(spans) => are_spans(spans.as_slice()),
-        OutValue::Locations(items) => are_locations(nodes, items.as_slice()),
+        OutValue::Locations(items) => are_locations(version, nodes, items.as_slice()),
         OutValue::Lines => true,
     }
 }
@@ -42,6 +44,14 @@ fn is_address(address: u64) -> bool
 {
     is_number(address);
     true
+}
+
+/// Whether a constant of 16 bytes stands in a unit of version 5, and has so many.
+fn is_wide(version: u16, bytes: &Bytes) -> bool
+    ensures { OnTrue result ((version ≡ 5) × (length bytes.now ≡ 16) × AreBytes bytes.now) }
+{
+    are_bytes(bytes.as_slice());
+    version == DWARF_5 && bytes.len() == 16
 }
 
 /// Whether a block holds its bytes.
@@ -62,24 +72,35 @@ fn is_target(graph: &Graph, target: Target) -> bool
     }
 }
 
-/// Whether these are locations in a unit with these nodes.
-fn are_locations(nodes: &[Node], items: &[OutLocation]) -> bool
-    ensures { OnTrue result (All (IsLocation nodes.now) items.now) }
+/// Whether these are locations in a unit of a version with these nodes.
+fn are_locations(version: u16, nodes: &[Node], items: &[OutLocation]) -> bool
+    ensures { OnTrue result (All (IsLocation version nodes.now) items.now) }
 {
     for item in items {
-        if !is_location(nodes, item) {
+        if !is_location(version, nodes, item) {
             return false;
         }
     }
     true
 }
 
-/// Whether this is a location in a unit with these nodes.
-fn is_location(nodes: &[Node], item: &OutLocation) -> bool
-    ensures { OnTrue result (IsLocation nodes.now item.now) }
+/// Whether this is a location in a unit of a version with these nodes.
+fn is_location(version: u16, nodes: &[Node], item: &OutLocation) -> bool
+    ensures { OnTrue result (IsLocation version nodes.now item.now) }
 {
     let parts = item.parts.as_slice();
-    is_span(item.span) && is_whole(nodes, parts) && is_short(parts)
+    is_span(item.span) && is_whole(nodes, parts) && fits_length(version, parts)
+}
+
+/// Whether the length of an expression has two bytes, as it must in version 4.
+fn fits_length(version: u16, parts: &[ExprPart]) -> bool
+    ensures { OnTrue result (version ≡ 4 → expression_len parts.now < 2 ^ 16) }
+{
+    if version == DWARF_4 {
+        is_short(parts)
+    } else {
+        true
+    }
 }
 
 /// Whether a value may stand under an attribute of a name.

@@ -5,4 +5,4 @@ use Rattle.dwarf_types.specs.WellLines.{IsFile}
 use Rattle.graph_check.proofs.lines.are_files.Given as goal
 
 abbrev pub invariant-loop-file : goal.invariant-loop-file
-invariant-loop-file l = (k : ℕ) (d : FileName) → k < l.file-index → IsFile (slice_index_or l.files k d)
+invariant-loop-file l = (k : ℕ) (d : FileName) → k < l.file-index → IsFile l.version (slice_index_or l.files k d)

@@ -5,4 +5,4 @@ use Rattle.dwarf_types.specs.WellNodes.{IsAttribute}
 use Rattle.graph_check.proofs.nodes.are_attributes.Given as goal
 
 abbrev pub invariant-loop-attr : goal.invariant-loop-attr
-invariant-loop-attr l = (k : ℕ) (d : OutAttr) → k < l.attr-index → IsAttribute l.graph l.nodes (slice_index_or l.attrs k d)
+invariant-loop-attr l = (k : ℕ) (d : OutAttr) → k < l.attr-index → IsAttribute l.graph l.version l.nodes (slice_index_or l.attrs k d)

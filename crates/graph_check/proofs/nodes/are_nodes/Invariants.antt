@@ -5,4 +5,4 @@ use Rattle.dwarf_types.specs.WellNodes.{IsNode}
 use Rattle.graph_check.proofs.nodes.are_nodes.Given as goal
 
 abbrev pub invariant-loop-node : goal.invariant-loop-node
-invariant-loop-node l = (k : ℕ) (d : Node) → k < l.node-index → IsNode l.graph l.nodes (slice_index_or l.nodes k d)
+invariant-loop-node l = (k : ℕ) (d : Node) → k < l.node-index → IsNode l.graph l.version l.nodes (slice_index_or l.nodes k d)

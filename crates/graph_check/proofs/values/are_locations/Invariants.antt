@@ -5,4 +5,4 @@ use Rattle.dwarf_types.specs.WellValues.{IsLocation}
 use Rattle.graph_check.proofs.values.are_locations.Given as goal
 
 abbrev pub invariant-loop-item : goal.invariant-loop-item
-invariant-loop-item l = (k : ℕ) (d : OutLocation) → k < l.item-index → IsLocation l.nodes (slice_index_or l.items k d)
+invariant-loop-item l = (k : ℕ) (d : OutLocation) → k < l.item-index → IsLocation l.version l.nodes (slice_index_or l.items k d)
