@@ -14,3 +14,4 @@ pub mod Files
 pub mod PoolUnit
 pub mod Whole
 pub mod FilesFew
+pub mod Versions

@@ -124,7 +124,7 @@ in_head_below o a k before inside = by_parents (entries_of o) (λ (k : ℕ). is_
     ]) k k (omega arith)
 
 -- what stands above a live entry is live
-live_above : (o : Object) (a k : ℕ) → ParentsStandBefore (entries_of o) → AreLiveParents o → is_in (entries_of o) a k ≡ true → is_live o k ≡ true → is_live o a ≡ true
+pub live_above : (o : Object) (a k : ℕ) → ParentsStandBefore (entries_of o) → AreLiveParents o → is_in (entries_of o) a k ≡ true → is_live o k ≡ true → is_live o a ≡ true
 live_above o a k before parents = by_parents (entries_of o) (λ (k : ℕ). is_in (entries_of o) a k ≡ true → is_live o k ≡ true → is_live o a ≡ true) before
     (λ k top is lives. sym (ap (is_live o) (in_top (entries_of o) a k top is)) ∙ lives)
     (λ k p up higher is lives. elim (in_below (entries_of o) a k p before up is) [

@@ -19,7 +19,7 @@ use Rattle.dwarf_types.specs.LinkedShape.{objects_in, origin_of, plain_in, shape
 use Rattle.dwarf_types.specs.LinkedShape as linked_shape
 use Rattle.dwarf_types.specs.LinkedUnits.{Object, Source, kept_entries, sources}
 use Rattle.link_graph.specs.Graph.{image_of, pool_in, pool_of, pool_unit, pools}
-use Rattle.link_graph.specs.Merged.{image_in, images_in, kept_object, kept_objects, pool_origin, pool_root, pool_units, shape_of}
+use Rattle.link_graph.specs.Merged.{image_in, images_in, kept_object, kept_objects, pool_count, pool_origin, pool_root, pool_units, shape_of}
 use Rattle.link_graph.specs.Pool.{pool_names}
 use Rattle.link_graph.proofs.Gathered.{All-filter_map}
 use Rattle.odr_names.specs.Book.{objects_of}
@@ -55,16 +55,16 @@ abbrev pub origins_of : List Named → List Origin
 origins_of ns = pool_root ∷ map (pool_origin ns) (pool_names ns)
 
 -- the units of merged entries, of which there is one where there are names
-abbrev pub pool_made : (ℕ → ℕ → Option Target) → List Analysis → List Named → List OutUnit
-pool_made image all [] = []
-pool_made image all (n ∷ ns) = pool_unit image all (origins_of (n ∷ ns)) ∷ []
+abbrev pub pool_made : (ℕ → ℕ → Option Target) → List Analysis → ℕ → List Named → List OutUnit
+pool_made image all version [] = []
+pool_made image all version (n ∷ ns) = pool_unit image all version (origins_of (n ∷ ns)) ∷ []
 
-no_root : (s : Source) (o : Object) (es : List (ℕ × Entry)) (nodes : List Origin) → option_and_then (λ (root : Origin). cond (root.object == 0) (Some nodes) None) (slice_get (map (origin_of s.object o s.unit) es) 0) ≡ None
-no_root s o [] nodes = refl
-no_root s o (e ∷ es) nodes = ap (λ (b : Bool). cond b (Some nodes) None) (ne_eqb (s.object + 1) 0 (λ same. omega (arith, same)))
+no_root : (s : Source) (o : Object) (es : List (ℕ × Entry)) (unit : ShapeUnit) → option_and_then (λ (root : Origin). cond (root.object == 0) (Some unit) None) (slice_get (map (origin_of s.object o s.unit) es) 0) ≡ None
+no_root s o [] unit = refl
+no_root s o (e ∷ es) unit = ap (λ (b : Bool). cond b (Some unit) None) (ne_eqb (s.object + 1) 0 (λ same. omega (arith, same)))
 
 plain_unit : (s : Source) (o : Object) (unit : InUnit) → pool_in (unit_shape s o unit) ≡ None
-plain_unit s o unit = no_root s o (kept_entries o s.unit) (unit_shape s o unit).nodes
+plain_unit s o unit = no_root s o (kept_entries o s.unit) (unit_shape s o unit)
 
 -- a unit of an object is none of merged entries
 plain_shape : (objects : List Object) (s : Source) (y : ShapeUnit) → shape_in objects s ≡ Some y → pool_in y ≡ None
@@ -82,34 +82,40 @@ first_plain : (units : List ShapeUnit) → All (λ unit. pool_in unit ≡ None) 
 first_plain [] h = refl
 first_plain (unit ∷ units) h = h 0 unit (omega arith)
 
-abbrev some_units : (ℕ → ℕ → Option Target) → List Analysis → Option (List Origin) → List OutUnit
-some_units image all found = option_map_or (λ origins. pool_unit image all origins ∷ []) found []
+abbrev some_units : (ℕ → ℕ → Option Target) → List Analysis → Option ShapeUnit → List OutUnit
+some_units image all found = option_map_or (λ unit. pool_unit image all unit.version unit.nodes ∷ []) found []
 
-pub pool_by : (all : List Analysis) (objects : List Object) (ns : List Named) (shape : Shape) → shape.units ≡ pool_units ns ++ filter_map (shape_in objects) (sources objects) → pools all shape ≡ pool_made (image_of shape) all ns
-pool_by all objects [] shape units =
+abbrev pub pool_shape : ℕ → List Named → ShapeUnit
+pool_shape version ns = record { version = version; nodes = origins_of ns }
+
+pub pool_by : (all : List Analysis) (objects : List Object) (version : ℕ) (ns : List Named) (shape : Shape) → shape.units ≡ pool_units version ns ++ filter_map (shape_in objects) (sources objects)
+    → pools all shape ≡ pool_made (image_of shape) all version ns
+pool_by all objects version [] shape units =
     let none : pool_of shape ≡ None = ap (λ (us : List ShapeUnit). option_and_then pool_in (slice_get us 0)) units
     ∙ first_plain (filter_map (shape_in objects) (sources objects)) (All-filter_map (λ unit. pool_in unit ≡ None) (shape_in objects) (sources objects) (λ k d lt y e. plain_shape objects (get_or (sources objects) k d) y e)) in
     ap (some_units (image_of shape) all) none
-pool_by all objects (n ∷ ns) shape units =
-    let some : pool_of shape ≡ Some (origins_of (n ∷ ns)) = ap (λ (us : List ShapeUnit). option_and_then pool_in (slice_get us 0)) units in
+pool_by all objects version (n ∷ ns) shape units =
+    let some : pool_of shape ≡ Some (pool_shape version (n ∷ ns)) = ap (λ (us : List ShapeUnit). option_and_then pool_in (slice_get us 0)) units in
     ap (some_units (image_of shape) all) some
 
-pub pool_some : (objects : List Object) (ns : List Named) (shape : Shape) → shape.units ≡ pool_units ns ++ filter_map (shape_in objects) (sources objects) → (ns ≡ [] → ⊥) → pool_of shape ≡ Some (origins_of ns)
-pool_some objects [] shape units some = absurd (some refl)
-pool_some objects (n ∷ ns) shape units some = ap (λ (us : List ShapeUnit). option_and_then pool_in (slice_get us 0)) units
+pub pool_some : (objects : List Object) (version : ℕ) (ns : List Named) (shape : Shape) → shape.units ≡ pool_units version ns ++ filter_map (shape_in objects) (sources objects) → (ns ≡ [] → ⊥)
+    → pool_of shape ≡ Some (pool_shape version ns)
+pool_some objects version [] shape units some = absurd (some refl)
+pool_some objects version (n ∷ ns) shape units some = ap (λ (us : List ShapeUnit). option_and_then pool_in (slice_get us 0)) units
 
 -- what holds of the unit of merged entries, if there is one
-pub pool_all : (P : OutUnit → Type 0) (image : ℕ → ℕ → Option Target) (all : List Analysis) (ns : List Named) → ((ns ≡ [] → ⊥) → P (pool_unit image all (origins_of ns))) → All P (pool_made image all ns)
-pool_all P image all [] h = All-nil P
-pool_all P image all (n ∷ ns) h = All-cons P (pool_unit image all (origins_of (n ∷ ns))) [] (h (λ none. (let long = ap length none in omega (arith, long)))) (All-nil P)
+pub pool_all : (P : OutUnit → Type 0) (image : ℕ → ℕ → Option Target) (all : List Analysis) (version : ℕ) (ns : List Named) → ((ns ≡ [] → ⊥) → P (pool_unit image all version (origins_of ns))) → All P (pool_made image all version ns)
+pool_all P image all version [] h = All-nil P
+pool_all P image all version (n ∷ ns) h = All-cons P (pool_unit image all version (origins_of (n ∷ ns))) [] (h (λ none. (let long = ap length none in omega (arith, long)))) (All-nil P)
 
-pub pool_first : (image : ℕ → ℕ → Option Target) (all : List Analysis) (ns : List Named) (others : List OutUnit) → (ns ≡ [] → ⊥) → slice_get (pool_made image all ns ++ others) 0 ≡ Some (pool_unit image all (origins_of ns))
-pool_first image all [] others some = absurd (some refl)
-pool_first image all (n ∷ ns) others some = refl
+pub pool_first : (image : ℕ → ℕ → Option Target) (all : List Analysis) (version : ℕ) (ns : List Named) (others : List OutUnit) → (ns ≡ [] → ⊥)
+    → slice_get (pool_made image all version ns ++ others) 0 ≡ Some (pool_unit image all version (origins_of ns))
+pool_first image all version [] others some = absurd (some refl)
+pool_first image all version (n ∷ ns) others some = refl
 
-pub as_many_pools : (image : ℕ → ℕ → Option Target) (all : List Analysis) (ns : List Named) → length (pool_made image all ns) ≡ length (pool_units ns)
-as_many_pools image all [] = refl
-as_many_pools image all (n ∷ ns) = refl
+pub as_many_pools : (image : ℕ → ℕ → Option Target) (all : List Analysis) (version : ℕ) (ns : List Named) → length (pool_made image all version ns) ≡ pool_count ns
+as_many_pools image all version [] = refl
+as_many_pools image all version (n ∷ ns) = refl
 
 -- ---- where references lead
 

@@ -14,8 +14,8 @@ use Rattle.dwarf_types.specs.LinkedShape.{AreMarked, objects_in}
 use Rattle.dwarf_types.specs.LinkedShape as linked_shape
 use Rattle.dwarf_types.specs.LinkedUnits.{Object, node_number, plain_target, same_source, sources}
 use Rattle.dwarf_types.proofs.Marks.{nothing_merged}
-use Rattle.link_graph.specs.Graph.{graph_in, image_of, pools}
-use Rattle.link_graph.specs.Merged.{kept_object, kept_objects, shape_of}
+use Rattle.link_graph.specs.Graph.{graph_in, image_of, pool_version, pools}
+use Rattle.link_graph.specs.Merged.{kept_object, kept_objects, object_units, shape_of}
 use Rattle.odr_names.specs.Book.{objects_of}
 use Rattle.type_names.specs.Heads.{entries_of}
 use Rattle.type_names.specs.Heads as heads
@@ -66,7 +66,7 @@ module _ (seen : List Analysis) (live : List (List Bool)) where
   pub plain_graph : AreMarked seen live → graph_in seen (shape_of false seen live) ≡ linked (linked_shape.objects_of seen live)
   plain_graph marked =
       let shape = shape_of false seen live in
-      let none : pools seen shape ≡ [] = pool_by seen objects [] shape refl in
+      let none : pools seen shape ≡ [] = pool_by seen objects (pool_version (object_units false seen live)) [] shape refl in
       let image : image_of shape ≡ plain_target 0 objects = fun_ext (λ i. fun_ext (λ k. own_images i k)) in
       ap (λ (units : List OutUnit). linked_behind units (image_of shape) (objects_in seen shape)) none
       ∙ ap (λ (image : ℕ → ℕ → Option Target). linked_behind [] image (objects_in seen shape)) image

@@ -1,5 +1,5 @@
 -- The graph with merged entries is well.
-use Rattle.std.proofs.Common.{◌≡◌, ℕ, ◌+◌, ◌^◌, ◌<◌, ◌==◌, ◌&&◌, Bool, true, false, cond, List, [], ◌∷◌, length, slice_get, get_or, Option, Some, None, IfSome, refl, sym, ap, subst, ◌∙◌, arith}
+use Rattle.std.proofs.Common.{◌≡◌, ℕ, ◌+◌, ◌-◌, ◌^◌, ◌<◌, ◌==◌, ◌&&◌, Bool, true, false, cond, List, [], ◌∷◌, length, slice_get, get_or, Option, Some, None, IfSome, refl, sym, ap, subst, ◌∙◌, arith}
 use Rattle.std.specs.List.{All, Contains, filter_map, position}
 use Rattle.std.specs.Option.{option_and_then, option_map}
 use Rattle.std.proofs.lemmas.Bool.{eqb-true}
@@ -12,8 +12,8 @@ use Rattle.dwarf_types.specs.declared.entry.Entry.{Entry}
 use Rattle.dwarf_types.specs.declared.graph.Graph.{Graph}
 use Rattle.dwarf_types.specs.declared.graph.OutUnit.{OutUnit}
 use Rattle.dwarf_types.specs.declared.graph.Target.{Target}
-use Rattle.dwarf_types.specs.declared.shape.Origin.{Origin}
 use Rattle.dwarf_types.specs.declared.shape.Shape.{Shape}
+use Rattle.dwarf_types.specs.declared.shape.ShapeUnit.{ShapeUnit}
 use Rattle.dwarf_types.specs.LinkedGraph.{linked_behind, node_of, unit_written, written}
 use Rattle.dwarf_types.specs.LinkedShape.{objects_in}
 use Rattle.dwarf_types.specs.LinkedUnits.{Object, is_kept, kept_entries, node_number, plain_target, same_source, sources}
@@ -21,12 +21,12 @@ use Rattle.dwarf_types.specs.Live.{Stands}
 use Rattle.dwarf_types.specs.Sound.{IsSound}
 use Rattle.dwarf_types.specs.Well.{IsWell, IsWellUnit}
 use Rattle.dwarf_types.specs.WellValues.{IsTarget}
-use Rattle.link_graph.specs.Graph.{files_of, graph_in, image_of, pool_unit}
-use Rattle.link_graph.specs.Merged.{image_in, kept_object, kept_objects, linked_names, pool_units, shape_of}
+use Rattle.link_graph.specs.Graph.{files_of, graph_in, image_of, pool_unit, pool_version}
+use Rattle.link_graph.specs.Merged.{image_in, kept_object, kept_objects, linked_names, object_units, pool_count, shape_of}
 use Rattle.link_graph.specs.Pool.{node_of_path, pool_names, same_path}
-use Rattle.linked_laws.specs.Given.{IsGiven}
+use Rattle.linked_laws.specs.Given.{IsGiven, version_of}
 use Rattle.linked_laws.specs.Kept.{IsWhole, Leads}
-use Rattle.linked_laws.proofs.Attributes.{mapped_some}
+use Rattle.linked_laws.proofs.Attributes.{Allows, mapped_some}
 use Rattle.linked_laws.proofs.Images.{goes}
 use Rattle.linked_laws.proofs.Whole.{behind_well}
 use Rattle.linked_laws.proofs.Written.{all_written}
@@ -41,10 +41,11 @@ use Rattle.type_names.specs.Paths.{Piece, path_of}
 use Rattle.type_names.proofs.Pooling.{sound_parents}
 use Rattle.merged_laws.specs.Files.{FilesFit}
 use Rattle.merged_laws.proofs.Members.{none_in}
-use Rattle.merged_laws.proofs.Names.{name_there}
+use Rattle.merged_laws.proofs.Names.{IsNameOf, name_there}
 use Rattle.merged_laws.proofs.Nodes.{IsGood, bids_apart, objects_good}
 use Rattle.merged_laws.proofs.Plain.{and_parts, base_alone, kept_whole}
 use Rattle.merged_laws.proofs.PoolUnit.{IsOne, pool_long, pool_well}
+use Rattle.merged_laws.proofs.Versions.{pool_allows, version_known}
 use Rattle.merged_laws.proofs.Told.{as_many_pools, image_read, in_object, objects_back, origins_of, pool_all, pool_by, pool_first, pool_made, pool_some}
 
 -- ---- nodes of their own
@@ -101,8 +102,12 @@ module _ (odr : Bool) (seen : List Analysis) (live : List (List Bool)) (sound : 
   abbrev ns : List Named
   ns = linked_names odr seen live
 
+  -- the version of the unit of merged entries
+  abbrev version : ℕ
+  version = pool_version (object_units odr seen live)
+
   abbrev units : List OutUnit
-  units = pool_made image seen ns
+  units = pool_made image seen version ns
 
   abbrev objects : List Object
   objects = kept_objects odr seen live
@@ -148,7 +153,15 @@ module _ (odr : Bool) (seen : List Analysis) (live : List (List Bool)) (sound : 
   ones i o at = let at = one_of i o at in record { at = (object_parts seen live i o at).0; sound = (objects_good seen live sound rows i o at).sound; given = given_at i o at }
 
   abbrev own_unit : OutUnit
-  own_unit = pool_unit image seen (origins_of ns)
+  own_unit = pool_unit image seen version (origins_of ns)
+
+  -- it may say what the units of the merged entries say
+  allows : (w : Named) (is : IsNameOf (merged odr seen live) w) → Allows (version_of is.object.seen.units is.entry.unit) version
+  allows w is =
+      let i = w.object - 1 in
+      let at = one_of i is.object is.its in
+      let good = objects_good seen live sound rows i is.object at in
+      pool_allows odr seen live i is.object at good.sound (given_at i is.object at) good.row good.lives w.entry is.entry is.stands is.pooled
 
   some_name : (i k : ℕ) (o : heads.Object) → slice_get (objects_of seen live) i ≡ Some o → (odr && is_pooled o k) ≡ true → k < length (entries_of o) → ns ≡ [] → ⊥
   some_name i k o at merges lt none =
@@ -160,17 +173,17 @@ module _ (odr : Bool) (seen : List Analysis) (live : List (List Bool)) (sound : 
       → option_map (target_by 0) found ≡ Some target → IsTarget graph target
   merged_target i k o target at lt merges None none is = absurd (none-some target is)
   merged_target i k o target at lt merges (Some m) some is =
-      let first = pool_first image seen ns (filter_map (written image objects) (sources objects)) (some_name i k o at merges lt) in
-      let long = pool_long seen (merged odr seen live) ones image in
+      let first = pool_first image seen version ns (filter_map (written image objects) (sources objects)) (some_name i k o at merges lt) in
+      let long = pool_long seen (merged odr seen live) ones image version allows in
       subst (IsTarget graph) (same_Some (target_by 0 m) target is) (record { unit = own_unit; stands = first; inside = omega (arith, long, node_small ns (path_of (i + 1) o k) m some) })
 
-  plain_node : (i k : ℕ) (o : Object) (target : Target) → slice_get objects i ≡ Some o → plain_target (length (pool_units ns)) objects i k ≡ Some target → IsTarget graph target
+  plain_node : (i k : ℕ) (o : Object) (target : Target) → slice_get objects i ≡ Some o → plain_target (pool_count ns) objects i k ≡ Some target → IsTarget graph target
   plain_node i k o target at is =
       let whole = each i o at in
-      let it = placed objects (length (pool_units ns)) i o k target at is in
+      let it = placed objects (pool_count ns) i o k target at is in
       let own = whole.sound.entries k it.entry it.stands in
       let g = goes objects units image i o k it.entry own.unit at whole.sound it.stands own.its_unit it.kept in
-      let there : plain_target (length units) objects i k ≡ Some target = ap (λ (first : ℕ). plain_target first objects i k) (as_many_pools image seen ns) ∙ is in
+      let there : plain_target (length units) objects i k ≡ Some target = ap (λ (first : ℕ). plain_target first objects i k) (as_many_pools image seen version ns) ∙ is in
       let same : g.target ≡ target = same_Some g.target target (sym g.is ∙ there) in
       subst (IsTarget graph) same (record {
         unit = unit_written (image i) o it.entry.unit own.unit;
@@ -183,7 +196,7 @@ module _ (odr : Bool) (seen : List Analysis) (live : List (List Bool)) (sound : 
   targets i k target is = of_object (slice_get (objects_of seen live) i) refl (sym (image_read odr seen live i k) ∙ is)
     where
       decide : (o : heads.Object) → slice_get (objects_of seen live) i ≡ Some o → k < length (entries_of o) → (b : Bool) → (odr && is_pooled o k) ≡ b
-          → cond b (option_map (target_by 0) (node_of_path ns (path_of (i + 1) o k))) (plain_target (length (pool_units ns)) objects i k) ≡ Some target → IsTarget graph target
+          → cond b (option_map (target_by 0) (node_of_path ns (path_of (i + 1) o k))) (plain_target (pool_count ns) objects i k) ≡ Some target → IsTarget graph target
       decide o at lt true merges t = merged_target i k o target at lt merges (node_of_path ns (path_of (i + 1) o k)) refl t
       decide o at lt false own t = plain_node i k (kept_object odr o) target (slice_get-map (kept_object odr) (objects_of seen live) i ∙ ap (option_map (kept_object odr)) at) t
 
@@ -202,8 +215,8 @@ module _ (odr : Bool) (seen : List Analysis) (live : List (List Bool)) (sound : 
       let its : slice_get (entries_of c.of) j ≡ Some e = ap (λ (x : Object). slice_get x.seen.entries j) (sym c.is) ∙ stands in
       let alone = base_alone odr c.of j e (sound_parents c.of.seen c.good.sound) its base in
       image_read odr seen live i j ∙ ap (option_and_then (in_object odr seen live i j)) c.at ∙ ap (option_and_then (λ (e : Entry). image_in odr seen live (i, c.of) j)) its
-      ∙ ap (λ (b : Bool). cond b (option_map (target_by 0) (node_of_path ns (path_of (i + 1) c.of j))) (plain_target (length (pool_units ns)) objects i j)) alone
-      ∙ ap (λ (first : ℕ). plain_target first objects i j) (sym (as_many_pools image seen ns))
+      ∙ ap (λ (b : Bool). cond b (option_map (target_by 0) (node_of_path ns (path_of (i + 1) c.of j))) (plain_target (pool_count ns) objects i j)) alone
+      ∙ ap (λ (first : ℕ). plain_target first objects i j) (sym (as_many_pools image seen version ns))
 
   leads : (i : ℕ) (o : Object) → slice_get objects i ≡ Some o → Leads units image objects i o
   leads i o at = record { targets = λ k target is. targets i k target is; bases = λ j e kept stands base. own_base i o at j e stands base }
@@ -211,11 +224,12 @@ module _ (odr : Bool) (seen : List Analysis) (live : List (List Bool)) (sound : 
   -- ---- the graph
 
   files_few : (ns ≡ [] → ⊥) → length (files_of seen (origins_of ns)) < 2 ^ 64
-  files_few some = subst (λ (found : Option (List Origin)). IfSome found (λ origins. length (files_of seen origins) < 2 ^ 64)) (pool_some objects ns shape refl some) fit
+  files_few some = subst (λ (found : Option ShapeUnit). IfSome found (λ unit. length (files_of seen unit.nodes) < 2 ^ 64)) (pool_some objects version ns shape refl some) fit
 
   behind : IsWell graph
   behind = behind_well units image objects each leads
-      (pool_all (IsWellUnit graph) image seen ns (λ some. pool_well seen (merged odr seen live) ones image (bids_apart odr seen live few sound rows) graph targets (files_few some)))
+      (pool_all (IsWellUnit graph) image seen version ns
+      (λ some. pool_well seen (merged odr seen live) ones image version allows (bids_apart odr seen live few sound rows) graph targets (files_few some) (version_known (object_units odr seen live))))
 
   pub merged_well : IsWell (graph_in seen (shape_of odr seen live))
-  merged_well = subst IsWell (sym (ap (λ (us : List OutUnit). linked_behind us image (objects_in seen shape)) (pool_by seen objects ns shape refl) ∙ ap (λ (os : List Object). linked_behind units image os) (objects_back odr seen live))) behind
+  merged_well = subst IsWell (sym (ap (λ (us : List OutUnit). linked_behind us image (objects_in seen shape)) (pool_by seen objects version ns shape refl) ∙ ap (λ (os : List Object). linked_behind units image os) (objects_back odr seen live))) behind

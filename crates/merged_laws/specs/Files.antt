@@ -6,4 +6,4 @@ use Rattle.link_graph.specs.Graph.{files_of, pool_of}
 
 -- the source files that merged entries name have numbers of 64 bits
 abbrev pub FilesFit : List Analysis → Shape → Type 0
-FilesFit all shape = IfSome (pool_of shape) (λ origins. length (files_of all origins) < 2 ^ 64)
+FilesFit all shape = IfSome (pool_of shape) (λ unit. length (files_of all unit.nodes) < 2 ^ 64)
