@@ -1,11 +1,8 @@
 -- Bytes that name texts, piece by piece.
-use Rattle.std.proofs.Common.{◌≡◌, ℕ, zero, suc, ◌+◌, ◌<◌, ◌≤◌, List, [], ◌∷◌, ◌++◌, fold, length, drop, map, get_or, slice_get, Option, Some, is_some, append_assoc, append-nil, refl, sym, ap, ◌∙◌}
-use Rattle.std.specs.List.{flat_map}
+use Rattle.std.proofs.Common.{◌≡◌, ℕ, zero, suc, ◌+◌, List, [], ◌∷◌, ◌++◌, fold, slice_get, Some, is_some, append_assoc, refl, sym, ap, ◌∙◌}
 use Rattle.std.proofs.lemmas.Bool.{cond_both}
-use Rattle.std.proofs.lemmas.List.{drop_all}
 use Rattle.std.proofs.lemmas.List.Sums.{fold-append}
 use Rattle.ds_base.specs.Texts.{place_of, with_text}
-use Rattle.ds_base.proofs.Walking.{drop_one}
 use Rattle.patches.specs.Filling.{Filling, Holey, filled}
 use Rattle.line_write.specs.Named.{AppendsNamed, TellsTexts}
 
@@ -16,7 +13,7 @@ in_front [] ys i t at = cc
 in_front (x ∷ xs) ys zero t at = at
 in_front (x ∷ xs) ys (suc i) t at = in_front xs ys i t at
 
-number_kept : (texts : List (List ℕ)) (new : List ℕ) (i : ℕ) (t : List ℕ) → slice_get texts i ≡ Some t → slice_get (with_text texts new) i ≡ Some t
+pub number_kept : (texts : List (List ℕ)) (new : List ℕ) (i : ℕ) (t : List ℕ) → slice_get texts i ≡ Some t → slice_get (with_text texts new) i ≡ Some t
 number_kept texts new i t at =
     cond_both (is_some (place_of texts new)) texts (texts ++ new ∷ []) (λ (more : List (List ℕ)). slice_get more i ≡ Some t) (λ known. at) (λ unknown. in_front texts (new ∷ []) i t at)
 

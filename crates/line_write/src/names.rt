@@ -34,11 +34,7 @@ pub(crate) fn append_entries(
 // ---- directories
 
 /// Puts last directory_entry_format, directories_count and the directories.
-fn append_directories(
-    out: &mut Buffer,
-    names: &mut Names,
-    dirs: &[Bytes],
-) -> Result<(), NoMemory>
+fn append_directories(out: &mut Buffer, names: &mut Names, dirs: &[Bytes]) -> Result<(), NoMemory>
     ensures { OnOk result (AppendsNamed out.old out.new names.old names.new (λ text. directories_bytes text dirs.now) dirs.now) }
 {
     append_directory_format(out)?;
@@ -173,11 +169,7 @@ fn append_numbers(out: &mut Buffer, digests: bool, file: &FileName) -> Result<()
 }
 
 /// Puts a digest last, where digests are written.
-fn append_digest(
-    out: &mut Buffer,
-    digests: bool,
-    digest: &Option<Bytes>,
-) -> Result<(), NoMemory>
+fn append_digest(out: &mut Buffer, digests: bool, digest: &Option<Bytes>) -> Result<(), NoMemory>
     ensures { OnOk result ((f : Filling) → filled out.new f ≡ filled out.old f ++ (if digests then unwrap_or digest.now [] else [])) }
 {
     if !digests {

@@ -9,7 +9,7 @@ use Rattle.dwarf_types.specs.declared.graph.Node.{Node}
 use Rattle.dwarf_types.specs.declared.graph.OutAttr.{OutAttr}
 use Rattle.dwarf_types.specs.declared.graph.OutValue.{OutValue}
 use Rattle.dwarf_types.specs.declared.graph.OutValue.TheVariants as values
-use Rattle.dwarf_types.specs.Entries.{OutEntry, entries_bytes, entry_bytes}
+use Rattle.dwarf_types.specs.Entries.{OutEntry, behind_node, entries_bytes, entry_bytes}
 use Rattle.dwarf_types.specs.Lists.{ranges_bytes, ranges_len, locations_bytes, locations_len}
 use Rattle.dwarf_types.specs.Places.{ListPlaces, behind_value, own_node}
 use Rattle.dwarf_types.specs.Values.{value_bytes, values_bytes}
@@ -29,10 +29,10 @@ at_lists ranges locations = record { ranges = ranges; locations = locations }
 pub same_next : (a b c d : ℕ) → a ≡ c → b ≡ d → at_lists a b ≡ at_lists c d
 same_next a b c d e f = ap (λ (n : ℕ). at_lists n b) e ∙ ap (at_lists c) f
 
-module _ (number : ℕ) where
+module _ (number version : ℕ) where
   -- bytes of the unit alone
   pub only_info : (old : Drafting) (info : Holey) (scratch : Scratch) (bytes : World → List ℕ)
-      → ((w : World) → Fits number old.names w → filled info w.filling ≡ filled old.info w.filling ++ bytes w) → Appends number old (with_info old info scratch) bytes [] (λ place. []) []
+      → ((w : World) → Fits number version old.names w → filled info w.filling ≡ filled old.info w.filling ++ bytes w) → Appends number version old (with_info old info scratch) bytes [] (λ place. []) []
   only_info old info scratch bytes is = record {
     names = λ w fits. fits;
     info = is;
@@ -41,11 +41,11 @@ module _ (number : ℕ) where
     texts = refl;
   }
 
-  pub appends_none : (d : Drafting) → Appends number d d (λ w. []) [] (λ place. []) []
+  pub appends_none : (d : Drafting) → Appends number version d d (λ w. []) [] (λ place. []) []
   appends_none d = only_info d d.info d.scratch (λ w. []) (λ w fits. sym (append-nil (filled d.info w.filling)))
 
   -- where the next lists stand behind those that were appended
-  next_behind : (old new : Drafting) (bytes : World → List ℕ) (pairs : List ℕ) (items : (ℕ → ℕ) → List ℕ) (uses : List (List ℕ)) → Appends number old new bytes pairs items uses → (w : World) → Fits number new.names w
+  next_behind : (old new : Drafting) (bytes : World → List ℕ) (pairs : List ℕ) (items : (ℕ → ℕ) → List ℕ) (uses : List (List ℕ)) → Appends number version old new bytes pairs items uses → (w : World) → Fits number version new.names w
       → next_lists w new ≡ at_lists ((next_lists w old).ranges + length pairs) ((next_lists w old).locations + length (items (own_node w.places)))
   next_behind old new bytes pairs items uses h w fits =
       same_next _ _ _ _ (omega (arith, ap length h.ranges, length-append old.ranges pairs))
@@ -54,8 +54,8 @@ module _ (number : ℕ) where
   module _ (old mid new : Drafting) where
     -- one piece behind the other, where the second depends on where the next lists stand
     pub appends_more : (b d : World → ListPlaces → List ℕ) (pairs more : List ℕ) (items others : (ℕ → ℕ) → List ℕ) (uses later : List (List ℕ))
-        → Appends number old mid (λ w. b w (next_lists w old)) pairs items uses → Appends number mid new (λ w. d w (next_lists w mid)) more others later
-        → Appends number old new (λ w. b w (next_lists w old) ++ d w (at_lists ((next_lists w old).ranges + length pairs) ((next_lists w old).locations + length (items (own_node w.places))))) (pairs ++ more) (λ place. items place ++ others place) (uses ++ later)
+        → Appends number version old mid (λ w. b w (next_lists w old)) pairs items uses → Appends number version mid new (λ w. d w (next_lists w mid)) more others later
+        → Appends number version old new (λ w. b w (next_lists w old) ++ d w (at_lists ((next_lists w old).ranges + length pairs) ((next_lists w old).locations + length (items (own_node w.places))))) (pairs ++ more) (λ place. items place ++ others place) (uses ++ later)
     appends_more b d pairs more items others uses later one two = record {
       names = λ w fits. one.names w (two.names w fits);
       info = λ w fits.
@@ -71,10 +71,10 @@ module _ (number : ℕ) where
 
   -- the same bytes, said otherwise
   pub appends_same : (old new : Drafting) (b d : World → List ℕ) (pairs more : List ℕ) (items others : (ℕ → ℕ) → List ℕ) (uses later : List (List ℕ))
-      → ((w : World) → b w ≡ d w) → pairs ≡ more → ((place : ℕ → ℕ) → items place ≡ others place) → uses ≡ later → Appends number old new b pairs items uses → Appends number old new d more others later
+      → ((w : World) → w.places.version ≡ version → b w ≡ d w) → pairs ≡ more → ((place : ℕ → ℕ) → items place ≡ others place) → uses ≡ later → Appends number version old new b pairs items uses → Appends number version old new d more others later
   appends_same old new b d pairs more items others uses later bytes lists locations texts h = record {
     names = h.names;
-    info = λ w fits. h.info w fits ∙ ap (λ (xs : List ℕ). filled old.info w.filling ++ xs) (bytes w);
+    info = λ w fits. h.info w fits ∙ ap (λ (xs : List ℕ). filled old.info w.filling ++ xs) (bytes w fits.of_version);
     ranges = h.ranges ∙ ap (λ (xs : List ℕ). old.ranges ++ xs) lists;
     locations = λ f place tells. h.locations f place tells ∙ ap (λ (xs : List ℕ). filled old.locations f ++ xs) (locations place);
     texts = h.texts ∙ ap (fold with_text old.names) texts;
@@ -86,61 +86,64 @@ length_of_all {X} f len each xs = length-flat_map f xs ∙ ap (λ (g : X → ℕ
 
 -- ---- lists have the lengths that are told of them
 
-length-ranges : (v : OutValue) → length (ranges_bytes v) ≡ ranges_len v
-length-ranges (values.Address n) = refl
-length-ranges (values.Text t) = refl
-length-ranges (values.Number f n) = refl
-length-ranges (values.Wide b) = refl
-length-ranges (values.Block f b) = refl
-length-ranges (values.Expr p) = refl
-length-ranges (values.Ref t) = refl
-length-ranges (values.Ranges s) = length-range_list s
-length-ranges (values.Locations i) = refl
-length-ranges values.Lines = refl
+length-ranges : (version : ℕ) (v : OutValue) → length (ranges_bytes version v) ≡ ranges_len version v
+length-ranges version (values.Address n) = refl
+length-ranges version (values.Text t) = refl
+length-ranges version (values.Number f n) = refl
+length-ranges version (values.Wide b) = refl
+length-ranges version (values.Block f b) = refl
+length-ranges version (values.Expr p) = refl
+length-ranges version (values.Ref t) = refl
+length-ranges version (values.Ranges s) = length-range_list version s
+length-ranges version (values.Locations i) = refl
+length-ranges version values.Lines = refl
 
-length-locations : (place : ℕ → ℕ) (v : OutValue) → length (locations_bytes place v) ≡ locations_len v
-length-locations place (values.Address n) = refl
-length-locations place (values.Text t) = refl
-length-locations place (values.Number f n) = refl
-length-locations place (values.Wide b) = refl
-length-locations place (values.Block f b) = refl
-length-locations place (values.Expr p) = refl
-length-locations place (values.Ref t) = refl
-length-locations place (values.Ranges s) = refl
-length-locations place (values.Locations i) = length-location_list place i
-length-locations place values.Lines = refl
+length-locations : (version : ℕ) (place : ℕ → ℕ) (v : OutValue) → length (locations_bytes version place v) ≡ locations_len version v
+length-locations version place (values.Address n) = refl
+length-locations version place (values.Text t) = refl
+length-locations version place (values.Number f n) = refl
+length-locations version place (values.Wide b) = refl
+length-locations version place (values.Block f b) = refl
+length-locations version place (values.Expr p) = refl
+length-locations version place (values.Ref t) = refl
+length-locations version place (values.Ranges s) = refl
+length-locations version place (values.Locations i) = length-location_list version place i
+length-locations version place values.Lines = refl
 
--- behind a value
-behind_one : (w : World) (next : ListPlaces) (v : OutValue) → at_lists (next.ranges + length (ranges_bytes v)) (next.locations + length (locations_bytes (own_node w.places) v)) ≡ behind_value next v
-behind_one w next v = same_next _ _ _ _ (ap (λ (n : ℕ). next.ranges + n) (length-ranges v)) (ap (λ (n : ℕ). next.locations + n) (length-locations (own_node w.places) v))
+module _ (version : ℕ) (w : World) (same : w.places.version ≡ version) (next : ListPlaces) where
+  -- behind a value
+  behind_one : (v : OutValue) → at_lists (next.ranges + length (ranges_bytes version v)) (next.locations + length (locations_bytes version (own_node w.places) v)) ≡ behind_value w.places.version next v
+  behind_one v =
+      same_next _ _ _ _ (ap (λ (n : ℕ). next.ranges + n) (length-ranges version v)) (ap (λ (n : ℕ). next.locations + n) (length-locations version (own_node w.places) v))
+      ∙ ap (λ (n : ℕ). behind_value n next v) (sym same)
 
--- behind values
-behind_all : (w : World) (next : ListPlaces) (attrs : List OutAttr) → at_lists (next.ranges + length (all_ranges attrs)) (next.locations + length (all_locations (own_node w.places) attrs))
-    ≡ at_lists (next.ranges + sum_by (λ a. ranges_len a.value) attrs) (next.locations + sum_by (λ a. locations_len a.value) attrs)
-behind_all w next attrs =
-    same_next _ _ _ _ (ap (λ (n : ℕ). next.ranges + n) (length_of_all (λ (a : OutAttr). ranges_bytes a.value) (λ a. ranges_len a.value) (λ a. length-ranges a.value) attrs))
-    (ap (λ (n : ℕ). next.locations + n) (length_of_all (λ (a : OutAttr). locations_bytes (own_node w.places) a.value) (λ a. locations_len a.value) (λ a. length-locations (own_node w.places) a.value) attrs))
+  -- behind values
+  behind_all : (node : Node) → at_lists (next.ranges + length (all_ranges version node.attrs)) (next.locations + length (all_locations version (own_node w.places) node.attrs)) ≡ behind_node w.places.version next node
+  behind_all node =
+      same_next _ _ _ _ (ap (λ (n : ℕ). next.ranges + n) (length_of_all (λ (a : OutAttr). ranges_bytes version a.value) (λ a. ranges_len version a.value) (λ a. length-ranges version a.value) node.attrs))
+      (ap (λ (n : ℕ). next.locations + n) (length_of_all (λ (a : OutAttr). locations_bytes version (own_node w.places) a.value) (λ a. locations_len version a.value) (λ a. length-locations version (own_node w.places) a.value) node.attrs))
+      ∙ ap (λ (n : ℕ). behind_node n next node) (sym same)
 
 abbrev entry : ℕ → Node → ℕ → OutEntry
 entry code node ended = record { code = code; node = node; ended = ended }
 
-module _ (number : ℕ) (old mid new : Drafting) where
+module _ (number version : ℕ) (old mid new : Drafting) where
   -- one value more, in front
-  pub values_cons : (a : OutAttr) (attrs : List OutAttr) → AppendsValue number old mid a.value → AppendsValues number mid new attrs → AppendsValues number old new (a ∷ attrs)
+  pub values_cons : (a : OutAttr) (attrs : List OutAttr) → AppendsValue number version old mid a.value → AppendsValues number version mid new attrs → AppendsValues number version old new (a ∷ attrs)
   values_cons a attrs one two =
-      let items = λ (place : ℕ → ℕ). locations_bytes place a.value in
-      let both = appends_more number old mid new (λ w next. value_bytes w.places next a.value) (λ w next. values_bytes w.places next attrs) (ranges_bytes a.value) (all_ranges attrs) items
-      (λ place. all_locations place attrs) (texts_in a.value) (all_texts attrs) one two in
-      appends_same number old new _ (λ w. values_bytes w.places (next_lists w old) (a ∷ attrs)) _ (all_ranges (a ∷ attrs)) _ (λ place. all_locations place (a ∷ attrs)) _ (all_texts (a ∷ attrs))
-      (λ w. ap (λ (next : ListPlaces). value_bytes w.places (next_lists w old) a.value ++ values_bytes w.places next attrs) (behind_one w (next_lists w old) a.value)) refl (λ place. refl) refl both
+      let items = λ (place : ℕ → ℕ). locations_bytes version place a.value in
+      let both = appends_more number version old mid new (λ w next. value_bytes w.places next a.value) (λ w next. values_bytes w.places next attrs) (ranges_bytes version a.value) (all_ranges version attrs) items
+      (λ place. all_locations version place attrs) (texts_in a.value) (all_texts attrs) one two in
+      appends_same number version old new _ (λ w. values_bytes w.places (next_lists w old) (a ∷ attrs)) _ (all_ranges version (a ∷ attrs)) _ (λ place. all_locations version place (a ∷ attrs)) _ (all_texts (a ∷ attrs))
+      (λ w same. ap (λ (next : ListPlaces). value_bytes w.places (next_lists w old) a.value ++ values_bytes w.places next attrs) (behind_one version w same (next_lists w old) a.value)) refl (λ place. refl) refl both
 
   -- one entry more, in front
-  pub entries_cons : (e : OutEntry) (es : List OutEntry) → AppendsEntry number old mid e → AppendsEntries number mid new es → AppendsEntries number old new (e ∷ es)
+  pub entries_cons : (e : OutEntry) (es : List OutEntry) → AppendsEntry number version old mid e → AppendsEntries number version mid new es → AppendsEntries number version old new (e ∷ es)
   entries_cons e es one two =
-      let items = λ (place : ℕ → ℕ). all_locations place e.node.attrs in
-      let both = appends_more number old mid new (λ w next. entry_bytes w.places next e) (λ w next. entries_bytes w.places next es) (all_ranges e.node.attrs) (all_ranges (attrs_of es)) items
-      (λ place. all_locations place (attrs_of es)) (all_texts e.node.attrs) (all_texts (attrs_of es)) one two in
-      appends_same number old new _ (λ w. entries_bytes w.places (next_lists w old) (e ∷ es)) _ (all_ranges (attrs_of (e ∷ es))) _ (λ place. all_locations place (attrs_of (e ∷ es))) _ (all_texts (attrs_of (e ∷ es)))
-      (λ w. ap (λ (next : ListPlaces). entry_bytes w.places (next_lists w old) e ++ entries_bytes w.places next es) (behind_all w (next_lists w old) e.node.attrs))
-      (sym (flat_map-append (λ (a : OutAttr). ranges_bytes a.value) e.node.attrs (attrs_of es)))
-      (λ place. sym (flat_map-append (λ (a : OutAttr). locations_bytes place a.value) e.node.attrs (attrs_of es))) (sym (flat_map-append (λ (a : OutAttr). texts_in a.value) e.node.attrs (attrs_of es))) both
+      let items = λ (place : ℕ → ℕ). all_locations version place e.node.attrs in
+      let both = appends_more number version old mid new (λ w next. entry_bytes w.places next e) (λ w next. entries_bytes w.places next es) (all_ranges version e.node.attrs) (all_ranges version (attrs_of es)) items
+      (λ place. all_locations version place (attrs_of es)) (all_texts e.node.attrs) (all_texts (attrs_of es)) one two in
+      appends_same number version old new _ (λ w. entries_bytes w.places (next_lists w old) (e ∷ es)) _ (all_ranges version (attrs_of (e ∷ es))) _ (λ place. all_locations version place (attrs_of (e ∷ es))) _ (all_texts (attrs_of (e ∷ es)))
+      (λ w same. ap (λ (next : ListPlaces). entry_bytes w.places (next_lists w old) e ++ entries_bytes w.places next es) (behind_all version w same (next_lists w old) e.node))
+      (sym (flat_map-append (λ (a : OutAttr). ranges_bytes version a.value) e.node.attrs (attrs_of es)))
+      (λ place. sym (flat_map-append (λ (a : OutAttr). locations_bytes version place a.value) e.node.attrs (attrs_of es))) (sym (flat_map-append (λ (a : OutAttr). texts_in a.value) e.node.attrs (attrs_of es))) both

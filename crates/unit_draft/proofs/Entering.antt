@@ -45,17 +45,18 @@ entry_here number nodes codes depths k node ended coded deep lt is ends =
     ap (λ (n : ℕ). entry_by n node ended) code ∙ ap (entry_by (code_in (table_of number nodes) (declaration_of number nodes k node)) node)
     (ends ∙ ap (λ (ds : List ℕ). slice_index ds k - slice_index ds (k + 1)) deep ∙ ap (λ (n : ℕ). n - slice_index (depths_of nodes) (k + 1)) (depth_is nodes k) ∙ ap (λ (n : ℕ). depth_of nodes k - n) (depth_is nodes (k + 1)))
 
-abbrev pub plain : ℕ → World
-plain number = record {
+abbrev pub plain : ℕ → ℕ → World
+plain number version = record {
   filling = nowhere;
-  places = record { unit = number; text = λ _. 0; start = λ _. 0; node = λ _. 0; lines = 0 };
+  places = record { unit = number; version = version; text = λ _. 0; start = λ _. 0; node = λ _. 0; lines = 0; line_text = λ _. 0 };
   lists = record { ranges = 0; locations = 0 };
   table = 0;
 }
 
-pub plain_fits : (number : ℕ) (texts : List (List ℕ)) → Fits number texts (plain number)
-plain_fits number texts = record {
+pub plain_fits : (number version : ℕ) (texts : List (List ℕ)) → Fits number version texts (plain number version)
+plain_fits number version texts = record {
   unit = refl;
+  of_version = refl;
   node = λ k. refl;
   base = λ k. refl;
   text = λ i t at. refl;
@@ -65,19 +66,19 @@ plain_fits number texts = record {
   lines = refl;
 }
 
-module _ (number : ℕ) (old new : Drafting) where
-  pub len_more : (e : OutEntry) → AppendsEntry number old new e → len_of new ≡ len_of old + entry_len e
+module _ (number version : ℕ) (old new : Drafting) where
+  pub len_more : (e : OutEntry) → AppendsEntry number version old new e → len_of new ≡ len_of old + entry_len e
   len_more e h =
-      let w = plain number in
+      let w = plain number version in
       let bytes = entry_bytes w.places (next_lists w old) e in
-      ap length (h.info w (plain_fits number new.names)) ∙ length-append (filled old.info nowhere) bytes ∙ ap (λ (n : ℕ). len_of old + n) (length-entry w.places (next_lists w old) e)
+      ap length (h.info w (plain_fits number version new.names)) ∙ length-append (filled old.info nowhere) bytes ∙ ap (λ (n : ℕ). len_of old + n) (length-entry w.places (next_lists w old) e)
 
-  pub places_more : (e : OutEntry) (es : List OutEntry) (before after : List ℕ) (all : List ℕ) (place : ℕ) → AppendsEntry number old new e
+  pub places_more : (e : OutEntry) (es : List OutEntry) (before after : List ℕ) (all : List ℕ) (place : ℕ) → AppendsEntry number version old new e
       → place ≡ len_of old → after ≡ before ++ place ∷ [] → before ++ places_from (len_of old) (e ∷ es) ≡ all → after ++ places_from (len_of new) es ≡ all
   places_more e es before after all place h is pushed so_far =
       ap (λ (front : List ℕ). front ++ places_from (len_of new) es) pushed ∙ append_assoc before (place ∷ []) (places_from (len_of new) es)
       ∙ ap (λ (p : ℕ). before ++ (p ∷ places_from (len_of new) es)) is ∙ ap (λ (n : ℕ). before ++ (len_of old ∷ places_from n es)) (len_more e h) ∙ so_far
 
   -- as much is left as the entry is long
-  pub left_more : (e : OutEntry) (es : List OutEntry) (left : List OutEntry) (all : ℕ) → AppendsEntry number old new e → left ≡ e ∷ es → len_of old + sum_by entry_len left ≡ all → len_of new + sum_by entry_len es ≡ all
+  pub left_more : (e : OutEntry) (es : List OutEntry) (left : List OutEntry) (all : ℕ) → AppendsEntry number version old new e → left ≡ e ∷ es → len_of old + sum_by entry_len left ≡ all → len_of new + sum_by entry_len es ≡ all
   left_more e es left all h cut so_far = omega (arith, so_far, ap (sum_by entry_len) cut, sum_by-cons entry_len e es, len_more e h)

@@ -5,9 +5,9 @@ use Rattle.std.proofs.lemmas.List.Concat.{length-flat_map}
 use Rattle.ds_base.specs.Leb.{uleb}
 use Rattle.dwarf_types.specs.declared.parts.PlainPart.{PlainPart}
 use Rattle.dwarf_types.specs.declared.parts.PlainPart.TheVariants as plain
-use Rattle.byteorder.specs.Endian.{little_bytes}
 use Rattle.dwarf_types.specs.declared.parts.ExprPart.{ExprPart}
 use Rattle.dwarf_types.proofs.Lengths.{length-expression}
+use Rattle.dwarf_types.specs.Lists.{size_bytes}
 use Rattle.dwarf_types.specs.Expressions.{expression_bytes, expression_len, base_bytes, inner_bytes, inner_len, plain_part_bytes, plain_part_len}
 
 length_plain : (place : ℕ → ℕ) (part : PlainPart) → length (plain_part_bytes place part) ≡ plain_part_len part
@@ -30,13 +30,13 @@ expr_bytes place parts old new whole is last =
     let len : length whole ≡ expression_len parts = ap length is ∙ length-expression place parts in
     rw (last, len, is) refl
 
-pub location_is : (place : ℕ → ℕ) (parts : List ExprPart) (low high old new whole a b d : List ℕ) → whole ≡ expression_bytes place parts
-    → a ≡ old ++ low → b ≡ a ++ high → d ≡ b ++ little_bytes 2 (length whole) → new ≡ d ++ whole
-    → new ≡ old ++ ((low ++ high) ++ (little_bytes 2 (expression_len parts) ++ expression_bytes place parts))
-location_is place parts low high old new whole a b d is first second third last =
+pub location_is : (version : ℕ) (place : ℕ → ℕ) (parts : List ExprPart) (kind low high old new whole k a b d : List ℕ) → whole ≡ expression_bytes place parts
+    → k ≡ old ++ kind → a ≡ k ++ low → b ≡ a ++ high → d ≡ b ++ size_bytes version (length whole) → new ≡ d ++ whole
+    → new ≡ old ++ (kind ++ ((low ++ high) ++ (size_bytes version (expression_len parts) ++ expression_bytes place parts)))
+location_is version place parts kind low high old new whole k a b d is zeroth first second third last =
     let len : length whole ≡ expression_len parts = ap length is ∙ length-expression place parts in
-    let tail : d ≡ b ++ little_bytes 2 (expression_len parts) = third ∙ ap (λ (n : ℕ). b ++ little_bytes 2 n) len in
-    joined old low high (little_bytes 2 (expression_len parts)) (expression_bytes place parts) a b d new first second tail (last ∙ ap (λ (bs : List ℕ). d ++ bs) is)
+    let tail : d ≡ b ++ size_bytes version (expression_len parts) = third ∙ ap (λ (n : ℕ). b ++ size_bytes version n) len in
+    joined (size_bytes version (expression_len parts)) (expression_bytes place parts) tail (last ∙ ap (λ (bs : List ℕ). d ++ bs) is)
   where
-    joined : (old low high len bytes a b d new : List ℕ) → a ≡ old ++ low → b ≡ a ++ high → d ≡ b ++ len → new ≡ d ++ bytes → new ≡ old ++ ((low ++ high) ++ (len ++ bytes))
-    joined old low high len bytes a b d new p q r s = rw (s, r, q, p) (simp append_assoc refl)
+    joined : (len bytes : List ℕ) → d ≡ b ++ len → new ≡ d ++ bytes → new ≡ old ++ (kind ++ ((low ++ high) ++ (len ++ bytes)))
+    joined len bytes r s = rw (s, r, second, first, zeroth) (simp append_assoc refl)

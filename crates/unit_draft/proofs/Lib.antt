@@ -6,3 +6,4 @@ pub mod NodeDepths
 pub mod Pieces
 pub mod Placing
 pub mod Standing
+pub mod Valuing

@@ -34,7 +34,7 @@ module _ (u : ℕ) (unit : OutUnit) where
   own_is k = elim (cases_lt k (length unit.nodes)) [
     | inl lt ↦ get_node_place k (unit_len u unit) lt
     | inr le ↦ get_or_past (node_places u unit) k (unit_len u unit) (omega (arith, le, length_made unit.nodes (λ n. node_place u unit n.0)))
-        ∙ ap (λ (es : List OutEntry). header_len + sum_by entry_len es) (sym (take_all k (entries_of u unit) (omega (arith, le, length_entries))))
+        ∙ ap (λ (es : List OutEntry). header_len unit.version + sum_by entry_len es) (sym (take_all k (entries_of u unit) (omega (arith, le, length_entries))))
   ]
 
   pub places_small : unit_len u unit < 2 ^ 28 → All (λ place. place < 2 ^ 28) (node_places u unit)

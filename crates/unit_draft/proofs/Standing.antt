@@ -58,17 +58,18 @@ module _ (graph : Graph) where
         | inr le ↦ le
       ]
 
-  abbrev pub world_of : ℕ → Outside → World
-  world_of u o = record {
+  abbrev pub world_of : ℕ → OutUnit → Outside → World
+  world_of u clone o = record {
     filling = record { own = λ _. 0; outer = outer_number o };
-    places = places_of graph u;
-    lists = lists_place graph u;
+    places = places_of graph u clone;
+    lists = lists_place graph u clone;
     table = table_place graph u;
   }
 
-  pub stands : (u : ℕ) (clone : OutUnit) (names : List (List ℕ)) (o : Outside) → slice_get graph.units u ≡ Some clone → IsOutside graph u names o → Stands u clone names (world_of u o)
-  stands u clone names o at is = record {
+  pub stands : (u : ℕ) (clone : OutUnit) (names line_names : List (List ℕ)) (o : Outside) → slice_get graph.units u ≡ Some clone → IsOutside graph u clone names line_names o → Stands u clone names line_names (world_of u clone o)
+  stands u clone names line_names o at is = record {
     unit = refl;
+    version = refl;
     own = λ k. ap (λ (unit : Option OutUnit). option_map_or (λ (v : OutUnit). node_place u v k) unit 0) at;
     table = is.table;
     text = is.texts;
@@ -77,4 +78,5 @@ module _ (graph : Graph) where
     ranges = λ n. ap (λ (m : ℕ). m + n) is.ranges;
     locations = λ n. ap (λ (m : ℕ). m + n) is.locations;
     lines = is.lines;
+    line_text = is.line_texts;
   }

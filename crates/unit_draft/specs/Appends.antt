@@ -18,9 +18,10 @@ use Rattle.unit_draft.specs.declared.drafting.Drafting.{Drafting}
 use Rattle.unit_draft.specs.Based.{AppendsBased}
 use Rattle.unit_draft.specs.World.{World}
 
--- the filling is that of the values of the unit of a number, whose texts are numbered so
-pub record Fits (number : ℕ) (texts : List (List ℕ)) (w : World) : Type 0 where
+-- the filling is that of the values of the unit of a number and a version, whose texts are numbered so
+pub record Fits (number version : ℕ) (texts : List (List ℕ)) (w : World) : Type 0 where
   pub unit : w.places.unit ≡ number
+  pub of_version : w.places.version ≡ version
   pub node : (k : ℕ) → w.filling.own (own.Node k) ≡ own_node w.places k
   pub base : (k : ℕ) → w.filling.own (own.Base k) ≡ own_node w.places k
   pub text : (i : ℕ) (t : List ℕ) → slice_get texts i ≡ Some t → w.filling.outer (outer.Text i) ≡ w.places.text t
@@ -34,10 +35,10 @@ abbrev pub next_lists : World → Drafting → ListPlaces
 next_lists w d = record { ranges = w.lists.ranges + length d.ranges; locations = w.lists.locations + length (filled d.locations w.filling) }
 
 -- bytes were appended to the unit, range lists and location lists to its lists, and texts to those that it uses
-pub record Appends (number : ℕ) (old new : Drafting) (bytes : World → List ℕ) (pairs : List ℕ) (items : (ℕ → ℕ) → List ℕ) (uses : List (List ℕ)) : Type 0 where
+pub record Appends (number version : ℕ) (old new : Drafting) (bytes : World → List ℕ) (pairs : List ℕ) (items : (ℕ → ℕ) → List ℕ) (uses : List (List ℕ)) : Type 0 where
   -- texts keep their numbers
-  pub names : (w : World) → Fits number new.names w → Fits number old.names w
-  pub info : (w : World) → Fits number new.names w → filled new.info w.filling ≡ filled old.info w.filling ++ bytes w
+  pub names : (w : World) → Fits number version new.names w → Fits number version old.names w
+  pub info : (w : World) → Fits number version new.names w → filled new.info w.filling ≡ filled old.info w.filling ++ bytes w
   pub ranges : new.ranges ≡ old.ranges ++ pairs
   pub locations : AppendsBased old.locations new.locations items
   pub texts : new.names ≡ fold with_text old.names uses
@@ -47,33 +48,33 @@ abbrev pub texts_in : OutValue → List (List ℕ)
 texts_in (values.Text text) = text ∷ []
 texts_in _ = []
 
-abbrev pub AppendsValue : ℕ → Drafting → Drafting → OutValue → Type 0
-AppendsValue number old new value =
-    Appends number old new (λ w. value_bytes w.places (next_lists w old) value) (ranges_bytes value) (λ place. locations_bytes place value) (texts_in value)
+abbrev pub AppendsValue : ℕ → ℕ → Drafting → Drafting → OutValue → Type 0
+AppendsValue number version old new value =
+    Appends number version old new (λ w. value_bytes w.places (next_lists w old) value) (ranges_bytes version value) (λ place. locations_bytes version place value) (texts_in value)
 
-abbrev pub all_ranges : List OutAttr → List ℕ
-all_ranges attrs = flat_map (λ a. ranges_bytes a.value) attrs
+abbrev pub all_ranges : ℕ → List OutAttr → List ℕ
+all_ranges version attrs = flat_map (λ a. ranges_bytes version a.value) attrs
 
-abbrev pub all_locations : (ℕ → ℕ) → List OutAttr → List ℕ
-all_locations place attrs = flat_map (λ a. locations_bytes place a.value) attrs
+abbrev pub all_locations : ℕ → (ℕ → ℕ) → List OutAttr → List ℕ
+all_locations version place attrs = flat_map (λ a. locations_bytes version place a.value) attrs
 
 abbrev pub all_texts : List OutAttr → List (List ℕ)
 all_texts attrs = flat_map (λ a. texts_in a.value) attrs
 
-abbrev pub AppendsValues : ℕ → Drafting → Drafting → List OutAttr → Type 0
-AppendsValues number old new attrs =
-    Appends number old new (λ w. values_bytes w.places (next_lists w old) attrs) (all_ranges attrs) (λ place. all_locations place attrs) (all_texts attrs)
+abbrev pub AppendsValues : ℕ → ℕ → Drafting → Drafting → List OutAttr → Type 0
+AppendsValues number version old new attrs =
+    Appends number version old new (λ w. values_bytes w.places (next_lists w old) attrs) (all_ranges version attrs) (λ place. all_locations version place attrs) (all_texts attrs)
 
-abbrev pub AppendsEntry : ℕ → Drafting → Drafting → OutEntry → Type 0
-AppendsEntry number old new entry =
-    Appends number old new (λ w. entry_bytes w.places (next_lists w old) entry) (all_ranges entry.node.attrs) (λ place. all_locations place entry.node.attrs) (all_texts entry.node.attrs)
+abbrev pub AppendsEntry : ℕ → ℕ → Drafting → Drafting → OutEntry → Type 0
+AppendsEntry number version old new entry =
+    Appends number version old new (λ w. entry_bytes w.places (next_lists w old) entry) (all_ranges version entry.node.attrs) (λ place. all_locations version place entry.node.attrs) (all_texts entry.node.attrs)
 
 abbrev pub attrs_of : List OutEntry → List OutAttr
 attrs_of entries = flat_map (λ e. e.node.attrs) entries
 
-abbrev pub AppendsEntries : ℕ → Drafting → Drafting → List OutEntry → Type 0
-AppendsEntries number old new entries =
-    Appends number old new (λ w. entries_bytes w.places (next_lists w old) entries) (all_ranges (attrs_of entries)) (λ place. all_locations place (attrs_of entries)) (all_texts (attrs_of entries))
+abbrev pub AppendsEntries : ℕ → ℕ → Drafting → Drafting → List OutEntry → Type 0
+AppendsEntries number version old new entries =
+    Appends number version old new (λ w. entries_bytes w.places (next_lists w old) entries) (all_ranges version (attrs_of entries)) (λ place. all_locations version place (attrs_of entries)) (all_texts (attrs_of entries))
 
 -- ---- places
 

@@ -2,6 +2,7 @@ pub mod Appends
 pub mod Based
 pub mod Depths
 pub mod Drafted
+pub mod Lines
 pub mod Long
 pub mod Outside
 pub mod Settled

@@ -1,13 +1,12 @@
 -- A unit that was drafted, whose own places are not filled in yet.
-use Rattle.std.specs.Prelude.{◌≡◌, ℕ, ◌^◌, ◌<◌, length}
+use Rattle.std.specs.Prelude.{◌≡◌, ℕ, ◌^◌, ◌<◌, List, length}
 use Rattle.std.specs.List.{flat_map}
 use Rattle.std.specs.Str.{bytes_eq}
 use Rattle.ds_base.specs.FirstUse.{once}
 use Rattle.dwarf_types.specs.declared.graph.OutUnit.{OutUnit}
-use Rattle.dwarf_types.specs.Encode.{over_values}
+use Rattle.dwarf_types.specs.Encode.{unit_locations, unit_ranges}
 use Rattle.dwarf_types.specs.Entries.{node_place, unit_bytes, unit_len}
 use Rattle.dwarf_types.specs.Layout.{texts_of_node}
-use Rattle.dwarf_types.specs.Lists.{ranges_bytes, locations_bytes}
 use Rattle.patches.specs.Filling.{Filling, filled}
 use Rattle.patches.specs.Numbers.{settled}
 use Rattle.unit_draft.specs.declared.whole.Whole.{Whole}
@@ -19,10 +18,11 @@ abbrev pub told : ℕ → OutUnit → Filling → Filling
 told number clone f = settled f (unit_len number clone) (node_places number clone)
 
 pub record IsWhole (number : ℕ) (clone : OutUnit) (whole : Whole) : Type 0 where
-  pub info : (w : World) → Stands number clone whole.drafting.names w → filled whole.drafting.info (told number clone w.filling) ≡ unit_bytes w.places w.lists w.table clone
+  pub info : (w : World) (line_texts : List (List ℕ)) → Stands number clone whole.drafting.names line_texts w
+      → filled whole.drafting.info (told number clone w.filling) ≡ unit_bytes w.places w.lists w.table clone
   pub size : (f : Filling) → length (filled whole.drafting.info f) ≡ unit_len number clone
-  pub locations : (f : Filling) → filled whole.drafting.locations (told number clone f) ≡ over_values (locations_bytes (node_place number clone)) clone
-  pub ranges : whole.drafting.ranges ≡ over_values ranges_bytes clone
+  pub locations : (f : Filling) → filled whole.drafting.locations (told number clone f) ≡ unit_locations (node_place number clone) clone
+  pub ranges : whole.drafting.ranges ≡ unit_ranges clone
   pub names : whole.drafting.names ≡ once bytes_eq (flat_map texts_of_node clone.nodes)
   pub places : whole.places ≡ node_places number clone
   pub len : whole.len ≡ unit_len number clone

@@ -26,20 +26,21 @@ pub(crate) fn append_entries(
     drafting: &mut Drafting,
     places: &mut List<u32>,
     number: u32,
+    version: u16,
     nodes: &[Node],
     codes: &[u32],
     depths: &[u32],
 ) -> Result<(), DraftError>
     requires codes { codes.now ≡ map (λ n. code_in (table_of number nodes.now) (declaration_of number nodes.now n.0 n.1)) (enumerate_from 0 nodes.now) }
     requires depths { depths.now ≡ depths_of nodes.now }
-    ensures appended { OnOk result (AppendsEntries number drafting.old drafting.new (map (λ n. entry_of number nodes.now n.0 n.1) (enumerate_from 0 nodes.now))) }
+    ensures appended { OnOk result (AppendsEntries number version drafting.old drafting.new (map (λ n. entry_of number nodes.now n.0 n.1) (enumerate_from 0 nodes.now))) }
     ensures placed { OnOk result (places.new ≡ places.old ++ places_from (len_of drafting.old) (map (λ n. entry_of number nodes.now n.0 n.1) (enumerate_from 0 nodes.now))) }
     ensures long { RefusesLong result (len_of drafting.old + sum_by entry_len (map (λ n. entry_of number nodes.now n.0 n.1) (enumerate_from 0 nodes.now))) }
 {
     for (k, node) in nodes.iter().enumerate() {
         places.push(end_of(&drafting.info)?)?;
         let ended = depth_at(depths, k).saturating_sub(depth_at(depths, k + 1));
-        append_entry(drafting, number, node, codes[k], ended)?;
+        append_entry(drafting, number, version, node, codes[k], ended)?;
     }
     Ok(())
 }
@@ -61,14 +62,15 @@ pub(crate) fn end_of(info: &Buffer) -> Result<u32, DraftError>
 fn append_entry(
     drafting: &mut Drafting,
     number: u32,
+    version: u16,
     node: &Node,
     code: u32,
     ended: u32,
 ) -> Result<(), NoMemory>
-    ensures { OnOk result (AppendsEntry number drafting.old drafting.new (record { code = code; node = node.now; ended = ended })) }
+    ensures { OnOk result (AppendsEntry number version drafting.old drafting.new (record { code = code; node = node.now; ended = ended })) }
 {
     drafting.info.extend_uleb(u64::from(code))?;
-    append_values(drafting, number, node.attrs.as_slice())?;
+    append_values(drafting, number, version, node.attrs.as_slice())?;
     append_zeros(&mut drafting.info, ended)?;
     Ok(())
 }

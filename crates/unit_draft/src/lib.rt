@@ -1,10 +1,11 @@
 //! Units of the output, each drafted from its clone alone.
 //!
-//! Layer: writers. A [`Draft`] has a unit's part of each section: the entries in `__debug_info`, with holes where
-//! something outside of the unit is named, and range lists, location lists, line table and abbreviations, which are final.
-//! [`draft_unit`] walks over the nodes once; it needs no other unit, and no size is computed ahead. What a draft is stands
-//! in `specs/Drafted.antt`. Once it is known where all stands, [`emit_draft`] copies the entries and fills the holes, so
-//! that they are `unit_bytes` (`dwarf_types/specs/Entries.antt`).
+//! Layer: writers. A [`Draft`] has a unit's part of each section, in the form of the unit's version: the entries in
+//! `__debug_info` and the line table, with holes where something outside of the unit is named, and range lists, location
+//! lists and abbreviations, which are final. [`draft_unit`] walks over the nodes once; it needs no other unit, and no size
+//! is computed ahead. What a draft is stands in `specs/Drafted.antt`. Once it is known where all stands, [`emit_draft`]
+//! copies the entries and fills the holes, so that they are `unit_bytes` (`dwarf_types/specs/Entries.antt`), and
+//! [`emit_lines`] does so with the line table, so that it is `lines_bytes` (`dwarf_types/specs/LineTable.antt`).
 #![tactic(auto)]
 
 mod depths;
@@ -20,7 +21,7 @@ mod values;
 mod whole;
 
 pub use error::DraftError;
-pub use unit::{Draft, draft_unit, emit_draft};
+pub use unit::{Draft, draft_unit, emit_draft, emit_lines};
 
 #[cfg(test)]
 mod tests;

@@ -1,24 +1,53 @@
-//! Range lists and location lists (DWARF 4, sections 2.17.3 and 2.6.2).
+//! Range lists and location lists (DWARF 4, sections 2.17.3 and 2.6.2; DWARF 5, sections 7.25, 7.28 and 7.29).
 
 ghost use Rattle.std.specs.Prelude.{◌≡◌, ◌++◌, OnOk};
 ghost use Rattle.byteorder.specs.Endian.{little_bytes};
-ghost use Rattle.dwarf_types.specs.Lists.{location_bytes, location_list_bytes, range_list_bytes, span_bytes};
+ghost use Rattle.ds_base.specs.declared.dwarf.TheConstants.{DW_LLE_start_end, DW_RLE_start_end};
+ghost use Rattle.dwarf_types.specs.Lists.{end_of_list, kind_bytes, location_bytes, location_list_bytes, range_bytes, range_list_bytes, size_bytes, span_bytes};
+ghost use Rattle.patches.specs.Filling.{Filling, filled};
 ghost use Rattle.unit_draft.specs.Based.{AppendsBased};
 
 use crate::drafting::Scratch;
 use crate::expression::write_expression;
+use ds_base::dwarf::{DW_LLE_start_end, DW_RLE_end_of_list, DW_RLE_start_end};
 use ds_base::{Bytes, NoMemory};
 use dwarf_types::{OutLocation, Span};
 use patches::Buffer;
 
+/// The version in which each item of a list has its kind. Every other is written as version 4.
+pub(crate) const DWARF_5: u16 = 5;
+
+// ---- range lists
+
 /// Appends a range list, with its end.
-pub(crate) fn append_range_list(out: &mut Bytes, spans: &[Span]) -> Result<(), NoMemory>
-    ensures { OnOk result (out.new ≡ out.old ++ range_list_bytes spans.now) }
+pub(crate) fn append_range_list(
+    out: &mut Bytes,
+    version: u16,
+    spans: &[Span],
+) -> Result<(), NoMemory>
+    ensures { OnOk result (out.new ≡ out.old ++ range_list_bytes version spans.now) }
 {
     for span in spans {
-        append_span(out, span)?;
+        append_range(out, version, span)?;
     }
-    out.extend(&[0; 16])?;
+    append_range_end(out, version)?;
+    Ok(())
+}
+
+fn append_range(out: &mut Bytes, version: u16, span: &Span) -> Result<(), NoMemory>
+    ensures { OnOk result (out.new ≡ out.old ++ range_bytes version span.now) }
+{
+    append_range_kind(out, version)?;
+    append_span(out, span)?;
+    Ok(())
+}
+
+fn append_range_kind(out: &mut Bytes, version: u16) -> Result<(), NoMemory>
+    ensures { OnOk result (out.new ≡ out.old ++ kind_bytes version DW_RLE_start_end) }
+{
+    if version == DWARF_5 {
+        out.push(DW_RLE_start_end)?;
+    }
     Ok(())
 }
 
@@ -37,32 +66,80 @@ fn extend_u64(out: &mut Bytes, n: u64) -> Result<(), NoMemory>
     Ok(())
 }
 
+fn append_range_end(out: &mut Bytes, version: u16) -> Result<(), NoMemory>
+    ensures { OnOk result (out.new ≡ out.old ++ end_of_list version) }
+{
+    if version == DWARF_5 {
+        out.push(DW_RLE_end_of_list)?;
+    } else {
+        out.extend(&[0; 16])?;
+    }
+    Ok(())
+}
+
+// ---- location lists
+
 /// Appends a location list, with its end.
 pub(crate) fn append_location_list(
     out: &mut Buffer,
     scratch: &mut Scratch,
+    version: u16,
     items: &[OutLocation],
 ) -> Result<(), NoMemory>
-    ensures { OnOk result (AppendsBased out.old out.new (λ place. location_list_bytes place items.now)) }
+    ensures { OnOk result (AppendsBased out.old out.new (λ place. location_list_bytes version place items.now)) }
 {
     for item in items {
-        append_location(out, scratch, item)?;
+        append_location(out, scratch, version, item)?;
     }
-    out.extend(&[0; 16])?;
+    append_location_end(out, version)?;
     Ok(())
 }
 
 fn append_location(
     out: &mut Buffer,
     scratch: &mut Scratch,
+    version: u16,
     item: &OutLocation,
 ) -> Result<(), NoMemory>
-    ensures { OnOk result (AppendsBased out.old out.new (λ place. location_bytes place item.now)) }
+    ensures { OnOk result (AppendsBased out.old out.new (λ place. location_bytes version place item.now)) }
 {
     write_expression(scratch, item.parts.as_slice())?;
+    append_location_kind(out, version)?;
     out.extend_lowest(item.span.low, 8)?;
     out.extend_lowest(item.span.high, 8)?;
-    out.extend_lowest(scratch.expression.len() as u64, 2)?;
+    append_size(out, version, scratch.expression.len() as u64)?;
     out.append(&scratch.expression)?;
+    Ok(())
+}
+
+fn append_location_kind(out: &mut Buffer, version: u16) -> Result<(), NoMemory>
+    ensures { OnOk result ((f : Filling) → filled out.new f ≡ filled out.old f ++ kind_bytes version DW_LLE_start_end) }
+{
+    if version == DWARF_5 {
+        out.push(DW_LLE_start_end)?;
+    }
+    Ok(())
+}
+
+/// The length of an expression.
+fn append_size(out: &mut Buffer, version: u16, len: u64) -> Result<(), NoMemory>
+    ensures { OnOk result ((f : Filling) → filled out.new f ≡ filled out.old f ++ size_bytes version len) }
+{
+    if version == DWARF_5 {
+        out.extend_uleb(len)?;
+    } else {
+        out.extend_lowest(len, 2)?;
+    }
+    Ok(())
+}
+
+fn append_location_end(out: &mut Buffer, version: u16) -> Result<(), NoMemory>
+    ensures { OnOk result ((f : Filling) → filled out.new f ≡ filled out.old f ++ end_of_list version) }
+{
+    if version == DWARF_5 {
+        out.push(DW_RLE_end_of_list)?;
+    } else {
+        out.extend(&[0; 16])?;
+    }
     Ok(())
 }

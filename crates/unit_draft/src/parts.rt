@@ -1,31 +1,57 @@
 //! The parts of a unit that name nothing outside of it, each in the bytes of its section.
 
-ghost use Rattle.std.specs.Prelude.{◌≡◌, IfOk};
+ghost use Rattle.std.specs.Prelude.{ℕ, ◌≡◌, ◌+◌, length, IfOk, OnOk};
 ghost use Rattle.dwarf_types.specs.Abbreviations.{declarations_bytes};
-ghost use Rattle.dwarf_types.specs.LineTable.{line_table_bytes, lines_bytes};
+ghost use Rattle.dwarf_types.specs.Layout.{line_texts_of_unit};
+ghost use Rattle.dwarf_types.specs.LineTable.{lines_bytes};
+ghost use Rattle.line_write.specs.Named.{AppendsNamed};
+ghost use Rattle.patches.specs.Filling.{Filling, filled};
+ghost use Rattle.unit_draft.specs.Drafted.{lines_len};
+ghost use Rattle.unit_draft.specs.Lines.{AreLines};
 
 use abbrev_write::{AbbrevTable, append_table};
 use ds_base::{Bytes, List, NoMemory};
-use dwarf_types::{OutLines, OutUnit, Span};
+use dwarf_types::{OutUnit, Span};
 use line_write::append_lines;
+use patches::Buffer;
 use std::alloc::Global;
+use text_pool::Names;
 
-/// The unit's line table in `__debug_line`; no bytes where it has none.
-pub(crate) fn lines_of(alloc: Global, unit: &OutUnit) -> Result<Bytes, NoMemory>
-    ensures { IfOk result (λ bytes. bytes ≡ lines_bytes unit.now) }
-{
-    match &unit.lines {
-        Some(lines) => line_table(alloc, lines),
-        None => Ok(Bytes::new(alloc)),
-    }
+/// A unit's line table in `__debug_line`.
+#[derive(Drop)]
+pub(crate) struct DraftedLines {
+    /// The table, with holes for the places of its texts; no bytes where the unit has none.
+    pub(crate) table: Buffer,
+    /// The texts, by the numbers under which the holes name them.
+    pub(crate) names: Names,
 }
 
-fn line_table(alloc: Global, lines: &OutLines) -> Result<Bytes, NoMemory>
-    ensures { IfOk result (λ bytes. bytes ≡ line_table_bytes lines.now) }
+/// The line table of a unit.
+pub(crate) fn lines_of(alloc: Global, unit: &OutUnit) -> Result<DraftedLines, NoMemory>
+    ensures { IfOk result (AreLines unit.now) }
 {
-    let mut bytes = Bytes::new(alloc);
-    append_lines(&mut bytes, lines)?;
-    Ok(bytes)
+    let mut table = Buffer::new(alloc);
+    let mut names = Names::new(alloc);
+    append_lines_of(alloc, &mut table, &mut names, unit)?;
+    // The table names nothing that the unit tells, so this gives back memory alone.
+    table.settle(0, &[]);
+    Ok(DraftedLines { table, names })
+}
+
+fn append_lines_of(
+    alloc: Global,
+    out: &mut Buffer,
+    names: &mut Names,
+    unit: &OutUnit,
+) -> Result<(), NoMemory>
+    ensures table { OnOk result (AppendsNamed out.old out.new names.old names.new (λ text. lines_bytes text unit.now) (line_texts_of_unit unit.now)) }
+    ensures size { OnOk result ((f : Filling) → length (filled out.new f) ≡ length (filled out.old f) + lines_len unit.now) }
+{
+    let Some(lines) = &unit.lines else {
+        return Ok(());
+    };
+    append_lines(alloc, out, names, unit.version, lines)?;
+    Ok(())
 }
 
 /// The unit's abbreviations in `__debug_abbrev`.

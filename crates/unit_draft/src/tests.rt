@@ -74,9 +74,9 @@ fn add_attr(rt: &impl Abort, attrs: &mut List<OutAttr>, name: u16, value: OutVal
     add(rt, attrs, OutAttr { name, value });
 }
 
-fn unit_of(rt: &impl Abort, alloc: Global, nodes: List<Node>) -> OutUnit {
+fn unit_of(rt: &impl Abort, alloc: Global, version: u16, nodes: List<Node>) -> OutUnit {
     OutUnit {
-        version: 4,
+        version,
         nodes,
         lines: None,
         ranges: code(rt, alloc),
@@ -122,11 +122,11 @@ fn function(rt: &impl Abort, alloc: Global) -> Node {
     node(Some(0), DW_TAG_subprogram, attrs)
 }
 
-// A unit of one function.
-fn first_unit(rt: &impl Abort, alloc: Global) -> OutUnit {
+// A unit of one function, of a version.
+fn first_unit(rt: &impl Abort, alloc: Global, version: u16) -> OutUnit {
     let mut nodes = one(rt, alloc, root(rt, alloc));
     add(rt, &mut nodes, function(rt, alloc));
-    unit_of(rt, alloc, nodes)
+    unit_of(rt, alloc, version, nodes)
 }
 
 fn int(rt: &impl Abort, alloc: Global) -> Node {
@@ -197,7 +197,7 @@ fn second_unit(rt: &impl Abort, alloc: Global) -> OutUnit {
     let mut nodes = one(rt, alloc, node(None, DW_TAG_compile_unit, List::new(alloc)));
     add(rt, &mut nodes, int(rt, alloc));
     add(rt, &mut nodes, variable(rt, alloc));
-    unit_of(rt, alloc, nodes)
+    unit_of(rt, alloc, 4, nodes)
 }
 
 // ---- tables
@@ -206,8 +206,8 @@ fn second_unit(rt: &impl Abort, alloc: Global) -> OutUnit {
 #[test]
 fn a_unit_of_one_function_is_drafted(rt: HostRuntime) {
     let alloc = rt.alloc();
-    let unit = first_unit(&rt, alloc);
-    let outside = Outside { table: 0, lines: 0, ranges: 0, locations: 0, texts: &[0, 4], units: &[], end: 48 };
+    let unit = first_unit(&rt, alloc, 4);
+    let outside = Outside { table: 0, lines: 0, ranges: 0, locations: 0, texts: &[0, 4], line_texts: &[], units: &[], end: 48 };
     let table = [
         1, 0x11, 1,  3, 0x0e,  0x13, 5,  0x11, 1,  0x55, 0x17,  0, 0,
         2, 0x2e, 0,  0x11, 1,  0x12, 6,  3, 0x0e,  0, 0,
@@ -227,8 +227,31 @@ fn a_unit_of_one_function_is_drafted(rt: HostRuntime) {
     assert_eq!(rt; draft.ranges.as_slice(), ranges.as_slice());
     assert_eq!(rt; draft.places.as_slice(), [11, 30].as_slice());
     assert_eq!(rt; draft.names.get(1), Some(b"main".as_slice()));
-    assert!(rt; draft.lines.is_empty());
+    assert_eq!(rt; draft.lines.len(), 0);
     assert_eq!(rt; draft.code.len(), 1);
+}
+
+#[rattlefmt::skip]
+#[test]
+fn a_unit_of_version_5_is_drafted(rt: HostRuntime) {
+    let alloc = rt.alloc();
+    let unit = first_unit(&rt, alloc, 5);
+    let outside = Outside { table: 0, lines: 0, ranges: 12, locations: 12, texts: &[0, 4], line_texts: &[], units: &[], end: 49 };
+    let table = [
+        1, 0x11, 1,  3, 0x0e,  0x13, 5,  0x11, 1,  0x55, 0x17,  0, 0,
+        2, 0x2e, 0,  0x11, 1,  0x12, 6,  3, 0x0e,  0, 0,
+        0,
+    ];
+    let info = [
+        0x2d, 0, 0, 0,  5, 0,  1,  8,  0, 0, 0, 0,
+        1,  0, 0, 0, 0,  0x0c, 0,  0, 0, 0, 0, 0, 0, 0, 0,  0x0c, 0, 0, 0,
+        2,  0x50, 0x3f, 0, 0, 1, 0, 0, 0,  0x2a, 0, 0, 0,  4, 0, 0, 0,
+        0,
+    ];
+    let ranges = [6,  0x50, 0x3f, 0, 0, 1, 0, 0, 0,  0x7a, 0x3f, 0, 0, 1, 0, 0, 0,  0];
+    let draft = is_drafted(&rt, alloc, 0, &unit, &outside, &mut [0; 49], &table, &info);
+    assert_eq!(rt; draft.ranges.as_slice(), ranges.as_slice());
+    assert_eq!(rt; draft.places.as_slice(), [12, 31].as_slice());
 }
 
 #[rattlefmt::skip]
@@ -239,7 +262,7 @@ fn a_unit_names_entries_texts_and_lists(rt: HostRuntime) {
     let mut places = one(&rt, alloc, 11);
     add(&rt, &mut places, 30);
     let units = one(&rt, alloc, Placed { start: 0x100, nodes: places, len: 48 });
-    let outside = Outside { table: 0x20, lines: 0, ranges: 0, locations: 0x30, texts: &[5], units: units.as_slice(), end: 0x15a };
+    let outside = Outside { table: 0x20, lines: 0, ranges: 0, locations: 0x30, texts: &[5], line_texts: &[], units: units.as_slice(), end: 0x15a };
     let table = [
         1, 0x11, 1,  0, 0,
         2, 0x24, 0,  3, 0x0e,  0, 0,

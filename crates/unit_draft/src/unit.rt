@@ -5,7 +5,8 @@ ghost use Rattle.std.specs.List.{All};
 ghost use Rattle.dwarf_types.specs.declared.graph.Graph.{Graph as Program};
 ghost use Rattle.dwarf_types.specs.declared.graph.OutUnit.{OutUnit as Clone};
 ghost use Rattle.dwarf_types.specs.Entries.{unit_bytes};
-ghost use Rattle.dwarf_types.specs.Layout.{lists_place, places_of, table_place};
+ghost use Rattle.dwarf_types.specs.Layout.{line_text_place, lists_place, places_of, table_place};
+ghost use Rattle.dwarf_types.specs.LineTable.{lines_bytes};
 ghost use Rattle.patches.specs.Filling.{Filling, filled};
 ghost use Rattle.patches.specs.Numbers.{outer_number, settled};
 ghost use Rattle.unit_draft.specs.Drafted.{Drafts, IsDraft};
@@ -15,7 +16,7 @@ ghost use Rattle.unit_draft.specs.World.{Stands, World};
 
 use crate::entries::UNIT_LIMIT;
 use crate::error::DraftError;
-use crate::parts::{abbreviations_of, copy_of, lines_of};
+use crate::parts::{DraftedLines, abbreviations_of, copy_of, lines_of};
 use crate::whole::{Whole, append_unit};
 use abbrev_write::{codes_of, table};
 use ds_base::{Bytes, List};
@@ -66,15 +67,23 @@ pub fn draft_unit(alloc: Global, unit: &OutUnit, number: u32) -> Result<Draft, D
     let lines = lines_of(alloc, unit)?;
     let table = abbreviations_of(alloc, &table)?;
     let code = copy_of(alloc, unit.ranges.as_slice())?;
-    Ok(settled_draft(whole, lines, table, code))
+    Ok(settled_draft(whole, unit.version, lines, table, code))
 }
 
 /// The draft of a whole unit, whose own places are filled in.
-fn settled_draft(whole: Whole, lines: Bytes, table: Bytes, code: List<Span>) -> Draft
+fn settled_draft(
+    whole: Whole,
+    version: u16,
+    lines: DraftedLines,
+    table: Bytes,
+    code: List<Span>,
+) -> Draft
     requires small { All (λ place. place < 2 ^ 28) whole.places }
     requires short { whole.len < 2 ^ 28 }
     ensures settled { Settles whole result }
-    ensures lines { result.lines ≡ lines }
+    ensures version { result.version ≡ version }
+    ensures lines { result.lines ≡ lines.table }
+    ensures line_names { result.line_names ≡ lines.names }
     ensures table { result.table ≡ table }
     ensures code { result.code ≡ code }
 {
@@ -88,9 +97,11 @@ fn settled_draft(whole: Whole, lines: Bytes, table: Bytes, code: List<Span>) -> 
     let locations = settled_bytes(drafting.locations, len, places.as_slice());
     Draft {
         info,
+        version,
         locations,
         ranges: drafting.ranges,
-        lines,
+        lines: lines.table,
+        line_names: lines.names,
         table,
         names: drafting.names,
         places,
@@ -119,6 +130,7 @@ fn nowhere<'a>() -> Outside<'a> {
         ranges: 0,
         locations: 0,
         texts: &[],
+        line_texts: &[],
         units: &[],
         end: 0,
     }
@@ -130,10 +142,19 @@ pub fn emit_draft(draft: &Draft, outside: &Outside, room: &mut [u8])
     requires fits { (f : Filling) → length room.old ≡ length (filled draft.now.info f) }
 
     // in any world in which the unit stands
-    ensures world { (number : ℕ) (clone : Clone) (w : World) → IsDraft number clone draft.now → Stands number clone draft.now.names w → w.filling.outer ≡ outer_number outside.now → room.new ≡ unit_bytes w.places w.lists w.table clone }
+    ensures world { (number : ℕ) (clone : Clone) (w : World) → IsDraft number clone draft.now → Stands number clone draft.now.names draft.now.line_names w → w.filling.outer ≡ outer_number outside.now → room.new ≡ unit_bytes w.places w.lists w.table clone }
 
     // in a graph
-    ensures graph { (whole : Program) (u : ℕ) (clone : Clone) → slice_get whole.units u ≡ Some clone → IsDraft u clone draft.now → IsOutside whole u draft.now.names outside.now → room.new ≡ unit_bytes (places_of whole u) (lists_place whole u) (table_place whole u) clone }
+    ensures graph { (whole : Program) (u : ℕ) (clone : Clone) → slice_get whole.units u ≡ Some clone → IsDraft u clone draft.now → IsOutside whole u clone draft.now.names draft.now.line_names outside.now → room.new ≡ unit_bytes (places_of whole u clone) (lists_place whole u clone) (table_place whole u) clone }
 {
     draft.info.emit(outside, room);
+}
+
+/// Writes the line table of a draft into a room of its size, with what stands outside of the unit. It takes no memory.
+pub fn emit_lines(draft: &Draft, outside: &Outside, room: &mut [u8])
+    requires settled { draft.now.lines.own ≡ [] }
+    requires fits { (f : Filling) → length room.old ≡ length (filled draft.now.lines f) }
+    ensures graph { (whole : Program) (u : ℕ) (clone : Clone) → slice_get whole.units u ≡ Some clone → IsDraft u clone draft.now → IsOutside whole u clone draft.now.names draft.now.line_names outside.now → room.new ≡ lines_bytes (line_text_place whole) clone }
+{
+    draft.lines.emit(outside, room);
 }

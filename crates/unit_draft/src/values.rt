@@ -12,26 +12,32 @@ use ds_base::{Bytes, NoMemory};
 use dwarf_types::{ExprPart, OutAttr, OutLocation, OutValue, Span, Target};
 use patches::{Outer, Own};
 
-/// Appends the values of an entry of the unit of a number.
+/// Appends the values of an entry of the unit of a number and a version.
 pub(crate) fn append_values(
     drafting: &mut Drafting,
     number: u32,
+    version: u16,
     attrs: &[OutAttr],
 ) -> Result<(), NoMemory>
-    ensures { OnOk result (AppendsValues number drafting.old drafting.new attrs.now) }
+    ensures { OnOk result (AppendsValues number version drafting.old drafting.new attrs.now) }
 {
     for attr in attrs {
-        append_value(drafting, number, &attr.value)?;
+        append_value(drafting, number, version, &attr.value)?;
     }
     Ok(())
 }
 
-fn append_value(drafting: &mut Drafting, number: u32, value: &OutValue) -> Result<(), NoMemory>
-    ensures { OnOk result (AppendsValue number drafting.old drafting.new value.now) }
+fn append_value(
+    drafting: &mut Drafting,
+    number: u32,
+    version: u16,
+    value: &OutValue,
+) -> Result<(), NoMemory>
+    ensures { OnOk result (AppendsValue number version drafting.old drafting.new value.now) }
 {
     match value {
         OutValue::Address(address) => drafting.info.extend_lowest(*address, 8),
-        OutValue::Text(text) => append_text(drafting, number, text),
+        OutValue::Text(text) => append_text(drafting, number, version, text),
         OutValue::Number { form, bits } => append_number(&mut drafting.info, *form, *bits),
         OutValue::Wide(bytes) => drafting.info.extend(bytes.as_slice()),
         OutValue::Block { form, bytes } => append_block(
@@ -39,24 +45,24 @@ fn append_value(drafting: &mut Drafting, number: u32, value: &OutValue) -> Resul
             *form,
             bytes.as_slice(),
         ),
-        OutValue::Expr(parts) => append_expr(drafting, number, parts.as_slice()),
-        OutValue::Ref(target) => append_ref(drafting, number, *target),
-        OutValue::Ranges(spans) => append_ranges(drafting, number, spans.as_slice()),
-        OutValue::Locations(items) => append_locations(drafting, number, items.as_slice()),
+        OutValue::Expr(parts) => append_expr(drafting, number, version, parts.as_slice()),
+        OutValue::Ref(target) => append_ref(drafting, number, version, *target),
+        OutValue::Ranges(spans) => append_ranges(drafting, number, version, spans.as_slice()),
+        OutValue::Locations(items) => append_locations(drafting, number, version, items.as_slice()),
         OutValue::Lines => drafting.info.leave(Outer::Lines),
     }
 }
 
-fn append_text(drafting: &mut Drafting, number: u32, text: &Bytes) -> Result<(), NoMemory>
-    ensures { OnOk result (AppendsValue number drafting.old drafting.new (out_values.Text text.now)) }
+fn append_text(drafting: &mut Drafting, number: u32, version: u16, text: &Bytes) -> Result<(), NoMemory>
+    ensures { OnOk result (AppendsValue number version drafting.old drafting.new (out_values.Text text.now)) }
 {
     let i = drafting.names.number_of(text.as_slice())?;
     drafting.info.leave(Outer::Text(i))?;
     Ok(())
 }
 
-fn append_ref(drafting: &mut Drafting, number: u32, target: Target) -> Result<(), NoMemory>
-    ensures { OnOk result (AppendsValue number drafting.old drafting.new (out_values.Ref target)) }
+fn append_ref(drafting: &mut Drafting, number: u32, version: u16, target: Target) -> Result<(), NoMemory>
+    ensures { OnOk result (AppendsValue number version drafting.old drafting.new (out_values.Ref target)) }
 {
     if target.unit == number {
         drafting.info.leave_own(Own::Node(target.node))?;
@@ -66,17 +72,17 @@ fn append_ref(drafting: &mut Drafting, number: u32, target: Target) -> Result<()
     Ok(())
 }
 
-fn append_ranges(drafting: &mut Drafting, number: u32, spans: &[Span]) -> Result<(), NoMemory>
-    ensures { OnOk result (AppendsValue number drafting.old drafting.new (out_values.Ranges spans.now)) }
+fn append_ranges(drafting: &mut Drafting, number: u32, version: u16, spans: &[Span]) -> Result<(), NoMemory>
+    ensures { OnOk result (AppendsValue number version drafting.old drafting.new (out_values.Ranges spans.now)) }
 {
     let offset = drafting.ranges.len();
-    append_range_list(&mut drafting.ranges, spans)?;
+    append_range_list(&mut drafting.ranges, version, spans)?;
     drafting.info.leave(Outer::Ranges(offset))?;
     Ok(())
 }
 
-fn append_expr(drafting: &mut Drafting, number: u32, parts: &[ExprPart]) -> Result<(), NoMemory>
-    ensures { OnOk result (AppendsValue number drafting.old drafting.new (out_values.Expr parts.now)) }
+fn append_expr(drafting: &mut Drafting, number: u32, version: u16, parts: &[ExprPart]) -> Result<(), NoMemory>
+    ensures { OnOk result (AppendsValue number version drafting.old drafting.new (out_values.Expr parts.now)) }
 {
     write_expression(&mut drafting.scratch, parts)?;
     drafting.info.append_prefixed(&drafting.scratch.expression)?;
@@ -86,12 +92,18 @@ fn append_expr(drafting: &mut Drafting, number: u32, parts: &[ExprPart]) -> Resu
 fn append_locations(
     drafting: &mut Drafting,
     number: u32,
+    version: u16,
     items: &[OutLocation],
 ) -> Result<(), NoMemory>
-    ensures { OnOk result (AppendsValue number drafting.old drafting.new (out_values.Locations items.now)) }
+    ensures { OnOk result (AppendsValue number version drafting.old drafting.new (out_values.Locations items.now)) }
 {
     let offset = drafting.locations.len();
-    append_location_list(&mut drafting.locations, &mut drafting.scratch, items)?;
+    append_location_list(
+        &mut drafting.locations,
+        &mut drafting.scratch,
+        version,
+        items,
+    )?;
     drafting.info.leave(Outer::Locations(offset))?;
     Ok(())
 }

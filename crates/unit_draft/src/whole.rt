@@ -1,9 +1,9 @@
 //! All entries of a unit.
 
-ghost use Rattle.std.specs.Prelude.{ℕ, ◌≡◌, ◌++◌, ◌∷◌, [], ◌<◌, ◌^◌, length, IfOk, OnOk};
+ghost use Rattle.std.specs.Prelude.{ℕ, ◌≡◌, ◌++◌, ◌<◌, ◌^◌, length, IfOk, OnOk};
 ghost use Rattle.byteorder.specs.Endian.{little_bytes};
 ghost use Rattle.abbrev_write.specs.Table.{unit_table};
-ghost use Rattle.dwarf_types.specs.Entries.{unit_len};
+ghost use Rattle.dwarf_types.specs.Entries.{header_fields, unit_len};
 ghost use Rattle.patches.specs.declared.hole.Outer.TheVariants as outer_holes;
 ghost use Rattle.patches.specs.declared.hole.Own.TheVariants as own_holes;
 ghost use Rattle.patches.specs.Filling.{Filling, filled};
@@ -14,10 +14,15 @@ use crate::depths::depths_in;
 use crate::drafting::Drafting;
 use crate::entries::{append_entries, end_of};
 use crate::error::DraftError;
+use crate::lists::DWARF_5;
+use ds_base::dwarf::DW_UT_compile;
 use ds_base::{List, NoMemory};
 use dwarf_types::OutUnit;
 use patches::{Buffer, Outer, Own};
 use std::alloc::Global;
+
+/// How many bytes an address has.
+const ADDRESS_SIZE: u8 = 8;
 
 /// A unit whose own places are not filled in yet.
 #[derive(Drop)]
@@ -50,6 +55,7 @@ pub(crate) fn append_unit(
         &mut drafting,
         &mut places,
         number,
+        unit.version,
         nodes,
         codes,
         depths.as_slice(),
@@ -62,14 +68,27 @@ pub(crate) fn append_unit(
     })
 }
 
-/// The header of a unit of version 4 (DWARF 4, section 7.5.1.1): `unit_length`, the version, the place of the
-/// abbreviations, and the size of an address.
+/// The header of a unit (DWARF 4, section 7.5.1.1; DWARF 5, section 7.5.1.1): `unit_length`, the version, and what
+/// follows them.
 fn append_header(out: &mut Buffer, version: u16) -> Result<(), NoMemory>
-    ensures { OnOk result ((f : Filling) → filled out.new f ≡ filled out.old f ++ (little_bytes 4 (f.own own_holes.Size) ++ (little_bytes 2 version ++ (little_bytes 4 (f.outer outer_holes.Table) ++ (8 ∷ []))))) }
+    ensures { OnOk result ((f : Filling) → filled out.new f ≡ filled out.old f ++ (little_bytes 4 (f.own own_holes.Size) ++ (little_bytes 2 version ++ header_fields version (f.outer outer_holes.Table)))) }
 {
     out.leave_own(Own::Size)?;
     out.extend_lowest(u64::from(version), 2)?;
-    out.leave(Outer::Table)?;
-    out.push(8)?;
+    append_header_fields(out, version)?;
+    Ok(())
+}
+
+/// The place of the abbreviations and the size of an address; in version 5 behind the kind of the unit and turned round.
+fn append_header_fields(out: &mut Buffer, version: u16) -> Result<(), NoMemory>
+    ensures { OnOk result ((f : Filling) → filled out.new f ≡ filled out.old f ++ header_fields version (f.outer outer_holes.Table)) }
+{
+    if version == DWARF_5 {
+        out.extend(&[DW_UT_compile, ADDRESS_SIZE])?;
+        out.leave(Outer::Table)?;
+    } else {
+        out.leave(Outer::Table)?;
+        out.push(ADDRESS_SIZE)?;
+    }
     Ok(())
 }

@@ -1,4 +1,4 @@
-use Rattle.std.proofs.Common.{◌≡◌, ◌++◌, ◌∙◌, ℕ, List, length, ap, refl}
+use Rattle.std.proofs.Common.{◌++◌, ◌∙◌, ℕ, List, length, ap, refl}
 use Rattle.std.specs.List.{flat_map}
 use Rattle.dwarf_types.specs.LineProgram.{sequence_bytes}
 use Rattle.dwarf_types.specs.LineTable.{fields_bytes}

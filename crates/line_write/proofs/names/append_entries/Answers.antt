@@ -1,5 +1,3 @@
-use Rattle.std.proofs.Common.{map}
-use Rattle.dwarf_types.specs.LineTable.{directories_bytes, files_bytes}
 use Rattle.line_write.proofs.Naming.{named_more}
 use Rattle.line_write.proofs.names.append_entries.Goals as goal
 

@@ -1,4 +1,4 @@
-use Rattle.std.proofs.Common.{◌++◌, Bool, length, map, sym, subst}
+use Rattle.std.proofs.Common.{◌++◌, Bool, length, map, subst}
 use Rattle.std.specs.List.{flat_map}
 use Rattle.ds_base.specs.Leb.{uleb}
 use Rattle.dwarf_types.specs.LineTable.{file_entry, file_format}

@@ -1,7 +1,8 @@
 use Rattle.std.proofs.Common.{◌≡◌, ◌^◌, ◌<◌, ◌∙◌, List, ℕ, All, length, ap, sym, subst, arith}
 use Rattle.abbrev_write.specs.Table.{Table}
 use Rattle.dwarf_types.specs.Abbreviations.{declarations_bytes}
-use Rattle.patches.specs.Filling.{Filling, filled}
+use Rattle.line_write.specs.Named.{TellsTexts}
+use Rattle.patches.specs.Filling.{Filling, Holey, filled}
 use Rattle.patches.specs.Numbers.{settled}
 use Rattle.unit_draft.specs.Whole.{told}
 use Rattle.unit_draft.specs.World.{Stands}
@@ -22,15 +23,23 @@ returns c =
     let clone = c.args.unit.now in
     let whole = c.in_ok-whole.whole in
     let is = c.in_ok-whole.ensures.whole in
-    let settles = c.settled_draft.ensures.settled in
+    let drafted = c.settled_draft.ensures in
+    let settles = drafted.settled in
+    let lines = c.in_ok-lines.ensures in
     let tells : (f : Filling) → settled f whole.len whole.places ≡ told number clone f = λ f. ap (λ (n : ℕ). settled f n whole.places) is.len ∙ ap (settled f _) is.places in
     record {
-      info = λ w stands. settles.info w.filling ∙ ap (filled whole.drafting.info) (tells w.filling) ∙ is.info w (subst (λ (texts : List (List ℕ)). Stands number clone texts w) settles.names stands);
+      info = λ w stands. settles.info w.filling ∙ ap (filled whole.drafting.info) (tells w.filling)
+          ∙ is.info w c.settled_draft.result.line_names (subst (λ (texts : List (List ℕ)). Stands number clone texts c.settled_draft.result.line_names w) settles.names stands);
       size = λ f. ap length (settles.info f) ∙ is.size (settled f whole.len whole.places);
       settled = settles.own;
+      version = c.settled_draft.ensures.version;
       locations = settles.locations.1 ∙ ap (filled whole.drafting.locations) (tells settles.locations.0) ∙ is.locations settles.locations.0;
       ranges = settles.ranges ∙ is.ranges;
-      lines = c.settled_draft.ensures.lines ∙ c.in_ok-lines.ensures;
+      lines = λ w stands. ap (λ (h : Holey). filled h w.filling) drafted.lines
+          ∙ lines.table w.filling w.places.line_text (subst (λ (texts : List (List ℕ)). TellsTexts texts w.filling w.places.line_text) drafted.line_names stands.line_text);
+      lines_size = λ f. ap (λ (h : Holey). length (filled h f)) drafted.lines ∙ lines.size f;
+      lines_settled = ap (λ (h : Holey). h.own) drafted.lines ∙ lines.settled;
+      line_names = drafted.line_names ∙ lines.names;
       table = c.settled_draft.ensures.table ∙ c.in_ok-table-2.ensures ∙ ap (λ (t : Table). declarations_bytes t.declarations) c.in_ok-table.ensures.exact;
       names = settles.names ∙ is.names;
       places = settles.places ∙ is.places;

@@ -12,5 +12,6 @@ returns-clause-world c = λ number clone w is stands same. c.emit.ensures w.fill
 
 pub returns-clause-graph : goal.returns-clause-graph
 returns-clause-graph c = λ graph u clone at is outside.
-    let w = world_of graph u c.args.outside.now in
-    c.emit.ensures w.filling ∙ is.info w (stands graph u clone c.args.draft.now.names c.args.outside.now at outside)
+    let draft = c.args.draft.now in
+    let w = world_of graph u clone c.args.outside.now in
+    c.emit.ensures w.filling ∙ is.info w (stands graph u clone draft.names draft.line_names c.args.outside.now at outside)

@@ -9,7 +9,7 @@ use Rattle.unit_draft.proofs.values.append_expr.Goals as goal
 pub returns : goal.returns
 returns c =
     let parts = c.args.parts.now in
-    only_info c.args.number c.args.drafting.now c.append_prefixed.new.self c.write_expression.new.scratch (λ w. uleb (expression_len parts) ++ expression_bytes (own_node w.places) parts)
+    only_info c.args.number c.args.version c.args.drafting.now c.append_prefixed.new.self c.write_expression.new.scratch (λ w. uleb (expression_len parts) ++ expression_bytes (own_node w.places) parts)
     (λ w fits.
     let f = w.filling in
     let place = own_node w.places in

@@ -10,10 +10,10 @@ pub loop-attr-preserved : goal.loop-attr-preserved
 loop-attr-preserved c = λ new rest.
     let attrs = c.args.attrs.now in
     let i = c.loop-attr.attr-index in
-    let one = values_cons c.args.number c.loop-attr.drafting c.append_value.new.drafting new c.attr-item.result (drop (i + 1) attrs) c.in_ok-append_value.ensures rest in
-    c.loop-attr.invariant new (subst (λ (left : List OutAttr). AppendsValues c.args.number c.loop-attr.drafting new left) (sym (drop_one attrs i c.attr-item.result c.loop-attr-test.true c.attr-item.is)) one)
+    let one = values_cons c.args.number c.args.version c.loop-attr.drafting c.append_value.new.drafting new c.attr-item.result (drop (i + 1) attrs) c.in_ok-append_value.ensures rest in
+    c.loop-attr.invariant new (subst (λ (left : List OutAttr). AppendsValues c.args.number c.args.version c.loop-attr.drafting new left) (sym (drop_one attrs i c.attr-item.result c.loop-attr-test.true c.attr-item.is)) one)
 
 pub returns : goal.returns
 returns c =
     let d = c.loop-attr.drafting in
-    c.loop-attr.invariant d (subst (λ (left : List OutAttr). AppendsValues c.args.number d d left) (sym (drop_all c.loop-attr.attr-index c.args.attrs.now c.loop-attr-test.false)) (appends_none c.args.number d))
+    c.loop-attr.invariant d (subst (λ (left : List OutAttr). AppendsValues c.args.number c.args.version d d left) (sym (drop_all c.loop-attr.attr-index c.args.attrs.now c.loop-attr-test.false)) (appends_none c.args.number c.args.version d))

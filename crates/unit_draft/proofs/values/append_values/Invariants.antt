@@ -4,4 +4,4 @@ use Rattle.unit_draft.specs.Appends.{AppendsValues}
 use Rattle.unit_draft.proofs.values.append_values.Given as goal
 
 abbrev pub invariant-loop-attr : goal.invariant-loop-attr
-invariant-loop-attr l = (new : Drafting) → AppendsValues l.number l.drafting new (drop l.attr-index l.attrs) → AppendsValues l.number l.fn.drafting new l.attrs
+invariant-loop-attr l = (new : Drafting) → AppendsValues l.number l.version l.drafting new (drop l.attr-index l.attrs) → AppendsValues l.number l.version l.fn.drafting new l.attrs

@@ -40,7 +40,7 @@ returns-in_err-len-clause-long c =
     let final = c.append_entries.new.drafting in
     let start = behind_header c.new-drafting.result c.append_header.new.out in
     let header = with_header c.new-drafting.result c.append_header.new.out unit.version c.in_ok-append_header.ensures c.new-drafting.ensures.info in
-    let h : AppendsEntries number start final (entries_of number unit) = subst (λ (ns : List Node). AppendsEntries number start final (entries number ns)) c.as_slice-nodes.ensures c.in_ok-append_entries.ensures.appended in
+    let h : AppendsEntries number unit.version start final (entries_of number unit) = subst (λ (ns : List Node). AppendsEntries number unit.version start final (entries number ns)) c.as_slice-nodes.ensures c.in_ok-append_entries.ensures.appended in
     rw (p.1, p.2) (refuses_on ℕ Whole _ _ _ (final_len number unit start final header c.new-drafting.ensures.ranges c.new-drafting.ensures.locations c.new-drafting.ensures.names h) c.in_err-len.ensures.long)
 
 pub returns-clause-whole : goal.returns-clause-whole
@@ -51,7 +51,7 @@ returns-clause-whole c =
     let start = behind_header c.new-drafting.result c.append_header.new.out in
     let header = with_header c.new-drafting.result c.append_header.new.out unit.version c.in_ok-append_header.ensures c.new-drafting.ensures.info in
     let nodes = c.as_slice-nodes.ensures in
-    let h : AppendsEntries number start final (entries_of number unit) = subst (λ (ns : List Node). AppendsEntries number start final (entries number ns)) nodes c.in_ok-append_entries.ensures.appended in
+    let h : AppendsEntries number unit.version start final (entries_of number unit) = subst (λ (ns : List Node). AppendsEntries number unit.version start final (entries number ns)) nodes c.in_ok-append_entries.ensures.appended in
     let none = c.new-drafting.ensures in
     let place = start_len number unit start final header none.ranges none.locations none.names h in
     let end = c.in_ok-len.ensures.end in

@@ -1,0 +1,25 @@
+use Rattle.std.proofs.Common.{◌≡◌, ◌+◌, ◌++◌, ◌∙◌, [], ℕ, List, fold, length, ap, arith}
+use Rattle.ds_base.specs.Texts.{with_text}
+use Rattle.text_pool.proofs.FirstUses.{once-append}
+use Rattle.dwarf_types.specs.Layout.{line_texts_of_unit}
+use Rattle.dwarf_types.specs.LineTable.{lines_bytes}
+use Rattle.patches.specs.Filling.{Filling, filled}
+use Rattle.patches.specs.Numbers.{settled}
+use Rattle.unit_draft.specs.Drafted.{lines_len}
+use Rattle.unit_draft.proofs.parts.lines_of.Goals as goal
+
+pub returns : goal.returns
+returns c =
+    let unit = c.args.unit.now in
+    let table = c.in_ok-append_lines_of.ensures.table in
+    record {
+      table = λ f text tells.
+          let g : Filling = settled f 0 [] in
+          c.settle.ensures.is f ∙ table.bytes g text tells ∙ ap (λ (front : List ℕ). front ++ lines_bytes text unit) (c.new-table.ensures g);
+      size = λ f.
+          let g : Filling = settled f 0 [] in
+          let zero_add : 0 + lines_len unit ≡ lines_len unit = omega arith in
+          ap length (c.settle.ensures.is f) ∙ c.in_ok-append_lines_of.ensures.size g ∙ ap (λ (bytes : List ℕ). length bytes + lines_len unit) (c.new-table.ensures g) ∙ zero_add;
+      settled = c.settle.ensures.none;
+      names = table.names ∙ ap (λ (names : List (List ℕ)). fold with_text names (line_texts_of_unit unit)) c.new-names.ensures ∙ once-append [] (line_texts_of_unit unit);
+    }
