@@ -32,7 +32,7 @@ its_draft layout u draft m lt there = m.measured.3.each u (unit_of m.graph u) dr
 
 -- how long a unit is
 pub unit_size : (graph : Graph) (layout : Laid) (u : ℕ) (it : OutUnit) (draft : Draft) → Measures graph (Ok layout) → slice_get graph.units u ≡ Some it → slice_get layout.drafts u ≡ Some draft → length (bytes_in graph u it) ≡ draft.len
-unit_size graph layout u it draft measured here there = length-unit (places_of graph u) (lists_place graph u) (table_place graph u) it ∙ sym (measured.3.each u it draft here there).len
+unit_size graph layout u it draft measured here there = length-unit (places_of graph u it) (lists_place graph u it) (table_place graph u) it ∙ sym (measured.3.each u it draft here there).len
 
 -- a draft of that number
 pub some_draft : (drafts : List Draft) (u : ℕ) → u < length drafts → (draft : Draft) × (slice_get drafts u ≡ Some draft)

@@ -7,4 +7,4 @@ use Rattle.dwarf_types.specs.Layout.{lists_place, places_of, table_place}
 
 -- the unit of a number as bytes of the information section
 abbrev pub bytes_in : Graph → ℕ → OutUnit → List ℕ
-bytes_in graph u unit = unit_bytes (places_of graph u) (lists_place graph u) (table_place graph u) unit
+bytes_in graph u unit = unit_bytes (places_of graph u unit) (lists_place graph u unit) (table_place graph u) unit

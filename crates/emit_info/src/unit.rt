@@ -1,4 +1,4 @@
-//! Units (DWARF 4, section 7.5.1.1).
+//! Units (DWARF 4 and 5, section 7.5.1.1).
 
 ghost use Rattle.std.specs.Prelude.{◌≡◌, ◌+◌, ◌<◌, ◌≤◌, ◌^◌, length, slice_get, Ok, Some};
 ghost use Rattle.ds_base.specs.Room.{Adds};

@@ -28,4 +28,4 @@ returns c = λ graph it measured here.
     let drafts = c.args.layout.now.drafts in
     let draft = c.index-drafts-unit.result in
     let there : slice_get drafts c.args.unit ≡ Some draft = slice_get_read drafts (length drafts) c.args.unit draft refl c.requires.within (c.index-drafts-unit.is ∙ ap (λ ds. get_or ds c.args.unit draft) c.drafts.ensures) in
-    c.emit_draft.ensures.graph graph c.args.unit it here (measured.3.each c.args.unit it draft here there) (c.outside_of-outside.ensures graph draft measured there)
+    c.emit_draft.ensures.graph graph c.args.unit it here (measured.3.each c.args.unit it draft here there) (c.outside_of-outside.ensures graph it draft measured here there)
