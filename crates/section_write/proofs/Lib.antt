@@ -1,2 +1,4 @@
 pub mod FromDrafts
+pub mod Headers
 pub mod InTurn
+pub mod LineTables

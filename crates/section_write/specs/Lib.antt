@@ -1,2 +1,3 @@
 pub mod Copied
-pub mod Halves
+pub mod Runs
+pub mod Tables

@@ -2,9 +2,12 @@
 //!
 //! Layer: writers. [`emit_sections`] fills a room with the bytes of all sections that `encode` gives the graph
 //! (`dwarf_types/specs/Encode.antt`). Each byte is copied once, from the draft of its unit or from what the layout
-//! keeps, and what stands outside of a unit is filled in where the unit then stands. It takes no memory.
+//! keeps, and what stands outside of a unit is filled in where its entries and its line table then stand. Lists of
+//! version 5 stand behind the header of their section. It takes no memory.
 #![tactic(auto)]
 
+mod lines;
+mod lists;
 mod parts;
 mod sections;
 

@@ -1,12 +1,14 @@
 //! Parts of sections that are copied as they are.
 
-ghost use Rattle.std.specs.Prelude.{◌≡◌, ◌+◌, ◌≤◌, length};
+ghost use Rattle.std.specs.Prelude.{◌≡◌, ◌+◌, ◌≤◌, [], length};
 ghost use Rattle.std.specs.List.{flat_map};
 ghost use Rattle.ds_base.specs.Room.{Adds};
 ghost use Rattle.ds_base.specs.Texts.{section_of};
+ghost use Rattle.layout.specs.Pass.{in_five, in_others};
 ghost use Rattle.section_write.specs.Copied.{part_in};
 
 use ds_base::emit_bytes;
+use layout::LISTS_VERSION;
 use text_pool::{TextPool, emit_texts, pool_size};
 use unit_draft::Draft;
 
@@ -15,12 +17,14 @@ use unit_draft::Draft;
 pub(crate) enum DraftPart {
     /// Abbreviations: `__debug_abbrev`.
     Table,
-    /// A line table: `__debug_line`.
-    Lines,
     /// Range lists: `__debug_ranges`.
     Ranges,
+    /// Range lists of version 5: `__debug_rnglists`.
+    Rnglists,
     /// Location lists: `__debug_loc`.
-    Locations,
+    Loc,
+    /// Location lists of version 5: `__debug_loclists`.
+    Loclists,
 }
 
 /// Writes a part of each draft, one behind the other from `start` on, and answers the place behind them.
@@ -41,10 +45,25 @@ fn part_of(part: DraftPart, draft: &Draft) -> &[u8]
 {
     match part {
         DraftPart::Table => draft.table.as_slice(),
-        DraftPart::Lines => draft.lines.as_slice(),
-        DraftPart::Ranges => draft.ranges.as_slice(),
-        DraftPart::Locations => draft.locations.as_slice(),
+        DraftPart::Ranges => other_lists(draft.version, draft.ranges.as_slice()),
+        DraftPart::Rnglists => five_lists(draft.version, draft.ranges.as_slice()),
+        DraftPart::Loc => other_lists(draft.version, draft.locations.as_slice()),
+        DraftPart::Loclists => five_lists(draft.version, draft.locations.as_slice()),
     }
+}
+
+/// What of the lists of a version stands in a section of version 5.
+fn five_lists(version: u16, lists: &[u8]) -> &[u8]
+    ensures { result.now ≡ in_five version [] lists.now }
+{
+    if version == LISTS_VERSION { lists } else { &[] }
+}
+
+/// What of them stands in one of the other sections of lists.
+fn other_lists(version: u16, lists: &[u8]) -> &[u8]
+    ensures { result.now ≡ in_others version [] lists.now }
+{
+    if version == LISTS_VERSION { &[] } else { lists }
 }
 
 /// Writes texts.

@@ -4,14 +4,16 @@ ghost use Rattle.std.specs.Prelude.{◌≡◌, ◌+◌, ◌≤◌, Ok, length};
 ghost use Rattle.std.specs.List.{flat_map};
 ghost use Rattle.ds_base.specs.Room.{Adds};
 ghost use Rattle.dwarf_types.specs.declared.graph.Graph.{Graph};
-ghost use Rattle.dwarf_types.specs.Encode.{aranges_section, encode, frame_section, loc_section, ranges_section};
+ghost use Rattle.dwarf_types.specs.Encode.{encode};
 ghost use Rattle.layout.specs.Laid.{IsMeasured, Measures};
-ghost use Rattle.section_write.specs.Halves.{back_bytes, front_bytes};
+ghost use Rattle.section_write.specs.Runs.{back_bytes, front_bytes, lists_bytes};
 
+use crate::lines::emit_tables;
+use crate::lists::emit_lists;
 use crate::parts::{DraftPart, add_texts, emit_parts};
-use ds_base::emit_bytes;
+use ds_base::{Part, emit_bytes};
 use emit_info::emit_units;
-use layout::{Layout, aranges, drafts, frames, texts};
+use layout::{Layout, aranges, drafts, frames, line_texts, section_size, texts};
 
 /// Writes the sections of a graph that was measured, one behind the other in the order of the output, into a room of
 /// their size.
@@ -21,10 +23,11 @@ pub fn emit_sections(layout: &Layout, room: &mut [u8])
     ensures { (graph : Graph) → Measures graph (Ok layout.now) → room.new ≡ flat_map (λ s. s.bytes) (encode graph) }
 {
     let at = emit_front(layout, room);
+    let at = emit_all_lists(layout, room, at);
     emit_back(layout, room, at);
 }
 
-/// Writes the sections up to that of the line tables.
+/// Writes the sections up to those of lists.
 fn emit_front(layout: &Layout, room: &mut [u8]) -> usize
     requires measured { IsMeasured layout.now }
     requires fits { (graph : Graph) → Measures graph (Ok layout.now) → length (front_bytes graph) ≤ length room.old }
@@ -33,17 +36,30 @@ fn emit_front(layout: &Layout, room: &mut [u8]) -> usize
     let at = emit_parts(DraftPart::Table, drafts(layout), room, 0);
     let at = emit_units(layout, room, at);
     let at = add_texts(texts(layout), room, at);
-    emit_parts(DraftPart::Lines, drafts(layout), room, at)
+    let at = emit_tables(layout, room, at);
+    add_texts(line_texts(layout), room, at)
 }
 
-/// Writes the sections behind that of the line tables.
+/// Writes the sections of lists.
+fn emit_all_lists(layout: &Layout, room: &mut [u8], at: usize) -> usize
+    requires measured { IsMeasured layout.now }
+    requires fits { (graph : Graph) → Measures graph (Ok layout.now) → at + length (lists_bytes graph) ≤ length room.old }
+    ensures { (graph : Graph) → Measures graph (Ok layout.now) → Adds room.old at (lists_bytes graph) room.new result }
+{
+    let rnglists = section_size(layout, Part::Rnglists);
+    let loclists = section_size(layout, Part::Loclists);
+    let at = emit_parts(DraftPart::Ranges, drafts(layout), room, at);
+    let at = emit_lists(DraftPart::Rnglists, rnglists, drafts(layout), room, at);
+    let at = emit_parts(DraftPart::Loc, drafts(layout), room, at);
+    emit_lists(DraftPart::Loclists, loclists, drafts(layout), room, at)
+}
+
+/// Writes the sections behind those of lists.
 fn emit_back(layout: &Layout, room: &mut [u8], at: usize) -> usize
     requires measured { IsMeasured layout.now }
     requires fits { (graph : Graph) → Measures graph (Ok layout.now) → at + length (back_bytes graph) ≤ length room.old }
     ensures { (graph : Graph) → Measures graph (Ok layout.now) → Adds room.old at (back_bytes graph) room.new result }
 {
-    let at = emit_parts(DraftPart::Ranges, drafts(layout), room, at);
-    let at = emit_parts(DraftPart::Locations, drafts(layout), room, at);
     let at = emit_bytes(room, at, aranges(layout));
     emit_bytes(room, at, frames(layout))
 }

@@ -4,7 +4,7 @@ use Rattle.ds_base.specs.Texts.{section_of}
 use Rattle.ds_base.proofs.Adding.{adds_more, adds_same}
 use Rattle.section_write.specs.Copied.{part_in}
 use Rattle.section_write.specs.declared.parts.DraftPart.TheVariants as kinds
-use Rattle.section_write.proofs.FromDrafts.{lines_are, tables_are, texts_are}
+use Rattle.section_write.proofs.FromDrafts.{line_texts_are, tables_are, texts_are}
 use Rattle.section_write.proofs.InTurn.{front_len}
 use Rattle.section_write.proofs.sections.emit_front.Goals as goal
 
@@ -30,20 +30,41 @@ add_texts-at-requires c =
     let fits = c.requires.fits m.graph m.measured in
     record { fits = omega (arith, tables, strings, fits, front_len m.graph, c.emit_parts-at.ensures.size, c.emit_parts-at.ensures.behind, units.size, units.behind) }
 
-pub emit_parts-requires : goal.emit_parts-requires
-emit_parts-requires c =
+pub emit_tables-at-requires-clause-fits : goal.emit_tables-at-requires-clause-fits
+emit_tables-at-requires-clause-fits c = λ graph measured.
+    let tables = ap length (ap (flat_map (part_in kinds.Table)) c.drafts.ensures ∙ tables_are graph c.args.layout.now measured) in
+    let units = c.emit_units-at.ensures graph measured in
+    let strings = ap length (ap section_of c.texts.ensures ∙ texts_are graph c.args.layout.now measured) in
+    let fits = c.requires.fits graph measured in
+    omega (
+      arith,
+      tables,
+      strings,
+      fits,
+      front_len graph,
+      c.emit_parts-at.ensures.size,
+      c.emit_parts-at.ensures.behind,
+      units.size,
+      units.behind,
+      c.add_texts-at.ensures.size,
+      c.add_texts-at.ensures.behind,
+    )
+
+pub add_texts-requires : goal.add_texts-requires
+add_texts-requires c =
     let m = c.requires.measured in
     let tables = ap length (ap (flat_map (part_in kinds.Table)) c.drafts.ensures ∙ tables_are m.graph c.args.layout.now m.measured) in
     let units = c.emit_units-at.ensures m.graph m.measured in
     let strings = ap length (ap section_of c.texts.ensures ∙ texts_are m.graph c.args.layout.now m.measured) in
-    let lines = ap length (ap (flat_map (part_in kinds.Lines)) c.drafts-2.ensures ∙ lines_are m.graph c.args.layout.now m.measured) in
+    let lines = c.emit_tables-at.ensures m.graph m.measured in
+    let names = ap length (ap section_of c.line_texts.ensures ∙ line_texts_are m.graph c.args.layout.now m.measured) in
     let fits = c.requires.fits m.graph m.measured in
     record {
       fits = omega (
         arith,
         tables,
         strings,
-        lines,
+        names,
         fits,
         front_len m.graph,
         c.emit_parts-at.ensures.size,
@@ -52,6 +73,8 @@ emit_parts-requires c =
         units.behind,
         c.add_texts-at.ensures.size,
         c.add_texts-at.ensures.behind,
+        lines.size,
+        lines.behind,
       );
     }
 
@@ -59,7 +82,8 @@ pub returns : goal.returns
 returns c = λ graph measured.
     let tables = ap (flat_map (part_in kinds.Table)) c.drafts.ensures ∙ tables_are graph c.args.layout.now measured in
     let strings = ap section_of c.texts.ensures ∙ texts_are graph c.args.layout.now measured in
-    let lines = ap (flat_map (part_in kinds.Lines)) c.drafts-2.ensures ∙ lines_are graph c.args.layout.now measured in
+    let names = ap section_of c.line_texts.ensures ∙ line_texts_are graph c.args.layout.now measured in
     adds_more _ _ _ _ _ _ _ _ (adds_same _ _ _ _ _ _ tables c.emit_parts-at.ensures)
     (adds_more _ _ _ _ _ _ _ _ (c.emit_units-at.ensures graph measured)
-    (adds_more _ _ _ _ _ _ _ _ (adds_same _ _ _ _ _ _ strings c.add_texts-at.ensures) (adds_same _ _ _ _ _ _ lines c.emit_parts.ensures)))
+    (adds_more _ _ _ _ _ _ _ _ (adds_same _ _ _ _ _ _ strings c.add_texts-at.ensures)
+    (adds_more _ _ _ _ _ _ _ _ (c.emit_tables-at.ensures graph measured) (adds_same _ _ _ _ _ _ names c.add_texts.ensures))))

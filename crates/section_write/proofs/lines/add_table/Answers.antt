@@ -1,0 +1,12 @@
+use Rattle.std.proofs.Common.{◌+◌, ◌∙◌, ap, sym}
+use Rattle.emit_info.proofs.Drafts.{some_draft}
+use Rattle.emit_info.proofs.SubRooms.{part_adds}
+use Rattle.section_write.specs.Tables.{table_in}
+use Rattle.section_write.proofs.LineTables.{table_size}
+use Rattle.section_write.proofs.lines.add_table.Goals as goal
+
+pub returns : goal.returns
+returns c = λ graph it measured here.
+    let draft = some_draft c.args.layout.now.drafts c.args.unit c.requires.within in
+    let size = c.requires.size draft.0 draft.1 ∙ sym (table_size graph c.args.layout.now c.args.unit it draft.0 measured here draft.1) in
+    part_adds c.args.room.now c.emit_table.new.room (table_in graph it) c.args.at (c.args.at + c.args.size) c.requires.fits (ap (λ n. c.args.at + n) size) (c.emit_table.ensures graph it measured here)
