@@ -78,15 +78,15 @@ same_node image seen all files origin same = ap (option_map (node_by origin)) sa
       attrs = attrs_written (image source.object) (Some (number_among files source.seen source.entry.unit)) source.entry;
     }
 
-pub same_unit : (image : ℕ → ℕ → Option Target) (seen all : List Analysis) (origins : List Origin) → All (λ origin. source_of seen origin ≡ source_of all origin) origins → pool_unit image seen origins ≡ pool_unit image all origins
-same_unit image seen all origins same =
+pub same_unit : (image : ℕ → ℕ → Option Target) (seen all : List Analysis) (version : ℕ) (origins : List Origin) → All (λ origin. source_of seen origin ≡ source_of all origin) origins → pool_unit image seen version origins ≡ pool_unit image all version origins
+same_unit image seen all version origins same =
     ap (λ (files : List SourceFile). unit_by (filter_map (pool_node image seen files) origins) files) (same_files seen all origins same)
     ∙ ap (λ (nodes : List Node). unit_by nodes (files_of all origins))
     (filter_map_alike (pool_node image seen (files_of all origins)) (pool_node image all (files_of all origins)) origins
     (λ k d lt. same_node image seen all (files_of all origins) (get_or origins k d) (same k d lt)))
   where
     unit_by : List Node → List SourceFile → OutUnit
-    unit_by nodes files = record { version = 4; nodes = pool_root_node ∷ nodes; lines = Some (table_of files); ranges = [] }
+    unit_by nodes files = record { version = version; nodes = pool_root_node ∷ nodes; lines = Some (table_of version files); ranges = [] }
 
 -- ---- the unit as it is read
 
@@ -122,7 +122,8 @@ module _ (seen : List Analysis) (shape : Shape) (n : ℕ) (nodes : List Origin) 
         slice_get_within source.seen.units source.entry.unit entry.unit entry.its_unit,
       )
 
-  pub done : (images : List (List (Option Target))) (it : OutUnit) → images ≡ shape.images → it ≡ pool_unit (image_in images) seen nodes → IsUnitIn seen shape n it
+  pub done : (images : List (List (Option Target))) (it : OutUnit) → images ≡ shape.images → it ≡ pool_unit (image_in images) seen r.unit.version nodes → IsUnitIn seen shape n it
   done images it rows made all is there =
       (first all is).in_graph
-      ∙ ap (λ (unit : OutUnit). Some unit) (ap (pool_unit (image_of shape) all) (sym r.same) ∙ sym (same_unit (image_of shape) seen all nodes (sources_there all there)) ∙ ap (λ (rows : List (List (Option Target))). pool_unit (image_in rows) seen nodes) (sym rows) ∙ sym made)
+      ∙ ap (λ (unit : OutUnit). Some unit) (ap (pool_unit (image_of shape) all r.unit.version) (sym r.same) ∙ sym (same_unit (image_of shape) seen all r.unit.version nodes (sources_there all there))
+      ∙ ap (λ (rows : List (List (Option Target))). pool_unit (image_in rows) seen r.unit.version nodes) (sym rows) ∙ sym made)

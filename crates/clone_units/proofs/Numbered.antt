@@ -1,5 +1,5 @@
 -- The numbers of a unit's source files among those of the unit of merged entries, as they are read of a table.
-use Rattle.std.proofs.Common.{◌≡◌, ℕ, zero, suc, ◌-◌, Bool, false, cond, eqb, List, [], slice_get, Option, Some, None, refl, sym, ap, ◌∙◌, arith}
+use Rattle.std.proofs.Common.{◌≡◌, ℕ, zero, suc, ◌-◌, ◌==◌, Bool, true, false, cond, eqb, List, [], ◌∷◌, ◌++◌, slice_get, Option, Some, None, refl, sym, ap, ◌∙◌, arith}
 use Rattle.std.proofs.Math.Path.{fun_ext}
 use Rattle.std.specs.Option.{option_and_then, option_map, option_map_or}
 use Rattle.std.proofs.lemmas.Bool.{ne_eqb}
@@ -11,8 +11,8 @@ use Rattle.dwarf_types.specs.declared.entry.InUnit.{InUnit}
 use Rattle.dwarf_types.specs.declared.graph.Target.{Target}
 use Rattle.dwarf_types.specs.declared.lines.FileName.{FileName}
 use Rattle.dwarf_types.specs.declared.lines.OutLines.{OutLines}
-use Rattle.link_graph.specs.PoolFiles.{SourceFile, listed_file, number_among}
-use Rattle.clone_units.specs.Sourced.{image_in, number_of, numbers_in, numbers_listed, numbers_of_all, numbers_of_unit}
+use Rattle.link_graph.specs.PoolFiles.{SourceFile, file_at, listed_file, number_among, number_of, place_of_number}
+use Rattle.clone_units.specs.Sourced.{image_in, numbers_in, numbers_listed, numbers_of_all, numbers_of_unit}
 
 -- ---- one number
 
@@ -21,24 +21,30 @@ listed : (files : List SourceFile) (seen : Analysis) (unit : InUnit) (lines : Ou
 listed files seen unit lines m None = refl
 listed files seen unit lines m (Some file) = refl
 
--- behind number 0
-behind_zero : (files : List SourceFile) (seen : Analysis) (unit : InUnit) (lines : Option OutLines) (m : ℕ)
+-- at a place of the table
+listed_at : (files : List SourceFile) (seen : Analysis) (unit : InUnit) (lines : Option OutLines) (m : ℕ)
     → option_and_then (λ (number : Option ℕ). number) (slice_get (option_map_or (numbers_listed files seen unit) lines []) m)
     ≡ option_and_then (number_of files) (option_and_then (λ lines. option_map (listed_file seen unit lines) (slice_get lines.files m)) lines)
-behind_zero files seen unit None m = refl
-behind_zero files seen unit (Some lines) m =
+listed_at files seen unit None m = refl
+listed_at files seen unit (Some lines) m =
     ap (option_and_then (λ (number : Option ℕ). number)) (slice_get-map (λ (file : FileName). number_of files (listed_file seen unit lines file)) lines.files m) ∙ listed files seen unit lines m (slice_get lines.files m)
 
-pub number_is : (files : List SourceFile) (seen : Analysis) (u : ℕ) (unit : InUnit) (n : ℕ) → slice_get seen.units u ≡ Some unit → number_in (numbers_of_unit files seen unit) n ≡ number_among files seen u n
-number_is files seen u unit zero its = refl
-number_is files seen u unit (suc m) its =
+-- at a number, by how a version counts
+by_version : (files : List SourceFile) (seen : Analysis) (unit : InUnit) (five : Bool) (n : ℕ)
+    → number_in (cond five [] (Some 0 ∷ []) ++ option_map_or (numbers_listed files seen unit) unit.lines []) n
+    ≡ option_map_or (λ i. option_and_then (number_of files) (file_at seen unit i)) (cond five (Some n) (cond (eqb n 0) None (Some (n - 1)))) (Some 0)
+by_version files seen unit true n = listed_at files seen unit unit.lines n
+by_version files seen unit false zero = refl
+by_version files seen unit false (suc m) =
+    let at : ℕ → Option ℕ = λ i. option_and_then (number_of files) (file_at seen unit i) in
     let less : suc m - 1 ≡ m = omega arith in
     let some : eqb (suc m) 0 ≡ false = ne_eqb (suc m) 0 (omega arith) in
-    behind_zero files seen unit unit.lines m
-    ∙ ap (λ (k : ℕ). option_and_then (number_of files) (option_and_then (λ lines. option_map (listed_file seen unit lines) (slice_get lines.files k)) unit.lines)) (sym less)
-    ∙ ap (λ (found : Option InUnit). option_and_then (number_of files) (option_and_then (λ unit. option_and_then (λ lines. option_map (listed_file seen unit lines) (slice_get lines.files (suc m - 1))) unit.lines) found)) (sym its)
-    ∙ ap (λ (none : Bool). cond none (Some 0) (option_and_then (number_of files) (cond none None
-    (option_and_then (λ unit. option_and_then (λ lines. option_map (listed_file seen unit lines) (slice_get lines.files (suc m - 1))) unit.lines) (slice_get seen.units u))))) (sym some)
+    listed_at files seen unit unit.lines m ∙ ap at (sym less) ∙ ap (λ (none : Bool). option_map_or at (cond none None (Some (suc m - 1))) (Some 0)) (sym some)
+
+pub number_is : (files : List SourceFile) (seen : Analysis) (u : ℕ) (unit : InUnit) (n : ℕ) → slice_get seen.units u ≡ Some unit → number_in (numbers_of_unit files seen unit) n ≡ number_among files seen u n
+number_is files seen u unit n its =
+    by_version files seen unit (unit.version == 5) n
+    ∙ ap (option_and_then (λ (unit : InUnit). option_map_or (λ i. option_and_then (number_of files) (file_at seen unit i)) (place_of_number unit.version n) (Some 0))) (sym its)
 
 -- ---- of all units
 

@@ -14,18 +14,14 @@ use Rattle.dwarf_types.specs.declared.shape.ShapeUnit.{ShapeUnit}
 use Rattle.dwarf_types.specs.LinkedGraph.{unit_written, written}
 use Rattle.dwarf_types.specs.LinkedShape.{objects_in, origin_of, shape_in, unit_shape}
 use Rattle.dwarf_types.specs.LinkedUnits.{Object, Source, kept_entries, sources}
-use Rattle.link_graph.specs.Graph.{IsPool, IsShape, graph_in, image_of, pool_in, pool_of, pool_unit, pools}
+use Rattle.link_graph.specs.Graph.{IsPool, IsShape, graph_in, image_of, pool_in, pool_of, pool_unit, pools, units_in}
 use Rattle.link_graph.proofs.Gathered.{as_many}
 use Rattle.clone_units.proofs.Sources.{unit_from}
 
 -- ---- units of objects
 
+-- in the graph
 module _ (all : List Analysis) (shape : Shape) where
-  -- in a shape
-  abbrev pub shaped_units : List ShapeUnit
-  shaped_units = filter_map (shape_in (objects_in all shape)) (sources (objects_in all shape))
-
-  -- in the graph
   abbrev pub written_units : List OutUnit
   written_units = filter_map (written (image_of shape) (objects_in all shape)) (sources (objects_in all shape))
 
@@ -33,31 +29,31 @@ module _ (all : List Analysis) (shape : Shape) where
 pub record IsBehind (all : List Analysis) (shape : Shape) (n : ℕ) (unit : ShapeUnit) : Type 0 where
   pub place : ℕ
   pub behind : n ≡ length (pools all shape) + place
-  pub at : slice_get (shaped_units all shape) place ≡ Some unit
+  pub at : slice_get (units_in all shape) place ≡ Some unit
   pub in_graph : slice_get (graph_in all shape).units n ≡ slice_get (written_units all shape) place
 
 -- the unit of merged entries
 pub record IsFirst (all : List Analysis) (shape : Shape) (n : ℕ) (unit : ShapeUnit) : Type 0 where
   pub is_first : n ≡ 0
   pub pooled : IsPool all shape unit
-  pub in_graph : slice_get (graph_in all shape).units n ≡ Some (pool_unit (image_of shape) all unit.nodes)
+  pub in_graph : slice_get (graph_in all shape).units n ≡ Some (pool_unit (image_of shape) all unit.version unit.nodes)
 
 -- ---- the nodes of a unit of an object name it
 
-none_pooled : (unit : ShapeUnit) (i : ℕ) (o : Object) (u : ℕ) (kept : List (ℕ × Entry)) → option_and_then (λ (root : Origin). cond (eqb root.object 0) (Some unit.nodes) None) (slice_get (map (origin_of i o u) kept) 0) ≡ None
+none_pooled : (unit : ShapeUnit) (i : ℕ) (o : Object) (u : ℕ) (kept : List (ℕ × Entry)) → option_and_then (λ (root : Origin). cond (eqb root.object 0) (Some unit) None) (slice_get (map (origin_of i o u) kept) 0) ≡ None
 none_pooled unit i o u [] = refl
-none_pooled unit i o u (e ∷ kept) = ap (λ (b : Bool). cond b (Some unit.nodes) None) (ne_eqb (i + 1) 0 (omega arith))
+none_pooled unit i o u (e ∷ kept) = ap (λ (b : Bool). cond b (Some unit) None) (ne_eqb (i + 1) 0 (omega arith))
 
-no_pool : (all : List Analysis) (shape : Shape) (m : ℕ) (unit : ShapeUnit) → slice_get (shaped_units all shape) m ≡ Some unit → pool_in unit ≡ None
+no_pool : (all : List Analysis) (shape : Shape) (m : ℕ) (unit : ShapeUnit) → slice_get (units_in all shape) m ≡ Some unit → pool_in unit ≡ None
 no_pool all shape m unit at =
     let from = unit_from (image_of shape) (objects_in all shape) m unit at in
     let i = from.source.object in
     let o = from.is.object in
     let u = from.source.unit in
-    ap (λ (os : List Origin). option_and_then (λ (root : Origin). cond (eqb root.object 0) (Some unit.nodes) None) (slice_get os 0)) (ap (λ (x : ShapeUnit). x.nodes) from.shape_is)
+    ap (λ (os : List Origin). option_and_then (λ (root : Origin). cond (eqb root.object 0) (Some unit) None) (slice_get os 0)) (ap (λ (x : ShapeUnit). x.nodes) from.shape_is)
     ∙ none_pooled unit i o u (kept_entries o u)
 
-no_pool_first : (all : List Analysis) (shape : Shape) (found : Option ShapeUnit) → slice_get (shaped_units all shape) 0 ≡ found → option_and_then pool_in found ≡ None
+no_pool_first : (all : List Analysis) (shape : Shape) (found : Option ShapeUnit) → slice_get (units_in all shape) 0 ≡ found → option_and_then pool_in found ≡ None
 no_pool_first all shape None e = refl
 no_pool_first all shape (Some unit) e = no_pool all shape 0 unit e
 
@@ -72,47 +68,47 @@ written_some image (Some o) s = mapped_some (unit_written image o s.unit) (unit_
 
 -- ---- where a unit stands
 
-pool_nodes : (unit : ShapeUnit) (root : Origin) (below : List Origin) → unit.nodes ≡ root ∷ below → root.object ≡ 0 → pool_in unit ≡ Some unit.nodes
-pool_nodes unit root below nodes is =
-    ap (λ (os : List Origin). option_and_then (λ (root : Origin). cond (eqb root.object 0) (Some unit.nodes) None) (slice_get os 0)) nodes
-    ∙ ap (λ (k : ℕ). cond (eqb k 0) (Some unit.nodes) None) is
+pool_there : (unit : ShapeUnit) (root : Origin) (below : List Origin) → unit.nodes ≡ root ∷ below → root.object ≡ 0 → pool_in unit ≡ Some unit
+pool_there unit root below nodes is =
+    ap (λ (os : List Origin). option_and_then (λ (root : Origin). cond (eqb root.object 0) (Some unit) None) (slice_get os 0)) nodes
+    ∙ ap (λ (k : ℕ). cond (eqb k 0) (Some unit) None) is
 
 module _ (all : List Analysis) (shape : Shape) (is : IsShape all shape) where
-  abbrev pools_by : Option (List Origin) → List OutUnit
-  pools_by pool = option_map_or (λ origins. pool_unit (image_of shape) all origins ∷ []) pool []
+  abbrev pools_by : Option ShapeUnit → List OutUnit
+  pools_by pool = option_map_or (λ unit. pool_unit (image_of shape) all unit.version unit.nodes ∷ []) pool []
 
-  abbrev graph_by : Option (List Origin) → List OutUnit
+  abbrev graph_by : Option ShapeUnit → List OutUnit
   graph_by pool = pools_by pool ++ written_units all shape
 
-  units_are : (pool : List ShapeUnit) → is.pool ≡ pool → shape.units ≡ pool ++ shaped_units all shape
-  units_are pool e = is.units ∙ ap (λ (us : List ShapeUnit). us ++ shaped_units all shape) e
+  units_are : (pool : List ShapeUnit) → is.pool ≡ pool → shape.units ≡ pool ++ units_in all shape
+  units_are pool e = is.units ∙ ap (λ (us : List ShapeUnit). us ++ units_in all shape) e
 
   no_pool_there : is.pool ≡ [] → pool_of shape ≡ None
-  no_pool_there none = ap (λ (us : List ShapeUnit). option_and_then pool_in (slice_get us 0)) (units_are [] none) ∙ no_pool_first all shape (slice_get (shaped_units all shape) 0) refl
+  no_pool_there none = ap (λ (us : List ShapeUnit). option_and_then pool_in (slice_get us 0)) (units_are [] none) ∙ no_pool_first all shape (slice_get (units_in all shape) 0) refl
 
   behind_none : is.pool ≡ [] → (n : ℕ) (unit : ShapeUnit) → slice_get shape.units n ≡ Some unit → IsBehind all shape n unit
   behind_none none n unit at =
       let no = no_pool_there none in
       record {
         place = n;
-        behind = omega (arith, ap (λ (pool : Option (List Origin)). length (pools_by pool)) no);
+        behind = omega (arith, ap (λ (pool : Option ShapeUnit). length (pools_by pool)) no);
         at = ap (λ (us : List ShapeUnit). slice_get us n) (sym (units_are [] none)) ∙ at;
-        in_graph = ap (λ (pool : Option (List Origin)). slice_get (graph_by pool) n) no;
+        in_graph = ap (λ (pool : Option ShapeUnit). slice_get (graph_by pool) n) no;
       }
 
   module _ (first : ShapeUnit) (one : is.pool ≡ first ∷ []) (pooled : IsPool all shape first) where
-    the_pool : pool_of shape ≡ Some first.nodes
-    the_pool = ap (λ (us : List ShapeUnit). option_and_then pool_in (slice_get us 0)) (units_are (first ∷ []) one) ∙ pool_nodes first pooled.root pooled.below pooled.nodes pooled.is_root
+    the_pool : pool_of shape ≡ Some first
+    the_pool = ap (λ (us : List ShapeUnit). option_and_then pool_in (slice_get us 0)) (units_are (first ∷ []) one) ∙ pool_there first pooled.root pooled.below pooled.nodes pooled.is_root
 
     behind_one : (n : ℕ) (unit : ShapeUnit) → slice_get shape.units n ≡ Some unit → IsBehind all shape n unit ⊎ IsFirst all shape n unit
     behind_one zero unit at =
         let same : first ≡ unit = same_Some first unit (ap (λ (us : List ShapeUnit). slice_get us 0) (sym (units_are (first ∷ []) one)) ∙ at) in
-        inr (subst (IsFirst all shape 0) same (record { is_first = refl; pooled = pooled; in_graph = ap (λ (pool : Option (List Origin)). slice_get (graph_by pool) 0) the_pool }))
+        inr (subst (IsFirst all shape 0) same (record { is_first = refl; pooled = pooled; in_graph = ap (λ (pool : Option ShapeUnit). slice_get (graph_by pool) 0) the_pool }))
     behind_one (suc m) unit at = inl (record {
       place = m;
-      behind = omega (arith, ap (λ (pool : Option (List Origin)). length (pools_by pool)) the_pool);
+      behind = omega (arith, ap (λ (pool : Option ShapeUnit). length (pools_by pool)) the_pool);
       at = ap (λ (us : List ShapeUnit). slice_get us (suc m)) (sym (units_are (first ∷ []) one)) ∙ at;
-      in_graph = ap (λ (pool : Option (List Origin)). slice_get (graph_by pool) (suc m)) the_pool;
+      in_graph = ap (λ (pool : Option ShapeUnit). slice_get (graph_by pool) (suc m)) the_pool;
     })
 
   pub placed : (n : ℕ) (unit : ShapeUnit) → slice_get shape.units n ≡ Some unit → IsBehind all shape n unit ⊎ IsFirst all shape n unit
@@ -120,8 +116,8 @@ module _ (all : List Analysis) (shape : Shape) (is : IsShape all shape) where
 
   pools_many : length (pools all shape) ≡ length is.pool
   pools_many = elim is.is_pool [
-    | inl none ↦ ap (λ (pool : Option (List Origin)). length (pools_by pool)) (no_pool_there none) ∙ sym (ap length none)
-    | inr one ↦ ap (λ (pool : Option (List Origin)). length (pools_by pool)) (the_pool one.0 one.1 one.2) ∙ sym (ap length one.1)
+    | inl none ↦ ap (λ (pool : Option ShapeUnit). length (pools_by pool)) (no_pool_there none) ∙ sym (ap length none)
+    | inr one ↦ ap (λ (pool : Option ShapeUnit). length (pools_by pool)) (the_pool one.0 one.1 one.2) ∙ sym (ap length one.1)
   ]
 
   -- each unit of a shape is one of its graph
@@ -129,4 +125,4 @@ module _ (all : List Analysis) (shape : Shape) (is : IsShape all shape) where
   units_many =
       let objects = objects_in all shape in
       let many = as_many (written (image_of shape) objects) (shape_in objects) (sources objects) (λ s. written_some (image_of shape s.object) (slice_get objects s.object) s) in
-      omega (arith, length-append (pools all shape) (written_units all shape), pools_many, many, ap length is.units, length-append is.pool (shaped_units all shape))
+      omega (arith, length-append (pools all shape) (written_units all shape), pools_many, many, ap length is.units, length-append is.pool (units_in all shape))

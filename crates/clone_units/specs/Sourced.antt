@@ -1,7 +1,6 @@
 -- The entries of merged nodes, and the source files that they name: where names stand, and how files are numbered.
-use Rattle.std.specs.Prelude.{◌≡◌, ◌<◌, ℕ, ◌+◌, List, [], ◌∷◌, map, length, slice_get, Option, Some, None, if◌then◌else◌, ◌==◌}
-use Rattle.std.specs.List.{position}
-use Rattle.std.specs.Option.{option_and_then, option_map, option_map_or}
+use Rattle.std.specs.Prelude.{◌≡◌, ◌<◌, ℕ, List, [], ◌∷◌, ◌++◌, map, length, slice_get, Option, Some, None, if◌then◌else◌, ◌==◌}
+use Rattle.std.specs.Option.{option_and_then, option_map_or}
 use denote.Ref.{Bor}
 use Rattle.indexmap.specs.IndexSet.{IndexSet}
 use Rattle.clone_units.specs.declared.source_files.FileRef.{FileRef}
@@ -13,7 +12,7 @@ use Rattle.dwarf_types.specs.declared.graph.Target.{Target}
 use Rattle.dwarf_types.specs.declared.lines.OutLines.{OutLines}
 use Rattle.dwarf_types.specs.declared.shape.Origin.{Origin}
 use Rattle.link_graph.specs.Graph.{Source, source_of}
-use Rattle.link_graph.specs.PoolFiles.{SourceFile, files_named, listed_file, same_file}
+use Rattle.link_graph.specs.PoolFiles.{SourceFile, files_named, listed_file, number_of}
 
 -- ---- what is borrowed, as values
 
@@ -40,22 +39,18 @@ uses_of all origin = option_map_or (λ source. files_named source.seen source.en
 abbrev pub some_dir : SourceFile → Option (List ℕ)
 some_dir file = if length file.dir == 0 then None else Some file.dir
 
--- the file at a place of a unit's table, counted from 0
-abbrev pub file_at : Analysis → InUnit → ℕ → Option SourceFile
-file_at seen unit i = option_and_then (λ lines. option_map (listed_file seen unit lines) (slice_get lines.files i)) unit.lines
-
 -- ---- their numbers
-
--- the number of a file among others, which are counted from 1
-abbrev pub number_of : List SourceFile → SourceFile → Option ℕ
-number_of files file = option_map (λ i. i + 1) (position (same_file file) files)
 
 abbrev pub numbers_listed : List SourceFile → Analysis → InUnit → OutLines → List (Option ℕ)
 numbers_listed files seen unit lines = map (λ file. number_of files (listed_file seen unit lines file)) lines.files
 
+-- Before the files of a unit of version 4, which are counted from 1, stands number 0, which names none; in version 5 files are counted from 0.
+abbrev pub numbers_before : ℕ → List (Option ℕ)
+numbers_before version = if version == 5 then [] else Some 0 ∷ []
+
 -- at each number that a unit has, the number of that file among others
 abbrev pub numbers_of_unit : List SourceFile → Analysis → InUnit → List (Option ℕ)
-numbers_of_unit files seen unit = Some 0 ∷ option_map_or (numbers_listed files seen unit) unit.lines []
+numbers_of_unit files seen unit = numbers_before unit.version ++ option_map_or (numbers_listed files seen unit) unit.lines []
 
 abbrev pub numbers_in : List SourceFile → Analysis → List (List (Option ℕ))
 numbers_in files seen = map (numbers_of_unit files seen) seen.units

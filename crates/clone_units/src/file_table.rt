@@ -1,27 +1,66 @@
 //! The line table of the pool's unit, which has files and no rows.
 
-ghost use Rattle.std.specs.Prelude.{◌≡◌, map, OnOk, IfOk};
+ghost use Rattle.std.specs.Prelude.{◌≡◌, ◌++◌, map, take, OnOk, IfOk};
 ghost use Rattle.std.specs.Str.{bytes_eq};
 ghost use Rattle.clone_units.specs.Sourced.{dirs_seen, file_seen, files_seen};
 ghost use Rattle.indexmap.specs.IndexSet.{insert_key};
-ghost use Rattle.link_graph.specs.PoolFiles.{directories, file_written, number_of_directory, table_of};
+ghost use Rattle.link_graph.specs.PoolFiles.{directories, file_written, first_directory, first_file, number_of_directory, table_of};
 
-use crate::source_files::FileRef;
+use crate::source_files::{DWARF_5, FileRef};
 use ds_base::{Bytes, List, NoMemory};
 use dwarf_types::{FileName, OutLines};
 use indexmap::IndexSet;
 use std::alloc::Global;
 
-/// The table of some files: their directories by first use, and each file with the number of its directory.
-pub(crate) fn table_of(alloc: Global, files: &IndexSet<FileRef<'_>>) -> Result<OutLines, NoMemory>
-    ensures { IfOk result (λ lines. lines ≡ table_of (files_seen files.now)) }
+/// The table of some files in a version: their directories by first use, and each file with the number of its directory.
+///
+/// In version 5 both are counted from 0, so the empty directory and a copy of the first file stand before them.
+pub(crate) fn table_of(
+    alloc: Global,
+    version: u16,
+    files: &IndexSet<FileRef<'_>>,
+) -> Result<OutLines, NoMemory>
+    ensures { IfOk result (λ lines. lines ≡ table_of version (files_seen files.now)) }
 {
     let dirs = directories(alloc, files)?;
     Ok(OutLines {
-        dirs: texts_of(alloc, &dirs)?,
-        files: files_written(alloc, &dirs, files)?,
+        dirs: dirs_written(alloc, version, &dirs)?,
+        files: files_written(alloc, version, &dirs, files)?,
         sequences: List::new(alloc),
     })
+}
+
+/// The directories as they are written in a version.
+fn dirs_written(
+    alloc: Global,
+    version: u16,
+    dirs: &IndexSet<&[u8]>,
+) -> Result<List<Bytes>, NoMemory>
+    ensures { IfOk result (λ written. written ≡ first_directory version ++ dirs_seen dirs.now) }
+{
+    let mut written = List::new(alloc);
+    if version == DWARF_5 {
+        written.push(Bytes::new(alloc))?;
+    }
+    add_texts(alloc, &mut written, dirs)?;
+    Ok(written)
+}
+
+/// The files as they are written in a version.
+fn files_written<'a>(
+    alloc: Global,
+    version: u16,
+    dirs: &IndexSet<&'a [u8]>,
+    files: &IndexSet<FileRef<'a>>,
+) -> Result<List<FileName>, NoMemory>
+    ensures { IfOk result (λ written. written ≡ map (file_written (dirs_seen dirs.now)) (first_file version (files_seen files.now) ++ files_seen files.now)) }
+{
+    let mut written = List::new(alloc);
+    if version == DWARF_5 {
+        add_first(alloc, &mut written, dirs, files)?;
+    }
+    add_files(alloc, &mut written, dirs, files)?;
+    Ok(written)
 }
 
 /// The directories of files by first use, each once, but for the empty one.
@@ -48,30 +87,44 @@ fn add_dir<'a>(dirs: &mut IndexSet<&'a [u8]>, dir: &'a [u8]) -> Result<(), NoMem
     Ok(())
 }
 
-/// The names of directories.
-fn texts_of(alloc: Global, dirs: &IndexSet<&[u8]>) -> Result<List<Bytes>, NoMemory>
-    ensures { IfOk result (λ texts. texts ≡ dirs_seen dirs.now) }
+/// Puts the names of directories last.
+fn add_texts(alloc: Global, texts: &mut List<Bytes>, dirs: &IndexSet<&[u8]>) -> Result<(), NoMemory>
+    ensures { OnOk result (texts.new ≡ texts.old ++ dirs_seen dirs.now) }
 {
-    let mut texts = List::with_capacity(alloc, dirs.len())?;
     for dir in dirs.as_slice() {
         texts.push(Bytes::from_slice(alloc, dir)?)?;
     }
-    Ok(texts)
+    Ok(())
 }
 
-/// The files as they are written.
-fn files_written<'a>(
+/// Puts the first file last, if there is one.
+fn add_first<'a>(
     alloc: Global,
+    written: &mut List<FileName>,
     dirs: &IndexSet<&'a [u8]>,
     files: &IndexSet<FileRef<'a>>,
-) -> Result<List<FileName>, NoMemory>
-    ensures { IfOk result (λ written. written ≡ map (file_written (dirs_seen dirs.now)) (files_seen files.now)) }
+) -> Result<(), NoMemory>
+    ensures { OnOk result (written.new ≡ written.old ++ map (file_written (dirs_seen dirs.now)) (take 1 (files_seen files.now))) }
 {
-    let mut written = List::with_capacity(alloc, files.len())?;
+    if let Some(file) = files.as_slice().first() {
+        written.push(file_written(alloc, dirs, *file)?)?;
+    }
+    Ok(())
+}
+
+/// Puts files last.
+fn add_files<'a>(
+    alloc: Global,
+    written: &mut List<FileName>,
+    dirs: &IndexSet<&'a [u8]>,
+    files: &IndexSet<FileRef<'a>>,
+) -> Result<(), NoMemory>
+    ensures { OnOk result (written.new ≡ written.old ++ map (file_written (dirs_seen dirs.now)) (files_seen files.now)) }
+{
     for file in files.as_slice() {
         written.push(file_written(alloc, dirs, *file)?)?;
     }
-    Ok(written)
+    Ok(())
 }
 
 /// A file as it is written.

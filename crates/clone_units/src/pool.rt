@@ -21,22 +21,23 @@ use dwarf_types::{Analysis, Node, Origin, OutAttr, OutUnit, OutValue, Target};
 use indexmap::IndexSet;
 use std::alloc::Global;
 
-/// The unit of merged entries: its root, and behind it the nodes that stand for entries.
+/// The unit of merged entries in a version: its root, and behind it the nodes that stand for entries.
 pub(crate) fn pool_unit(
     alloc: Global,
     seen: &[Analysis],
     images: &[List<Option<Target>>],
+    version: u16,
     origins: &[Origin],
 ) -> Result<OutUnit, NoMemory>
     requires { All (IsPooled seen.now images.now) origins.now }
-    ensures { IfOk result (λ it. it ≡ pool_unit (image_in images.now) seen.now origins.now) }
+    ensures { IfOk result (λ it. it ≡ pool_unit (image_in images.now) seen.now version origins.now) }
 {
     let files = files_of(alloc, seen, origins)?;
     let nodes = nodes_of_pool(alloc, seen, images, &files, origins)?;
     Ok(OutUnit {
-        version: 4,
+        version,
         nodes,
-        lines: Some(table_of(alloc, &files)?),
+        lines: Some(table_of(alloc, version, &files)?),
         ranges: List::new(alloc),
     })
 }

@@ -2,13 +2,13 @@
 
 ghost use Rattle.std.specs.Prelude.{◌≡◌, ◌==◌, [], None, if◌then◌else◌, fold, slice_get, OnOk, IfOk};
 ghost use Rattle.std.specs.List.{flat_map};
-ghost use Rattle.std.specs.Option.{option_and_then, option_map, option_map_or, unwrap_or};
-ghost use Rattle.clone_units.specs.Sourced.{file_at, file_seen, files_seen, number_of, uses_of};
+ghost use Rattle.std.specs.Option.{option_and_then, option_map, option_map_or};
+ghost use Rattle.clone_units.specs.Sourced.{file_seen, files_seen, uses_of};
 ghost use Rattle.dwarf_types.specs.Moves.{value_of};
 ghost use Rattle.dwarf_types.specs.Seen.{attr_seen, value_seen};
 ghost use Rattle.indexmap.specs.IndexSet.{insert_all, insert_key};
 ghost use Rattle.link_graph.specs.Graph.{files_of};
-ghost use Rattle.link_graph.specs.PoolFiles.{directory_in, directory_of_unit, file_in, file_named, files_named, listed_file, same_file, text_or_empty};
+ghost use Rattle.link_graph.specs.PoolFiles.{directory_in, directory_of_unit, file_at, file_in, file_named, files_named, listed_directory, listed_file, number_of, place_of_number, same_file, text_or_empty};
 
 use crate::entry_sources::source_of;
 use ds_base::NoMemory;
@@ -16,6 +16,9 @@ use ds_base::dwarf::{DW_AT_comp_dir, DW_AT_decl_file};
 use dwarf_types::{Analysis, AttrRef, EntryRef, FileName, InUnit, Origin, OutLines, ValueRef};
 use indexmap::IndexSet;
 use std::alloc::Global;
+
+/// The version of DWARF in whose line tables directories and files are counted from 0.
+pub(crate) const DWARF_5: u16 = 5;
 
 /// A source file, by the names of its directory and of itself where they stand.
 #[derive(Clone, Copy, PartialEq, Eq, Hash)]
@@ -103,18 +106,30 @@ fn file_named<'a>(seen: &'a Analysis, u: u32, attr: &AttrRef<'a>) -> Option<File
     }
 }
 
-/// The file of a number in the table of unit `u`. Files are counted from 1.
+/// The file of a number in the table of unit `u`.
 fn file_in(seen: &Analysis, u: u32, n: u64) -> Option<FileRef<'_>>
     ensures { option_map file_seen result ≡ file_in seen.now u n }
 {
-    if n == 0 {
-        return None;
-    }
     let unit = seen.units.get(u as usize)?;
-    file_at(seen, unit, n - 1)
+    let place = place_of_number(unit.version, n)?;
+    file_at(seen, unit, place)
 }
 
-/// The file at a place of a unit's table, counted from 0.
+/// The place of a number in a list of a line table of a version. In version 5 files and directories are counted from 0; in
+/// version 4 from 1, and 0 has no place.
+fn place_of_number(version: u16, n: u64) -> Option<u64>
+    ensures { result ≡ place_of_number version n }
+{
+    if version == DWARF_5 {
+        Some(n)
+    } else if n == 0 {
+        None
+    } else {
+        Some(n - 1)
+    }
+}
+
+/// The file at a place of a unit's table.
 fn file_at<'a>(seen: &'a Analysis, unit: &'a InUnit, i: u64) -> Option<FileRef<'a>>
     ensures { option_map file_seen result ≡ file_at seen.now unit.now i }
 {
@@ -153,20 +168,19 @@ pub(crate) fn listed_file<'a>(
     }
 }
 
-/// The directory of a number, which is that of the compilation for 0; empty where none is listed.
+/// The directory of a number, which is that of the compilation for one without a place; empty where none is listed.
 fn directory_in<'a>(seen: &'a Analysis, unit: &InUnit, lines: &'a OutLines, n: u64) -> &'a [u8]
     ensures { result.now ≡ directory_in seen.now unit.now lines.now n }
 {
-    if n == 0 {
-        directory_of_unit(seen, unit)
-    } else {
-        listed_directory(lines, n - 1)
+    match place_of_number(unit.version, n) {
+        Some(i) => listed_directory(lines, i),
+        None => directory_of_unit(seen, unit),
     }
 }
 
-/// The directory at a place of a table, counted from 0; empty where none is listed.
+/// The directory at a place of a table; empty where none is listed.
 fn listed_directory(lines: &OutLines, i: u64) -> &[u8]
-    ensures { result.now ≡ unwrap_or (slice_get lines.now.dirs i) [] }
+    ensures { result.now ≡ listed_directory lines.now i }
 {
     match lines.dirs.get(i as usize) {
         Some(dir) => dir.as_slice(),

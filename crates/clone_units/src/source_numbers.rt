@@ -3,9 +3,9 @@
 
 ghost use Rattle.std.specs.Prelude.{◌≡◌, ◌++◌, Some, IsSome, map, slice_get, OnOk, IfOk};
 ghost use Rattle.std.specs.Option.{option_and_then};
-ghost use Rattle.clone_units.specs.Sourced.{files_seen, numbers_in, numbers_listed, numbers_of_all, numbers_of_unit};
+ghost use Rattle.clone_units.specs.Sourced.{files_seen, numbers_before, numbers_in, numbers_listed, numbers_of_all, numbers_of_unit};
 
-use crate::source_files::{FileRef, listed_file, number_of};
+use crate::source_files::{DWARF_5, FileRef, listed_file, number_of};
 use ds_base::{List, NoMemory};
 use dwarf_types::{Analysis, InUnit, OutLines};
 use indexmap::IndexSet;
@@ -43,7 +43,7 @@ fn numbers_in<'a>(
     Ok(rows)
 }
 
-/// At each number that a unit has, the number of that file. Number 0 names no file, and stays.
+/// At each number that a unit has, the number of that file.
 fn numbers_of_unit<'a>(
     alloc: Global,
     files: &IndexSet<FileRef<'a>>,
@@ -52,10 +52,21 @@ fn numbers_of_unit<'a>(
 ) -> Result<List<Option<u64>>, NoMemory>
     ensures { IfOk result (λ numbers. numbers ≡ numbers_of_unit (files_seen files.now) seen.now unit.now) }
 {
-    let mut numbers = List::new(alloc);
-    numbers.push(Some(0))?;
+    let mut numbers = numbers_before(alloc, unit.version)?;
     if let Some(lines) = &unit.lines {
         add_numbers(&mut numbers, files, seen, unit, lines)?;
+    }
+    Ok(numbers)
+}
+
+/// What stands before the numbers of the files of a unit of a version. In version 4 files are counted from 1, and number 0,
+/// which names none, stays; in version 5 they are counted from 0.
+fn numbers_before(alloc: Global, version: u16) -> Result<List<Option<u64>>, NoMemory>
+    ensures { IfOk result (λ numbers. numbers ≡ numbers_before version) }
+{
+    let mut numbers = List::new(alloc);
+    if version != DWARF_5 {
+        numbers.push(Some(0))?;
     }
     Ok(numbers)
 }

@@ -12,7 +12,7 @@ use crate::nodes::{analysis_of, entry_of, nodes_of, row_of};
 use crate::pool::pool_unit;
 use crate::ranges::ranges_of;
 use ds_base::{List, NoMemory};
-use dwarf_types::{Analysis, InUnit, Origin, OutUnit, Shape, Target};
+use dwarf_types::{Analysis, InUnit, Origin, OutUnit, Shape, ShapeUnit, Target};
 use std::alloc::Global;
 
 /// A unit of the linked graph, by its number in a shape of the objects.
@@ -20,7 +20,7 @@ use std::alloc::Global;
 /// The nodes of an object's unit say what their entries say, moved to the linked program; its line table is its object's;
 /// its ranges are the pieces of its subprograms' code, in order and each once. The unit of merged entries has a root of
 /// its own, nodes that say what the entries say for which they stand, and a line table with the source files that those
-/// name. Of the analyses only those need be there whose entries the unit's nodes stand for.
+/// name. Versions are those of the shape. Of the analyses only those need be there whose entries the unit's nodes stand for.
 pub fn clone_unit(
     alloc: Global,
     seen: &[Analysis],
@@ -75,8 +75,14 @@ fn unit_of_pool(
     requires pool { object_of shape.now unit ≡ None }
     ensures { IfOk result (IsUnitIn seen.now shape.now unit) }
 {
-    let nodes = nodes_in(shape, unit);
-    let made = pool_unit(alloc, seen, shape.images.as_slice(), nodes)?;
+    let pool = unit_in(shape, unit);
+    let made = pool_unit(
+        alloc,
+        seen,
+        shape.images.as_slice(),
+        pool.version,
+        pool.nodes.as_slice(),
+    )?;
     Ok(made)
 }
 
@@ -85,7 +91,15 @@ fn nodes_in(shape: &Shape, unit: u32) -> &[Origin]
     requires { unit < length shape.now.units }
     ensures { option_map (λ unit. unit.nodes) (slice_get shape.now.units unit) ≡ Some result.now }
 {
-    shape.units.as_slice()[unit as usize].nodes.as_slice()
+    unit_in(shape, unit).nodes.as_slice()
+}
+
+/// A unit of a shape.
+fn unit_in(shape: &Shape, unit: u32) -> &ShapeUnit
+    requires { unit < length shape.now.units }
+    ensures { slice_get shape.now.units unit ≡ Some result.now }
+{
+    &shape.units.as_slice()[unit as usize]
 }
 
 /// The number of a unit's object among those of its shape, counted from 0; none of the unit of merged entries.

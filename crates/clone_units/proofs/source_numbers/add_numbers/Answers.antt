@@ -1,8 +1,8 @@
 use Rattle.std.proofs.Common.{◌+◌, ◌∷◌, [], ◌++◌, List, Option, ℕ, map, drop, sym, ap, ◌∙◌, append_assoc}
 use Rattle.ds_base.proofs.Walking.{drop_one}
 use Rattle.dwarf_types.specs.declared.lines.FileName.{FileName}
-use Rattle.link_graph.specs.PoolFiles.{listed_file}
-use Rattle.clone_units.specs.Sourced.{files_seen, number_of}
+use Rattle.link_graph.specs.PoolFiles.{listed_file, number_of}
+use Rattle.clone_units.specs.Sourced.{files_seen}
 use Rattle.clone_units.proofs.source_numbers.add_numbers.Goals as goal
 
 pub loop-file-preserved : goal.loop-file-preserved

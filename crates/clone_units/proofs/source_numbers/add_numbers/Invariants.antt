@@ -1,6 +1,6 @@
 use Rattle.std.proofs.Common.{◌≡◌, ◌++◌, drop, map}
-use Rattle.clone_units.specs.Sourced.{files_seen, number_of}
-use Rattle.link_graph.specs.PoolFiles.{listed_file}
+use Rattle.clone_units.specs.Sourced.{files_seen}
+use Rattle.link_graph.specs.PoolFiles.{listed_file, number_of}
 use Rattle.clone_units.proofs.source_numbers.add_numbers.Given as goal
 
 -- the numbers so far and those that are left
