@@ -9,6 +9,8 @@ mod live;
 #[cfg(test)]
 mod names;
 #[cfg(test)]
+mod pool;
+#[cfg(test)]
 mod rows;
 #[cfg(test)]
 mod sound;

@@ -6,7 +6,7 @@ ghost use Rattle.dwarf_types.specs.declared.entry.Entry.{Entry as EntrySpec};
 
 use ds_base::dwarf::{
     DW_AT_location, DW_AT_ranges, DW_AT_stmt_list, DW_FORM_addr, DW_FORM_exprloc, DW_FORM_ref4,
-    DW_FORM_sec_offset, DW_FORM_string, DW_OP_addr, DW_TAG_compile_unit,
+    DW_FORM_sec_offset, DW_FORM_string, DW_LANG_C_plus_plus, DW_OP_addr, DW_TAG_compile_unit,
 };
 use ds_base::{BitRow, Bytes, List, NoMemory};
 use dwarf_types::{
@@ -234,18 +234,22 @@ fn has_attr(entries: &Entries, i: usize, j: usize) -> bool
     }
 }
 
-/// A line table with one directory, one file and one sequence without rows.
-fn lines(alloc: Global) -> Result<OutLines, NoMemory> {
+/// A line table of directories and files, each with a name of one letter, and one sequence without rows.
+fn lines(alloc: Global, letters: &[u8], named: &[(u8, u64)]) -> Result<OutLines, NoMemory> {
     let mut dirs = List::new(alloc);
-    dirs.push(Bytes::from_slice(alloc, b"d")?)?;
+    for letter in letters {
+        dirs.push(Bytes::from_slice(alloc, &[*letter])?)?;
+    }
     let mut files = List::new(alloc);
-    files.push(FileName {
-        name: Bytes::from_slice(alloc, b"f")?,
-        dir: 1,
-        time: 2,
-        size: 3,
-        digest: None,
-    })?;
+    for file in named {
+        files.push(FileName {
+            name: Bytes::from_slice(alloc, &[file.0])?,
+            dir: file.1,
+            time: 2,
+            size: 3,
+            digest: None,
+        })?;
+    }
     let mut sequences = List::new(alloc);
     sequences.push(Sequence {
         rows: List::new(alloc),
@@ -274,6 +278,33 @@ pub(crate) fn analysis_in(
     rows: &[Row],
     code: &[CodeRange],
 ) -> Result<Analysis, NoMemory> {
+    let table = lines(alloc, b"d", &[(b'f', 1)])?;
+    analysis_with(alloc, 4, language, table, rows, code)
+}
+
+/// The analysis of rows whose root is of C++, in a unit of a version with a line table of these directories and files.
+pub(crate) fn analysis_of_files(
+    alloc: Global,
+    version: u16,
+    letters: &[u8],
+    named: &[(u8, u64)],
+    rows: &[Row],
+) -> Result<Analysis, NoMemory> {
+    let table = lines(alloc, letters, named)?;
+    let none: [CodeRange; 0] = [];
+    analysis_with(alloc, version, DW_LANG_C_plus_plus, table, rows, &none)
+}
+
+/// The analysis of these rows, where all units are of one version and of one language, and the first has a line table.
+fn analysis_with(
+    alloc: Global,
+    version: u16,
+    language: u16,
+    table: OutLines,
+    rows: &[Row],
+    code: &[CodeRange],
+) -> Result<Analysis, NoMemory> {
+    let mut first = Some(table);
     let mut units: Vec<InUnit> = Vec::new(alloc);
     let mut built = Builder::new(alloc, &[], 0)?;
     let mut number: u32 = 0;
@@ -284,13 +315,9 @@ pub(crate) fn analysis_in(
             units.push(InUnit {
                 first: number,
                 count: 0,
-                version: 4,
+                version,
                 language,
-                lines: if number == 0 {
-                    Some(lines(alloc)?)
-                } else {
-                    None
-                },
+                lines: first.take(),
             })?;
         }
         if let Some(unit) = units.last_mut() {
