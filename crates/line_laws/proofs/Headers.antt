@@ -1,4 +1,4 @@
--- The fields of a written header are read again.
+-- The fields of a written header of version 4 are read again.
 use Rattle.std.proofs.Common.{◌≡◌, ℕ, suc, ◌+◌, negsuc, true, List, [], ◌∷◌, ◌++◌, length, Ok, refl, sym, ap, ◌∙◌, append_assoc, append-nil, arith}
 use Rattle.ds_base.specs.Reading.{items_at, number_at}
 use Rattle.ds_base.specs.Spot.{Spot, after}

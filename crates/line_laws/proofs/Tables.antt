@@ -1,4 +1,4 @@
--- The directories and the files of a written table are read again.
+-- The directories and the files of a written table of version 4 are read again.
 use Rattle.std.proofs.Common.{◌≡◌, ℕ, zero, suc, ◌+◌, ◌<◌, ◌≤◌, ◌^◌, false, List, [], ◌∷◌, ◌++◌, length, Option, Some, None, Result, Ok, refl, sym, ap, ◌∙◌, append_assoc, append-nil, arith, length-append}
 use Rattle.std.specs.Prelude.{◌==◌}
 use Rattle.std.specs.List.{All, flat_map}
@@ -10,7 +10,7 @@ use Rattle.ds_base.specs.Spot.{Spot, after}
 use Rattle.ds_base.specs.Texts.{ended}
 use Rattle.dwarf_types.specs.declared.lines.FileName.{FileName}
 use Rattle.dwarf_types.specs.LineTable.{file_bytes}
-use Rattle.dwarf_types.specs.WellLines.{IsPath, IsFile}
+use Rattle.dwarf_types.specs.WellLines.{HaveDigests, IsFile, IsPath, each_has, none_has}
 use Rattle.line_read.specs.Names.{dir_at, file_of, file_at, listed_at}
 use Rattle.line_read.specs.Program.{header_end}
 use Rattle.line_laws.proofs.Items.{At, at_same, passed, text_again, uleb_again}
@@ -46,22 +46,22 @@ module _ {A : Type 0} (read : Spot → Result (Option A × Spot) Fault) (bytes_o
 some_ended : (text : List ℕ) → 0 < length (ended text)
 some_ended text = omega (arith, length-append text (0 ∷ []))
 
-dir_again : (first program : Spot) (name : List ℕ) (s : Spot) (more : List ℕ) → IsPath name → At s (ended name ++ more) → s.place + length (ended name) ≤ program.place
+dir_again : (first program : Spot) (name : List ℕ) (s : Spot) (more : List ℕ) → IsPath 4 name → At s (ended name ++ more) → s.place + length (ended name) ≤ program.place
     → dir_at (header_end first program) s ≡ Ok (Some name, after s (length (ended name)))
 unfolding dir_at
 dir_again first program name s more path h fits =
-    let some : (length name == 0) ≡ false = ne_eqb (length name) 0 (λ e. omega (arith, path.some)) in
+    let some : (length name == 0) ≡ false = ne_eqb (length name) 0 (λ e. omega (arith, path.some refl)) in
     rw (text_again name s more path.text h, le-ltb program.place (s.place + length (ended name)) fits, some) refl
 
 no_dir : (first program : Spot) (s : Spot) (more : List ℕ) → At s (0 ∷ more) → s.place + 1 ≤ program.place → dir_at (header_end first program) s ≡ Ok (None, after s 1)
 unfolding dir_at
 no_dir first program s more h fits = rw (text_again [] s more tt h, le-ltb program.place (s.place + 1) fits) refl
 
-pub dirs_again : (first program : Spot) (dirs : List (List ℕ)) (s : Spot) (more : List ℕ) (k : ℕ) → All IsPath dirs → At s (flat_map ended dirs ++ (0 ∷ more))
+pub dirs_again : (first program : Spot) (dirs : List (List ℕ)) (s : Spot) (more : List ℕ) (k : ℕ) → All (IsPath 4) dirs → At s (flat_map ended dirs ++ (0 ∷ more))
     → s.place + (length (flat_map ended dirs) + 1) ≤ program.place → length (flat_map ended dirs) < k
     → listed_at (dir_at (header_end first program)) k [] s ≡ Ok (dirs, after s (length (flat_map ended dirs) + 1))
 dirs_again first program dirs s more k =
-    listed_again (dir_at (header_end first program)) ended IsPath program.place some_ended (dir_again first program) (no_dir first program) dirs [] s more k
+    listed_again (dir_at (header_end first program)) ended (IsPath 4) program.place some_ended (dir_again first program) (no_dir first program) dirs [] s more k
 
 -- ---- files
 
@@ -71,7 +71,7 @@ some_file file = omega (arith, some_ended file.name, length-append (ended file.n
 four : (a b c d more : List ℕ) → (a ++ (b ++ (c ++ d))) ++ more ≡ a ++ (b ++ (c ++ (d ++ more)))
 four a b c d more = simp append_assoc refl
 
-file_in_parts : (first program s : Spot) (name : List ℕ) (dir time size : ℕ) (more : List ℕ) → IsPath name → dir < 2 ^ 64 → time < 2 ^ 64 → size < 2 ^ 64
+file_in_parts : (first program s : Spot) (name : List ℕ) (dir time size : ℕ) (more : List ℕ) → IsPath 4 name → dir < 2 ^ 64 → time < 2 ^ 64 → size < 2 ^ 64
     → At s (ended name ++ (uleb dir ++ (uleb time ++ (uleb size ++ more)))) → s.place + length (ended name ++ (uleb dir ++ (uleb time ++ uleb size))) ≤ program.place
     → file_at (header_end first program) s ≡ Ok (Some (record { name = name; dir = dir; time = time; size = size; digest = None }), after s (length (ended name ++ (uleb dir ++ (uleb time ++ uleb size)))))
 unfolding file_at file_of
@@ -84,7 +84,7 @@ file_in_parts first program s name dir time size more path dir_fits time_fits si
     let h2 = passed (after s (length a)) b (c ++ (d ++ more)) h1 in
     let h3 = passed (after (after s (length a)) (length b)) c (d ++ more) h2 in
     let len : length (a ++ (b ++ (c ++ d))) ≡ length a + (length b + (length c + length d)) = simp length-append refl in
-    let some : (length name == 0) ≡ false = ne_eqb (length name) 0 (λ e. omega (arith, path.some)) in
+    let some : (length name == 0) ≡ false = ne_eqb (length name) 0 (λ e. omega (arith, path.some refl)) in
     let p = program.place in
     let place : s.place + length a + length b + length c + length d ≡ s.place + length (a ++ (b ++ (c ++ d))) = omega (arith, len) in
     rw (
@@ -100,20 +100,29 @@ file_in_parts first program s name dir time size more path dir_fits time_fits si
       place,
     ) refl
 
--- a file of a written table has no digest
-file_again : (first program : Spot) (file : FileName) (s : Spot) (more : List ℕ) → IsFile file → At s (file_bytes file ++ more) → s.place + length (file_bytes file) ≤ program.place
+-- a file that has no digest
+record IsPlain (file : FileName) : Type 0 where
+  pub well : IsFile 4 file
+  pub plain : file.digest ≡ None
+
+-- those of a table of version 4
+all_plain : (files : List FileName) → All (IsFile 4) files → HaveDigests 4 files → All IsPlain files
+all_plain files sound (none_has none) = λ k d lt. record { well = sound k d lt; plain = none k d lt }
+all_plain files sound (each_has five each) = absurd (omega (arith, five))
+
+file_again : (first program : Spot) (file : FileName) (s : Spot) (more : List ℕ) → IsPlain file → At s (file_bytes file ++ more) → s.place + length (file_bytes file) ≤ program.place
     → file_at (header_end first program) s ≡ Ok (Some file, after s (length (file_bytes file)))
 file_again first program file s more sound h fits =
-    file_in_parts first program s file.name file.dir file.time file.size more sound.name sound.dir sound.time sound.size
+    file_in_parts first program s file.name file.dir file.time file.size more sound.well.name sound.well.dir sound.well.time sound.well.size
     (at_same s _ _ (four (ended file.name) (uleb file.dir) (uleb file.time) (uleb file.size) more) h) fits
-    ∙ ap (λ (digest : Option (List ℕ)). done (Some (record file { digest = digest })) (length (file_bytes file)) s) (sym sound.digest)
+    ∙ ap (λ (digest : Option (List ℕ)). done (Some (record file { digest = digest })) (length (file_bytes file)) s) (sym sound.plain)
 
 no_file : (first program : Spot) (s : Spot) (more : List ℕ) → At s (0 ∷ more) → s.place + 1 ≤ program.place → file_at (header_end first program) s ≡ Ok (None, after s 1)
 unfolding file_at
 no_file first program s more h fits = rw (text_again [] s more tt h, le-ltb program.place (s.place + 1) fits) refl
 
-pub files_again : (first program : Spot) (files : List FileName) (s : Spot) (more : List ℕ) (k : ℕ) → All IsFile files → At s (flat_map file_bytes files ++ (0 ∷ more))
+pub files_again : (first program : Spot) (files : List FileName) (s : Spot) (more : List ℕ) (k : ℕ) → All (IsFile 4) files → HaveDigests 4 files → At s (flat_map file_bytes files ++ (0 ∷ more))
     → s.place + (length (flat_map file_bytes files) + 1) ≤ program.place → length (flat_map file_bytes files) < k
     → listed_at (file_at (header_end first program)) k [] s ≡ Ok (files, after s (length (flat_map file_bytes files) + 1))
-files_again first program files s more k =
-    listed_again (file_at (header_end first program)) file_bytes IsFile program.place some_file (file_again first program) (no_file first program) files [] s more k
+files_again first program files s more k sound digests =
+    listed_again (file_at (header_end first program)) file_bytes IsPlain program.place some_file (file_again first program) (no_file first program) files [] s more k (all_plain files sound digests)

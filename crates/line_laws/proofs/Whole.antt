@@ -1,4 +1,4 @@
--- A written line table is read again, whatever follows it.
+-- A written line table of version 4 is read again, whatever follows it.
 use Rattle.std.proofs.Common.{◌≡◌, ℕ, ◌+◌, ◌-◌, ◌<◌, Bool, true, false, negsuc, List, [], ◌∷◌, ◌++◌, length, take, Ok, refl, sym, ap, subst, ◌∙◌, append_assoc, arith, length-append}
 use Rattle.std.specs.Prelude.{nat_lt, nat_le, if◌then◌else◌}
 use Rattle.std.specs.List.{flat_map}
@@ -35,13 +35,13 @@ stands_behind front left =
     }
 
 -- what unit_length counts
-abbrev body_of : OutLines → List ℕ
-body_of lines = little_bytes 2 4 ++ (little_bytes 4 (length (fields_bytes lines)) ++ (fields_bytes lines ++ program_bytes lines))
+abbrev body_of : (List ℕ → ℕ) → OutLines → List ℕ
+body_of text lines = little_bytes 2 4 ++ (little_bytes 4 (length (fields_bytes 4 text lines)) ++ (fields_bytes 4 text lines ++ program_bytes lines))
 
-table_parts : (lines : OutLines) → line_table_bytes lines ≡ little_bytes 4 (length (body_of lines)) ++ body_of lines
-table_parts lines =
-    let len : 6 + length (fields_bytes lines) + length (program_bytes lines) ≡ length (body_of lines) = omega (arith, length-append (fields_bytes lines) (program_bytes lines)) in
-    ap (λ (n : ℕ). little_bytes 4 n ++ body_of lines) len
+table_parts : (text : List ℕ → ℕ) (lines : OutLines) → line_table_bytes 4 text lines ≡ little_bytes 4 (length (body_of text lines)) ++ body_of text lines
+table_parts text lines =
+    let len : 6 + length (fields_bytes 4 text lines) + length (program_bytes lines) ≡ length (body_of text lines) = omega (arith, length-append (fields_bytes 4 text lines) (program_bytes lines)) in
+    ap (λ (n : ℕ). little_bytes 4 n ++ body_of text lines) len
 
 -- the two tables, and what follows them
 tables_then : (lines : OutLines) (more : List ℕ) → tables_bytes lines ++ more ≡ flat_map ended lines.dirs ++ (0 ∷ (flat_map file_bytes lines.files ++ (0 ∷ more)))
@@ -49,7 +49,7 @@ tables_then lines more =
     append_assoc (flat_map ended lines.dirs) (0 ∷ (flat_map file_bytes lines.files ++ (0 ∷ []))) more
     ∙ ap (λ (xs : List ℕ). flat_map ended lines.dirs ++ (0 ∷ xs)) (append_assoc (flat_map file_bytes lines.files) (0 ∷ []) more)
 
-module _ (image : Image) (relocs : Relocs) (none : relocs.list ≡ []) (lines : OutLines) (sound : IsLineTable lines) where
+module _ (image : Image) (relocs : Relocs) (none : relocs.list ≡ []) (text : List ℕ → ℕ) (lines : OutLines) (sound : IsLineTable 4 lines) where
   -- the program
   rows_again : (s : Spot) → At s (program_bytes lines) →
       program_of
@@ -74,21 +74,21 @@ module _ (image : Image) (relocs : Relocs) (none : relocs.list ≡ []) (lines : 
       by true = refl
       by false = refl
 
-  pub table_again : (sections : SectionBytes) (unit : ℕ) (first : Spot) (more : List ℕ) → length (line_table_bytes lines) < LENGTH_RESERVED + 4 → At first (line_table_bytes lines ++ more) → lines_from image relocs sections unit first ≡ Ok (read_again lines)
+  pub table_again : (sections : SectionBytes) (unit : ℕ) (first : Spot) (more : List ℕ) → length (line_table_bytes 4 text lines) < LENGTH_RESERVED + 4 → At first (line_table_bytes 4 text lines ++ more) → lines_from image relocs sections unit first ≡ Ok (read_again lines)
   unfolding lines_from table_at version_at sizes_at program_at dirs_at files_at
   table_again sections unit first more small h =
-      let body = body_of lines in
-      let fields = fields_bytes lines in
+      let body = body_of text lines in
+      let fields = fields_bytes 4 text lines in
       let program = program_bytes lines in
       let tables = tables_bytes lines in
       let dirs = flat_map ended lines.dirs in
       let files = flat_map file_bytes lines.files in
-      let len : length (line_table_bytes lines) ≡ 4 + length body = omega (arith, ap length (table_parts lines)) in
+      let len : length (line_table_bytes 4 text lines) ≡ 4 + length body = omega (arith, ap length (table_parts text lines)) in
       let few : length body < 0xfffffff0 = omega (arith, small, len) in
       let fields_len : length fields ≡ 18 + (length dirs + 1) + (length files + 1) = omega (arith, length-append dirs (0 ∷ (files ++ (0 ∷ []))), length-append files (0 ∷ [])) in
       let body_len : length body ≡ 6 + length fields + length program = omega (arith, length-append fields program) in
       let h0 : At first (little_bytes 4 (length body) ++ (body ++ more)) =
-      at_same first _ _ (ap (λ (xs : List ℕ). xs ++ more) (table_parts lines) ∙ append_assoc (little_bytes 4 (length body)) body more) h in
+      at_same first _ _ (ap (λ (xs : List ℕ). xs ++ more) (table_parts text lines) ∙ append_assoc (little_bytes 4 (length body)) body more) h in
       let h1 = passed first (little_bytes 4 (length body)) (body ++ more) h0 in
       let s0 : Spot = record first { place = first.place + 4; end = first.place + 4 + length body } in
       let h2 : At s0 body = narrowed (after first 4) body more h1 in
@@ -116,5 +116,5 @@ module _ (image : Image) (relocs : Relocs) (none : relocs.list ≡ []) (lines : 
         le-ltb (s2.end - s2.place) (length fields) (omega (arith, h4.end_is, length-append fields program)),
         fields_again first s2 (tables ++ program) h4,
         dirs_again first behind lines.dirs s3 (files ++ (0 ∷ program)) (s3.end - s3.place) sound.dirs h7 (omega (arith, fields_len)) (omega (arith, h7.end_is, length-append dirs (0 ∷ (files ++ (0 ∷ program))))),
-        files_again first behind lines.files s4 program (s4.end - s4.place) sound.files h9 (omega (arith, fields_len)) (omega (arith, h9.end_is, length-append files (0 ∷ program))),
+        files_again first behind lines.files s4 program (s4.end - s4.place) sound.files sound.digests h9 (omega (arith, fields_len)) (omega (arith, h9.end_is, length-append files (0 ∷ program))),
       ) (rows_again behind h5)

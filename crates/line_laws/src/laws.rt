@@ -11,13 +11,14 @@ ghost use Rattle.reloc_table.specs.declared.relocation.Relocs.{Relocs};
 ghost use Rattle.line_read.specs.Program.{lines_of};
 ghost use Rattle.line_laws.specs.Again.{read_again};
 
-/// A table that is written is read back whole, wherever it stands in `__debug_line`, whatever follows it there, and in
-/// units of every version (DWARF 4, sections 6.2.4 and 6.2.5).
+/// A table of version 4 that is written is read back whole, wherever it stands in `__debug_line`, whatever follows it
+/// there, and in units of every version (DWARF 4, sections 6.2.4 and 6.2.5). Its names stand in the table itself, so it
+/// is the same wherever texts are placed.
 ///
 /// No relocation stands in the section, so each address is a plain number. A table's length has four bytes, and its
 /// greatest values are reserved (DWARF 4, section 7.4).
 pub fn line_tables_are_read_as_written()
-    ensures { (lines : OutLines) (front more : Listed ℕ) (image : Image) (relocs : Relocs) (sections : SectionBytes) (version : ℕ) →
-        IsLineTable lines → length (line_table_bytes lines) < LENGTH_RESERVED + 4 → relocs.list ≡ [] →
-        lines_of image relocs (record sections { line = front ++ (line_table_bytes lines ++ more) }) version (length front) ≡ Ok (read_again lines) }
+    ensures { (lines : OutLines) (text : Listed ℕ → ℕ) (front more : Listed ℕ) (image : Image) (relocs : Relocs) (sections : SectionBytes) (version : ℕ) →
+        IsLineTable 4 lines → length (line_table_bytes 4 text lines) < LENGTH_RESERVED + 4 → relocs.list ≡ [] →
+        lines_of image relocs (record sections { line = front ++ (line_table_bytes 4 text lines ++ more) }) version (length front) ≡ Ok (read_again lines) }
 {}

@@ -1,6 +1,6 @@
 //! Line tables: what is written is read.
 //!
-//! Layer: laws. A table in the bytes that `line_write` gives it (`line_table_bytes` of
+//! Layer: laws. A table of version 4 in the bytes that `line_write` gives it (`line_table_bytes` of
 //! `dwarf_types/specs/LineTable.antt`) is read by `line_read` as it was: its directories, its files, and its rows in
 //! their sequences (`specs/Again.antt`). [`line_tables_are_read_as_written`] states it. Nothing here runs.
 #![tactic(auto)]

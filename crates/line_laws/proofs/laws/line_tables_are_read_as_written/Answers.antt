@@ -6,6 +6,6 @@ use Rattle.line_laws.proofs.Whole.{stands_behind, table_again}
 use Rattle.line_laws.proofs.laws.line_tables_are_read_as_written.Goals as goal
 
 pub returns : goal.returns
-returns c = λ lines front more image relocs sections version sound small none.
-    let written : SectionBytes = record sections { line = front ++ (line_table_bytes lines ++ more) } in
-    table_again image relocs none lines sound written version (line_at (front ++ (line_table_bytes lines ++ more)) (length front)) more small (stands_behind front (line_table_bytes lines ++ more))
+returns c = λ lines text front more image relocs sections version sound small none.
+    let written : SectionBytes = record sections { line = front ++ (line_table_bytes 4 text lines ++ more) } in
+    table_again image relocs none text lines sound written version (line_at (front ++ (line_table_bytes 4 text lines ++ more)) (length front)) more small (stands_behind front (line_table_bytes 4 text lines ++ more))
