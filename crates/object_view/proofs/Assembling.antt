@@ -1,7 +1,6 @@
 -- The steps of an analysis, one after the other.
-use Rattle.std.proofs.Common.{◌≡◌, ℕ, List, length, Result, Ok, refl, ap, ◌∙◌}
+use Rattle.std.proofs.Common.{◌≡◌, ℕ, false, List, length, Result, Ok, refl, ap, ◌∙◌}
 use Rattle.std.specs.List.{All}
-use Rattle.ds_base.specs.declared.fault.Part.TheVariants as parts
 use Rattle.ds_base.proofs.Refusals.{Refused}
 use Rattle.ds_base.specs.declared.fault.Fault.{Fault}
 use Rattle.ds_base.specs.declared.fault.ReadError.{ReadError}
@@ -9,9 +8,9 @@ use Rattle.ds_base.specs.declared.fault.ReadError.TheVariants as errors
 use Rattle.ds_base.specs.Reading.{Gives, ◌>>=◌}
 use Rattle.dwarf_types.specs.declared.address.Addr.{Addr}
 use Rattle.dwarf_types.specs.declared.analysis.Analysis.{Analysis}
+use Rattle.dwarf_types.specs.declared.entry.Attr.{Attr}
 use Rattle.dwarf_types.specs.declared.entry.Entry.{Entry}
 use Rattle.dwarf_types.specs.declared.entry.InUnit.{InUnit}
-use Rattle.dwarf_types.specs.declared.entry.RawAttr.{RawAttr}
 use Rattle.dwarf_types.specs.declared.entry.RawEntry.{RawEntry}
 use Rattle.dwarf_types.specs.declared.entry.RawUnits.{RawUnits}
 use Rattle.dwarf_types.specs.Raw.{attr_of}
@@ -20,12 +19,13 @@ use Rattle.addr_map.specs.declared.map.AddrMap.{AddrMap}
 use Rattle.addr_map.specs.Ranges.{map_of}
 use Rattle.expr_resolve.specs.Context.{Context}
 use Rattle.unit_tree.specs.Inside.{AreInside}
+use Rattle.unit_tree.specs.Meaning.{is_address_index}
 use Rattle.unit_tree.specs.Unit.{units_of}
 use Rattle.object_view.specs.Analysis.{analysis_of}
-use Rattle.object_view.specs.Attributes.{units_meant}
+use Rattle.object_view.specs.Attributes.{info_context, units_meant}
 use Rattle.object_view.specs.Opened.{Opened, opened_of}
-use Rattle.object_view.specs.Ready.{AllAttrs, AllRawAttrs, IsLinesInside, IsListAttr, IsRooted}
-use Rattle.object_view.specs.Stages.{MadeOnce, analysed, bases_of, context_by, entries_analysed, finished, info_done, info_meant, lists_meant}
+use Rattle.object_view.specs.Ready.{AllAttrs, AllRawAttrs, IsLinesInside, IsListAttr, IsRooted, context_among}
+use Rattle.object_view.specs.Stages.{MadeOnce, analysed, bases_of, entries_analysed, finished, info_done, info_meant, lists_meant}
 use Rattle.object_view.proofs.Definitions.{analysed_same}
 use Rattle.object_view.proofs.Fitting.{info_count, info_listed, units_lines}
 use Rattle.object_view.proofs.Understood.{given_is}
@@ -46,13 +46,16 @@ module _ (o : Opened) (m : AddrMap) (t : MadeOnce) (units : List InUnit) (raw : 
 -- entries that are understood
 module _ (o : Opened) (m : AddrMap) (t : MadeOnce) (raw : List RawEntry) (now : List Entry) (done : info_done o m t raw ≡ Ok now) where
   abbrev context : ℕ → Context
-  context unit = context_by o m t parts.Info o.relocs.info unit
+  context unit = info_context o m t.types unit (context_among t.units unit)
 
-  pub done_lines : (units : List InUnit) → AreInside o.sections raw → All (IsRooted raw) units → All (IsLinesInside o.sections now) units
-  done_lines units inside rooted = units_lines o.sections context t.places raw now units (given_is (info_meant o m t) raw now done) inside rooted
+  pub done_lines : (units : List InUnit) → AreInside o.sections (record { units = units; entries = raw }) → All (IsRooted raw) units → All (IsLinesInside o.sections now) units
+  done_lines units inside rooted = units_lines o.sections context t.places raw now units (given_is (info_meant o m t) raw now done) inside.lines rooted
 
-  pub done_listed : AllRawAttrs (λ (a : RawAttr). IsListAttr o.sections (attr_of a)) raw → AllAttrs (IsListAttr o.sections) now
-  done_listed listed = info_listed o.sections context t.places raw now (given_is (info_meant o m t) raw now done) listed
+  abbrev IsListed : ℕ → Attr → Type 0
+  IsListed unit a = IsListAttr o.sections (context_among t.units unit).version a
+
+  pub done_listed : AllRawAttrs (λ unit a. is_address_index a.form ≡ false → IsListed unit (attr_of a)) raw → AllAttrs IsListed now
+  done_listed listed = info_listed o.sections (λ unit. (context_among t.units unit).version) context t.places raw now (given_is (info_meant o m t) raw now done) listed
 
   pub done_count : length now ≡ length raw
   done_count = info_count context t.places raw now (given_is (info_meant o m t) raw now done)

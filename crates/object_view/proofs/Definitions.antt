@@ -4,7 +4,6 @@ use Rattle.std.specs.Option.{option_and_then, option_map, option_map_or, unwrap_
 use Rattle.std.proofs.Math.Path.{fun_ext}
 use Rattle.std.proofs.lemmas.Option.{slice_get-map}
 use Rattle.ds_base.specs.declared.fault.Fault.{Fault}
-use Rattle.ds_base.specs.declared.fault.Part.TheVariants as parts
 use Rattle.ds_base.specs.Reading.{◌>>=◌}
 use Rattle.dwarf_types.specs.declared.address.Addr.{Addr}
 use Rattle.dwarf_types.specs.declared.address.Addr.TheVariants as addrs
@@ -19,11 +18,12 @@ use Rattle.dwarf_types.specs.declared.value.Value.{Value}
 use Rattle.dwarf_types.specs.Raw.{entry_of}
 use Rattle.addr_map.specs.declared.map.AddrMap.{AddrMap}
 use Rattle.object_view.specs.Analysis.{units_analysed}
-use Rattle.object_view.specs.Attributes.{all_marked, base_of, entries_by, entries_meant, info_context, loc_context, locations_meant, ranges_meant, raw_entries_by, unit_base, units_meant, value_meant}
+use Rattle.object_view.specs.Attributes.{all_marked, base_of, entries_by, entries_meant, info_context, info_step, locations_context, locations_meant, locations_step, ranges_meant, ranges_step, raw_entries_by, unit_base, units_meant, value_meant}
 use Rattle.object_view.specs.Opened.{Opened}
-use Rattle.object_view.specs.Ready.{base_at}
-use Rattle.object_view.specs.Stages.{analysed, bases_of, context_by, finished, info_done, info_meant, lists_meant, made_of}
-use Rattle.object_view.specs.Units.{places_of, start_of, unit_start}
+use Rattle.object_view.specs.Ready.{base_at, context_among}
+use Rattle.object_view.specs.Stages.{MadeOnce, analysed, bases_of, finished, info_done, info_meant, lists_meant, location_meant, made_of, range_meant}
+use Rattle.object_view.specs.declared.units.UnitContext.{UnitContext}
+use Rattle.object_view.specs.Units.{base_types, context_of, contexts_of, no_unit, places_of, unit_context}
 
 -- ---- look-ups in lists
 
@@ -42,8 +42,8 @@ base_found entries (Some u) = refl
 pub base_same : (units : List InUnit) (entries : List Entry) (unit : ℕ) → base_at (bases_of units entries) unit ≡ unit_base units entries unit
 base_same units entries unit = look_up (λ (u : InUnit). option_map_or base_of (slice_get entries u.first) (addrs.Fixed 0)) units unit (addrs.Fixed 0) ∙ base_found entries (slice_get units unit)
 
-pub start_same : (units : List InUnit) (entries : List RawEntry) (unit : ℕ) → unwrap_or (slice_get (map (start_of entries) units) unit) 0 ≡ unit_start units entries unit
-start_same units entries unit = look_up (start_of entries) units unit 0
+pub context_same : (units : List InUnit) (entries : List RawEntry) (unit : ℕ) → context_among (contexts_of entries units) unit ≡ unit_context units entries unit
+context_same units entries unit = look_up (context_of entries) units unit no_unit
 
 -- ---- steps
 
@@ -53,67 +53,81 @@ Meant = ℕ → Attr → Result Value Fault
 same_step : {A : Type 0} (f g : ℕ → A → Result Value Fault) → ((unit : ℕ) (a : A) → f unit a ≡ g unit a) → f ≡ g
 same_step f g same = fun_ext (λ unit. fun_ext (λ a. same unit a))
 
-module _ (o : Opened) (m : AddrMap) (units : List InUnit) (raw : List RawEntry) where
-  info_same : info_done o m (made_of units raw) raw ≡ entries_meant o m units raw
-  info_same = ap (λ (step : ℕ → RawAttr → Result Value Fault). raw_entries_by step raw >>= λ made. Ok (map entry_of made))
-      (same_step (info_meant o m (made_of units raw)) (λ unit a. value_meant (info_context o m raw unit (unit_start units raw unit)) (places_of raw) a a.value)
-      (λ unit a. ap (λ (start : ℕ). value_meant (info_context o m raw unit start) (places_of raw) a a.value) (start_same units raw unit)))
+module _ (o : Opened) (m : AddrMap) (raw : RawUnits) where
+  abbrev made : MadeOnce
+  made = made_of raw.units raw.entries
 
-  ranges_same : (meant entries : List Entry) → entries_by (λ unit a. ranges_meant o m (base_at (bases_of units meant) unit) a a.value) entries ≡ entries_by (λ unit a. ranges_meant o m (unit_base units meant unit) a a.value) entries
-  ranges_same meant entries = ap (λ (step : Meant). entries_by step entries)
-      (same_step (λ unit a. ranges_meant o m (base_at (bases_of units meant) unit) a a.value) (λ unit a. ranges_meant o m (unit_base units meant unit) a a.value)
-      (λ unit a. ap (λ (base : Addr). ranges_meant o m base a a.value) (base_same units meant unit)))
+  -- the attributes of a unit, by what is known of it
+  abbrev info_in : UnitContext → ℕ → RawAttr → Result Value Fault
+  info_in u unit a = value_meant (info_context o m (base_types raw.entries) unit u) (places_of raw.entries) a a.value
 
-  locations_same : (meant entries : List Entry)
-      → entries_by (λ unit a. locations_meant o (context_by o m (made_of units raw) parts.Loc o.relocs.loc unit) (base_at (bases_of units meant) unit) a a.value) entries
-      ≡ entries_by (λ unit a. locations_meant o (loc_context o m raw unit (unit_start units raw unit)) (unit_base units meant unit) a a.value) entries
-  locations_same meant entries = ap (λ (step : Meant). entries_by step entries)
-      (same_step (λ unit a. locations_meant o (context_by o m (made_of units raw) parts.Loc o.relocs.loc unit) (base_at (bases_of units meant) unit) a a.value)
-      (λ unit a. locations_meant o (loc_context o m raw unit (unit_start units raw unit)) (unit_base units meant unit) a a.value)
-      (λ unit a. ap (λ (base : Addr). locations_meant o (context_by o m (made_of units raw) parts.Loc o.relocs.loc unit) base a a.value) (base_same units meant unit)
-      ∙ ap (λ (start : ℕ). locations_meant o (loc_context o m raw unit start) (unit_base units meant unit) a a.value) (start_same units raw unit)))
+  abbrev range_in : UnitContext → Addr → Attr → Result Value Fault
+  range_in u base a = ranges_meant o m u base a a.value
 
-  -- what is left once attributes of `__debug_info` are understood
-  abbrev behind_info : List Entry → Result Analysis Fault
-  behind_info meant = do
-    with_lines ← units_meant o m meant units
-    listed ← lists_meant o m (made_of units raw) (bases_of units meant) meant
-    finished o m with_lines listed
+  abbrev location_in : UnitContext → Addr → ℕ → Attr → Result Value Fault
+  location_in u base unit a = locations_meant (locations_context o m (base_types raw.entries) unit u) base a a.value
 
-  abbrev defined : List Entry → Result Analysis Fault
-  defined meant = do
-    with_lines ← units_meant o m meant units
-    ranged ← entries_by (λ unit a. ranges_meant o m (unit_base units meant unit) a a.value) (all_marked meant)
-    entries ← entries_by (λ unit a. locations_meant o (loc_context o m raw unit (unit_start units raw unit)) (unit_base units meant unit) a a.value) ranged
-    finished o m with_lines entries
+  -- what is known of the unit of a number
+  abbrev known : ℕ → UnitContext
+  known unit = unit_context raw.units raw.entries unit
 
-  grouped : (a : Result (List Entry) Fault) (f : List Entry → Result (List Entry) Fault) (g : List Entry → Result Analysis Fault) → ((a >>= f) >>= g) ≡ (a >>= λ x. f x >>= g)
-  grouped (Ok x) f g = refl
-  grouped (Err e) f g = refl
+  known_same : (unit : ℕ) → context_among made.units unit ≡ known unit
+  known_same unit = context_same raw.units raw.entries unit
 
-  abbrev ranged : List Entry → Result (List Entry) Fault
-  ranged meant = entries_by (λ unit a. ranges_meant o m (unit_base units meant unit) a a.value) (all_marked meant)
+  info_same : info_done o m made raw.entries ≡ entries_meant o m raw
+  info_same = ap (λ (step : ℕ → RawAttr → Result Value Fault). raw_entries_by step raw.entries >>= λ done. Ok (map entry_of done))
+      (same_step (info_meant o m made) (info_step o m raw) (λ unit a. ap (λ (u : UnitContext). info_in u unit a) (known_same unit)))
 
-  abbrev located : List Entry → List Entry → Result (List Entry) Fault
-  located meant entries = entries_by (λ unit a. locations_meant o (loc_context o m raw unit (unit_start units raw unit)) (unit_base units meant unit) a a.value) entries
+  module _ (meant : List Entry) where
+    abbrev bases : List Addr
+    bases = bases_of raw.units meant
 
-  lists_same : (meant : List Entry) → lists_meant o m (made_of units raw) (bases_of units meant) meant ≡ (ranged meant >>= located meant)
-  lists_same meant =
-      ap (λ (r : Result (List Entry) Fault). r >>= λ entries. entries_by (λ unit a. locations_meant o (context_by o m (made_of units raw) parts.Loc o.relocs.loc unit) (base_at (bases_of units meant) unit) a a.value) entries)
-      (ranges_same meant (all_marked meant))
-      ∙ ap (λ (f : List Entry → Result (List Entry) Fault). ranged meant >>= f) (fun_ext (λ entries. locations_same meant entries))
+    range_same : range_meant o m made bases ≡ ranges_step o m raw meant
+    range_same = same_step (range_meant o m made bases) (ranges_step o m raw meant)
+        (λ unit a. ap (λ (u : UnitContext). range_in u (base_at bases unit) a) (known_same unit) ∙ ap (λ (base : Addr). range_in (known unit) base a) (base_same raw.units meant unit))
 
-  after_lists : (meant : List Entry) (with_lines : List InUnit)
-      → (lists_meant o m (made_of units raw) (bases_of units meant) meant >>= λ listed. finished o m with_lines listed) ≡ (ranged meant >>= λ entries. located meant entries >>= λ listed. finished o m with_lines listed)
-  after_lists meant with_lines =
-      ap (λ (r : Result (List Entry) Fault). r >>= λ listed. finished o m with_lines listed) (lists_same meant) ∙ grouped (ranged meant) (located meant) (λ listed. finished o m with_lines listed)
+    location_same : location_meant o m made bases ≡ locations_step o m raw meant
+    location_same = same_step (location_meant o m made bases) (locations_step o m raw meant)
+        (λ unit a. ap (λ (u : UnitContext). location_in u (base_at bases unit) unit a) (known_same unit) ∙ ap (λ (base : Addr). location_in (known unit) base unit a) (base_same raw.units meant unit))
 
-  behind_same : (meant : List Entry) → behind_info meant ≡ defined meant
-  behind_same meant = ap (λ (f : List InUnit → Result Analysis Fault). units_meant o m meant units >>= f) (fun_ext (λ with_lines. after_lists meant with_lines))
+    abbrev ranged : Result (List Entry) Fault
+    ranged = entries_by (ranges_step o m raw meant) (all_marked meant)
+
+    abbrev located : List Entry → Result (List Entry) Fault
+    located entries = entries_by (locations_step o m raw meant) entries
+
+    lists_same : lists_meant o m made bases meant ≡ (ranged >>= located)
+    lists_same =
+        ap (λ (step : Meant). entries_by step (all_marked meant) >>= λ entries. entries_by (location_meant o m made bases) entries) range_same
+        ∙ ap (λ (step : Meant). ranged >>= λ entries. entries_by step entries) location_same
+
+    -- what is left once attributes of `__debug_info` are understood
+    abbrev behind_info : Result Analysis Fault
+    behind_info = do
+      with_lines ← units_meant o m meant raw.units
+      listed ← lists_meant o m made bases meant
+      finished o m with_lines listed
+
+    abbrev defined : Result Analysis Fault
+    defined = do
+      with_lines ← units_meant o m meant raw.units
+      entries ← ranged
+      listed ← located entries
+      finished o m with_lines listed
+
+    grouped : (a : Result (List Entry) Fault) (f : List Entry → Result (List Entry) Fault) (g : List Entry → Result Analysis Fault) → ((a >>= f) >>= g) ≡ (a >>= λ x. f x >>= g)
+    grouped (Ok x) f g = refl
+    grouped (Err e) f g = refl
+
+    after_lists : (with_lines : List InUnit) → (lists_meant o m made bases meant >>= λ listed. finished o m with_lines listed) ≡ (ranged >>= λ entries. located entries >>= λ listed. finished o m with_lines listed)
+    after_lists with_lines = ap (λ (r : Result (List Entry) Fault). r >>= λ listed. finished o m with_lines listed) lists_same ∙ grouped ranged located (λ listed. finished o m with_lines listed)
+
+    behind_same : behind_info ≡ defined
+    behind_same = ap (λ (f : List InUnit → Result Analysis Fault). units_meant o m meant raw.units >>= f) (fun_ext (λ with_lines. after_lists with_lines))
 
 -- the stations make the analysis
 pub analysed_same : (o : Opened) (m : AddrMap) (raw : RawUnits) → analysed o m raw ≡ units_analysed o m raw
 unfolding units_analysed
 analysed_same o m raw =
-    ap (λ (f : List Entry → Result Analysis Fault). info_done o m (made_of raw.units raw.entries) raw.entries >>= f) (fun_ext (λ meant. behind_same o m raw.units raw.entries meant))
-    ∙ ap (λ (r : Result (List Entry) Fault). r >>= defined o m raw.units raw.entries) (info_same o m raw.units raw.entries)
+    ap (λ (f : List Entry → Result Analysis Fault). info_done o m (made_of raw.units raw.entries) raw.entries >>= f) (fun_ext (λ meant. behind_same o m raw meant))
+    ∙ ap (λ (r : Result (List Entry) Fault). r >>= defined o m raw) (info_same o m raw)

@@ -140,13 +140,17 @@ module _ {E A : Type 0} (t : Turn E A) (old now : List E) (i j : ℕ) (e : E) (r
   below : j < length p.parts
   below = let long = p.changed.long in omega (arith, lt, long)
 
+  -- what stands there is the item with its parts
+  pub part_here : (x : E) → slice_get now i ≡ Some x → here ≡ x
+  part_here x there = some_same here x (sym here_stands ∙ there)
+
   pub part_stands : (x : E) × (slice_get now i ≡ Some x) × (j < length (t.parts x))
   part_stands = (here, here_stands, subst (λ (xs : List A). j < length xs) (sym (t.held e p.parts)) below)
 
   -- a part that is still to be changed is as it was
   pub part_was : (x : E) (a : A) → slice_get now i ≡ Some x → slice_get (t.parts x) j ≡ Some a → slice_get (t.parts e) j ≡ Some a
   part_was x a there is =
-      let same : here ≡ x = some_same here x (sym here_stands ∙ there) in
+      let same : here ≡ x = part_here x there in
       let at : slice_get p.parts j ≡ Some a = ap (λ (xs : List A). slice_get xs j) (sym (t.held e p.parts)) ∙ ap (λ (y : E). slice_get (t.parts y) j) same ∙ is in
       item_was (t.given e) (t.parts e) p.parts j below p.changed a at
 

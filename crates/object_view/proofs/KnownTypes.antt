@@ -1,5 +1,5 @@
 -- The base types that an understood expression names are of its unit.
-use Rattle.std.proofs.Common.{◌≡◌, ℕ, suc, ◌+◌, ◌==◌, ◌&&◌, Bool, true, false, cond, List, [], ◌∷◌, map, Option, Some, None, Ok, refl, ap, subst, ◌∙◌, arith}
+use Rattle.std.proofs.Common.{◌≡◌, ℕ, suc, ◌+◌, ◌==◌, ◌&&◌, Bool, true, false, cond, List, [], ◌∷◌, map, Option, Some, None, Ok, refl, sym, ap, subst, ◌∙◌, arith}
 use Rattle.std.specs.Prelude.{if◌then◌else◌}
 use Rattle.std.specs.List.{All, Contains, find}
 use Rattle.std.specs.Option.{option_map}
@@ -16,7 +16,7 @@ use Rattle.ds_base.proofs.Passing.{bind_ok, found_ok, ok_is}
 use Rattle.expr_walk.specs.Reading.{walk_of}
 use Rattle.expr_resolve.specs.declared.context.BaseType.{BaseType}
 use Rattle.expr_resolve.specs.Context.{Context}
-use Rattle.expr_resolve.specs.Expressions.{address_meant, base_meant, base_named, branches_tried, each_from, expression_of, fault_in, inner_start, is_conversion, op_meant, op_size, outer_part, plain_meant, plain_size, with_inner}
+use Rattle.expr_resolve.specs.Expressions.{base_meant, base_named, branches_tried, each_from, expression_of, fault_in, indices_tried, inner_start, is_conversion, named_by, op_meant, op_size, operand_meant, outer_part, plain_meant, plain_size, with_inner}
 use Rattle.object_view.proofs.Names.{all_filtered, each_from_all}
 
 -- a base type of a unit among some
@@ -72,10 +72,17 @@ base_known s place code (Some base) meant e =
     let b = bind_ok (or_fault (base_named s code base) (fault_in s kinds.BadOperandType place)) (λ m. Ok (Some m)) meant e in
     subst (IsKnownBase s.bases s.unit) (ok_is (Some b.0) meant b.2) (named_known s code base b.0 (found_ok (base_named s code base) (fault_in s kinds.BadOperandType place) b.0 b.1))
 
+-- whatever becomes of an operation, it names the base
+operand_base : (s : Context) (place : ℕ) (op : PlainOp) (base : Option Base) (at : Option ℕ) → (operand_meant s place op base at).base ≡ base
+operand_base s place op base None = refl
+operand_base s place op base (Some at) = refl
+
 plain_known : (s : Context) (place : ℕ) (op meant : PlainOp) → plain_meant s place op ≡ Ok meant → IsKnownBase s.bases s.unit meant.base
 plain_known s place op meant e =
-    let b = bind_ok (base_meant s place op.code op.base) (λ base. Ok (record op { address = address_meant s place op; base = base })) meant e in
-    subst (λ (o : PlainOp). IsKnownBase s.bases s.unit o.base) (ok_is (record op { address = address_meant s place op; base = b.0 }) meant b.2) (base_known s place op.code op.base b.0 b.1)
+    let at : Option ℕ = named_by s op.code op.address in
+    let b = bind_ok (base_meant s place op.code op.base) (λ base. Ok (operand_meant s place op base at)) meant e in
+    subst (λ (o : PlainOp). IsKnownBase s.bases s.unit o.base) (ok_is (operand_meant s place op b.0 at) meant b.2)
+    (subst (IsKnownBase s.bases s.unit) (sym (operand_base s place op b.0 at)) (base_known s place op.code op.base b.0 b.1))
 
 mapped_known : (s : Context) (inner : List PlainOp) → All (λ (o : PlainOp). IsKnownBase s.bases s.unit o.base) inner → All (IsKnownBase s.bases s.unit) (map (λ (o : PlainOp). o.base) inner)
 mapped_known s [] h = λ k d lt. absurd (omega arith)
@@ -93,7 +100,8 @@ op_known s place op meant e =
 pub ops_known : (s : Context) (bytes : List ℕ) (first : ℕ) (ops : List Op) → expression_of s bytes first ≡ Ok ops → All (IsKnownOp s.bases s.unit) ops
 unfolding expression_of
 ops_known s bytes first ops e =
-    let walk = bind_ok (walk_of bytes s.part first) (λ walked. each_from op_size (op_meant s) first walked >>= λ meant. branches_tried s first walked >>= λ u. Ok meant) ops e in
-    let each = bind_ok (each_from op_size (op_meant s) first walk.0) (λ meant. branches_tried s first walk.0 >>= λ u. Ok meant) ops walk.2 in
-    let tried = bind_ok (branches_tried s first walk.0) (λ u. Ok each.0) ops each.2 in
+    let walk = bind_ok (walk_of bytes s.part first s.version) (λ walked. each_from op_size (op_meant s) first walked >>= λ meant. indices_tried s first walked >>= λ v. branches_tried s first walked >>= λ u. Ok meant) ops e in
+    let each = bind_ok (each_from op_size (op_meant s) first walk.0) (λ meant. indices_tried s first walk.0 >>= λ v. branches_tried s first walk.0 >>= λ u. Ok meant) ops walk.2 in
+    let indexed = bind_ok (indices_tried s first walk.0) (λ v. branches_tried s first walk.0 >>= λ u. Ok each.0) ops each.2 in
+    let tried = bind_ok (branches_tried s first walk.0) (λ u. Ok each.0) ops indexed.2 in
     subst (All (IsKnownOp s.bases s.unit)) (ok_is each.0 ops tried.2) (each_from_all op_size (op_meant s) (IsKnownOp s.bases s.unit) (λ p x y is. op_known s p x y is) first walk.0 each.0 each.1)

@@ -1,4 +1,5 @@
 pub mod Assembling
+pub mod Contexts
 pub mod Definitions
 pub mod EachOf
 pub mod FileBytes

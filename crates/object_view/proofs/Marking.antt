@@ -58,7 +58,7 @@ abbrev with_attrs : Entry → List Attr → Entry
 with_attrs e attrs = record e { attrs = attrs }
 
 abbrev marked : Attr → Attr
-marked a = with_value a (lines_value a.value)
+marked a = with_value a (lines_value a)
 
 first_marked : (a : Attr) (others : List Attr) → (a.name == DW_AT_stmt_list) ≡ true → lines_marked (a ∷ others) ≡ marked a ∷ others
 first_marked a others is = rw is refl
@@ -87,9 +87,9 @@ pub unmarked : (e : Entry) → lines_marked e.attrs ≡ e.attrs → IsMarkedAt e
 unmarked e same = unmarked_if (is_none e.parent) e same
 
 -- the first stmt_list is no section offset
-pub unlisted : (e : Entry) (j : ℕ) (a : Attr) → slice_get e.attrs j ≡ Some a → lines_marked e.attrs ≡ set e.attrs j (marked a) → lines_value a.value ≡ a.value → IsMarkedAt e None
+pub unlisted : (e : Entry) (j : ℕ) (a : Attr) → slice_get e.attrs j ≡ Some a → lines_marked e.attrs ≡ set e.attrs j (marked a) → lines_value a ≡ a.value → IsMarkedAt e None
 unlisted e j a is first same = unmarked e (first ∙ ap (λ (value : Value). set e.attrs j (with_value a value)) same ∙ set_same e.attrs j a is)
 
 -- that of a root is one
-pub listed : (e : Entry) (j : ℕ) (a : Attr) → is_none e.parent ≡ true → slice_get e.attrs j ≡ Some a → lines_marked e.attrs ≡ set e.attrs j (marked a) → lines_value a.value ≡ values.Lines → IsMarkedAt e (Some j)
+pub listed : (e : Entry) (j : ℕ) (a : Attr) → is_none e.parent ≡ true → slice_get e.attrs j ≡ Some a → lines_marked e.attrs ≡ set e.attrs j (marked a) → lines_value a ≡ values.Lines → IsMarkedAt e (Some j)
 listed e j a root is first lines = (a, is, rw root (ap (λ (attrs : List Attr). with_attrs e attrs) (first ∙ ap (λ (value : Value). set e.attrs j (with_value a value)) lines)))

@@ -1,12 +1,12 @@
 -- An analysis has the entries, attributes and references that its object's sections spell.
 use Rattle.std.proofs.Common.{◌≡◌, ℕ, suc, ◌==◌, Bool, true, false, List, [], ◌∷◌, map, get_or, slice_get, Option, Some, None, Result, Ok, refl, sym, ap, subst, ◌∙◌, arith}
-use Rattle.std.specs.Prelude.{IsSome, is_none, if◌then◌else◌}
+use Rattle.std.specs.Prelude.{IsSome, is_none, is_some, if◌then◌else◌}
 use Rattle.std.specs.List.{All}
 use Rattle.std.specs.Option.{option_and_then, option_map}
 use Rattle.std.proofs.lemmas.Bool.{eqb-true}
 use Rattle.std.proofs.lemmas.List.Quantifiers.{position-Some}
 use Rattle.std.proofs.lemmas.Option.{slice_get-map}
-use Rattle.ds_base.specs.declared.dwarf.TheConstants.{DW_AT_stmt_list, DW_FORM_exprloc}
+use Rattle.ds_base.specs.declared.dwarf.TheConstants.{DW_AT_stmt_list, DW_FORM_exprloc, DW_FORM_sec_offset}
 use Rattle.ds_base.specs.declared.fault.Fault.{Fault}
 use Rattle.ds_base.specs.Reading.{◌>>=◌, or_fault}
 use Rattle.ds_base.proofs.Passing.{bind_ok, found_ok, ok_is}
@@ -18,33 +18,31 @@ use Rattle.dwarf_types.specs.declared.entry.InUnit.{InUnit}
 use Rattle.dwarf_types.specs.declared.entry.RawAttr.{RawAttr}
 use Rattle.dwarf_types.specs.declared.entry.RawEntry.{RawEntry}
 use Rattle.dwarf_types.specs.declared.entry.RawUnits.{RawUnits}
-use Rattle.dwarf_types.specs.declared.lines.RawLines.{RawLines}
+use Rattle.dwarf_types.specs.declared.lines.OutLines.{OutLines}
 use Rattle.dwarf_types.specs.declared.lists.RawLocation.{RawLocation}
 use Rattle.dwarf_types.specs.declared.lists.RawSpan.{RawSpan}
 use Rattle.dwarf_types.specs.declared.value.Value.{Value}
 use Rattle.dwarf_types.specs.declared.value.Value.TheVariants as values
 use Rattle.dwarf_types.specs.Live.{Stands, target_in}
+use Rattle.dwarf_types.specs.SectionBytes.{SectionBytes}
 use Rattle.addr_map.specs.declared.map.AddrMap.{AddrMap}
 use Rattle.frame_table.specs.Frames.{frames_of}
-use Rattle.line_read.specs.Program.{lines_of}
-use Rattle.loc_lists.specs.Reading.{locations_of}
-use Rattle.range_lists.specs.Reading.{ranges_of}
 use Rattle.moved_parts.specs.Frames.{frames_moved}
-use Rattle.moved_parts.specs.Lines.{lines_moved}
 use Rattle.moved_parts.specs.Spans.{spans_moved}
 use Rattle.expr_resolve.specs.Context.{Context}
 use Rattle.expr_resolve.specs.Expressions.{expression_of}
 use Rattle.unit_tree.specs.declared.meaning.Meaning.{Meaning}
 use Rattle.unit_tree.specs.declared.meaning.Meaning.TheVariants as meanings
 use Rattle.unit_tree.specs.Inside.{AreInside}
-use Rattle.unit_tree.specs.Meaning.{table_of}
+use Rattle.unit_tree.specs.Meaning.{is_address_index, table_of}
 use Rattle.object_view.specs.Analysis.{units_analysed}
-use Rattle.object_view.specs.Attributes.{all_marked, attr_by, attrs_by, dangling, each_of, entries_by, entries_meant, entry_by, info_context, item_meant, item_moved, line_place, lines_marked, lines_value, loc_context, locations_by_role, locations_meant, number_at, ranges_by_role, ranges_meant, unit_base, unit_with_lines, units_meant, value_meant, with_value}
+use Rattle.object_view.specs.declared.units.UnitContext.{UnitContext}
+use Rattle.object_view.specs.Attributes.{address_named, all_marked, attr_by, attrs_by, dangling, each_of, entries_by, entries_meant, entry_by, info_context, info_step, item_meant, item_moved, lines_marked, lines_meant, lines_value, locations_by_role, locations_context, locations_meant, locations_read, locations_step, number_at, offset_in, ranges_by_role, ranges_meant, ranges_read, ranges_step, unit_base, unit_with_lines, unit_with_table, units_meant, unnamed, value_meant, with_value}
 use Rattle.object_view.specs.Code.{code_of}
 use Rattle.object_view.specs.Opened.{Opened}
-use Rattle.object_view.specs.Ready.{IsReadValue}
+use Rattle.object_view.specs.Ready.{IsReadAttr, IsReadValue, context_among}
 use Rattle.object_view.specs.Spelled.{ByItem, IsAttr, IsEntry, IsUnit, LeadsAs}
-use Rattle.object_view.specs.Units.{places_of, unit_start}
+use Rattle.object_view.specs.Units.{base_types, contexts_of, places_of, unit_context}
 use Rattle.object_view.proofs.Fitting.{all_read}
 use Rattle.object_view.proofs.InPlace.{got}
 use Rattle.object_view.proofs.Kept.{bare, each_seen, raw_bare}
@@ -116,6 +114,12 @@ module _ (s : Context) (places : List ℕ) where
       ap target_in (sym (ok_is (values.Expr ops.0) now ops.2))
   block_target false form bytes first now e = ap target_in (sym (ok_is (values.Block form bytes) now e))
 
+  index_target : (b : Bool) (a : RawAttr) (n : ℕ) (now : Value) → (if b then (or_fault (address_named s n) (unnamed a) >>= λ place. Ok (values.Address place)) else Ok (values.Offset n)) ≡ Ok now → target_in now ≡ None
+  index_target true a n now e =
+      let place = bind_ok (or_fault (address_named s n) (unnamed a)) (λ place. Ok (values.Address place)) now e in
+      ap target_in (sym (ok_is (values.Address place.0) now place.2))
+  index_target false a n now e = ap target_in (sym (ok_is (values.Offset n) now e))
+
   value_target : (a : RawAttr) (value now : Value) → value_meant s places a value ≡ Ok now → target_in now ≡ option_and_then (number_at places) (target_in value)
   value_target a (values.Address place) now e = ap target_in (sym (ok_is _ now e))
   value_target a (values.Ref place) now e =
@@ -129,39 +133,44 @@ module _ (s : Context) (places : List ℕ) where
   value_target a (values.Ranges spans) now e = ap target_in (sym (ok_is (values.Ranges spans) now e))
   value_target a (values.Locations items) now e = ap target_in (sym (ok_is (values.Locations items) now e))
   value_target a values.Lines now e = ap target_in (sym (ok_is values.Lines now e))
-  value_target a (values.Offset n) now e = ap target_in (sym (ok_is (values.Offset n) now e))
+  value_target a (values.Offset n) now e = index_target (is_address_index a.form) a n now e
 
-lines_target : (value : Value) → target_in (lines_value value) ≡ target_in value
-lines_target (values.Offset n) = refl
-lines_target value = refl
+-- a section offset is no reference
+offset_target : (b : Bool) (value : Value) → target_in (if is_some (if b then offset_in value else None) then values.Lines else value) ≡ target_in value
+offset_target true (values.Offset n) = refl
+offset_target true value = refl
+offset_target false value = refl
 
-module _ (o : Opened) (m : AddrMap) (base : Addr) where
-  range_role_target : (role : Meaning) (place : ℕ) (now : Value) → ranges_by_role o m base role place ≡ Ok now → target_in now ≡ None
+lines_target : (a : Attr) → target_in (lines_value a) ≡ target_in a.value
+lines_target a = offset_target (a.form == DW_FORM_sec_offset) a.value
+
+module _ (o : Opened) (m : AddrMap) (u : UnitContext) (base : Addr) where
+  range_role_target : (role : Meaning) (place : ℕ) (now : Value) → ranges_by_role o m u base role place ≡ Ok now → target_in now ≡ None
   range_role_target meanings.RangeList place now e =
-      let spans = bind_ok (ranges_of o.sections o.relocs.ranges o.image place base) (λ (spans : List RawSpan). Ok (values.Ranges (spans_moved m spans))) now e in
+      let spans = bind_ok (ranges_read o u base place) (λ (spans : List RawSpan). Ok (values.Ranges (spans_moved m spans))) now e in
       ap target_in (sym (ok_is (values.Ranges (spans_moved m spans.0)) now spans.2))
   range_role_target role place now e = ap target_in (sym (ok_is (values.Offset place) now e))
 
-  range_target : (a : Attr) (value now : Value) → ranges_meant o m base a value ≡ Ok now → target_in now ≡ target_in value
+  range_target : (a : Attr) (value now : Value) → ranges_meant o m u base a value ≡ Ok now → target_in now ≡ target_in value
   range_target a (values.Offset place) now e = range_role_target (table_of a.name) place now e
   range_target a value now e = ap target_in (sym (ok_is value now e))
 
-module _ (o : Opened) (s : Context) (base : Addr) where
-  location_role_target : (role : Meaning) (place : ℕ) (now : Value) → locations_by_role o s base role place ≡ Ok now → target_in now ≡ None
+module _ (s : Context) (base : Addr) where
+  location_role_target : (role : Meaning) (place : ℕ) (now : Value) → locations_by_role s base role place ≡ Ok now → target_in now ≡ None
   location_role_target meanings.LocationList place now e =
-      let items = bind_ok (locations_of o.sections o.relocs.loc o.image place base) (λ (items : List RawLocation). each_of (item_meant s) items >>= λ meant. Ok (values.Locations (flat_map (item_moved s.map) meant))) now e in
+      let items = bind_ok (locations_read s base place) (λ (items : List RawLocation). each_of (item_meant s) items >>= λ meant. Ok (values.Locations (flat_map (item_moved s.map) meant))) now e in
       let meant = bind_ok (each_of (item_meant s) items.0) (λ meant. Ok (values.Locations (flat_map (item_moved s.map) meant))) now items.2 in
       ap target_in (sym (ok_is (values.Locations (flat_map (item_moved s.map) meant.0)) now meant.2))
   location_role_target role place now e = ap target_in (sym (ok_is (values.Offset place) now e))
 
-  location_target : (a : Attr) (value now : Value) → locations_meant o s base a value ≡ Ok now → target_in now ≡ target_in value
+  location_target : (a : Attr) (value now : Value) → locations_meant s base a value ≡ Ok now → target_in now ≡ target_in value
   location_target a (values.Offset place) now e = location_role_target (table_of a.name) place now e
   location_target a value now e = ap target_in (sym (ok_is value now e))
 
 -- ---- line tables
 
-first_seen : (b : Bool) (a : Attr) (attrs others : List Attr) → map seen others ≡ map seen attrs → map seen (if b then with_value a (lines_value a.value) ∷ attrs else a ∷ others) ≡ seen a ∷ map seen attrs
-first_seen true a attrs others e = ap (λ (t : Option ℕ). (a.name, a.form, t) ∷ map seen attrs) (lines_target a.value)
+first_seen : (b : Bool) (a : Attr) (attrs others : List Attr) → map seen others ≡ map seen attrs → map seen (if b then with_value a (lines_value a) ∷ attrs else a ∷ others) ≡ seen a ∷ map seen attrs
+first_seen true a attrs others e = ap (λ (t : Option ℕ). (a.name, a.form, t) ∷ map seen attrs) (lines_target a)
 first_seen false a attrs others e = ap (λ (s : List Seen). seen a ∷ s) e
 
 marked_seen : (attrs : List Attr) → map seen (lines_marked attrs) ≡ map seen attrs
@@ -184,15 +193,14 @@ UnitSeen = (ℕ × ℕ) × (ℕ × ℕ)
 abbrev unit_seen : InUnit → UnitSeen
 unit_seen u = ((u.first, u.count), (u.version, u.language))
 
-lines_seen : (o : Opened) (m : AddrMap) (u now : InUnit) (place : Option ℕ) → unit_with_lines o m u place ≡ Ok now → unit_seen now ≡ unit_seen u
-lines_seen o m u now None e = ap unit_seen (sym (ok_is u now e))
-lines_seen o m u now (Some place) e =
-    let lines = bind_ok (lines_of o.image o.relocs.line o.sections.line place) (λ (lines : RawLines). Ok (record u { lines = Some (lines_moved m lines) })) now e in
-    ap unit_seen (sym (ok_is (record u { lines = Some (lines_moved m lines.0) }) now lines.2))
+lines_seen : (o : Opened) (m : AddrMap) (u now : InUnit) (dir : List ℕ) (place : Option ℕ) → unit_with_table o m u dir place ≡ Ok now → unit_seen now ≡ unit_seen u
+lines_seen o m u now dir None e = ap unit_seen (sym (ok_is u now e))
+lines_seen o m u now dir (Some place) e =
+    let lines = bind_ok (lines_meant o m u.version dir place) (λ (lines : OutLines). Ok (record u { lines = Some lines })) now e in
+    ap unit_seen (sym (ok_is (record u { lines = Some lines.0 }) now lines.2))
 
 units_seen : (o : Opened) (m : AddrMap) (entries : List Entry) (units now : List InUnit) → units_meant o m entries units ≡ Ok now → map unit_seen now ≡ map unit_seen units
-units_seen o m entries units now e =
-    each_seen unit_seen unit_seen (λ (u : InUnit). unit_with_lines o m u (option_and_then line_place (slice_get entries u.first))) (λ x y i. lines_seen o m x y (option_and_then line_place (slice_get entries x.first)) i) units now e
+units_seen o m entries units now e = each_seen unit_seen unit_seen (unit_with_lines o m entries) (λ x y i. lines_seen o m x y _ _ i) units now e
 
 -- ---- item by item
 
@@ -232,39 +240,43 @@ module _ (places : List ℕ) (all : List Entry) (are : places_now all ≡ places
       let target = mapped_some (λ (x : Entry). x.place) (slice_get all k) place mapped in
       (target.0, target.1, target.2)
 
-  value_leads : (end : ℕ) (spelled now : Value) → IsReadValue places end spelled → target_in now ≡ option_and_then (number_at places) (target_in spelled) → LeadsAs all spelled now
-  value_leads end (values.Ref place) now h e =
-      let k = some_of (number_at places place) h in
-      let target = target_there place k.0 k.1 in
-      (k.0, target.0, ref_of now k.0 (e ∙ k.1), target.1, target.2)
-  value_leads end (values.Address place) now h e = e
-  value_leads end (values.Block form bytes) now h e = e
-  value_leads end (values.Text text) now h e = e
-  value_leads end (values.Number form bits) now h e = e
-  value_leads end (values.Wide bytes) now h e = e
-  value_leads end (values.Expr ops) now h e = e
-  value_leads end (values.Ranges spans) now h e = e
-  value_leads end (values.Locations items) now h e = e
-  value_leads end values.Lines now h e = e
-  value_leads end (values.Offset n) now h e = e
+  module _ (sections : SectionBytes) (addr_base : ℕ) where
+    abbrev IsRead : RawAttr → Value → Type 0
+    IsRead a value = IsReadValue sections addr_base places a value
 
-  attr_is : (spelled : RawAttr) (now : Attr) → IsReadValue places spelled.end spelled.value → seen now ≡ led places spelled → IsAttr all spelled now
-  attr_is spelled now h e = record {
-    name = ap (λ (s : Seen). s.0) e;
-    form = ap (λ (s : Seen). s.1) e;
-    leads = value_leads spelled.end spelled.value now.value h (ap (λ (s : Seen). s.2) e);
-  }
+    value_leads : (a : RawAttr) (spelled now : Value) → IsRead a spelled → target_in now ≡ option_and_then (number_at places) (target_in spelled) → LeadsAs all spelled now
+    value_leads a (values.Ref place) now h e =
+        let k = some_of (number_at places place) h in
+        let target = target_there place k.0 k.1 in
+        (k.0, target.0, ref_of now k.0 (e ∙ k.1), target.1, target.2)
+    value_leads a (values.Address place) now h e = e
+    value_leads a (values.Block form bytes) now h e = e
+    value_leads a (values.Text text) now h e = e
+    value_leads a (values.Number form bits) now h e = e
+    value_leads a (values.Wide bytes) now h e = e
+    value_leads a (values.Expr ops) now h e = e
+    value_leads a (values.Ranges spans) now h e = e
+    value_leads a (values.Locations items) now h e = e
+    value_leads a values.Lines now h e = e
+    value_leads a (values.Offset n) now h e = e
 
-  entry_is : (spelled : RawEntry) (now : Entry) → All (λ (a : RawAttr). IsReadValue places a.end a.value) spelled.attrs → outline now ≡ outline_led places spelled → IsEntry all spelled now
-  entry_is spelled now h e =
-      let bare_is : bare now ≡ raw_bare spelled = ap (λ (o : Outline). o.0) e in
-      record {
-        parent = ap (λ (x : Entry). x.parent) bare_is;
-        unit = ap (λ (x : Entry). x.unit) bare_is;
-        place = ap (λ (x : Entry). x.place) bare_is;
-        tag = ap (λ (x : Entry). x.tag) bare_is;
-        attrs = by_item (λ (a : RawAttr). IsReadValue places a.end a.value) (IsAttr all) seen (led places) (λ y x r i. attr_is y x r i) now.attrs spelled.attrs h (ap (λ (o : Outline). o.1) e);
-      }
+    attr_is : (spelled : RawAttr) (now : Attr) → IsRead spelled spelled.value → seen now ≡ led places spelled → IsAttr all spelled now
+    attr_is spelled now h e = record {
+      name = ap (λ (s : Seen). s.0) e;
+      form = ap (λ (s : Seen). s.1) e;
+      leads = value_leads spelled spelled.value now.value h (ap (λ (s : Seen). s.2) e);
+    }
+
+    entry_is : (spelled : RawEntry) (now : Entry) → All (λ (a : RawAttr). IsRead a a.value) spelled.attrs → outline now ≡ outline_led places spelled → IsEntry all spelled now
+    entry_is spelled now h e =
+        let bare_is : bare now ≡ raw_bare spelled = ap (λ (o : Outline). o.0) e in
+        record {
+          parent = ap (λ (x : Entry). x.parent) bare_is;
+          unit = ap (λ (x : Entry). x.unit) bare_is;
+          place = ap (λ (x : Entry). x.place) bare_is;
+          tag = ap (λ (x : Entry). x.tag) bare_is;
+          attrs = by_item (λ (a : RawAttr). IsRead a a.value) (IsAttr all) seen (led places) (λ y x r i. attr_is y x r i) now.attrs spelled.attrs h (ap (λ (o : Outline). o.1) e);
+        }
 
 unit_is : (spelled now : InUnit) → unit_seen now ≡ unit_seen spelled → IsUnit spelled now
 unit_is spelled now e = record {
@@ -292,31 +304,32 @@ pub record IsOfRaw (raw : RawUnits) (a : Analysis) : Type 0 where
   pub units : ByItem IsUnit raw.units a.units
   pub entries : ByItem (IsEntry a.entries) raw.entries a.entries
 
-pub analysis_of_raw : (o : Opened) (m : AddrMap) (raw : RawUnits) (a : Analysis) → AreInside o.sections raw.entries → units_analysed o m raw ≡ Ok a → IsOfRaw raw a
+pub analysis_of_raw : (o : Opened) (m : AddrMap) (raw : RawUnits) (a : Analysis) → AreInside o.sections raw → units_analysed o m raw ≡ Ok a → IsOfRaw raw a
 unfolding units_analysed
 analysis_of_raw o m raw a inside e =
     let places : List ℕ = places_of raw.entries in
     let last : List InUnit → List Entry → Result Analysis Fault = λ units entries. (frames_of o.image o.relocs.frame o.sections.frame >>= λ frames. Ok (record { units = units; entries = entries; code = code_of m entries; frames = frames_moved m frames })) in
-    let locate : List Entry → List Entry → Result (List Entry) Fault = λ meant ranged. entries_by (λ unit x. locations_meant o (loc_context o m raw.entries unit (unit_start raw.units raw.entries unit)) (unit_base raw.units meant unit) x x.value) ranged in
-    let range : List Entry → Result (List Entry) Fault = λ meant. entries_by (λ unit x. ranges_meant o m (unit_base raw.units meant unit) x x.value) (all_marked meant) in
-    let meant = bind_ok (entries_meant o m raw.units raw.entries) (λ meant. units_meant o m meant raw.units >>= λ units. range meant >>= λ ranged. locate meant ranged >>= λ entries. last units entries) a e in
+    let locate : List Entry → List Entry → Result (List Entry) Fault = λ meant ranged. entries_by (locations_step o m raw meant) ranged in
+    let range : List Entry → Result (List Entry) Fault = λ meant. entries_by (ranges_step o m raw meant) (all_marked meant) in
+    let meant = bind_ok (entries_meant o m raw) (λ meant. units_meant o m meant raw.units >>= λ units. range meant >>= λ ranged. locate meant ranged >>= λ entries. last units entries) a e in
     let units = bind_ok (units_meant o m meant.0 raw.units) (λ units. range meant.0 >>= λ ranged. locate meant.0 ranged >>= λ entries. last units entries) a meant.2 in
     let ranged = bind_ok (range meant.0) (λ ranged. locate meant.0 ranged >>= λ entries. last units.0 entries) a units.2 in
     let entries = bind_ok (locate meant.0 ranged.0) (λ entries. last units.0 entries) a ranged.2 in
     let frames = bind_ok (frames_of o.image o.relocs.frame o.sections.frame) (λ frames. Ok (record { units = units.0; entries = entries.0; code = code_of m entries.0; frames = frames_moved m frames })) a entries.2 in
     let done : Analysis = record { units = units.0; entries = entries.0; code = code_of m entries.0; frames = frames_moved m frames.0 } in
     let seen_meant : map outline meant.0 ≡ map (outline_led places) raw.entries =
-    entries_led places (λ unit x. value_meant (info_context o m raw.entries unit (unit_start raw.units raw.entries unit)) places x x.value)
-    (λ unit x now i. value_target (info_context o m raw.entries unit (unit_start raw.units raw.entries unit)) places x x.value now i) raw.entries meant.0
-    (given_is (λ unit x. value_meant (info_context o m raw.entries unit (unit_start raw.units raw.entries unit)) places x x.value) raw.entries meant.0 meant.1) in
+    entries_led places (info_step o m raw) (λ unit x now i. value_target (info_context o m (base_types raw.entries) unit (unit_context raw.units raw.entries unit)) places x x.value now i) raw.entries meant.0
+    (given_is (info_step o m raw) raw.entries meant.0 meant.1) in
     let seen_ranged : map outline ranged.0 ≡ map outline (all_marked meant.0) =
-    entries_seen (λ unit x. ranges_meant o m (unit_base raw.units meant.0 unit) x x.value) (λ unit x now i. range_target o m (unit_base raw.units meant.0 unit) x x.value now i) (all_marked meant.0) ranged.0 ranged.1 in
+    entries_seen (ranges_step o m raw meant.0) (λ unit x now i. range_target o m (unit_context raw.units raw.entries unit) (unit_base raw.units meant.0 unit) x x.value now i) (all_marked meant.0) ranged.0 ranged.1 in
     let seen_located : map outline entries.0 ≡ map outline ranged.0 =
-    entries_seen (λ unit x. locations_meant o (loc_context o m raw.entries unit (unit_start raw.units raw.entries unit)) (unit_base raw.units meant.0 unit) x x.value)
-    (λ unit x now i. location_target o (loc_context o m raw.entries unit (unit_start raw.units raw.entries unit)) (unit_base raw.units meant.0 unit) x x.value now i) ranged.0 entries.0 entries.1 in
+    entries_seen (locations_step o m raw meant.0)
+    (λ unit x now i. location_target (locations_context o m (base_types raw.entries) unit (unit_context raw.units raw.entries unit)) (unit_base raw.units meant.0 unit) x x.value now i) ranged.0 entries.0 entries.1 in
     let whole : map outline entries.0 ≡ map (outline_led places) raw.entries = seen_located ∙ seen_ranged ∙ all_marked_seen meant.0 ∙ seen_meant in
     let are : places_now entries.0 ≡ places = places_from places entries.0 raw.entries whole in
     let u : ByItem IsUnit raw.units units.0 = by_item (λ (x : InUnit). Unit {0}) IsUnit unit_seen unit_seen (λ y x t i. unit_is y x i) units.0 raw.units (λ k d lt. tt) (units_seen o m meant.0 raw.units units.0 units.1) in
+    let contexts : List UnitContext = contexts_of raw.entries raw.units in
     let es : ByItem (IsEntry entries.0) raw.entries entries.0 =
-    by_item (λ (x : RawEntry). All (λ (b : RawAttr). IsReadValue places b.end b.value) x.attrs) (IsEntry entries.0) outline (outline_led places) (λ y x r i. entry_is places entries.0 are y x r i) entries.0 raw.entries (all_read o.sections raw.entries inside) whole in
+    by_item (λ (x : RawEntry). All (λ (b : RawAttr). IsReadAttr o.sections contexts places x.unit b) x.attrs) (IsEntry entries.0) outline (outline_led places)
+    (λ y x r i. entry_is places entries.0 are o.sections (context_among contexts y.unit).addr_base y x r i) entries.0 raw.entries (all_read o.sections raw.units raw.entries inside) whole in
     subst (IsOfRaw raw) (ok_is done a frames.2) (record { units = u; entries = es })

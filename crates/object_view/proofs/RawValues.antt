@@ -12,13 +12,14 @@ use Rattle.dwarf_types.specs.declared.value.Value.TheVariants as values
 use Rattle.dwarf_types.specs.Live.{operations_of}
 use Rattle.dwarf_types.specs.SectionBytes.{SectionBytes}
 use Rattle.dwarf_types.specs.Spelled.{AreBytes}
+use Rattle.index_tables.specs.declared.bases.Bases.{Bases}
 use Rattle.form_value.specs.declared.form.FormClass.{FormClass}
 use Rattle.form_value.specs.declared.form.FormClass.TheVariants.{Address, Text, StrText, LineStrText, Number, Signed, Present, Implicit, Wide, Block, Offset, Outside}
 use Rattle.form_value.specs.Spelling.{SpellsClass}
 use Rattle.unit_tree.specs.declared.meaning.Meaning.{Meaning}
-use Rattle.unit_tree.specs.declared.meaning.Meaning.TheVariants.{InUnit, InObject, LineTable, RangeList, LocationList, Other}
+use Rattle.unit_tree.specs.declared.meaning.Meaning.TheVariants.{InUnit, InObject, LineTable, RangeList, LocationList, TextIndex, AddressIndex, RangeListIndex, LocationListIndex, Other}
 use Rattle.unit_tree.specs.Meaning.{meaning_of}
-use Rattle.unit_tree.specs.Spelling.{Forest, Node, SpellsAttr, SpellsAttrs, SpellsBelow, SpellsNode, SpellsTrees, SpellsUnit, SpellsUnits, UnitTree, attr_value, entries_of, entry_of, meant, no_more, preorder, size, tree, unit_entries}
+use Rattle.unit_tree.specs.Spelling.{Forest, IsMeant, Means, Names, NamesAddress, NamesList, NamesText, Node, Origin, SpellsAttr, SpellsAttrs, SpellsBelow, SpellsNode, SpellsTrees, SpellsUnit, SpellsUnits, UnitTree, entries_of, entry_of, no_more, origin_in, preorder, size, tree, unit_entries}
 use Rattle.unit_tree.specs.Unit.{units_of}
 use Rattle.unit_tree.proofs.UnitLaws.{units_spelled}
 
@@ -48,35 +49,44 @@ stored_plain (Block coding) field sections bytes value h = subst IsPlain (sym h.
 stored_plain (Offset coding) field sections bytes value h = subst IsPlain (sym h.is) refl
 stored_plain Outside field sections bytes value h = absurd h
 
-meant_plain : (place : ℕ) (meaning : Meaning) (n : ℕ) → IsPlain (meant place meaning n)
-meant_plain place InUnit n = refl
-meant_plain place InObject n = refl
-meant_plain place LineTable n = refl
-meant_plain place RangeList n = refl
-meant_plain place LocationList n = refl
-meant_plain place Other n = refl
+-- what an index leads to
+names_plain : (There : Bases → Value → Type 0) → ((bases : Bases) (value : Value) → There bases value → IsPlain value) → (bases : Option Bases) (n : ℕ) (value : Value) → Names There bases n value → IsPlain value
+names_plain There there (Some bases) n value h = there bases value h
+names_plain There there None n value h = subst IsPlain (sym h) refl
 
-value_plain : (place : ℕ) (field : Field) (value : Value) → IsPlain value → IsPlain (attr_value place field value)
-value_plain place field (values.Offset n) h = meant_plain place (meaning_of field.form field.name) n
-value_plain place field value h = h
+means_plain : (sections : SectionBytes) (o : Origin) (lines : Bool) (meaning : Meaning) (n : ℕ) (value : Value) → Means sections o lines meaning n value → IsPlain value
+means_plain sections o lines InUnit n value h = subst IsPlain (sym h) refl
+means_plain sections o lines InObject n value h = subst IsPlain (sym h) refl
+means_plain sections o lines LineTable n value h = subst IsPlain (sym h.1) refl
+means_plain sections o lines RangeList n value h = subst IsPlain (sym h.1) refl
+means_plain sections o lines LocationList n value h = subst IsPlain (sym h.1) refl
+means_plain sections o lines TextIndex n value h = names_plain (λ bases v. NamesText sections bases n v) (λ bases v k. subst IsPlain (sym k.is) refl) o.bases n value h
+means_plain sections o lines AddressIndex n value h = names_plain (λ bases v. NamesAddress sections bases n v) (λ bases v k. subst IsPlain (sym k.is) refl) o.bases n value h
+means_plain sections o lines RangeListIndex n value h = names_plain (λ bases v. NamesList sections.rnglists bases.ranges n v) (λ bases v k. subst IsPlain (sym k.is) refl) o.bases n value h
+means_plain sections o lines LocationListIndex n value h = names_plain (λ bases v. NamesList sections.loclists bases.locations n v) (λ bases v k. subst IsPlain (sym k.is) refl) o.bases n value h
+means_plain sections o lines Other n value h = subst IsPlain (sym h) refl
 
-attr_plain : (sections : SectionBytes) (unit : ℕ) (lines : Bool) (field : Field) (attr : RawAttr) (place : ℕ) (bytes : List ℕ) → SpellsAttr sections unit lines field attr place bytes → IsPlainAttr attr
-attr_plain sections unit lines field attr place bytes h =
-    subst IsPlainAttr (sym h.is) (value_plain unit field h.value (stored_plain h.spells.row.class field sections bytes h.value h.spells.spells))
+value_plain : (sections : SectionBytes) (o : Origin) (lines : Bool) (field : Field) (stored value : Value) → IsPlain stored → IsMeant sections o lines field stored value → IsPlain value
+value_plain sections o lines field (values.Offset n) value plain h = means_plain sections o lines (meaning_of field.form field.name) n value h
+value_plain sections o lines field stored value plain h = subst IsPlain (sym h) plain
 
-attrs_plain : (sections : SectionBytes) (unit : ℕ) (root : Bool) (fields : List Field) (before attrs : List RawAttr) (place : ℕ) (bytes : List ℕ) → SpellsAttrs sections unit root fields before attrs place bytes → All IsPlainAttr attrs
-attrs_plain sections unit root [] before [] place bytes h = All-nil IsPlainAttr
-attrs_plain sections unit root [] before (attr ∷ attrs) place bytes h = absurd h
-attrs_plain sections unit root (field ∷ fields) before [] place bytes h = absurd h
-attrs_plain sections unit root (field ∷ fields) before (attr ∷ attrs) place bytes h =
-    All-cons IsPlainAttr attr attrs (attr_plain sections unit _ field attr place h.front h.first)
-    (attrs_plain sections unit root fields (before ++ attr ∷ []) attrs (place + length h.front) h.back h.second)
+attr_plain : (sections : SectionBytes) (o : Origin) (lines : Bool) (field : Field) (attr : RawAttr) (place : ℕ) (bytes : List ℕ) → SpellsAttr sections o lines field attr place bytes → IsPlainAttr attr
+attr_plain sections o lines field attr place bytes h =
+    subst IsPlainAttr (sym h.is) (value_plain sections o lines field h.stored h.value (stored_plain h.spells.row.class field sections bytes h.stored h.spells.spells) h.means)
+
+attrs_plain : (sections : SectionBytes) (o : Origin) (root : Bool) (fields : List Field) (before attrs : List RawAttr) (place : ℕ) (bytes : List ℕ) → SpellsAttrs sections o root fields before attrs place bytes → All IsPlainAttr attrs
+attrs_plain sections o root [] before [] place bytes h = All-nil IsPlainAttr
+attrs_plain sections o root [] before (attr ∷ attrs) place bytes h = absurd h
+attrs_plain sections o root (field ∷ fields) before [] place bytes h = absurd h
+attrs_plain sections o root (field ∷ fields) before (attr ∷ attrs) place bytes h =
+    All-cons IsPlainAttr attr attrs (attr_plain sections o _ field attr place h.front h.first)
+    (attrs_plain sections o root fields (before ++ attr ∷ []) attrs (place + length h.front) h.back h.second)
 
 -- ---- trees
 
-node_plain : (sections : SectionBytes) (at : ℕ) (table : List Abbrev) (root : Bool) (node : Node) (place : ℕ) (bytes : List ℕ) → SpellsNode sections at table root node place bytes → (unit : ℕ) (parent : Option ℕ) → IsPlainEntry (entry_of unit parent node)
-node_plain sections at table root node place bytes h unit parent =
-    attrs_plain sections at root node.declared.fields [] node.attrs (place + length h.spells.front) h.spells.back h.spells.second
+node_plain : (sections : SectionBytes) (o : Origin) (table : List Abbrev) (root : Bool) (node : Node) (place : ℕ) (bytes : List ℕ) → SpellsNode sections o table root node place bytes → (unit : ℕ) (parent : Option ℕ) → IsPlainEntry (entry_of unit parent node)
+node_plain sections o table root node place bytes h unit parent =
+    attrs_plain sections o root node.declared.fields [] node.attrs (place + length h.spells.front) h.spells.back h.spells.second
 
 below_plain : (children : Bool) (Kids : ℕ → List ℕ → Type 0) (kids : Forest) (place : ℕ) (bytes : List ℕ) → SpellsBelow children Kids kids place bytes → (unit : ℕ) (parent : Option ℕ) (number : ℕ)
     → ((p : ℕ) (b : List ℕ) → Kids p b → All IsPlainEntry (preorder unit parent number kids)) → All IsPlainEntry (preorder unit parent number kids)
@@ -84,14 +94,14 @@ below_plain true Kids kids place bytes h unit parent number plain = plain place 
 below_plain false Kids no_more place bytes h unit parent number plain = All-nil IsPlainEntry
 below_plain false Kids (tree node more others) place bytes h unit parent number plain = absurd h
 
-trees_plain : (sections : SectionBytes) (at : ℕ) (table : List Abbrev) (forest : Forest) (place : ℕ) (bytes : List ℕ) → SpellsTrees sections at table forest place bytes → (unit : ℕ) (parent : Option ℕ) (number : ℕ)
+trees_plain : (sections : SectionBytes) (o : Origin) (table : List Abbrev) (forest : Forest) (place : ℕ) (bytes : List ℕ) → SpellsTrees sections o table forest place bytes → (unit : ℕ) (parent : Option ℕ) (number : ℕ)
     → All IsPlainEntry (preorder unit parent number forest)
-trees_plain sections at table no_more place bytes h unit parent number = All-nil IsPlainEntry
-trees_plain sections at table (tree node kids others) place bytes h unit parent number =
-    let here = node_plain sections at table false node place h.first.front h.first.first unit parent in
-    let below = below_plain node.declared.children (λ p b. SpellsTrees sections at table kids p b) kids (place + length h.first.front) h.first.back h.first.second unit (Some number) (number + 1)
-    (λ p b k. trees_plain sections at table kids p b k unit (Some number) (number + 1)) in
-    let behind = trees_plain sections at table others (place + length h.front) h.back h.second unit parent (number + 1 + size kids) in
+trees_plain sections o table no_more place bytes h unit parent number = All-nil IsPlainEntry
+trees_plain sections o table (tree node kids others) place bytes h unit parent number =
+    let here = node_plain sections o table false node place h.first.front h.first.first unit parent in
+    let below = below_plain node.declared.children (λ p b. SpellsTrees sections o table kids p b) kids (place + length h.first.front) h.first.back h.first.second unit (Some number) (number + 1)
+    (λ p b k. trees_plain sections o table kids p b k unit (Some number) (number + 1)) in
+    let behind = trees_plain sections o table others (place + length h.front) h.back h.second unit parent (number + 1 + size kids) in
     All-cons IsPlainEntry (entry_of unit parent node) (preorder unit (Some number) (number + 1) kids ++ preorder unit parent (number + 1 + size kids) others) here
     (All-append IsPlainEntry (preorder unit (Some number) (number + 1) kids) (preorder unit parent (number + 1 + size kids) others) below behind)
 
@@ -99,10 +109,11 @@ trees_plain sections at table (tree node kids others) place bytes h unit parent 
 
 unit_plain : (sections : SectionBytes) (t : UnitTree) (place : ℕ) (bytes : List ℕ) → SpellsUnit sections t place bytes → (unit number : ℕ) → All IsPlainEntry (unit_entries unit number t)
 unit_plain sections t place bytes h unit number =
-    let body = h.spells.second.second.second.first in
-    let root = node_plain sections place t.table true t.root _ body.front body.first unit None in
-    let below = below_plain t.root.declared.children (λ p b. SpellsTrees sections place t.table t.kids p b) t.kids _ body.back body.second unit (Some number) (number + 1)
-    (λ p b k. trees_plain sections place t.table t.kids p b k unit (Some number) (number + 1)) in
+    let o : Origin = origin_in place t in
+    let body = h.spells.second.first in
+    let root = node_plain sections o t.table true t.root _ body.front body.first unit None in
+    let below = below_plain t.root.declared.children (λ p b. SpellsTrees sections o t.table t.kids p b) t.kids _ body.back body.second unit (Some number) (number + 1)
+    (λ p b k. trees_plain sections o t.table t.kids p b k unit (Some number) (number + 1)) in
     All-cons IsPlainEntry (entry_of unit None t.root) (preorder unit (Some number) (number + 1) t.kids) root below
 
 units_plain : (sections : SectionBytes) (ts : List UnitTree) (place : ℕ) (bytes : List ℕ) → SpellsUnits sections ts place bytes → (unit number : ℕ) → All IsPlainEntry (entries_of unit number ts)

@@ -1,8 +1,7 @@
 -- Of which kinds the faults of an object are: those of the readers of its parts.
-use Rattle.std.proofs.Common.{◌≡◌, ℕ, ◌-◌, ◌==◌, Bool, not, List, [], ◌∷◌, ◌++◌, length, Option, Some, None, Result, Ok, Err, refl, arith}
-use Rattle.std.specs.Prelude.{nat_lt, slice_get, if◌then◌else◌}
+use Rattle.std.proofs.Common.{◌≡◌, ℕ, ◌-◌, ◌==◌, Bool, true, false, List, [], ◌∷◌, ◌++◌, length, Option, Some, None, Result, Ok, Err, refl, arith}
+use Rattle.std.specs.Prelude.{if◌then◌else◌}
 use Rattle.std.specs.List.{Contains}
-use Rattle.std.specs.Option.{option_and_then}
 use Rattle.std.proofs.lemmas.List.Elements.{All-contains, All-from_recursion, Contains-append_left}
 use Rattle.ds_base.specs.declared.dwarf.TheConstants.{DW_FORM_exprloc}
 use Rattle.ds_base.specs.declared.fault.Fault.{Fault}
@@ -35,24 +34,22 @@ use Rattle.reloc_table.specs.declared.relocation.Relocs.{Relocs}
 use Rattle.reloc_table.specs.Table.{relocs_of}
 use Rattle.addr_map.specs.declared.map.AddrMap.{AddrMap}
 use Rattle.addr_map.specs.Ranges.{map_of}
-use Rattle.expr_walk.specs.Length.{ops_len}
 use Rattle.line_read.specs.Program.{lines_of}
 use Rattle.frame_table.specs.Frames.{frames_of}
-use Rattle.range_lists.specs.Reading.{ranges_of}
-use Rattle.loc_lists.specs.Reading.{locations_of}
+use Rattle.range_lists.specs.Reading.{range_faults, ranges_of}
+use Rattle.loc_lists.specs.Reading.{location_faults, locations_of}
 use Rattle.expr_resolve.specs.Context.{Context}
 use Rattle.expr_resolve.specs.Expressions.{expression_of}
 use Rattle.unit_tree.specs.declared.meaning.Meaning.{Meaning}
 use Rattle.unit_tree.specs.declared.meaning.Meaning.TheVariants as meanings
-use Rattle.unit_tree.specs.Meaning.{table_of}
+use Rattle.unit_tree.specs.Meaning.{is_address_index, table_of}
 use Rattle.unit_tree.specs.Unit.{units_of}
-use Rattle.object_view.specs.declared.locations.TheConstants.{EXPRESSION_LIMIT}
+use Rattle.object_view.specs.declared.units.UnitContext.{UnitContext}
 use Rattle.object_view.specs.Analysis.{analysis_of, units_analysed}
-use Rattle.object_view.specs.Attributes.{all_marked, attr_by, attrs_by, dangling, each_of, entries_by, entries_meant, entry_by, info_context, item_meant, line_place, loc_context, locations_at, locations_by_role, locations_meant, number_at, ranges_at, ranges_by_role, ranges_meant, raw_attr_by, raw_attrs_by, raw_entries_by, raw_entry_by, unit_base, unit_with_lines, units_meant, value_meant}
+use Rattle.object_view.specs.Attributes.{address_named, all_marked, attr_by, attrs_by, dangling, each_of, entries_by, entries_meant, entry_by, info_step, is_too_long, item_meant, lines_meant, locations_at, locations_by_role, locations_meant, locations_read, locations_step, number_at, offset_meant, ranges_at, ranges_by_role, ranges_meant, ranges_read, ranges_relocs, ranges_step, raw_attr_by, raw_attrs_by, raw_entries_by, raw_entry_by, unit_with_lines, unit_with_table, units_meant, unnamed, value_meant}
 use Rattle.object_view.specs.Faults.{object_kinds}
 use Rattle.object_view.specs.Opened.{Opened, opened_of, part_relocs, relocs_among, relocs_in}
 use Rattle.object_view.specs.Parts.{all_tried, is_tried, section_of, section_tried}
-use Rattle.object_view.specs.Units.{places_of, unit_start}
 
 abbrev IsOne : Kind → Type 0
 IsOne = Contains object_kinds
@@ -64,13 +61,15 @@ pub record Laws : Type 0 where
   pub relocs : (bytes : List ℕ) (image : Image) (section : Section) (f : Fault) → relocs_of bytes image section ≡ Err f → Contains (kinds.Truncated ∷ kinds.RelocKind ∷ kinds.RelocPlace ∷ kinds.RelocSymbol ∷ kinds.RelocOverlap ∷ []) f.kind
   pub units : (sections : SectionBytes) (f : Fault) → units_of sections ≡ Err f → Contains (
       kinds.Truncated ∷ kinds.LebTooWide ∷ kinds.UnknownForm ∷ kinds.FormOutsideProfile ∷ kinds.BadOffset ∷ kinds.BadAbbrev ∷ kinds.DuplicateCode ∷ kinds.LimitAttributes
-      ∷ kinds.UnsupportedVersion ∷ kinds.BadUnit ∷ kinds.SplitUnit ∷ kinds.UnknownCode ∷ kinds.UnclosedSiblings ∷ kinds.LimitDepth ∷ kinds.LimitEntries ∷ kinds.BadReference ∷ []
+      ∷ kinds.UnsupportedVersion ∷ kinds.BadUnit ∷ kinds.SplitUnit ∷ kinds.UnknownCode ∷ kinds.UnclosedSiblings ∷ kinds.LimitDepth ∷ kinds.LimitEntries ∷ kinds.BadReference ∷ kinds.BadIndex ∷ []
       ) f.kind
-  pub expression : (s : Context) (bytes : List ℕ) (first : ℕ) (f : Fault) → expression_of s bytes first ≡ Err f → Contains (kinds.Truncated ∷ kinds.LebTooWide ∷ kinds.UnknownOp ∷ kinds.OpOutsideProfile ∷ kinds.BadOperandType ∷ kinds.BranchOverRewrite ∷ []) f.kind
-  pub lines : (image : Image) (relocs : Relocs) (bytes : List ℕ) (offset : ℕ) (f : Fault) → lines_of image relocs bytes offset ≡ Err f
-      → Contains (kinds.Truncated ∷ kinds.LebTooWide ∷ kinds.LineVersion ∷ kinds.BadLineHeader ∷ kinds.VliwLine ∷ kinds.BadLineOp ∷ kinds.LineBackwards ∷ []) f.kind
-  pub ranges : (sections : SectionBytes) (relocs : Relocs) (image : Image) (offset : ℕ) (base : Addr) (f : Fault) → ranges_of sections relocs image offset base ≡ Err f → Contains (kinds.Truncated ∷ kinds.BadList ∷ []) f.kind
-  pub locations : (sections : SectionBytes) (relocs : Relocs) (image : Image) (offset : ℕ) (base : Addr) (f : Fault) → locations_of sections relocs image offset base ≡ Err f → Contains (kinds.Truncated ∷ kinds.BadList ∷ []) f.kind
+  pub expression : (s : Context) (bytes : List ℕ) (first : ℕ) (f : Fault) → expression_of s bytes first ≡ Err f → Contains (kinds.Truncated ∷ kinds.LebTooWide ∷ kinds.UnknownOp ∷ kinds.OpOutsideProfile ∷ kinds.BadOperandType ∷ kinds.BadIndex ∷ kinds.BranchOverRewrite ∷ []) f.kind
+  pub lines : (image : Image) (relocs : Relocs) (sections : SectionBytes) (version offset : ℕ) (f : Fault) → lines_of image relocs sections version offset ≡ Err f
+      → Contains (kinds.Truncated ∷ kinds.LebTooWide ∷ kinds.BadOffset ∷ kinds.LineVersion ∷ kinds.BadLineHeader ∷ kinds.VliwLine ∷ kinds.BadLineOp ∷ kinds.LineBackwards ∷ kinds.BadEntryFormat ∷ []) f.kind
+  pub ranges : (sections : SectionBytes) (relocs : Relocs) (image : Image) (offset version : ℕ) (base : Addr) (addresses : Relocs) (addr_base : ℕ) (f : Fault) → ranges_of sections relocs image offset version base addresses addr_base ≡ Err f
+      → Contains (range_faults version) f.kind
+  pub locations : (sections : SectionBytes) (relocs : Relocs) (image : Image) (offset version : ℕ) (base : Addr) (addresses : Relocs) (addr_base : ℕ) (f : Fault) → locations_of sections relocs image offset version base addresses addr_base ≡ Err f
+      → Contains (location_faults version) f.kind
   pub frames : (image : Image) (relocs : Relocs) (bytes : List ℕ) (f : Fault) → frames_of image relocs bytes ≡ Err f → Contains (kinds.Truncated ∷ kinds.BadFrame ∷ []) f.kind
 
 cut : IsOne kinds.Truncated
@@ -78,6 +77,9 @@ cut = (0, omega arith, refl)
 
 wide : IsOne kinds.LebTooWide
 wide = (1, omega arith, refl)
+
+index : IsOne kinds.BadIndex
+index = (16, omega arith, refl)
 
 -- ---- lists of items
 
@@ -109,17 +111,17 @@ module _ (laws : Laws) where
   image_kinds : (bytes : List ℕ) → FaultsAre IsOne (image_of bytes)
   image_kinds bytes f e =
       let some : List Kind = kinds.Truncated ∷ kinds.NotMachO ∷ kinds.WrongCpu ∷ kinds.BadCommand ∷ kinds.BadSymbols ∷ [] in
-      All-contains IsOne some f.kind (All-from_recursion IsOne some (cut, ((21, omega arith, refl), ((22, omega arith, refl), ((23, omega arith, refl), ((24, omega arith, refl), tt)))))) (laws.image bytes f e)
+      All-contains IsOne some f.kind (All-from_recursion IsOne some (cut, ((22, omega arith, refl), ((23, omega arith, refl), ((24, omega arith, refl), ((25, omega arith, refl), tt)))))) (laws.image bytes f e)
 
   role_kinds : (image : Image) (cpu : ℕ) → FaultsAre IsOne (kind_of image (roles.Object cpu))
   role_kinds image cpu =
-      bind_kinds IsOne (refuse_if (is_wrong_cpu (roles.Object cpu) image.cpu) (header_fault kinds.WrongCpu 4)) _ (refuse_kinds IsOne (is_wrong_cpu (roles.Object cpu) image.cpu) (header_fault kinds.WrongCpu 4) (22, omega arith, refl)) (λ u.
-      bind_kinds IsOne (refuse_if (is_wrong_type (roles.Object cpu) image.filetype) (header_fault kinds.BadFileType 12)) _ (refuse_kinds IsOne (is_wrong_type (roles.Object cpu) image.filetype) (header_fault kinds.BadFileType 12) (25, omega arith, refl)) (λ v. ok_kinds IsOne _))
+      bind_kinds IsOne (refuse_if (is_wrong_cpu (roles.Object cpu) image.cpu) (header_fault kinds.WrongCpu 4)) _ (refuse_kinds IsOne (is_wrong_cpu (roles.Object cpu) image.cpu) (header_fault kinds.WrongCpu 4) (23, omega arith, refl)) (λ u.
+      bind_kinds IsOne (refuse_if (is_wrong_type (roles.Object cpu) image.filetype) (header_fault kinds.BadFileType 12)) _ (refuse_kinds IsOne (is_wrong_type (roles.Object cpu) image.filetype) (header_fault kinds.BadFileType 12) (26, omega arith, refl)) (λ v. ok_kinds IsOne _))
 
   one_section_kinds : (bytes : List ℕ) (section : Section) (index : ℕ) → FaultsAre IsOne (section_in bytes section index)
   one_section_kinds bytes section index f e =
       let some : List Kind = kinds.CompressedSection ∷ kinds.BadSection ∷ [] in
-      All-contains IsOne some f.kind (All-from_recursion IsOne some ((26, omega arith, refl), ((27, omega arith, refl), tt))) (laws.section bytes section index f e)
+      All-contains IsOne some f.kind (All-from_recursion IsOne some ((27, omega arith, refl), ((28, omega arith, refl), tt))) (laws.section bytes section index f e)
 
   section_kinds : (bytes : List ℕ) (before : List Section) (section : Section) → FaultsAre IsOne (section_tried bytes before section)
   section_kinds bytes before section =
@@ -132,7 +134,7 @@ module _ (laws : Laws) where
   one_relocs_kinds : (bytes : List ℕ) (image : Image) (section : Section) → FaultsAre IsOne (relocs_of bytes image section)
   one_relocs_kinds bytes image section f e =
       let some : List Kind = kinds.Truncated ∷ kinds.RelocKind ∷ kinds.RelocPlace ∷ kinds.RelocSymbol ∷ kinds.RelocOverlap ∷ [] in
-      All-contains IsOne some f.kind (All-from_recursion IsOne some (cut, ((28, omega arith, refl), ((29, omega arith, refl), ((30, omega arith, refl), ((31, omega arith, refl), tt)))))) (laws.relocs bytes image section f e)
+      All-contains IsOne some f.kind (All-from_recursion IsOne some (cut, ((29, omega arith, refl), ((30, omega arith, refl), ((31, omega arith, refl), ((32, omega arith, refl), tt)))))) (laws.relocs bytes image section f e)
 
   among_kinds : (bytes : List ℕ) (image : Image) (section : Option Section) → FaultsAre IsOne (relocs_among bytes image section)
   among_kinds bytes image None = ok_kinds IsOne _
@@ -162,22 +164,26 @@ module _ (laws : Laws) where
   units_kinds : (sections : SectionBytes) → FaultsAre IsOne (units_of sections)
   units_kinds sections f e =
       let some : List Kind = kinds.Truncated ∷ kinds.LebTooWide ∷ kinds.UnknownForm ∷ kinds.FormOutsideProfile ∷ kinds.BadOffset ∷ kinds.BadAbbrev ∷ kinds.DuplicateCode ∷ kinds.LimitAttributes
-      ∷ kinds.UnsupportedVersion ∷ kinds.BadUnit ∷ kinds.SplitUnit ∷ kinds.UnknownCode ∷ kinds.UnclosedSiblings ∷ kinds.LimitDepth ∷ kinds.LimitEntries ∷ kinds.BadReference ∷ [] in
+      ∷ kinds.UnsupportedVersion ∷ kinds.BadUnit ∷ kinds.SplitUnit ∷ kinds.UnknownCode ∷ kinds.UnclosedSiblings ∷ kinds.LimitDepth ∷ kinds.LimitEntries ∷ kinds.BadReference ∷ kinds.BadIndex ∷ [] in
       let others : List Kind = kinds.UnknownOp ∷ kinds.OpOutsideProfile ∷ kinds.BadOperandType ∷ kinds.BranchOverRewrite ∷ kinds.LongExpression
       ∷ kinds.NotMachO ∷ kinds.WrongCpu ∷ kinds.BadCommand ∷ kinds.BadSymbols ∷ kinds.BadFileType ∷ kinds.CompressedSection ∷ kinds.BadSection
       ∷ kinds.RelocKind ∷ kinds.RelocPlace ∷ kinds.RelocSymbol ∷ kinds.RelocOverlap
-      ∷ kinds.LineVersion ∷ kinds.BadLineHeader ∷ kinds.VliwLine ∷ kinds.BadLineOp ∷ kinds.LineBackwards ∷ kinds.BadList ∷ kinds.BadFrame ∷ [] in
+      ∷ kinds.LineVersion ∷ kinds.BadLineHeader ∷ kinds.VliwLine ∷ kinds.BadLineOp ∷ kinds.LineBackwards ∷ kinds.BadList ∷ kinds.BadFrame ∷ kinds.BadEntryFormat ∷ kinds.UnknownListEntry ∷ [] in
       Contains-append_left some others f.kind (laws.units sections f e)
 
   -- ---- expressions, and attributes of `__debug_info`
 
   expression_kinds : (s : Context) (bytes : List ℕ) (first : ℕ) → FaultsAre IsOne (expression_of s bytes first)
   expression_kinds s bytes first f e =
-      let some : List Kind = kinds.Truncated ∷ kinds.LebTooWide ∷ kinds.UnknownOp ∷ kinds.OpOutsideProfile ∷ kinds.BadOperandType ∷ kinds.BranchOverRewrite ∷ [] in
-      All-contains IsOne some f.kind (All-from_recursion IsOne some (cut, (wide, ((16, omega arith, refl), ((17, omega arith, refl), ((18, omega arith, refl), ((19, omega arith, refl), tt))))))) (laws.expression s bytes first f e)
+      let some : List Kind = kinds.Truncated ∷ kinds.LebTooWide ∷ kinds.UnknownOp ∷ kinds.OpOutsideProfile ∷ kinds.BadOperandType ∷ kinds.BadIndex ∷ kinds.BranchOverRewrite ∷ [] in
+      All-contains IsOne some f.kind (All-from_recursion IsOne some (cut, (wide, ((17, omega arith, refl), ((18, omega arith, refl), ((19, omega arith, refl), (index, ((20, omega arith, refl), tt)))))))) (laws.expression s bytes first f e)
 
   block_kinds : (s : Context) (b : Bool) (form : ℕ) (bytes : List ℕ) (first : ℕ) → FaultsAre IsOne (if b then (expression_of s bytes first >>= λ ops. Ok (values.Expr ops)) else Ok (values.Block form bytes))
   block_kinds s b form bytes first = either_kinds IsOne b _ (Ok (values.Block form bytes)) (bind_kinds IsOne (expression_of s bytes first) _ (expression_kinds s bytes first) (λ ops. ok_kinds IsOne _)) (ok_kinds IsOne _)
+
+  index_kinds : (s : Context) (a : RawAttr) (n : ℕ) → FaultsAre IsOne (offset_meant s a n)
+  index_kinds s a n =
+      either_kinds IsOne (is_address_index a.form) _ (Ok (values.Offset n)) (bind_kinds IsOne (or_fault (address_named s n) (unnamed a)) _ (found_kinds IsOne (address_named s n) (unnamed a) index) (λ place. ok_kinds IsOne _)) (ok_kinds IsOne _)
 
   value_kinds : (s : Context) (places : List ℕ) (a : RawAttr) (value : Value) → FaultsAre IsOne (value_meant s places a value)
   value_kinds s places a (values.Address place) = ok_kinds IsOne _
@@ -191,80 +197,83 @@ module _ (laws : Laws) where
   value_kinds s places a (values.Ranges spans) = ok_kinds IsOne _
   value_kinds s places a (values.Locations items) = ok_kinds IsOne _
   value_kinds s places a values.Lines = ok_kinds IsOne _
-  value_kinds s places a (values.Offset n) = ok_kinds IsOne _
+  value_kinds s places a (values.Offset n) = index_kinds s a n
 
   -- ---- line tables
 
-  lines_kinds : (o : Opened) (map : AddrMap) (unit : InUnit) (place : Option ℕ) → FaultsAre IsOne (unit_with_lines o map unit place)
-  lines_kinds o map unit None = ok_kinds IsOne _
-  lines_kinds o map unit (Some place) =
-      let some : List Kind = kinds.Truncated ∷ kinds.LebTooWide ∷ kinds.LineVersion ∷ kinds.BadLineHeader ∷ kinds.VliwLine ∷ kinds.BadLineOp ∷ kinds.LineBackwards ∷ [] in
-      bind_kinds IsOne (lines_of o.image o.relocs.line o.sections.line place) _
-      (λ f e. All-contains IsOne some f.kind (All-from_recursion IsOne some (cut, (wide, ((32, omega arith, refl), ((33, omega arith, refl), ((34, omega arith, refl), ((35, omega arith, refl), ((36, omega arith, refl), tt))))))))
-      (laws.lines o.image o.relocs.line o.sections.line place f e)) (λ lines. ok_kinds IsOne _)
+  table_kinds : (o : Opened) (map : AddrMap) (version : ℕ) (dir : List ℕ) (place : ℕ) → FaultsAre IsOne (lines_meant o map version dir place)
+  table_kinds o map version dir place =
+      let some : List Kind = kinds.Truncated ∷ kinds.LebTooWide ∷ kinds.BadOffset ∷ kinds.LineVersion ∷ kinds.BadLineHeader ∷ kinds.VliwLine ∷ kinds.BadLineOp ∷ kinds.LineBackwards ∷ kinds.BadEntryFormat ∷ [] in
+      bind_kinds IsOne (lines_of o.image o.relocs.line o.sections version place) _
+      (λ f e. All-contains IsOne some f.kind (All-from_recursion IsOne some (cut, (wide, ((4, omega arith, refl), ((33, omega arith, refl), ((34, omega arith, refl), ((35, omega arith, refl), ((36, omega arith, refl), ((37, omega arith, refl), ((40, omega arith, refl), tt))))))))))
+      (laws.lines o.image o.relocs.line o.sections version place f e)) (λ lines. ok_kinds IsOne _)
+
+  lines_kinds : (o : Opened) (map : AddrMap) (unit : InUnit) (dir : List ℕ) (place : Option ℕ) → FaultsAre IsOne (unit_with_table o map unit dir place)
+  lines_kinds o map unit dir None = ok_kinds IsOne _
+  lines_kinds o map unit dir (Some place) = bind_kinds IsOne (lines_meant o map unit.version dir place) _ (table_kinds o map unit.version dir place) (λ lines. ok_kinds IsOne _)
 
   units_meant_kinds : (o : Opened) (map : AddrMap) (entries : List Entry) (units : List InUnit) → FaultsAre IsOne (units_meant o map entries units)
-  units_meant_kinds o map entries units =
-      each_kinds (λ unit. unit_with_lines o map unit (option_and_then line_place (slice_get entries unit.first))) (λ unit. lines_kinds o map unit (option_and_then line_place (slice_get entries unit.first))) units
+  units_meant_kinds o map entries units = each_kinds (unit_with_lines o map entries) (λ unit. lines_kinds o map unit _ _) units
 
   -- ---- lists
 
-  list_kinds : (k : Kind) → Contains (kinds.Truncated ∷ kinds.BadList ∷ []) k → IsOne k
-  list_kinds k h =
-      let some : List Kind = kinds.Truncated ∷ kinds.BadList ∷ [] in
-      All-contains IsOne some k (All-from_recursion IsOne some (cut, ((37, omega arith, refl), tt))) h
+  abbrev of_version_5 : List Kind
+  of_version_5 = kinds.Truncated ∷ kinds.LebTooWide ∷ kinds.BadList ∷ kinds.BadIndex ∷ kinds.UnknownListEntry ∷ []
 
-  ranges_at_kinds : (o : Opened) (map : AddrMap) (base : Addr) (place : ℕ) → FaultsAre IsOne (ranges_at o map base place)
-  ranges_at_kinds o map base place =
-      bind_kinds IsOne (ranges_of o.sections o.relocs.ranges o.image place base) _ (λ f e. list_kinds f.kind (laws.ranges o.sections o.relocs.ranges o.image place base f e)) (λ spans. ok_kinds IsOne _)
+  abbrev of_version_4 : List Kind
+  of_version_4 = kinds.Truncated ∷ kinds.BadList ∷ []
 
-  ranges_role_kinds : (o : Opened) (map : AddrMap) (base : Addr) (role : Meaning) (place : ℕ) → FaultsAre IsOne (ranges_by_role o map base role place)
-  ranges_role_kinds o map base meanings.RangeList place = ranges_at_kinds o map base place
-  ranges_role_kinds o map base role place = ok_kinds IsOne _
+  list_kinds : (b : Bool) (k : Kind) → Contains (if b then of_version_5 else of_version_4) k → IsOne k
+  list_kinds true k h = All-contains IsOne of_version_5 k (All-from_recursion IsOne of_version_5 (cut, (wide, ((38, omega arith, refl), (index, ((41, omega arith, refl), tt)))))) h
+  list_kinds false k h = All-contains IsOne of_version_4 k (All-from_recursion IsOne of_version_4 (cut, ((38, omega arith, refl), tt))) h
 
-  ranges_kinds : (o : Opened) (map : AddrMap) (base : Addr) (a : Attr) (value : Value) → FaultsAre IsOne (ranges_meant o map base a value)
-  ranges_kinds o map base a (values.Offset place) = ranges_role_kinds o map base (table_of a.name) place
-  ranges_kinds o map base a value = ok_kinds IsOne _
+  ranges_at_kinds : (o : Opened) (map : AddrMap) (u : UnitContext) (base : Addr) (place : ℕ) → FaultsAre IsOne (ranges_at o map u base place)
+  ranges_at_kinds o map u base place =
+      bind_kinds IsOne (ranges_read o u base place) _
+      (λ f e. list_kinds (u.version == 5) f.kind (laws.ranges o.sections (ranges_relocs o.relocs u.version) o.image place u.version base o.relocs.addr u.addr_base f e)) (λ spans. ok_kinds IsOne _)
+
+  ranges_role_kinds : (o : Opened) (map : AddrMap) (u : UnitContext) (base : Addr) (role : Meaning) (place : ℕ) → FaultsAre IsOne (ranges_by_role o map u base role place)
+  ranges_role_kinds o map u base meanings.RangeList place = ranges_at_kinds o map u base place
+  ranges_role_kinds o map u base role place = ok_kinds IsOne _
+
+  ranges_kinds : (o : Opened) (map : AddrMap) (u : UnitContext) (base : Addr) (a : Attr) (value : Value) → FaultsAre IsOne (ranges_meant o map u base a value)
+  ranges_kinds o map u base a (values.Offset place) = ranges_role_kinds o map u base (table_of a.name) place
+  ranges_kinds o map u base a value = ok_kinds IsOne _
 
   item_kinds : (s : Context) (item : RawLocation) → FaultsAre IsOne (item_meant s item)
   item_kinds s item =
       bind_kinds IsOne (expression_of s item.bytes item.first) _ (expression_kinds s item.bytes item.first) (λ ops.
-      bind_kinds IsOne (refuse_if (not (nat_lt (ops_len ops) EXPRESSION_LIMIT)) (record { kind = kinds.LongExpression; section = parts.Loc; place = item.place })) _
-      (refuse_kinds IsOne (not (nat_lt (ops_len ops) EXPRESSION_LIMIT)) (record { kind = kinds.LongExpression; section = parts.Loc; place = item.place }) (20, omega arith, refl)) (λ u. ok_kinds IsOne _))
+      bind_kinds IsOne (refuse_if (is_too_long s.version ops) (record { kind = kinds.LongExpression; section = s.part; place = item.place })) _
+      (refuse_kinds IsOne (is_too_long s.version ops) (record { kind = kinds.LongExpression; section = s.part; place = item.place }) (21, omega arith, refl)) (λ u. ok_kinds IsOne _))
 
-  locations_at_kinds : (o : Opened) (s : Context) (base : Addr) (place : ℕ) → FaultsAre IsOne (locations_at o s base place)
-  locations_at_kinds o s base place =
-      bind_kinds IsOne (locations_of o.sections o.relocs.loc o.image place base) _ (λ f e. list_kinds f.kind (laws.locations o.sections o.relocs.loc o.image place base f e)) (λ items.
+  locations_at_kinds : (s : Context) (base : Addr) (place : ℕ) → FaultsAre IsOne (locations_at s base place)
+  locations_at_kinds s base place =
+      bind_kinds IsOne (locations_read s base place) _ (λ f e. list_kinds (s.version == 5) f.kind (laws.locations s.sections s.relocs s.image place s.version base s.addresses s.addr_base f e)) (λ items.
       bind_kinds IsOne (each_of (item_meant s) items) _ (each_kinds (item_meant s) (item_kinds s) items) (λ meant. ok_kinds IsOne _))
 
-  locations_role_kinds : (o : Opened) (s : Context) (base : Addr) (role : Meaning) (place : ℕ) → FaultsAre IsOne (locations_by_role o s base role place)
-  locations_role_kinds o s base meanings.LocationList place = locations_at_kinds o s base place
-  locations_role_kinds o s base role place = ok_kinds IsOne _
+  locations_role_kinds : (s : Context) (base : Addr) (role : Meaning) (place : ℕ) → FaultsAre IsOne (locations_by_role s base role place)
+  locations_role_kinds s base meanings.LocationList place = locations_at_kinds s base place
+  locations_role_kinds s base role place = ok_kinds IsOne _
 
-  locations_kinds : (o : Opened) (s : Context) (base : Addr) (a : Attr) (value : Value) → FaultsAre IsOne (locations_meant o s base a value)
-  locations_kinds o s base a (values.Offset place) = locations_role_kinds o s base (table_of a.name) place
-  locations_kinds o s base a value = ok_kinds IsOne _
+  locations_kinds : (s : Context) (base : Addr) (a : Attr) (value : Value) → FaultsAre IsOne (locations_meant s base a value)
+  locations_kinds s base a (values.Offset place) = locations_role_kinds s base (table_of a.name) place
+  locations_kinds s base a value = ok_kinds IsOne _
 
   -- ---- the analysis
 
   frames_kinds : (o : Opened) → FaultsAre IsOne (frames_of o.image o.relocs.frame o.sections.frame)
   frames_kinds o f e =
       let some : List Kind = kinds.Truncated ∷ kinds.BadFrame ∷ [] in
-      All-contains IsOne some f.kind (All-from_recursion IsOne some (cut, ((38, omega arith, refl), tt))) (laws.frames o.image o.relocs.frame o.sections.frame f e)
+      All-contains IsOne some f.kind (All-from_recursion IsOne some (cut, ((39, omega arith, refl), tt))) (laws.frames o.image o.relocs.frame o.sections.frame f e)
 
   analysed_kinds : (o : Opened) (map : AddrMap) (raw : RawUnits) → FaultsAre IsOne (units_analysed o map raw)
   unfolding units_analysed
   analysed_kinds o map raw =
-      bind_kinds IsOne (entries_meant o map raw.units raw.entries) _
-      (bind_kinds IsOne (raw_entries_by (λ unit a. value_meant (info_context o map raw.entries unit (unit_start raw.units raw.entries unit)) (places_of raw.entries) a a.value) raw.entries) _
-      (raw_entries_kinds (λ unit a. value_meant (info_context o map raw.entries unit (unit_start raw.units raw.entries unit)) (places_of raw.entries) a a.value)
-      (λ unit a. value_kinds (info_context o map raw.entries unit (unit_start raw.units raw.entries unit)) (places_of raw.entries) a a.value) raw.entries) (λ made. ok_kinds IsOne _)) (λ meant.
+      bind_kinds IsOne (entries_meant o map raw) _
+      (bind_kinds IsOne (raw_entries_by (info_step o map raw) raw.entries) _ (raw_entries_kinds (info_step o map raw) (λ unit a. value_kinds _ _ a a.value) raw.entries) (λ made. ok_kinds IsOne _)) (λ meant.
       bind_kinds IsOne (units_meant o map meant raw.units) _ (units_meant_kinds o map meant raw.units) (λ units.
-      bind_kinds IsOne (entries_by (λ unit a. ranges_meant o map (unit_base raw.units meant unit) a a.value) (all_marked meant)) _
-      (entries_kinds (λ unit a. ranges_meant o map (unit_base raw.units meant unit) a a.value) (λ unit a. ranges_kinds o map (unit_base raw.units meant unit) a a.value) (all_marked meant)) (λ ranged.
-      bind_kinds IsOne (entries_by (λ unit a. locations_meant o (loc_context o map raw.entries unit (unit_start raw.units raw.entries unit)) (unit_base raw.units meant unit) a a.value) ranged) _
-      (entries_kinds (λ unit a. locations_meant o (loc_context o map raw.entries unit (unit_start raw.units raw.entries unit)) (unit_base raw.units meant unit) a a.value)
-      (λ unit a. locations_kinds o (loc_context o map raw.entries unit (unit_start raw.units raw.entries unit)) (unit_base raw.units meant unit) a a.value) ranged) (λ entries.
+      bind_kinds IsOne (entries_by (ranges_step o map raw meant) (all_marked meant)) _ (entries_kinds (ranges_step o map raw meant) (λ unit a. ranges_kinds o map _ _ a a.value) (all_marked meant)) (λ ranged.
+      bind_kinds IsOne (entries_by (locations_step o map raw meant) ranged) _ (entries_kinds (locations_step o map raw meant) (λ unit a. locations_kinds _ _ a a.value) ranged) (λ entries.
       bind_kinds IsOne (frames_of o.image o.relocs.frame o.sections.frame) _ (frames_kinds o) (λ frames. ok_kinds IsOne _)))))
 
   pub analysis_kinds : (bytes : List ℕ) (object : MapObject) (cpu : ℕ) → FaultsAre IsOne (analysis_of bytes object cpu)

@@ -2,7 +2,6 @@
 use Rattle.std.proofs.Common.{◌≡◌, ℕ, ◌+◌, ◌≤◌, ◌==◌, Bool, true, false, List, [], ◌∷◌, ◌++◌, map, Option, Some, None, length, get_or, slice_get, Result, Ok, Err, refl, sym, ap, subst, ◌∙◌, arith}
 use Rattle.std.specs.Prelude.{if◌then◌else◌, IfOk}
 use Rattle.std.specs.List.{All, enumerate_from, flat_map}
-use Rattle.std.specs.Option.{option_and_then}
 use Rattle.std.proofs.lemmas.Bool.{eqb-true}
 use Rattle.std.proofs.lemmas.List.{length-map}
 use Rattle.std.proofs.lemmas.List.Concat.{flat_map-cons}
@@ -12,6 +11,7 @@ use Rattle.ds_base.specs.declared.dwarf.TheConstants.{DW_TAG_base_type, DW_TAG_s
 use Rattle.ds_base.specs.declared.fault.Fault.{Fault}
 use Rattle.ds_base.specs.declared.fault.ReadError.{ReadError}
 use Rattle.ds_base.specs.Reading.{◌>>=◌, Gives}
+use Rattle.dwarf_types.specs.declared.address.Addr.{Addr}
 use Rattle.dwarf_types.specs.declared.address.Span.{Span}
 use Rattle.dwarf_types.specs.declared.analysis.Analysis.{Analysis}
 use Rattle.dwarf_types.specs.declared.analysis.CodeRange.{CodeRange}
@@ -22,23 +22,22 @@ use Rattle.dwarf_types.specs.declared.entry.RawAttr.{RawAttr}
 use Rattle.dwarf_types.specs.declared.entry.RawEntry.{RawEntry}
 use Rattle.dwarf_types.specs.declared.entry.RawUnits.{RawUnits}
 use Rattle.dwarf_types.specs.declared.value.Value.{Value}
-use Rattle.dwarf_types.specs.declared.lines.RawLines.{RawLines}
+use Rattle.dwarf_types.specs.declared.lines.OutLines.{OutLines}
 use Rattle.dwarf_types.specs.Live.{Stands, bases_of, op_bases, operations_of}
 use Rattle.dwarf_types.specs.Sound.{AreCodeRanges, AreUnits, IsBaseType, IsParent, IsSound, IsSoundEntry}
 use Rattle.ds_base.proofs.Passing.{bind_ok, ok_is}
 use Rattle.addr_map.specs.declared.map.AddrMap.{AddrMap}
 use Rattle.frame_table.specs.Frames.{frames_of}
-use Rattle.line_read.specs.Program.{lines_of}
 use Rattle.moved_parts.specs.Frames.{frames_moved}
-use Rattle.moved_parts.specs.Lines.{lines_moved}
 use Rattle.expr_resolve.specs.declared.context.BaseType.{BaseType}
 use Rattle.unit_tree.specs.Sound.{AreSound}
 use Rattle.object_view.specs.Analysis.{units_analysed}
-use Rattle.object_view.specs.Attributes.{all_marked, entries_by, entries_meant, info_context, line_place, loc_context, locations_meant, ranges_meant, unit_base, unit_with_lines, units_meant, value_meant}
+use Rattle.object_view.specs.declared.units.UnitContext.{UnitContext}
+use Rattle.object_view.specs.Attributes.{all_marked, entries_by, entries_meant, info_context, info_step, lines_meant, locations_context, locations_step, ranges_step, unit_base, unit_with_lines, unit_with_table, units_meant}
 use Rattle.object_view.specs.Code.{code_of, code_ranges, low_high_pieces, ranges_pieces}
 use Rattle.object_view.specs.Opened.{Opened}
 use Rattle.object_view.specs.Stages.{analysed}
-use Rattle.object_view.specs.Units.{base_types, places_of, unit_start}
+use Rattle.object_view.specs.Units.{base_types, places_of, unit_context}
 use Rattle.object_view.proofs.Definitions.{analysed_same}
 use Rattle.object_view.proofs.Kept.{Kept, KeptRaw, all_kept, bare, each_seen, entries_kept, given_kept, kept_length, raw_bare, stood}
 use Rattle.object_view.proofs.KnownTypes.{IsTypeOf}
@@ -54,15 +53,14 @@ use Rattle.object_view.proofs.Understood.{entries_given, given_all, given_is}
 abbrev span_of : InUnit → ℕ × ℕ
 span_of u = (u.first, u.count)
 
-lines_kept : (o : Opened) (m : AddrMap) (u now : InUnit) (place : Option ℕ) → unit_with_lines o m u place ≡ Ok now → span_of now ≡ span_of u
-lines_kept o m u now None e = ap span_of (sym (ok_is u now e))
-lines_kept o m u now (Some place) e =
-    let lines = bind_ok (lines_of o.image o.relocs.line o.sections.line place) (λ (lines : RawLines). Ok (record u { lines = Some (lines_moved m lines) })) now e in
-    ap span_of (sym (ok_is (record u { lines = Some (lines_moved m lines.0) }) now lines.2))
+lines_kept : (o : Opened) (m : AddrMap) (u now : InUnit) (dir : List ℕ) (place : Option ℕ) → unit_with_table o m u dir place ≡ Ok now → span_of now ≡ span_of u
+lines_kept o m u now dir None e = ap span_of (sym (ok_is u now e))
+lines_kept o m u now dir (Some place) e =
+    let lines = bind_ok (lines_meant o m u.version dir place) (λ (lines : OutLines). Ok (record u { lines = Some lines })) now e in
+    ap span_of (sym (ok_is (record u { lines = Some lines.0 }) now lines.2))
 
 units_kept : (o : Opened) (m : AddrMap) (entries : List Entry) (units now : List InUnit) → units_meant o m entries units ≡ Ok now → map span_of now ≡ map span_of units
-units_kept o m entries units now e =
-    each_seen span_of span_of (λ (u : InUnit). unit_with_lines o m u (option_and_then line_place (slice_get entries u.first))) (λ x y is. lines_kept o m x y (option_and_then line_place (slice_get entries x.first)) is) units now e
+units_kept o m entries units now e = each_seen span_of span_of (unit_with_lines o m entries) (λ x y is. lines_kept o m x y _ _ is) units now e
 
 are_units : (at : ℕ) (now old : List InUnit) (end : ℕ) → map span_of now ≡ map span_of old → AreUnits at old end → AreUnits at now end
 are_units at [] [] end e h = h
@@ -172,28 +170,27 @@ analysis_sound o m raw a sound plain e =
     let types : List BaseType = base_types raw.entries in
     let count : ℕ = length raw.entries in
     let last : List InUnit → List Entry → Result Analysis Fault = λ units entries. (frames_of o.image o.relocs.frame o.sections.frame >>= λ frames. Ok (record { units = units; entries = entries; code = code_of m entries; frames = frames_moved m frames })) in
-    let locate : List Entry → List Entry → Result (List Entry) Fault = λ meant ranged. entries_by (λ unit x. locations_meant o (loc_context o m raw.entries unit (unit_start raw.units raw.entries unit)) (unit_base raw.units meant unit) x x.value) ranged in
-    let range : List Entry → Result (List Entry) Fault = λ meant. entries_by (λ unit x. ranges_meant o m (unit_base raw.units meant unit) x x.value) (all_marked meant) in
-    let meant = bind_ok (entries_meant o m raw.units raw.entries) (λ meant. units_meant o m meant raw.units >>= λ units. range meant >>= λ ranged. locate meant ranged >>= λ entries. last units entries) a e in
+    let locate : List Entry → List Entry → Result (List Entry) Fault = λ meant ranged. entries_by (locations_step o m raw meant) ranged in
+    let range : List Entry → Result (List Entry) Fault = λ meant. entries_by (ranges_step o m raw meant) (all_marked meant) in
+    let meant = bind_ok (entries_meant o m raw) (λ meant. units_meant o m meant raw.units >>= λ units. range meant >>= λ ranged. locate meant ranged >>= λ entries. last units entries) a e in
     let units = bind_ok (units_meant o m meant.0 raw.units) (λ units. range meant.0 >>= λ ranged. locate meant.0 ranged >>= λ entries. last units entries) a meant.2 in
     let ranged = bind_ok (range meant.0) (λ ranged. locate meant.0 ranged >>= λ entries. last units.0 entries) a units.2 in
     let entries = bind_ok (locate meant.0 ranged.0) (λ entries. last units.0 entries) a ranged.2 in
     let frames = bind_ok (frames_of o.image o.relocs.frame o.sections.frame) (λ frames. Ok (record { units = units.0; entries = entries.0; code = code_of m entries.0; frames = frames_moved m frames })) a entries.2 in
     let done : Analysis = record { units = units.0; entries = entries.0; code = code_of m entries.0; frames = frames_moved m frames.0 } in
-    let understand : ℕ → RawAttr → Result Value Fault = λ unit x. value_meant (info_context o m raw.entries unit (unit_start raw.units raw.entries unit)) (places_of raw.entries) x x.value in
-    let given : entries_given understand raw.entries ≡ Ok meant.0 = given_is understand raw.entries meant.0 meant.1 in
-    let kept_ranged : Kept ranged.0 meant.0 = entries_kept (λ unit x. ranges_meant o m (unit_base raw.units meant.0 unit) x x.value) (all_marked meant.0) ranged.0 ranged.1 ∙ all_kept meant.0 in
-    let kept : KeptRaw entries.0 raw.entries =
-    entries_kept (λ unit x. locations_meant o (loc_context o m raw.entries unit (unit_start raw.units raw.entries unit)) (unit_base raw.units meant.0 unit) x x.value) ranged.0 entries.0 entries.1
-    ∙ kept_ranged ∙ given_kept understand raw.entries meant.0 given in
+    let known : ℕ → UnitContext = λ unit. unit_context raw.units raw.entries unit in
+    let base : ℕ → Addr = λ unit. unit_base raw.units meant.0 unit in
+    let given : entries_given (info_step o m raw) raw.entries ≡ Ok meant.0 = given_is (info_step o m raw) raw.entries meant.0 meant.1 in
+    let kept_ranged : Kept ranged.0 meant.0 = entries_kept (ranges_step o m raw meant.0) (all_marked meant.0) ranged.0 ranged.1 ∙ all_kept meant.0 in
+    let kept : KeptRaw entries.0 raw.entries = entries_kept (locations_step o m raw meant.0) ranged.0 entries.0 entries.1 ∙ kept_ranged ∙ given_kept (info_step o m raw) raw.entries meant.0 given in
     let same_count : length entries.0 ≡ count = kept_length entries.0 raw.entries kept in
     let long : length (places_of raw.entries) ≡ count = length-map raw.entries (λ (x : RawEntry). x.place) in
-    let understood : AreGood types count meant.0 = given_all understand (λ unit x. IsPlain x.value) (λ unit x. IsGood types count unit x.value)
-    (λ unit x now r is. value_good (info_context o m raw.entries unit (unit_start raw.units raw.entries unit)) (places_of raw.entries) count long x x.value now r is) raw.entries meant.0 given plain in
-    let with_ranges : AreGood types count ranged.0 = step_all (λ unit x. ranges_meant o m (unit_base raw.units meant.0 unit) x x.value) (IsGood types count) (IsGood types count)
-    (λ unit x now r is. ranges_good o m types count unit (unit_base raw.units meant.0 unit) x x.value now r is) (all_marked meant.0) ranged.0 ranged.1 (all_marked_good types count meant.0 understood) in
-    let located : AreGood types count entries.0 = step_all (λ unit x. locations_meant o (loc_context o m raw.entries unit (unit_start raw.units raw.entries unit)) (unit_base raw.units meant.0 unit) x x.value) (IsGood types count) (IsGood types count)
-    (λ unit x now r is. locations_good o (loc_context o m raw.entries unit (unit_start raw.units raw.entries unit)) count (unit_base raw.units meant.0 unit) x x.value now r is) ranged.0 entries.0 entries.1 with_ranges in
+    let understood : AreGood types count meant.0 = given_all (info_step o m raw) (λ unit x. IsPlain x.value) (λ unit x. IsGood types count unit x.value)
+    (λ unit x now r is. value_good (info_context o m types unit (known unit)) (places_of raw.entries) count long x x.value now r is) raw.entries meant.0 given plain in
+    let with_ranges : AreGood types count ranged.0 = step_all (ranges_step o m raw meant.0) (IsGood types count) (IsGood types count)
+    (λ unit x now r is. ranges_good o m types count unit (known unit) (base unit) x x.value now r is) (all_marked meant.0) ranged.0 ranged.1 (all_marked_good types count meant.0 understood) in
+    let located : AreGood types count entries.0 = step_all (locations_step o m raw meant.0) (IsGood types count) (IsGood types count)
+    (λ unit x now r is. locations_good (locations_context o m types unit (known unit)) count (base unit) x x.value now r is) ranged.0 entries.0 entries.1 with_ranges in
     let good : AreGood types (length entries.0) entries.0 = subst (λ (n : ℕ). AreGood types n entries.0) (sym same_count) located in
     let same_units = units_kept o m meant.0 raw.units units.0 units.1 in
     let few = sound.few in

@@ -1,13 +1,12 @@
 -- Every analysis is sound: steps lead references to entries, and expressions name base types of their units.
-use Rattle.std.proofs.Common.{◌≡◌, ℕ, suc, ◌<◌, ◌==◌, Bool, true, false, List, [], ◌∷◌, Option, Some, None, length, get_or, Result, Ok, refl, sym, subst, ◌∙◌, arith, not}
-use Rattle.std.specs.Prelude.{if◌then◌else◌, is_none, nat_lt}
+use Rattle.std.proofs.Common.{◌≡◌, ℕ, suc, ◌<◌, ◌==◌, Bool, true, false, List, [], ◌∷◌, Option, Some, None, length, get_or, Result, Ok, refl, sym, subst, ◌∙◌, arith}
+use Rattle.std.specs.Prelude.{if◌then◌else◌, is_none, is_some}
 use Rattle.std.specs.List.{All, flat_map}
 use Rattle.std.proofs.lemmas.List.Quantifiers.{position-Some}
 use Rattle.std.proofs.lemmas.List.Elements.{All-nil, All-cons, All-map}
 use Rattle.ds_base.specs.declared.dwarf.TheConstants.{DW_AT_stmt_list, DW_FORM_exprloc}
 use Rattle.ds_base.specs.declared.fault.Fault.{Fault}
 use Rattle.ds_base.specs.declared.fault.Kind.TheVariants as kinds
-use Rattle.ds_base.specs.declared.fault.Part.TheVariants as parts
 use Rattle.ds_base.specs.Reading.{◌>>=◌, or_fault, refuse_if}
 use Rattle.dwarf_types.specs.declared.address.Addr.{Addr}
 use Rattle.dwarf_types.specs.declared.address.Span.{Span}
@@ -23,18 +22,15 @@ use Rattle.dwarf_types.specs.declared.value.Value.TheVariants as values
 use Rattle.dwarf_types.specs.Live.{operations_of, target_in}
 use Rattle.ds_base.proofs.Passing.{bind_ok, found_ok, ok_is, passed}
 use Rattle.addr_map.specs.declared.map.AddrMap.{AddrMap}
-use Rattle.expr_walk.specs.Length.{ops_len}
-use Rattle.loc_lists.specs.Reading.{locations_of}
-use Rattle.range_lists.specs.Reading.{ranges_of}
 use Rattle.moved_parts.specs.Spans.{span_moved, spans_moved}
 use Rattle.expr_resolve.specs.declared.context.BaseType.{BaseType}
 use Rattle.expr_resolve.specs.Context.{Context}
 use Rattle.expr_resolve.specs.Expressions.{expression_of}
 use Rattle.unit_tree.specs.declared.meaning.Meaning.{Meaning}
 use Rattle.unit_tree.specs.declared.meaning.Meaning.TheVariants as meanings
-use Rattle.unit_tree.specs.Meaning.{table_of}
-use Rattle.object_view.specs.declared.locations.TheConstants.{EXPRESSION_LIMIT}
-use Rattle.object_view.specs.Attributes.{all_marked, attr_by, attrs_by, dangling, each_of, entries_by, entry_by, entry_marked, item_meant, item_moved, lines_marked, lines_value, locations_by_role, locations_meant, number_at, ranges_by_role, ranges_meant, value_meant, with_value}
+use Rattle.unit_tree.specs.Meaning.{is_address_index, table_of}
+use Rattle.object_view.specs.declared.units.UnitContext.{UnitContext}
+use Rattle.object_view.specs.Attributes.{address_named, all_marked, attr_by, attrs_by, dangling, each_of, entries_by, entry_by, entry_marked, is_too_long, item_meant, item_moved, lines_marked, lines_value, locations_by_role, locations_meant, locations_read, number_at, ranges_by_role, ranges_meant, ranges_read, section_offset, unnamed, value_meant, with_value}
 use Rattle.object_view.specs.Opened.{Opened}
 use Rattle.object_view.proofs.KnownTypes.{IsKnownOp, ops_known}
 use Rattle.object_view.proofs.Names.{all_flat, all_map, each_all}
@@ -84,6 +80,12 @@ module _ (s : Context) (places : List ℕ) (count : ℕ) (long : length places �
   kept_good : (value now : Value) → target_in value ≡ None → IsPlain value → as_it_is value ≡ Ok now → IsGood s.bases count s.unit now
   kept_good value now none plain e = subst (IsGood s.bases count s.unit) (ok_is value now e) (plain_good s.bases count s.unit value none plain)
 
+  index_good : (b : Bool) (a : RawAttr) (n : ℕ) (now : Value) → (if b then (or_fault (address_named s n) (unnamed a) >>= λ place. Ok (values.Address place)) else Ok (values.Offset n)) ≡ Ok now → IsGood s.bases count s.unit now
+  index_good true a n now e =
+      let place = bind_ok (or_fault (address_named s n) (unnamed a)) (λ place. Ok (values.Address place)) now e in
+      kept_good (values.Address place.0) now refl refl place.2
+  index_good false a n now e = kept_good (values.Offset n) now refl refl e
+
   pub value_good : (a : RawAttr) (value now : Value) → IsPlain value → value_meant s places a value ≡ Ok now → IsGood s.bases count s.unit now
   value_good a (values.Address place) now plain e = kept_good _ now refl refl e
   value_good a (values.Ref place) now plain e =
@@ -97,20 +99,20 @@ module _ (s : Context) (places : List ℕ) (count : ℕ) (long : length places �
   value_good a (values.Ranges spans) now plain e = kept_good (values.Ranges spans) now refl refl e
   value_good a (values.Locations items) now plain e = kept_good (values.Locations items) now refl plain e
   value_good a values.Lines now plain e = kept_good values.Lines now refl refl e
-  value_good a (values.Offset n) now plain e = kept_good (values.Offset n) now refl refl e
+  value_good a (values.Offset n) now plain e = index_good (is_address_index a.form) a n now e
 
 -- ---- line tables
 
-lines_good : (types : List BaseType) (count unit : ℕ) (value : Value) → IsGood types count unit value → IsGood types count unit (lines_value value)
-lines_good types count unit (values.Offset n) h = plain_good types count unit values.Lines refl refl
-lines_good types count unit value h = h
+lines_good : (types : List BaseType) (count unit : ℕ) (b : Bool) (value : Value) → IsGood types count unit value → IsGood types count unit (if b then values.Lines else value)
+lines_good types count unit true value h = plain_good types count unit values.Lines refl refl
+lines_good types count unit false value h = h
 
 module _ (types : List BaseType) (count unit : ℕ) where
   abbrev IsGoodAttr : Attr → Type 0
   IsGoodAttr a = IsGood types count unit a.value
 
-  first_good : (b : Bool) (a : Attr) (attrs others : List Attr) → IsGoodAttr a → All IsGoodAttr attrs → All IsGoodAttr others → All IsGoodAttr (if b then with_value a (lines_value a.value) ∷ attrs else a ∷ others)
-  first_good true a attrs others h behind marked = All-cons IsGoodAttr (with_value a (lines_value a.value)) attrs (lines_good types count unit a.value h) behind
+  first_good : (b : Bool) (a : Attr) (attrs others : List Attr) → IsGoodAttr a → All IsGoodAttr attrs → All IsGoodAttr others → All IsGoodAttr (if b then with_value a (lines_value a) ∷ attrs else a ∷ others)
+  first_good true a attrs others h behind marked = All-cons IsGoodAttr (with_value a (lines_value a)) attrs (lines_good types count unit (is_some (section_offset a)) a.value h) behind
   first_good false a attrs others h behind marked = All-cons IsGoodAttr a others h marked
 
   marked_good : (attrs : List Attr) → All IsGoodAttr attrs → All IsGoodAttr (lines_marked attrs)
@@ -135,17 +137,17 @@ module _ (o : Opened) (m : AddrMap) (types : List BaseType) (count unit : ℕ) w
   abbrev IsGoodHere : Value → Type 0
   IsGoodHere value = IsGood types count unit value
 
-  ranges_role_good : (base : Addr) (role : Meaning) (place : ℕ) (now : Value) → ranges_by_role o m base role place ≡ Ok now → IsGoodHere now
-  ranges_role_good base meanings.RangeList place now e =
-      let spans = bind_ok (ranges_of o.sections o.relocs.ranges o.image place base) (λ (spans : List RawSpan). Ok (values.Ranges (spans_moved m spans))) now e in
+  ranges_role_good : (u : UnitContext) (base : Addr) (role : Meaning) (place : ℕ) (now : Value) → ranges_by_role o m u base role place ≡ Ok now → IsGoodHere now
+  ranges_role_good u base meanings.RangeList place now e =
+      let spans = bind_ok (ranges_read o u base place) (λ (spans : List RawSpan). Ok (values.Ranges (spans_moved m spans))) now e in
       subst IsGoodHere (ok_is (values.Ranges (spans_moved m spans.0)) now spans.2) (plain_good types count unit (values.Ranges (spans_moved m spans.0)) refl refl)
-  ranges_role_good base role place now e = subst IsGoodHere (ok_is (values.Offset place) now e) (plain_good types count unit (values.Offset place) refl refl)
+  ranges_role_good u base role place now e = subst IsGoodHere (ok_is (values.Offset place) now e) (plain_good types count unit (values.Offset place) refl refl)
 
-  pub ranges_good : (base : Addr) (a : Attr) (value now : Value) → IsGoodHere value → ranges_meant o m base a value ≡ Ok now → IsGoodHere now
-  ranges_good base a (values.Offset place) now h e = ranges_role_good base (table_of a.name) place now e
-  ranges_good base a value now h e = subst IsGoodHere (ok_is value now e) h
+  pub ranges_good : (u : UnitContext) (base : Addr) (a : Attr) (value now : Value) → IsGoodHere value → ranges_meant o m u base a value ≡ Ok now → IsGoodHere now
+  ranges_good u base a (values.Offset place) now h e = ranges_role_good u base (table_of a.name) place now e
+  ranges_good u base a value now h e = subst IsGoodHere (ok_is value now e) h
 
-module _ (o : Opened) (s : Context) (count : ℕ) where
+module _ (s : Context) (count : ℕ) where
   abbrev IsGoodThere : Value → Type 0
   IsGoodThere value = IsGood s.bases count s.unit value
 
@@ -154,16 +156,16 @@ module _ (o : Opened) (s : Context) (count : ℕ) where
 
   item_good : (item : RawLocation) (now : RawLocation × List Op) → item_meant s item ≡ Ok now → IsGoodPair now
   item_good item now e =
-      let ops = bind_ok (expression_of s item.bytes item.first) (λ ops. refuse_if (not (nat_lt (ops_len ops) EXPRESSION_LIMIT)) (record { kind = kinds.LongExpression; section = parts.Loc; place = item.place }) >>= λ u. Ok (item, ops)) now e in
-      let short = passed (not (nat_lt (ops_len ops.0) EXPRESSION_LIMIT)) (record { kind = kinds.LongExpression; section = parts.Loc; place = item.place }) (Ok (item, ops.0)) now ops.2 in
+      let ops = bind_ok (expression_of s item.bytes item.first) (λ ops. refuse_if (is_too_long s.version ops) (record { kind = kinds.LongExpression; section = s.part; place = item.place }) >>= λ u. Ok (item, ops)) now e in
+      let short = passed (is_too_long s.version ops.0) (record { kind = kinds.LongExpression; section = s.part; place = item.place }) (Ok (item, ops.0)) now ops.2 in
       subst IsGoodPair (ok_is (item, ops.0) now short.1) (ops_known s item.bytes item.first ops.0 ops.1)
 
   moved_good : (p : RawLocation × List Op) → IsGoodPair p → All (λ (l : Location). All (IsKnownOp s.bases s.unit) l.ops) (item_moved s.map p)
   moved_good p h = all_map (λ (l : Location). All (IsKnownOp s.bases s.unit) l.ops) (λ (span : Span). record { span = span; ops = p.1 }) (span_moved s.map p.0.span) (λ span. h)
 
-  locations_role_good : (base : Addr) (role : Meaning) (place : ℕ) (now : Value) → locations_by_role o s base role place ≡ Ok now → IsGoodThere now
+  locations_role_good : (base : Addr) (role : Meaning) (place : ℕ) (now : Value) → locations_by_role s base role place ≡ Ok now → IsGoodThere now
   locations_role_good base meanings.LocationList place now e =
-      let items = bind_ok (locations_of o.sections o.relocs.loc o.image place base) (λ (items : List RawLocation). each_of (item_meant s) items >>= λ meant. Ok (values.Locations (flat_map (item_moved s.map) meant))) now e in
+      let items = bind_ok (locations_read s base place) (λ (items : List RawLocation). each_of (item_meant s) items >>= λ meant. Ok (values.Locations (flat_map (item_moved s.map) meant))) now e in
       let meant = bind_ok (each_of (item_meant s) items.0) (λ meant. Ok (values.Locations (flat_map (item_moved s.map) meant))) now items.2 in
       let pairs : All IsGoodPair meant.0 = each_all (item_meant s) (λ (item : RawLocation). Unit {0}) IsGoodPair (λ x y u is. item_good x y is) items.0 meant.0 meant.1 (λ k d lt. tt) in
       let locations : All (λ (l : Location). All (IsKnownOp s.bases s.unit) l.ops) (flat_map (item_moved s.map) meant.0) =
@@ -172,7 +174,7 @@ module _ (o : Opened) (s : Context) (count : ℕ) where
       (record { target = no_target None count refl; known = all_flat (IsKnownOp s.bases s.unit) (λ (l : Location). l.ops) (flat_map (item_moved s.map) meant.0) locations })
   locations_role_good base role place now e = subst IsGoodThere (ok_is (values.Offset place) now e) (plain_good s.bases count s.unit (values.Offset place) refl refl)
 
-  pub locations_good : (base : Addr) (a : Attr) (value now : Value) → IsGoodThere value → locations_meant o s base a value ≡ Ok now → IsGoodThere now
+  pub locations_good : (base : Addr) (a : Attr) (value now : Value) → IsGoodThere value → locations_meant s base a value ≡ Ok now → IsGoodThere now
   locations_good base a (values.Offset place) now h e = locations_role_good base (table_of a.name) place now e
   locations_good base a value now h e = subst IsGoodThere (ok_is value now e) h
 

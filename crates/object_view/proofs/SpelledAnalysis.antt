@@ -25,7 +25,7 @@ of_trees bytes cpu o raw a opened s h =
       spelled = record { spells = s.spells; units = of.units; entries = of.entries; starts = begins o.sections s.trees s.spells.spells };
     }
 
-pub gives_spelled : (bytes : List ℕ) (cpu : ℕ) (o : Opened) (m : AddrMap) (raw : RawUnits) (r : Result Analysis ReadError) → opened_of bytes cpu ≡ Ok o → IsSpelled o.sections raw → AreInside o.sections raw.entries → Gives (λ (a : Analysis). a) r (analysed o m raw)
+pub gives_spelled : (bytes : List ℕ) (cpu : ℕ) (o : Opened) (m : AddrMap) (raw : RawUnits) (r : Result Analysis ReadError) → opened_of bytes cpu ≡ Ok o → IsSpelled o.sections raw → AreInside o.sections raw → Gives (λ (a : Analysis). a) r (analysed o m raw)
     → IfOk r (IsOfObject bytes cpu)
 gives_spelled bytes cpu o m raw (Ok a) opened spelled inside gives = of_trees bytes cpu o raw a opened spelled (analysis_of_raw o m raw a inside (sym (analysed_same o m raw) ∙ gives))
 gives_spelled bytes cpu o m raw (Err e) opened spelled inside gives = tt

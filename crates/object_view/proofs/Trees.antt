@@ -1,5 +1,5 @@
 -- Where the entries of spelled trees stand among those of an object, and where their units begin.
-use Rattle.std.proofs.Common.{◌≡◌, ◌+◌, ◌-◌, ◌<◌, ℕ, zero, suc, List, [], ◌∷◌, ◌++◌, length, slice_get, Option, Some, None, refl, sym, ap, subst, ◌∙◌, append_assoc, arith}
+use Rattle.std.proofs.Common.{◌≡◌, ◌+◌, ◌-◌, ◌<◌, ℕ, zero, suc, List, [], ◌∷◌, ◌++◌, length, slice_get, Option, Some, None, refl, sym, ap, subst, ◌∙◌, append_assoc, arith, inl, inr}
 use Rattle.std.specs.Prelude.{IfSome}
 use Rattle.std.specs.List.{All}
 use Rattle.std.specs.Option.{option_map_or}
@@ -7,13 +7,13 @@ use Rattle.std.proofs.lemmas.List.{length-append}
 use Rattle.std.proofs.lemmas.List.Elements.{All-nil, All-cons}
 use Rattle.dwarf_types.specs.declared.entry.RawEntry.{RawEntry}
 use Rattle.dwarf_types.specs.SectionBytes.{SectionBytes}
-use Rattle.unit_tree.specs.Spelling.{SpellsUnit, SpellsUnits, UnitTree, entries_of, entry_of, in_unit, in_units, preorder, size, unit_entries}
+use Rattle.unit_tree.specs.Header.{header_size}
+use Rattle.unit_tree.specs.Spelling.{SpellsFields, SpellsUnit, SpellsUnits, UnitTree, entries_of, entry_of, in_unit, in_units, preorder, size, unit_entries}
 use Rattle.unit_tree.proofs.TreeLaws.{length_preorder}
 use Rattle.unit_tree.proofs.UnitLaws.{length_number}
 use Rattle.object_view.specs.Ready.{IsRooted}
 use Rattle.object_view.specs.Spelled.{BeginsAt}
-use Rattle.object_view.specs.Units.{start_of, unit_start}
-use Rattle.object_view.specs.declared.units.TheConstants.{HEADER_SIZE}
+use Rattle.object_view.specs.Units.{context_of, no_unit, unit_start}
 
 -- ---- items in a row
 
@@ -71,24 +71,38 @@ module _ (all : List RawEntry) where
       let root : IsRooted all (in_unit number t) = subst (λ (o : Option RawEntry). IfSome o (λ e. e.parent ≡ None)) (sym (tree_root t ts unit number h)) refl in
       All-cons (IsRooted all) (in_unit number t) (in_units (number + 1 + size t.kids) ts) root (units_rooted ts (suc unit) (number + 1 + size t.kids) (trees_behind t ts unit number h))
 
+  -- so many bytes stand in a header behind the length
+  fields_length : (version offset : ℕ) (bytes : List ℕ) → SpellsFields version offset bytes → 4 + (2 + length bytes) ≡ header_size version
+  fields_length version offset bytes (inl (is, h)) =
+      let four = length_number 4 _ h.front h.first in
+      let one = length_number 1 _ h.back h.second in
+      let all = ap (λ (b : List ℕ). length b) h.is in
+      subst (λ (v : ℕ). 4 + (2 + length bytes) ≡ header_size v) (sym is) (omega (arith, four, one, all, length-append h.front h.back))
+  fields_length version offset bytes (inr (is, h)) =
+      let others = h.second in
+      let kind = length_number 1 _ h.front h.first in
+      let width = length_number 1 _ others.front others.first in
+      let four = length_number 4 _ others.back others.second in
+      let all = ap (λ (b : List ℕ). length b) h.is in
+      let behind = ap (λ (b : List ℕ). length b) others.is in
+      subst (λ (v : ℕ). 4 + (2 + length bytes) ≡ header_size v) (sym is) (omega (arith, kind, width, four, all, behind, length-append h.front h.back, length-append others.front others.back))
+
   -- the root stands behind the header
-  root_place : (sections : SectionBytes) (t : UnitTree) (place : ℕ) (bytes : List ℕ) → SpellsUnit sections t place bytes → t.root.place - HEADER_SIZE ≡ place
+  root_place : (sections : SectionBytes) (t : UnitTree) (place : ℕ) (bytes : List ℕ) → SpellsUnit sections t place bytes → t.root.place - header_size t.version ≡ place
   root_place sections t place bytes h =
-      let version = h.spells in
-      let offset = version.second in
-      let width = offset.second in
-      let there = width.second.first.first.there in
-      let two = length_number 2 _ version.front version.first in
-      let four = length_number 4 _ offset.front offset.first in
-      let one = length_number 1 _ width.front width.first in
-      omega (arith, there, two, four, one)
+      let header = h.spells.first in
+      let there = h.spells.second.first.first.there in
+      let two = length_number 2 _ header.front header.first in
+      let fields = fields_length t.version t.offset header.back header.second in
+      let all = ap (λ (b : List ℕ). length b) header.is in
+      omega (arith, there, two, fields, all, length-append header.front header.back)
 
   unit_begins : (sections : SectionBytes) (ts : List UnitTree) (unit number place : ℕ) (bytes : List ℕ) → SpellsUnits sections ts place bytes → StandFrom number (entries_of unit number ts) all
-      → (k : ℕ) → k < length ts → BeginsAt sections ts place bytes k (option_map_or (start_of all) (slice_get (in_units number ts) k) 0)
+      → (k : ℕ) → k < length ts → BeginsAt sections ts place bytes k (option_map_or (context_of all) (slice_get (in_units number ts) k) no_unit).start
   unit_begins sections [] unit number place bytes h stand k lt = absurd (omega (arith, lt))
   unit_begins sections (t ∷ ts) unit number place bytes h stand zero lt =
-      let start : option_map_or (λ (root : RawEntry). root.place - HEADER_SIZE) (slice_get all number) 0 ≡ place =
-      ap (λ (o : Option RawEntry). option_map_or (λ (root : RawEntry). root.place - HEADER_SIZE) o 0) (tree_root t ts unit number stand) ∙ root_place sections t place h.front h.first in
+      let start : option_map_or (λ (root : RawEntry). root.place - header_size t.version) (slice_get all number) 0 ≡ place =
+      ap (λ (o : Option RawEntry). option_map_or (λ (root : RawEntry). root.place - header_size t.version) o 0) (tree_root t ts unit number stand) ∙ root_place sections t place h.front h.first in
       record {
         before = [];
         own = h.front;

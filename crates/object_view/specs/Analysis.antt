@@ -10,18 +10,17 @@ use Rattle.addr_map.specs.Ranges.{map_of}
 use Rattle.frame_table.specs.Frames.{frames_of}
 use Rattle.unit_tree.specs.Unit.{units_of}
 use Rattle.moved_parts.specs.Frames.{frames_moved}
-use Rattle.object_view.specs.Attributes.{all_marked, entries_by, entries_meant, loc_context, locations_meant, ranges_meant, unit_base, units_meant}
+use Rattle.object_view.specs.Attributes.{all_marked, entries_by, entries_meant, locations_step, ranges_step, units_meant}
 use Rattle.object_view.specs.Code.{code_of}
 use Rattle.object_view.specs.Opened.{Opened, opened_of}
-use Rattle.object_view.specs.Units.{unit_start}
 
 -- what the units that were read mean: expressions, line tables, range lists, location lists, frames
 unfoldable pub units_analysed : Opened → AddrMap → RawUnits → Result Analysis Fault
 units_analysed o map raw = do
-  meant ← entries_meant o map raw.units raw.entries
+  meant ← entries_meant o map raw
   units ← units_meant o map meant raw.units
-  ranged ← entries_by (λ unit a. ranges_meant o map (unit_base raw.units meant unit) a a.value) (all_marked meant)
-  entries ← entries_by (λ unit a. locations_meant o (loc_context o map raw.entries unit (unit_start raw.units raw.entries unit)) (unit_base raw.units meant unit) a a.value) ranged
+  ranged ← entries_by (ranges_step o map raw meant) (all_marked meant)
+  entries ← entries_by (locations_step o map raw meant) ranged
   frames ← frames_of o.image o.relocs.frame o.sections.frame
   Ok (record { units = units; entries = entries; code = code_of map entries; frames = frames_moved map frames })
 

@@ -1,44 +1,57 @@
 -- The attributes of an object's entries with what their values mean, step by step: each step goes over all attributes in document order.
-use Rattle.std.specs.Prelude.{ℕ, ◌-◌, ◌==◌, not, List, [], ◌∷◌, length, map, slice_get, Option, Some, None, is_none, Result, Ok, nat_lt, if◌then◌else◌}
-use Rattle.std.specs.List.{filter_map, flat_map, position}
-use Rattle.std.specs.Option.{option_and_then, option_map_or, unwrap_or}
-use Rattle.ds_base.specs.declared.dwarf.TheConstants.{DW_AT_low_pc, DW_AT_stmt_list, DW_FORM_exprloc}
+use Rattle.std.specs.Prelude.{ℕ, ◌-◌, ◌==◌, ◌&&◌, Bool, false, not, List, [], ◌∷◌, ◌++◌, length, map, slice_get, take, Option, Some, None, is_none, is_some, Result, Ok, nat_lt, if◌then◌else◌}
+use Rattle.std.specs.List.{filter_map, find, flat_map, position}
+use Rattle.std.specs.Option.{option_and_then, option_map, option_map_or, unwrap_or}
+use Rattle.ds_base.specs.declared.dwarf.TheConstants.{DW_AT_comp_dir, DW_AT_low_pc, DW_AT_stmt_list, DW_FORM_exprloc, DW_FORM_sec_offset}
 use Rattle.ds_base.specs.declared.fault.Fault.{Fault}
 use Rattle.ds_base.specs.declared.fault.Kind.TheVariants as kinds
+use Rattle.ds_base.specs.declared.fault.Part.{Part}
 use Rattle.ds_base.specs.declared.fault.Part.TheVariants as parts
 use Rattle.ds_base.specs.Reading.{◌>>=◌, or_fault, refuse_if}
 use Rattle.dwarf_types.specs.declared.address.Addr.{Addr}
 use Rattle.dwarf_types.specs.declared.address.Addr.TheVariants as addrs
+use Rattle.dwarf_types.specs.declared.address.Place.{Place}
 use Rattle.dwarf_types.specs.declared.entry.Attr.{Attr}
 use Rattle.dwarf_types.specs.declared.entry.Entry.{Entry}
 use Rattle.dwarf_types.specs.declared.entry.InUnit.{InUnit}
 use Rattle.dwarf_types.specs.declared.entry.RawAttr.{RawAttr}
 use Rattle.dwarf_types.specs.declared.entry.RawEntry.{RawEntry}
+use Rattle.dwarf_types.specs.declared.entry.RawUnits.{RawUnits}
 use Rattle.dwarf_types.specs.declared.expr.Op.{Op}
+use Rattle.dwarf_types.specs.declared.lines.OutLines.{OutLines}
+use Rattle.dwarf_types.specs.declared.lines.RawLines.{RawLines}
 use Rattle.dwarf_types.specs.declared.lists.Location.{Location}
 use Rattle.dwarf_types.specs.declared.lists.RawLocation.{RawLocation}
+use Rattle.dwarf_types.specs.declared.lists.RawSpan.{RawSpan}
 use Rattle.dwarf_types.specs.declared.value.Value.{Value}
 use Rattle.dwarf_types.specs.declared.value.Value.TheVariants as values
 use Rattle.dwarf_types.specs.Moves.{place_in, value_of}
 use Rattle.dwarf_types.specs.Raw.{entry_of}
+use Rattle.reloc_table.specs.declared.relocation.Relocs.{Relocs}
 use Rattle.reloc_table.specs.Address.{address_of}
 use Rattle.addr_map.specs.declared.map.AddrMap.{AddrMap}
+use Rattle.index_tables.specs.Tables.{address_place, stored}
 use Rattle.expr_walk.specs.Length.{ops_len}
 use Rattle.list_items.specs.Ends.{number_of}
+use Rattle.line_read.specs.Header.{version_of}
 use Rattle.line_read.specs.Program.{lines_of}
-use Rattle.loc_lists.specs.Reading.{locations_of}
+use Rattle.loc_lists.specs.Reading.{location_part, locations_of}
 use Rattle.range_lists.specs.Reading.{ranges_of}
+use Rattle.expr_resolve.specs.declared.context.BaseType.{BaseType}
 use Rattle.expr_resolve.specs.Context.{Context}
 use Rattle.expr_resolve.specs.Expressions.{expression_of}
 use Rattle.unit_tree.specs.declared.meaning.Meaning.{Meaning}
 use Rattle.unit_tree.specs.declared.meaning.Meaning.TheVariants as meanings
-use Rattle.unit_tree.specs.Meaning.{table_of}
+use Rattle.unit_tree.specs.Meaning.{is_address_index, table_of}
 use Rattle.moved_parts.specs.Lines.{lines_moved}
 use Rattle.moved_parts.specs.Places.{place_of}
 use Rattle.moved_parts.specs.Spans.{span_moved, spans_moved}
 use Rattle.object_view.specs.declared.locations.TheConstants.{EXPRESSION_LIMIT}
+use Rattle.object_view.specs.declared.open.DebugRelocs.{DebugRelocs}
+use Rattle.object_view.specs.declared.units.TheConstants.{DWARF_5}
+use Rattle.object_view.specs.declared.units.UnitContext.{UnitContext}
 use Rattle.object_view.specs.Opened.{Opened}
-use Rattle.object_view.specs.Units.{base_types, places_of, unit_start}
+use Rattle.object_view.specs.Units.{base_types, places_of, unit_context}
 
 -- ---- steps over all attributes
 
@@ -94,27 +107,54 @@ number_at places place = position (λ p. p == place) places
 abbrev pub dangling : RawAttr → Fault
 dangling a = record { kind = kinds.BadReference; section = parts.Info; place = a.end }
 
+-- the address at an index of the unit's table of addresses (DWARF 5, section 7.27)
+abbrev pub address_named : Context → ℕ → Option Place
+address_named s index = option_map (λ place. place_of s.map (address_of s.image s.addresses place (stored 8 s.sections.addr place))) (address_place s.sections s.addr_base index)
+
+-- an index outside of its table; units in which one stands are refused before, so it is never met here
+abbrev pub unnamed : RawAttr → Fault
+unnamed a = record { kind = kinds.BadIndex; section = parts.Info; place = a.end }
+
+-- an offset or an index
+abbrev pub offset_meant : Context → RawAttr → ℕ → Result Value Fault
+offset_meant s a n = if is_address_index a.form then (or_fault (address_named s n) (unnamed a) >>= λ place. Ok (values.Address place)) else Ok (values.Offset n)
+
 -- a value as it was read, in a context of `__debug_info`
 abbrev pub value_meant : Context → List ℕ → RawAttr → Value → Result Value Fault
 value_meant s places a (values.Address place) = Ok (values.Address (place_of s.map (field_address s a.end place.at)))
 value_meant s places a (values.Ref place) = or_fault (number_at places place) (dangling a) >>= λ k. Ok (values.Ref k)
 value_meant s places a (values.Block form bytes) =
     if form == DW_FORM_exprloc then (expression_of s bytes (a.end - length bytes) >>= λ ops. Ok (values.Expr ops)) else Ok (values.Block form bytes)
+value_meant s places a (values.Offset n) = offset_meant s a n
 value_meant s places a value = Ok value
 
--- where an expression of a unit stands in `__debug_info`, and where in `__debug_loc`
-abbrev pub info_context : Opened → AddrMap → List RawEntry → ℕ → ℕ → Context
-info_context o map entries unit start =
-    record { image = o.image; map = map; bases = base_types entries; part = parts.Info; relocs = o.relocs.info; unit = unit; start = start }
+-- what an expression is understood by that stands in a part of the file, in the unit of a number
+abbrev pub context_at : Opened → AddrMap → List BaseType → Part → Relocs → ℕ → UnitContext → Context
+context_at o map types part relocs unit u = record {
+  image = o.image;
+  map = map;
+  bases = types;
+  part = part;
+  relocs = relocs;
+  unit = unit;
+  start = u.start;
+  version = u.version;
+  sections = o.sections;
+  addresses = o.relocs.addr;
+  addr_base = u.addr_base;
+}
 
-abbrev pub loc_context : Opened → AddrMap → List RawEntry → ℕ → ℕ → Context
-loc_context o map entries unit start =
-    record { image = o.image; map = map; bases = base_types entries; part = parts.Loc; relocs = o.relocs.loc; unit = unit; start = start }
+-- one of `__debug_info`
+abbrev pub info_context : Opened → AddrMap → List BaseType → ℕ → UnitContext → Context
+info_context o map types unit u = context_at o map types parts.Info o.relocs.info unit u
+
+-- the step over attributes of `__debug_info`, by the units and entries that were read
+abbrev pub info_step : Opened → AddrMap → RawUnits → ℕ → RawAttr → Result Value Fault
+info_step o map raw unit a = value_meant (info_context o map (base_types raw.entries) unit (unit_context raw.units raw.entries unit)) (places_of raw.entries) a a.value
 
 -- all entries, with moved addresses, numbers of entries, and operations, and without the places of their values
-abbrev pub entries_meant : Opened → AddrMap → List InUnit → List RawEntry → Result (List Entry) Fault
-entries_meant o m units raw =
-    raw_entries_by (λ unit a. value_meant (info_context o m raw unit (unit_start units raw unit)) (places_of raw) a a.value) raw >>= λ meant. Ok (map entry_of meant)
+abbrev pub entries_meant : Opened → AddrMap → RawUnits → Result (List Entry) Fault
+entries_meant o m raw = raw_entries_by (info_step o m raw) raw.entries >>= λ meant. Ok (map entry_of meant)
 
 -- ---- line tables
 
@@ -122,27 +162,60 @@ abbrev pub offset_in : Value → Option ℕ
 offset_in (values.Offset n) = Some n
 offset_in _ = None
 
+-- a section offset; the index of a list is none
+abbrev pub section_offset : Attr → Option ℕ
+section_offset a = if a.form == DW_FORM_sec_offset then offset_in a.value else None
+
 -- the place of a unit's line table, which its root's first stmt_list tells where it is a section offset
 abbrev pub line_place : Entry → Option ℕ
-line_place root = option_and_then offset_in (value_of DW_AT_stmt_list root)
+line_place root = option_and_then section_offset (find (λ a. a.name == DW_AT_stmt_list) root.attrs)
 
--- a unit with the line table at a place, if there is one
-abbrev pub unit_with_lines : Opened → AddrMap → InUnit → Option ℕ → Result InUnit Fault
-unit_with_lines o map unit None = Ok unit
-unit_with_lines o map unit (Some place) = lines_of o.image o.relocs.line o.sections.line place >>= λ lines. Ok (record unit { lines = Some (lines_moved map lines) })
+-- the directory in which a unit was compiled, empty where its root tells none
+abbrev pub text_in : Value → List ℕ
+text_in (values.Text text) = text
+text_in _ = []
+
+abbrev pub comp_dir : Entry → List ℕ
+comp_dir root = option_map_or text_in (value_of DW_AT_comp_dir root) []
+
+-- A table before version 5 counts directories and files from 1, and its directory 0 is the unit's; a table of version 5 counts both from 0, and has the unit's
+-- directory and first file there (DWARF 5, section 6.2.4).
+abbrev pub counted_from_0 : List ℕ → RawLines → RawLines
+counted_from_0 dir lines = record lines { dirs = dir ∷ lines.dirs; files = take 1 lines.files ++ lines.files }
+
+abbrev pub is_older : Option ℕ → Bool
+is_older version = option_map_or (λ v. nat_lt v DWARF_5) version false
+
+-- a table of a version, as a unit of a version has it that was compiled in a directory
+abbrev pub lines_as : ℕ → Option ℕ → List ℕ → RawLines → RawLines
+lines_as unit table dir lines = if unit == DWARF_5 && is_older table then counted_from_0 dir lines else lines
+
+-- the line table at a place, of a unit of a version that was compiled in a directory
+abbrev pub lines_meant : Opened → AddrMap → ℕ → List ℕ → ℕ → Result OutLines Fault
+lines_meant o map version dir place = do
+  lines ← lines_of o.image o.relocs.line o.sections version place
+  Ok (lines_moved map (lines_as version (version_of o.sections place) dir lines))
+
+-- a unit with the line table that its root names, if there is one
+abbrev pub unit_with_table : Opened → AddrMap → InUnit → List ℕ → Option ℕ → Result InUnit Fault
+unit_with_table o map unit dir None = Ok unit
+unit_with_table o map unit dir (Some place) = lines_meant o map unit.version dir place >>= λ lines. Ok (record unit { lines = Some lines })
+
+abbrev pub unit_with_lines : Opened → AddrMap → List Entry → InUnit → Result InUnit Fault
+unit_with_lines o map entries unit =
+    let root = slice_get entries unit.first in unit_with_table o map unit (option_map_or comp_dir root []) (option_and_then line_place root)
 
 -- all units
 abbrev pub units_meant : Opened → AddrMap → List Entry → List InUnit → Result (List InUnit) Fault
-units_meant o map entries units = each_of (λ unit. unit_with_lines o map unit (option_and_then line_place (slice_get entries unit.first))) units
+units_meant o map entries units = each_of (unit_with_lines o map entries) units
 
-abbrev pub lines_value : Value → Value
-lines_value (values.Offset n) = values.Lines
-lines_value value = value
+abbrev pub lines_value : Attr → Value
+lines_value a = if is_some (section_offset a) then values.Lines else a.value
 
 -- the first stmt_list of some attributes is the unit's line table, where it is a section offset
 abbrev pub lines_marked : List Attr → List Attr
 lines_marked [] = []
-lines_marked (a ∷ attrs) = if a.name == DW_AT_stmt_list then with_value a (lines_value a.value) ∷ attrs else a ∷ lines_marked attrs
+lines_marked (a ∷ attrs) = if a.name == DW_AT_stmt_list then with_value a (lines_value a) ∷ attrs else a ∷ lines_marked attrs
 
 -- that of roots alone
 abbrev pub entry_marked : Entry → Entry
@@ -164,43 +237,76 @@ base_of root = unwrap_or (slice_get (filter_map low_pc_in root.attrs) 0) (addrs.
 abbrev pub unit_base : List InUnit → List Entry → ℕ → Addr
 unit_base units entries unit = option_map_or base_of (option_and_then (λ u. slice_get entries u.first) (slice_get units unit)) (addrs.Fixed 0)
 
--- the range list at a place, moved
-abbrev pub ranges_at : Opened → AddrMap → Addr → ℕ → Result Value Fault
-ranges_at o map base place = ranges_of o.sections o.relocs.ranges o.image place base >>= λ spans. Ok (values.Ranges (spans_moved map spans))
+-- the relocations of the section in which the range lists of a version stand
+abbrev pub ranges_relocs : DebugRelocs → ℕ → Relocs
+ranges_relocs relocs version = if version == DWARF_5 then relocs.rnglists else relocs.ranges
 
--- a section offset that leads to a range list, by its attribute
-abbrev pub ranges_by_role : Opened → AddrMap → Addr → Meaning → ℕ → Result Value Fault
-ranges_by_role o map base meanings.RangeList place = ranges_at o map base place
-ranges_by_role o map base role place = Ok (values.Offset place)
+-- the range list at a place, as it is read
+abbrev pub ranges_read : Opened → UnitContext → Addr → ℕ → Result (List RawSpan) Fault
+ranges_read o u base place = ranges_of o.sections (ranges_relocs o.relocs u.version) o.image place u.version base o.relocs.addr u.addr_base
 
-abbrev pub ranges_meant : Opened → AddrMap → Addr → Attr → Value → Result Value Fault
-ranges_meant o map base a (values.Offset place) = ranges_by_role o map base (table_of a.name) place
-ranges_meant o map base a value = Ok value
+-- the same, moved
+abbrev pub ranges_at : Opened → AddrMap → UnitContext → Addr → ℕ → Result Value Fault
+ranges_at o map u base place = ranges_read o u base place >>= λ spans. Ok (values.Ranges (spans_moved map spans))
+
+-- an offset that leads to a range list, by its attribute
+abbrev pub ranges_by_role : Opened → AddrMap → UnitContext → Addr → Meaning → ℕ → Result Value Fault
+ranges_by_role o map u base meanings.RangeList place = ranges_at o map u base place
+ranges_by_role o map u base role place = Ok (values.Offset place)
+
+abbrev pub ranges_meant : Opened → AddrMap → UnitContext → Addr → Attr → Value → Result Value Fault
+ranges_meant o map u base a (values.Offset place) = ranges_by_role o map u base (table_of a.name) place
+ranges_meant o map u base a value = Ok value
+
+-- the step over attributes that may name range lists, by entries that are understood
+abbrev pub ranges_step : Opened → AddrMap → RawUnits → List Entry → ℕ → Attr → Result Value Fault
+ranges_step o map raw meant unit a = ranges_meant o map (unit_context raw.units raw.entries unit) (unit_base raw.units meant unit) a a.value
 
 -- ---- location lists
 
--- the operations of an item, whose expression in the output has two bytes for its length
+-- the relocations of the section in which the location lists of a version stand
+abbrev pub locations_relocs : DebugRelocs → ℕ → Relocs
+locations_relocs relocs version = if version == DWARF_5 then relocs.loclists else relocs.loc
+
+-- what an expression of a location list is understood by
+abbrev pub locations_context : Opened → AddrMap → List BaseType → ℕ → UnitContext → Context
+locations_context o map types unit u = context_at o map types (location_part u.version) (locations_relocs o.relocs u.version) unit u
+
+-- the expression of an item is too long for the two bytes of its length in the output, which items have before version 5
+abbrev pub is_too_long : ℕ → List Op → Bool
+is_too_long version ops = not (version == DWARF_5) && not (nat_lt (ops_len ops) EXPRESSION_LIMIT)
+
+-- the operations of an item
 abbrev pub item_meant : Context → RawLocation → Result (RawLocation × List Op) Fault
 item_meant s item = do
   ops ← expression_of s item.bytes item.first
-  _ ← refuse_if (not (nat_lt (ops_len ops) EXPRESSION_LIMIT)) (record { kind = kinds.LongExpression; section = parts.Loc; place = item.place })
+  _ ← refuse_if (is_too_long s.version ops) (record { kind = kinds.LongExpression; section = s.part; place = item.place })
   Ok (item, ops)
 
 -- the pieces of an item's span, each with its operations
 abbrev pub item_moved : AddrMap → RawLocation × List Op → List Location
 item_moved m item = map (λ span. record { span = span; ops = item.1 }) (span_moved m item.0.span)
 
--- the location list at a place: first the whole list, then item after item
-abbrev pub locations_at : Opened → Context → Addr → ℕ → Result Value Fault
-locations_at o s base place = do
-  items ← locations_of o.sections o.relocs.loc o.image place base
+-- the location list at a place, as it is read in a context of its section
+abbrev pub locations_read : Context → Addr → ℕ → Result (List RawLocation) Fault
+locations_read s base place = locations_of s.sections s.relocs s.image place s.version base s.addresses s.addr_base
+
+-- the same, moved: first the whole list, then item after item
+abbrev pub locations_at : Context → Addr → ℕ → Result Value Fault
+locations_at s base place = do
+  items ← locations_read s base place
   meant ← each_of (item_meant s) items
   Ok (values.Locations (flat_map (item_moved s.map) meant))
 
-abbrev pub locations_by_role : Opened → Context → Addr → Meaning → ℕ → Result Value Fault
-locations_by_role o s base meanings.LocationList place = locations_at o s base place
-locations_by_role o s base role place = Ok (values.Offset place)
+abbrev pub locations_by_role : Context → Addr → Meaning → ℕ → Result Value Fault
+locations_by_role s base meanings.LocationList place = locations_at s base place
+locations_by_role s base role place = Ok (values.Offset place)
 
-abbrev pub locations_meant : Opened → Context → Addr → Attr → Value → Result Value Fault
-locations_meant o s base a (values.Offset place) = locations_by_role o s base (table_of a.name) place
-locations_meant o s base a value = Ok value
+abbrev pub locations_meant : Context → Addr → Attr → Value → Result Value Fault
+locations_meant s base a (values.Offset place) = locations_by_role s base (table_of a.name) place
+locations_meant s base a value = Ok value
+
+-- the step over attributes that may name location lists, by entries that are understood
+abbrev pub locations_step : Opened → AddrMap → RawUnits → List Entry → ℕ → Attr → Result Value Fault
+locations_step o map raw meant unit a =
+    locations_meant (locations_context o map (base_types raw.entries) unit (unit_context raw.units raw.entries unit)) (unit_base raw.units meant unit) a a.value

@@ -3,19 +3,23 @@ use Rattle.std.specs.Prelude.{ℕ, ◌<◌, ◌^◌, length, Result}
 use Rattle.ds_base.specs.declared.fault.Fault.{Fault}
 use Rattle.dwarf_types.specs.declared.entry.RawAttr.{RawAttr}
 use Rattle.dwarf_types.specs.declared.value.Value.{Value}
+use Rattle.dwarf_types.specs.SectionBytes.{bytes_in}
+use Rattle.expr_resolve.specs.Context.{AreInOrder}
 use Rattle.object_view.specs.declared.attributes.InfoValues.{InfoValues}
 use Rattle.object_view.specs.Attributes.{value_meant}
-use Rattle.object_view.specs.Ready.{IsReadValue, IsReady, Rise, context_of}
+use Rattle.object_view.specs.Opened.{opened_seen}
+use Rattle.object_view.specs.Ready.{IsOpen, IsReadAttr, Rise, info_seen}
 
 pub record IsReadyInfo (s : InfoValues) : Type 0 where
-  pub context : (unit : ℕ) → IsReady (context_of s.expressions unit)
+  pub opened : IsOpen (opened_seen s.expressions.object.now) s.expressions.map.now
+  pub types : AreInOrder s.expressions.types.now
   pub rise : Rise s.places.now
   pub few : length s.places.now < 2 ^ 32
 
 -- an attribute as it was read
-abbrev pub FitsInfo : InfoValues → RawAttr → Type 0
-FitsInfo s a = IsReadValue s.places.now a.end a.value
+abbrev pub FitsInfo : InfoValues → ℕ → RawAttr → Type 0
+FitsInfo s unit a = IsReadAttr (bytes_in s.expressions.object.now.sections) s.expressions.units.now s.places.now unit a
 
 -- its value, by its entry's unit
 abbrev pub info_value : InfoValues → ℕ → RawAttr → Result Value Fault
-info_value s unit a = value_meant (context_of s.expressions unit) s.places.now a a.value
+info_value s unit a = value_meant (info_seen s.expressions unit) s.places.now a a.value

@@ -1,5 +1,5 @@
 -- Stations between the code and the definitions: the contexts of an object's expressions, and what must hold of them.
-use Rattle.std.specs.Prelude.{◌≡◌, ℕ, ◌+◌, ◌^◌, ◌<◌, ◌≤◌, List, ◌++◌, length, slice_get, slice_set, Option, None, Some, IsSome, IfSome, Result, Ok}
+use Rattle.std.specs.Prelude.{◌≡◌, ℕ, true, ◌+◌, ◌^◌, ◌<◌, ◌≤◌, List, ◌++◌, length, slice_get, slice_set, Option, None, Some, IsSome, IfSome, Result, Ok}
 use Rattle.std.specs.List.{All, AllPairs, flat_map}
 use Rattle.std.specs.Option.{option_and_then, unwrap_or}
 use Rattle.ds_base.specs.declared.fault.Fault.{Fault}
@@ -16,6 +16,7 @@ use Rattle.dwarf_types.specs.declared.lists.RawLocation.{RawLocation}
 use Rattle.dwarf_types.specs.declared.value.Value.{Value}
 use Rattle.dwarf_types.specs.declared.value.Value.TheVariants as values
 use Rattle.dwarf_types.specs.SectionBytes.{SectionBytes}
+use Rattle.index_tables.specs.Tables.{address_place}
 use Rattle.macho_read.specs.Sound.{IsSound as IsSoundImage}
 use Rattle.reloc_table.specs.Sound.{IsSound as AreSoundRelocs}
 use Rattle.addr_map.specs.declared.map.AddrMap.{AddrMap}
@@ -23,23 +24,33 @@ use Rattle.addr_map.specs.Sound.{IsSound as IsSoundMap}
 use Rattle.list_items.specs.Sound.{IsSoundSpan}
 use Rattle.expr_resolve.specs.Context.{Context, AreInOrder}
 use Rattle.object_view.specs.declared.expressions.Expressions.{Expressions}
+use Rattle.object_view.specs.declared.units.UnitContext.{UnitContext}
 use Rattle.unit_tree.specs.Inside.{IsListInside}
-use Rattle.unit_tree.specs.Meaning.{table_of}
-use Rattle.object_view.specs.Attributes.{each_of, entry_marked, item_meant, item_moved, line_place, lines_marked, lines_value, number_at, with_value}
-use Rattle.object_view.specs.Opened.{Opened}
+use Rattle.unit_tree.specs.Meaning.{is_address_index, table_of}
+use Rattle.object_view.specs.Attributes.{each_of, entry_marked, info_context, item_meant, item_moved, line_place, lines_marked, lines_value, locations_context, number_at, with_value}
+use Rattle.object_view.specs.Opened.{Opened, opened_seen}
 use Rattle.object_view.specs.Sound.{AreSmall, AreSound}
+use Rattle.object_view.specs.Units.{no_unit}
 
--- an expression of a unit
-abbrev pub context_of : Expressions → ℕ → Context
-context_of e unit =
-    record { image = e.image.now; map = e.map.now; bases = e.bases.now; part = e.part; relocs = e.relocs.now; unit = unit; start = unwrap_or (slice_get e.starts.now unit) 0 }
+-- what is known of the unit of a number
+abbrev pub context_among : List UnitContext → ℕ → UnitContext
+context_among units unit = unwrap_or (slice_get units unit) no_unit
+
+-- an expression of `__debug_info` in a unit, and one of its location lists
+abbrev pub info_seen : Expressions → ℕ → Context
+info_seen e unit = info_context (opened_seen e.object.now) e.map.now e.types.now unit (context_among e.units.now unit)
+
+abbrev pub locations_seen : Expressions → ℕ → Context
+locations_seen e unit = locations_context (opened_seen e.object.now) e.map.now e.types.now unit (context_among e.units.now unit)
 
 -- what a context must keep to
 pub record IsReady (s : Context) : Type 0 where
   pub image : IsSoundImage s.image
   pub relocs : AreSoundRelocs s.image s.relocs
+  pub addresses : AreSoundRelocs s.image s.addresses
   pub map : IsSoundMap s.map
   pub order : AreInOrder s.bases
+  pub small : AreSmall s.sections
 
 -- what an object and its map must keep to
 pub record IsOpen (o : Opened) (map : AddrMap) : Type 0 where
@@ -58,22 +69,27 @@ Rise places = AllPairs (λ p later. p < later) places
 
 -- ---- what an attribute keeps to, so that a step can be taken
 
-abbrev pub AllAttrs : (Attr → Type 0) → List Entry → Type 0
-AllAttrs P entries = All (λ e. All P e.attrs) entries
+-- where what it is goes by its entry's unit
+abbrev pub AllAttrs : (ℕ → Attr → Type 0) → List Entry → Type 0
+AllAttrs P entries = All (λ e. All (P e.unit) e.attrs) entries
 
-abbrev pub AllRawAttrs : (RawAttr → Type 0) → List RawEntry → Type 0
-AllRawAttrs P entries = All (λ e. All P e.attrs) entries
+abbrev pub AllRawAttrs : (ℕ → RawAttr → Type 0) → List RawEntry → Type 0
+AllRawAttrs P entries = All (λ e. All (P e.unit) e.attrs) entries
 
--- as it was read: its bytes stand before the place behind it, and a reference leads to one of these places
-abbrev pub IsReadValue : List ℕ → ℕ → Value → Type 0
-IsReadValue places end (values.Address place) = 8 ≤ end
-IsReadValue places end (values.Block form bytes) = length bytes ≤ end
-IsReadValue places end (values.Ref place) = IsSome (number_at places place)
-IsReadValue places end value = Unit {0}
+-- as it was read in a unit: its bytes stand before the place behind it, a reference leads to one of these places, and the index of an address to one
+abbrev pub IsReadValue : SectionBytes → ℕ → List ℕ → RawAttr → Value → Type 0
+IsReadValue sections addr_base places a (values.Address place) = 8 ≤ a.end
+IsReadValue sections addr_base places a (values.Block form bytes) = length bytes ≤ a.end
+IsReadValue sections addr_base places a (values.Ref place) = IsSome (number_at places place)
+IsReadValue sections addr_base places a (values.Offset n) = is_address_index a.form ≡ true → IsSome (address_place sections addr_base n)
+IsReadValue sections addr_base places a value = Unit {0}
 
--- an offset that leads to a list is inside its section
-abbrev pub IsListAttr : SectionBytes → Attr → Type 0
-IsListAttr sections a = (n : ℕ) → a.value ≡ values.Offset n → IsListInside sections (table_of a.name) n
+abbrev pub IsReadAttr : SectionBytes → List UnitContext → List ℕ → ℕ → RawAttr → Type 0
+IsReadAttr sections units places unit a = IsReadValue sections (context_among units unit).addr_base places a a.value
+
+-- an offset that leads to a list is inside the section of the lists of a version
+abbrev pub IsListAttr : SectionBytes → ℕ → Attr → Type 0
+IsListAttr sections version a = (n : ℕ) → a.value ≡ values.Offset n → IsListInside sections version (table_of a.name) n
 
 -- the line table of the unit that begins with an entry of these is inside its section
 abbrev pub IsLinesInside : SectionBytes → List Entry → InUnit → Type 0
@@ -88,7 +104,7 @@ IsRooted entries unit = IfSome (slice_get entries unit.first) (λ e. e.parent �
 -- marking changes the attribute at a place, the first stmt_list, or no attribute at all
 abbrev pub IsFirstList : List Attr → Option ℕ → Type 0
 IsFirstList attrs None = lines_marked attrs ≡ attrs
-IsFirstList attrs (Some j) = (a : Attr) × (slice_get attrs j ≡ Some a) × (lines_marked attrs ≡ slice_set attrs j (with_value a (lines_value a.value)))
+IsFirstList attrs (Some j) = (a : Attr) × (slice_get attrs j ≡ Some a) × (lines_marked attrs ≡ slice_set attrs j (with_value a (lines_value a)))
 
 -- marking makes a line table of the attribute of an entry at a place, or of none
 abbrev pub IsMarkedAt : Entry → Option ℕ → Type 0

@@ -19,7 +19,10 @@ pub record AreSound (image : Image) (relocs : DebugRelocs) : Type 0 where
 -- Every section that is read has fewer bytes than places of 32 bits count.
 pub record AreSmall (sections : SectionBytes) : Type 0 where
   pub info : length sections.info < 2 ^ 32
+  pub addr : length sections.addr < 2 ^ 32
   pub line : length sections.line < 2 ^ 32
   pub ranges : length sections.ranges < 2 ^ 32
+  pub rnglists : length sections.rnglists < 2 ^ 32
   pub loc : length sections.loc < 2 ^ 32
+  pub loclists : length sections.loclists < 2 ^ 32
   pub frame : length sections.frame < 2 ^ 32

@@ -1,13 +1,12 @@
 -- Stations between the code and the definition of an analysis: its last steps, over lists that are made once.
 use Rattle.std.specs.Prelude.{ℕ, ◌<◌, ◌^◌, List, length, map, slice_get, Result, Ok}
-use Rattle.std.specs.Option.{option_map_or, unwrap_or}
+use Rattle.std.specs.Option.{option_map_or}
 use Rattle.ds_base.specs.declared.fault.Fault.{Fault}
-use Rattle.ds_base.specs.declared.fault.Part.{Part}
-use Rattle.ds_base.specs.declared.fault.Part.TheVariants as parts
 use Rattle.ds_base.specs.Reading.{◌>>=◌}
 use Rattle.dwarf_types.specs.declared.address.Addr.{Addr}
 use Rattle.dwarf_types.specs.declared.address.Addr.TheVariants as addrs
 use Rattle.dwarf_types.specs.declared.analysis.Analysis.{Analysis}
+use Rattle.dwarf_types.specs.declared.entry.Attr.{Attr}
 use Rattle.dwarf_types.specs.declared.entry.Entry.{Entry}
 use Rattle.dwarf_types.specs.declared.entry.InUnit.{InUnit}
 use Rattle.dwarf_types.specs.declared.entry.RawAttr.{RawAttr}
@@ -15,54 +14,56 @@ use Rattle.dwarf_types.specs.declared.entry.RawEntry.{RawEntry}
 use Rattle.dwarf_types.specs.declared.entry.RawUnits.{RawUnits}
 use Rattle.dwarf_types.specs.declared.value.Value.{Value}
 use Rattle.dwarf_types.specs.Raw.{entry_of}
-use Rattle.reloc_table.specs.declared.relocation.Relocs.{Relocs}
 use Rattle.addr_map.specs.declared.map.AddrMap.{AddrMap}
 use Rattle.frame_table.specs.Frames.{frames_of}
 use Rattle.moved_parts.specs.Frames.{frames_moved}
 use Rattle.expr_resolve.specs.declared.context.BaseType.{BaseType}
-use Rattle.expr_resolve.specs.Context.{Context, AreInOrder as AreInOrderTypes}
-use Rattle.object_view.specs.Attributes.{all_marked, base_of, entries_by, locations_meant, ranges_meant, raw_entries_by, units_meant, value_meant}
+use Rattle.expr_resolve.specs.Context.{AreInOrder as AreInOrderTypes}
+use Rattle.object_view.specs.Attributes.{all_marked, base_of, entries_by, info_context, locations_context, locations_meant, ranges_meant, raw_entries_by, units_meant, value_meant}
 use Rattle.object_view.specs.Code.{code_of}
 use Rattle.object_view.specs.Opened.{Opened}
-use Rattle.object_view.specs.Ready.{Rise, base_at}
-use Rattle.object_view.specs.Units.{base_types, places_of, start_of}
+use Rattle.object_view.specs.Ready.{Rise, base_at, context_among}
+use Rattle.object_view.specs.Units.{base_types, contexts_of, places_of}
 use Rattle.object_view.specs.declared.units.Tables.{Tables}
+use Rattle.object_view.specs.declared.units.UnitContext.{UnitContext}
 
 -- what is made of units and entries once
 pub record MadeOnce : Type 0 where
   pub types : List BaseType
   pub places : List ℕ
-  pub starts : List ℕ
+  pub units : List UnitContext
 
 abbrev pub tables_in : Tables → MadeOnce
-tables_in t = record { types = t.types.now; places = t.places.now; starts = t.starts.now }
+tables_in t = record { types = t.types.now; places = t.places.now; units = t.units.now }
 
 abbrev pub made_of : List InUnit → List RawEntry → MadeOnce
-made_of units entries = record { types = base_types entries; places = places_of entries; starts = map (start_of entries) units }
+made_of units entries = record { types = base_types entries; places = places_of entries; units = contexts_of entries units }
 
 pub record AreInOrder (t : MadeOnce) : Type 0 where
   pub types : AreInOrderTypes t.types
   pub places : Rise t.places
   pub few : length t.places < 2 ^ 32
 
--- an expression of a part of the file, in a unit
-abbrev pub context_by : Opened → AddrMap → MadeOnce → Part → Relocs → ℕ → Context
-context_by o m t part relocs unit =
-    record { image = o.image; map = m; bases = t.types; part = part; relocs = relocs; unit = unit; start = unwrap_or (slice_get t.starts unit) 0 }
-
 -- an attribute of `__debug_info`
 abbrev pub info_meant : Opened → AddrMap → MadeOnce → ℕ → RawAttr → Result Value Fault
-info_meant o m t unit a = value_meant (context_by o m t parts.Info o.relocs.info unit) t.places a a.value
+info_meant o m t unit a = value_meant (info_context o m t.types unit (context_among t.units unit)) t.places a a.value
 
 -- entries as they are read, understood
 abbrev pub info_done : Opened → AddrMap → MadeOnce → List RawEntry → Result (List Entry) Fault
 info_done o m t raw = raw_entries_by (info_meant o m t) raw >>= λ meant. Ok (map entry_of meant)
 
+-- attributes that may name a range list, and then those that may name a location list
+abbrev pub range_meant : Opened → AddrMap → MadeOnce → List Addr → ℕ → Attr → Result Value Fault
+range_meant o m t bases unit a = ranges_meant o m (context_among t.units unit) (base_at bases unit) a a.value
+
+abbrev pub location_meant : Opened → AddrMap → MadeOnce → List Addr → ℕ → Attr → Result Value Fault
+location_meant o m t bases unit a = locations_meant (locations_context o m t.types unit (context_among t.units unit)) (base_at bases unit) a a.value
+
 -- entries whose range lists and location lists are read
 abbrev pub lists_meant : Opened → AddrMap → MadeOnce → List Addr → List Entry → Result (List Entry) Fault
 lists_meant o m t bases entries = do
-  ranged ← entries_by (λ unit a. ranges_meant o m (base_at bases unit) a a.value) (all_marked entries)
-  entries_by (λ unit a. locations_meant o (context_by o m t parts.Loc o.relocs.loc unit) (base_at bases unit) a a.value) ranged
+  ranged ← entries_by (range_meant o m t bases) (all_marked entries)
+  entries_by (location_meant o m t bases) ranged
 
 -- the analysis with units and entries
 abbrev pub finished : Opened → AddrMap → List InUnit → List Entry → Result Analysis Fault

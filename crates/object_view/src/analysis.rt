@@ -9,7 +9,7 @@ ghost use Rattle.unit_tree.specs.Inside.{AreInside};
 ghost use Rattle.unit_tree.specs.Sound.{AreSound as AreSoundUnits};
 ghost use Rattle.object_view.specs.Analysis.{analysis_of};
 ghost use Rattle.object_view.specs.Opened.{opened_seen};
-ghost use Rattle.object_view.specs.Ready.{AllAttrs, AllRawAttrs, IsListAttr, IsOpen, IsReadValue, IsRooted};
+ghost use Rattle.object_view.specs.Ready.{AllAttrs, AllRawAttrs, IsListAttr, IsOpen, IsReadAttr, IsRooted, context_among};
 ghost use Rattle.object_view.specs.Spelled.{IsOfObject};
 ghost use Rattle.object_view.specs.Stages.{AreInOrder as AreInOrderTables, analysed, entries_analysed, finished, info_done, lists_meant, tables_in};
 ghost use Rattle.object_view.specs.Units;
@@ -23,9 +23,9 @@ use crate::locations::LocationLists;
 use crate::open::{OpenObject, open_object};
 use crate::ranges::{RangeLists, unit_bases};
 use crate::steps::change_entries;
-use crate::units::{Tables, base_types, unit_starts};
+use crate::units::{Tables, base_types, unit_contexts};
 use addr_map::{AddrMap, build};
-use ds_base::{List, Part, ReadError};
+use ds_base::{List, ReadError};
 use dwarf_types::{Addr, Analysis, Entries, InUnit, PlaceTable, RawEntries, RawUnits};
 use frame_table::read_frames;
 use moved_parts::move_frames;
@@ -41,8 +41,8 @@ use unit_tree::read_units;
 /// `DW_AT_ranges`, and then of the location lists of location attributes, both in document order; and of the frame
 /// descriptions. Only tables and lists that an entry names are read.
 ///
-/// Addresses are moved, references are numbers of entries, expressions are operations, and a root's line table is
-/// `Lines`. A section offset that leads to no table or list stays as it is.
+/// Addresses are moved, also those that are indices, references are numbers of entries, expressions are operations, and
+/// a root's line table is `Lines`, in the form of the unit's version. A section offset that leads to no table or list stays as it is.
 #[tactic(auto, unfolding(crate::specs::Analysis::analysis_of))]
 pub fn analyse(
     alloc: Global,
@@ -72,18 +72,18 @@ fn analyse_units(
 ) -> Result<Analysis, ReadError>
     requires open { IsOpen (opened_seen object.now) map.now }
     requires raw { AreSoundUnits raw }
-    requires inside { AreInside (bytes_in object.now.sections) raw.entries }
+    requires inside { AreInside (bytes_in object.now.sections) raw }
     requires rooted { All (IsRooted raw.entries) raw.units }
     ensures { Gives (λ analysis. analysis) result (analysed (opened_seen object.now) map.now raw) }
 {
     let RawUnits { units, entries } = raw;
     let types = base_types(alloc, &entries)?;
     let places = PlaceTable::of(alloc, &entries)?;
-    let starts = unit_starts(alloc, units.as_slice(), &entries)?;
+    let contexts = unit_contexts(alloc, units.as_slice(), &entries)?;
     let tables = Tables {
         types: types.as_slice(),
         places: &places,
-        starts: starts.as_slice(),
+        units: contexts.as_slice(),
     };
     analyse_entries(alloc, object, map, &tables, units, entries)
 }
@@ -100,7 +100,8 @@ fn analyse_entries(
     requires open { IsOpen (opened_seen object.now) map.now }
     requires tables { AreInOrderTables (tables_in tables.now) }
     requires places { tables.now.places.now ≡ Units.places_of raw }
-    requires inside { AreInside (bytes_in object.now.sections) raw }
+    requires units { tables.now.units.now ≡ Units.contexts_of raw units }
+    requires inside { AreInside (bytes_in object.now.sections) (record { units = units; entries = raw }) }
     requires rooted { All (IsRooted raw) units }
     ensures { Gives (λ analysis. analysis) result (entries_analysed (opened_seen object.now) map.now (tables_in tables.now) units raw) }
 {
@@ -121,17 +122,15 @@ fn understand_info(
 ) -> Result<Entries, ReadError>
     requires open { IsOpen (opened_seen object.now) map.now }
     requires tables { AreInOrderTables (tables_in tables.now) }
-    requires fits { AllRawAttrs (λ a. IsReadValue tables.now.places.now a.end a.value) raw }
+    requires fits { AllRawAttrs (IsReadAttr (bytes_in object.now.sections) tables.now.units.now tables.now.places.now) raw }
     ensures { Gives (λ entries. entries) result (info_done (opened_seen object.now) map.now (tables_in tables.now) raw) }
 {
     let values = InfoValues {
         expressions: Expressions {
-            image: &object.image,
+            object,
             map,
-            bases: tables.types,
-            part: Part::Info,
-            relocs: &object.relocs.info,
-            starts: tables.starts,
+            types: tables.types,
+            units: tables.units,
         },
         places: tables.places,
     };
@@ -150,19 +149,21 @@ fn read_lists(
 ) -> Result<Entries, ReadError>
     requires open { IsOpen (opened_seen object.now) map.now }
     requires tables { AreInOrderTables (tables_in tables.now) }
-    requires fits { AllAttrs (IsListAttr (bytes_in object.now.sections)) entries }
+    requires fits { AllAttrs (λ unit. IsListAttr (bytes_in object.now.sections) (context_among tables.now.units.now unit).version) entries }
     ensures { Gives (λ entries. entries) result (lists_meant (opened_seen object.now) map.now (tables_in tables.now) bases.now entries) }
 {
-    let ranges = RangeLists { object, map, bases };
-    let locations = LocationLists {
+    let ranges = RangeLists {
         object,
+        map,
+        units: tables.units,
+        bases,
+    };
+    let locations = LocationLists {
         expressions: Expressions {
-            image: &object.image,
+            object,
             map,
-            bases: tables.types,
-            part: Part::Loc,
-            relocs: &object.relocs.loc,
-            starts: tables.starts,
+            types: tables.types,
+            units: tables.units,
         },
         bases,
     };

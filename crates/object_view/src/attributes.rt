@@ -1,8 +1,9 @@
 //! Addresses, references and expressions of `__debug_info`.
 
-ghost use Rattle.std.specs.Prelude.{◌≡◌, ◌<◌, ◌≤◌, ◌^◌, length, Some, IsSome};
+ghost use Rattle.std.specs.Prelude.{◌≡◌, ◌<◌, ◌≤◌, ◌^◌, ◌+◌, length, Some, IsSome};
 ghost use Rattle.ds_base.specs.Reading.{Gives};
 ghost use Rattle.dwarf_types.specs.Seen.{raw_attr_seen};
+ghost use Rattle.index_tables.specs.Tables.{address_place, stored};
 ghost use Rattle.list_items.specs.Ends;
 ghost use Rattle.expr_resolve.specs.Context.{context_in};
 ghost use Rattle.object_view.specs.Attributes;
@@ -10,13 +11,16 @@ ghost use Rattle.object_view.specs.Changes.{understood_as};
 ghost use Rattle.object_view.specs.Infos.{FitsInfo, IsReadyInfo, info_value};
 ghost use Rattle.object_view.specs.Ready.{IsReady};
 
-use crate::expressions::{Expressions, context};
-use ds_base::ReadError;
+use crate::expressions::{ExprRoom, Expressions, info_context};
+use byteorder::{ByteOrder, LittleEndian};
 use ds_base::dwarf::DW_FORM_exprloc;
-use dwarf_types::{Addr, Ops, Place, PlaceTable, RawAttrRef, ValueRef};
+use ds_base::{ReadError, bytes_from};
+use dwarf_types::{Addr, Place, PlaceTable, RawAttrRef, ValueRef};
 use expr_resolve::{ExprContext, read_expression};
+use index_tables::address_at;
 use moved_parts::place;
 use reloc_table::resolve;
+use unit_tree::is_address_index;
 
 /// So many bytes has an address.
 const ADDRESS_SIZE: u32 = 8;
@@ -42,29 +46,33 @@ pub(crate) enum Understood {
 }
 
 /// An attribute as it was read, understood. Its entry is of the unit of this number. The operations of an expression are
-/// put into `ops`.
+/// put into `room`.
 pub(crate) fn understand(
     values: &InfoValues,
     unit: u32,
     attr: &RawAttrRef<'_>,
-    ops: &mut Ops,
+    room: &mut ExprRoom,
 ) -> Result<Understood, ReadError>
     requires ready { IsReadyInfo values.now }
-    requires fits { FitsInfo values.now (raw_attr_seen attr.now) }
-    ensures { Gives (understood_as ops.new.ops (raw_attr_seen attr.now).value) result (info_value values.now unit (raw_attr_seen attr.now)) }
+    requires fits { FitsInfo values.now unit (raw_attr_seen attr.now) }
+    ensures { Gives (understood_as room.new.meant.ops (raw_attr_seen attr.now).value) result (info_value values.now unit (raw_attr_seen attr.now)) }
 {
     match &attr.value {
         ValueRef::Address(stored) => {
-            let context = context(&values.expressions, unit);
+            let context = info_context(&values.expressions, unit);
             let at = field_address(&context, attr.end, &stored.at);
             Ok(Understood::Address(place(context.map, at)))
         }
         ValueRef::Ref(place) => Ok(Understood::Ref(number_at(values.places, *place))),
         ValueRef::Block { form, bytes } if *form == DW_FORM_exprloc => {
-            let context = context(&values.expressions, unit);
+            let context = info_context(&values.expressions, unit);
             let first = u64::from(attr.end) - bytes.len() as u64;
-            read_expression(&context, bytes, first, ops)?;
+            read_expression(&context, bytes, first, &mut room.stored, &mut room.meant)?;
             Ok(Understood::Expr)
+        }
+        ValueRef::Offset(index) if is_address_index(attr.form) => {
+            let context = info_context(&values.expressions, unit);
+            Ok(Understood::Address(address_named(&context, *index)))
         }
         _ => Ok(Understood::Same),
     }
@@ -78,6 +86,32 @@ fn field_address(context: &ExprContext, end: u32, stored: &Addr) -> Addr
 {
     let first = end - ADDRESS_SIZE;
     resolve(context.relocs, context.image, first, number_of(stored))
+}
+
+/// The address at an index of the unit's table of addresses.
+fn address_named(context: &ExprContext, index: u64) -> Place
+    requires ready { IsReady (context_in context.now) }
+    requires there { IsSome (address_place (context_in context.now).sections context.now.addr_base index) }
+    ensures { Attributes.address_named (context_in context.now) index ≡ Some result }
+{
+    match address_at(context.sections, context.addr_base, index) {
+        Ok(at) => {
+            let stored = stored_at(context.sections.addr, at);
+            place(
+                context.map,
+                resolve(context.addresses, context.image, at, stored),
+            )
+        }
+        Err(_) => unreachable!(),
+    }
+}
+
+/// The number in the eight bytes from a place on.
+fn stored_at(section: &[u8], at: u32) -> u64
+    requires { at + ADDRESS_SIZE ≤ length section.now }
+    ensures { result ≡ stored 8 section.now at }
+{
+    LittleEndian::read_u64(bytes_from(section, at as usize))
 }
 
 /// The number as it is stored.

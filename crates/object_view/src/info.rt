@@ -11,6 +11,7 @@ ghost use Rattle.object_view.specs.Infos.{FitsInfo, IsReadyInfo, info_value};
 ghost use Rattle.object_view.specs.Ready.{AllRawAttrs};
 
 use crate::attributes::{InfoValues, Understood, understand};
+use crate::expressions::ExprRoom;
 use ds_base::{NoMemory, ReadError};
 use dwarf_types::{NewValue, Ops, RawEntries};
 use std::alloc::Global;
@@ -25,9 +26,9 @@ pub(crate) fn understand_entries(
     requires fits { AllRawAttrs (FitsInfo values.now) entries.old }
     ensures { Gives (λ _. entries.new) result (raw_entries_by (info_value values.now) entries.old) }
 {
-    let mut ops = Ops::new(alloc);
+    let mut room = ExprRoom::new(alloc);
     for i in 0..entries.len() {
-        understand_entry(values, entries, i, &mut ops)?;
+        understand_entry(values, entries, i, &mut room)?;
     }
     Ok(())
 }
@@ -37,17 +38,17 @@ fn understand_entry(
     values: &InfoValues,
     entries: &mut RawEntries,
     i: usize,
-    ops: &mut Ops,
+    room: &mut ExprRoom,
 ) -> Result<(), ReadError>
     requires ready { IsReadyInfo values.now }
     requires within { i < length entries.old }
-    requires fits { (e : ARawEntry) → slice_get entries.old i ≡ Some e → All (FitsInfo values.now) e.attrs }
+    requires fits { (e : ARawEntry) → slice_get entries.old i ≡ Some e → All (FitsInfo values.now e.unit) e.attrs }
     ensures { (e : ARawEntry) → slice_get entries.old i ≡ Some e
         → Gives (λ _. entries.new) result (making (raw_entry_by (info_value values.now e.unit) e) (λ made. slice_set entries.old i made)) }
 {
     let count = entries.entry(i).len();
     for j in 0..count {
-        understand_attr(values, entries, i, j, ops)?;
+        understand_attr(values, entries, i, j, room)?;
     }
     Ok(())
 }
@@ -58,35 +59,35 @@ fn understand_attr(
     entries: &mut RawEntries,
     i: usize,
     j: usize,
-    ops: &mut Ops,
+    room: &mut ExprRoom,
 ) -> Result<(), ReadError>
     requires ready { IsReadyInfo values.now }
     requires within { (e : ARawEntry) × (slice_get entries.old i ≡ Some e) × (j < length e.attrs) }
-    requires fits { (e : ARawEntry) (a : ARawAttr) → slice_get entries.old i ≡ Some e → slice_get e.attrs j ≡ Some a → FitsInfo values.now a }
+    requires fits { (e : ARawEntry) (a : ARawAttr) → slice_get entries.old i ≡ Some e → slice_get e.attrs j ≡ Some a → FitsInfo values.now e.unit a }
     ensures { (e : ARawEntry) (a : ARawAttr) → slice_get entries.old i ≡ Some e → slice_get e.attrs j ≡ Some a
         → Gives (λ _. entries.new) result (making (raw_attr_by (info_value values.now e.unit) a) (λ b. slice_set entries.old i (record e { attrs = slice_set e.attrs j b }))) }
 {
-    let understood = understood_at(values, entries, i, j, ops)?;
-    put(entries, i, j, understood, ops)?;
+    let understood = understood_at(values, entries, i, j, room)?;
+    put(entries, i, j, understood, &room.meant)?;
     Ok(())
 }
 
-/// What becomes of the value at a place. The operations of an expression are put into `ops`.
+/// What becomes of the value at a place. The operations of an expression are put into `room`.
 fn understood_at(
     values: &InfoValues,
     entries: &RawEntries,
     i: usize,
     j: usize,
-    ops: &mut Ops,
+    room: &mut ExprRoom,
 ) -> Result<Understood, ReadError>
     requires ready { IsReadyInfo values.now }
     requires within { (e : ARawEntry) × (slice_get entries.now i ≡ Some e) × (j < length e.attrs) }
-    requires fits { (e : ARawEntry) (a : ARawAttr) → slice_get entries.now i ≡ Some e → slice_get e.attrs j ≡ Some a → FitsInfo values.now a }
+    requires fits { (e : ARawEntry) (a : ARawAttr) → slice_get entries.now i ≡ Some e → slice_get e.attrs j ≡ Some a → FitsInfo values.now e.unit a }
     ensures { (e : ARawEntry) (a : ARawAttr) → slice_get entries.now i ≡ Some e → slice_get e.attrs j ≡ Some a
-        → Gives (understood_as ops.new.ops a.value) result (info_value values.now e.unit a) }
+        → Gives (understood_as room.new.meant.ops a.value) result (info_value values.now e.unit a) }
 {
     let entry = entries.entry(i);
-    understand(values, entry.unit(), &entry.attr(j), ops)
+    understand(values, entry.unit(), &entry.attr(j), room)
 }
 
 /// Another value for an attribute, where the operations of an expression are those of `ops`.

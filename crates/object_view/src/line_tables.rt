@@ -1,21 +1,25 @@
-//! The line tables of units (DWARF 4, section 3.1.1, the statement list).
+//! The line tables of units (DWARF 4 and 5, section 3.1.1, the statement list).
 
-ghost use Rattle.std.specs.Prelude.{◌≡◌, ◌<◌, length, slice_get, slice_set, Some, OnOk};
+ghost use Rattle.std.specs.Prelude.{◌≡◌, ◌<◌, [], ◌∷◌, ◌++◌, length, slice_get, slice_set, take, Some, IfOk, OnOk};
 ghost use Rattle.std.specs.List.{All};
-ghost use Rattle.std.specs.Option.{option_and_then};
+ghost use Rattle.std.specs.Option.{option_and_then, option_map_or};
 ghost use Rattle.ds_base.specs.Reading.{Gives};
 ghost use Rattle.dwarf_types.specs.SectionBytes.{bytes_in};
+ghost use Rattle.dwarf_types.specs.Seen.{attr_seen, value_seen};
 ghost use Rattle.dwarf_types.specs.declared.entry.Entry.{Entry as AnEntry};
 ghost use Rattle.object_view.specs.Attributes;
 ghost use Rattle.object_view.specs.Opened.{opened_seen};
 ghost use Rattle.object_view.specs.Ready.{IsFirstList, IsLinesInside, IsMarkedAt, IsOpen};
 
 use crate::open::OpenObject;
+use crate::units::DWARF_5;
 use addr_map::AddrMap;
-use ds_base::dwarf::DW_AT_stmt_list;
-use ds_base::{List, NoMemory, ReadError};
-use dwarf_types::{Entries, EntryRef, InUnit, NewValue, ValueRef};
-use line_read::read_lines;
+use ds_base::dwarf::{DW_AT_comp_dir, DW_AT_stmt_list, DW_FORM_sec_offset};
+use ds_base::{Bytes, List, NoMemory, ReadError};
+use dwarf_types::{
+    AttrRef, Entries, EntryRef, FileName, InUnit, NewValue, OutLines, RawLines, ValueRef,
+};
+use line_read::{read_lines, table_version};
 use moved_parts::move_lines;
 use std::alloc::Global;
 
@@ -63,21 +67,130 @@ fn read_unit_lines(
 ) -> Result<(), ReadError>
     requires open { IsOpen (opened_seen object.now) map.now }
     requires inside { IsLinesInside (bytes_in object.now.sections) entries.now unit.old }
-    ensures { Gives (λ _. unit.new) result (Attributes.unit_with_lines (opened_seen object.now) map.now unit.old (option_and_then Attributes.line_place (slice_get entries.now unit.old.first))) }
+    ensures { Gives (λ _. unit.new) result (Attributes.unit_with_lines (opened_seen object.now) map.now entries.now unit.old) }
 {
     let Some(place) = place_of_lines(entries, unit.first) else {
         return Ok(());
     };
+    let dir = dir_of_unit(entries, unit.first);
+    unit.lines = Some(lines_at(alloc, object, map, unit.version, dir, place)?);
+    Ok(())
+}
+
+/// The line table at a place, of a unit of a version that was compiled in a directory.
+fn lines_at(
+    alloc: Global,
+    object: &OpenObject,
+    map: &AddrMap,
+    version: u16,
+    dir: &[u8],
+    place: u64,
+) -> Result<OutLines, ReadError>
+    requires open { IsOpen (opened_seen object.now) map.now }
+    requires inside { place < length object.now.sections.line.now }
+    ensures { Gives (λ lines. lines) result (Attributes.lines_meant (opened_seen object.now) map.now version dir.now place) }
+{
     let lines = read_lines(
         alloc,
         &object.sections,
         &object.relocs.line,
         &object.image,
         place as u32,
-        unit.version,
+        version,
     )?;
-    unit.lines = Some(move_lines(alloc, map, lines)?);
-    Ok(())
+    let lines = lines_as(
+        alloc,
+        version,
+        table_version(&object.sections, place as u32),
+        dir,
+        lines,
+    )?;
+    Ok(move_lines(alloc, map, lines)?)
+}
+
+/// A line table of a version, as a unit of another has it that was compiled in a directory.
+fn lines_as(
+    alloc: Global,
+    unit: u16,
+    table: Option<u16>,
+    dir: &[u8],
+    lines: RawLines,
+) -> Result<RawLines, NoMemory>
+    ensures is { IfOk result (λ made. made ≡ Attributes.lines_as unit table dir.now lines) }
+
+    // Its sequences stay.
+    ensures sequences { IfOk result (λ made. made.sequences ≡ lines.sequences) }
+{
+    if unit == DWARF_5 && is_older(table) {
+        counted_from_0(alloc, dir, lines)
+    } else {
+        Ok(lines)
+    }
+}
+
+/// Whether a table of this version counts directories and files from 1.
+fn is_older(version: Option<u16>) -> bool
+    ensures { result ≡ Attributes.is_older version }
+{
+    match version {
+        Some(version) => version < DWARF_5,
+        None => false,
+    }
+}
+
+/// The same table with directories and files counted from 0: the unit's directory goes before its directories, and a
+/// copy of its first file before its files.
+fn counted_from_0(alloc: Global, dir: &[u8], lines: RawLines) -> Result<RawLines, NoMemory>
+    ensures { IfOk result (λ made. made ≡ Attributes.counted_from_0 dir.now lines) }
+{
+    Ok(RawLines {
+        dirs: dirs_behind(Bytes::from_slice(alloc, dir)?, lines.dirs)?,
+        files: files_behind_first(alloc, lines.files)?,
+        sequences: lines.sequences,
+    })
+}
+
+/// A directory before others.
+fn dirs_behind(dir: Bytes, mut dirs: List<Bytes>) -> Result<List<Bytes>, NoMemory>
+    ensures { IfOk result (λ all. all ≡ dir ∷ dirs) }
+{
+    dirs.push(dir)?;
+    dirs.as_mut_slice().rotate_right(1);
+    Ok(dirs)
+}
+
+/// Files behind a copy of the first, where there is one.
+fn files_behind_first(alloc: Global, mut files: List<FileName>) -> Result<List<FileName>, NoMemory>
+    ensures { IfOk result (λ all. all ≡ take 1 files ++ files) }
+{
+    let first = match files.get(0) {
+        Some(file) => copy_of_file(alloc, file)?,
+        None => return Ok(files),
+    };
+    files.push(first)?;
+    files.as_mut_slice().rotate_right(1);
+    Ok(files)
+}
+
+fn copy_of_file(alloc: Global, file: &FileName) -> Result<FileName, NoMemory>
+    ensures { IfOk result (λ copy. copy ≡ file.now) }
+{
+    Ok(FileName {
+        name: file.name.copy(alloc)?,
+        dir: file.dir,
+        time: file.time,
+        size: file.size,
+        digest: copy_of_digest(alloc, &file.digest)?,
+    })
+}
+
+fn copy_of_digest(alloc: Global, digest: &Option<Bytes>) -> Result<Option<Bytes>, NoMemory>
+    ensures { IfOk result (λ copy. copy ≡ digest.now) }
+{
+    match digest {
+        Some(bytes) => Ok(Some(bytes.copy(alloc)?)),
+        None => Ok(None),
+    }
 }
 
 /// The place of the line table of the unit whose root has this number.
@@ -91,9 +204,44 @@ fn place_of_lines(entries: &Entries, first: u32) -> Option<u64>
 fn line_place(root: &EntryRef) -> Option<u64>
     ensures { result ≡ Attributes.line_place root.now }
 {
-    match root.find(DW_AT_stmt_list)?.value {
-        ValueRef::Offset(place) => Some(place),
+    section_offset(&root.find(DW_AT_stmt_list)?)
+}
+
+/// A section offset; the index of a list is none.
+fn section_offset(attr: &AttrRef<'_>) -> Option<u64>
+    ensures { result ≡ Attributes.section_offset (attr_seen attr.now) }
+{
+    match attr.value {
+        ValueRef::Offset(place) if attr.form == DW_FORM_sec_offset => Some(place),
         _ => None,
+    }
+}
+
+/// The directory in which the unit was compiled whose root has this number, empty where that tells none.
+fn dir_of_unit<'a>(entries: &'a Entries, first: u32) -> &'a [u8]
+    ensures { result.now ≡ option_map_or Attributes.comp_dir (slice_get entries.now first) [] }
+{
+    match entries.get(first as usize) {
+        Some(root) => comp_dir(&root),
+        None => &[],
+    }
+}
+
+fn comp_dir<'a>(root: &EntryRef<'a>) -> &'a [u8]
+    ensures { result.now ≡ Attributes.comp_dir root.now }
+{
+    match root.find(DW_AT_comp_dir) {
+        Some(attr) => text_in(attr.value),
+        None => &[],
+    }
+}
+
+fn text_in<'a>(value: ValueRef<'a>) -> &'a [u8]
+    ensures { result.now ≡ Attributes.text_in (value_seen value.entry) }
+{
+    match value {
+        ValueRef::Text(text) => text,
+        _ => &[],
     }
 }
 
@@ -112,7 +260,7 @@ fn mark_entry(entries: &mut Entries, i: usize) -> Result<(), NoMemory>
     requires { i < length entries.old }
     ensures { (e : AnEntry) → slice_get entries.old i ≡ Some e → OnOk result (entries.new ≡ slice_set entries.old i (Attributes.entry_marked e)) }
 {
-    match lines_at(&entries.entry(i)) {
+    match mark_at(&entries.entry(i)) {
         Some(j) => entries.set(i, j, NewValue::Lines),
         None => Ok(()),
     }
@@ -120,17 +268,15 @@ fn mark_entry(entries: &mut Entries, i: usize) -> Result<(), NoMemory>
 
 /// Where the attribute stands by which a root names the unit's line table: its first stmt_list, if that is a section
 /// offset.
-fn lines_at(entry: &EntryRef) -> Option<usize>
+fn mark_at(entry: &EntryRef) -> Option<usize>
     ensures { IsMarkedAt entry.now result }
 {
     if entry.parent().is_some() {
         return None;
     }
     let j = stmt_list_at(entry)?;
-    match entry.attr(j).value {
-        ValueRef::Offset(_) => Some(j),
-        _ => None,
-    }
+    section_offset(&entry.attr(j))?;
+    Some(j)
 }
 
 /// Where an entry's first stmt_list stands.

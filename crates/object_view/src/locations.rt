@@ -1,4 +1,4 @@
-//! Location lists (DWARF 4, section 2.6.2).
+//! Location lists (DWARF 4 and 5, section 2.6.2).
 
 ghost use Rattle.std.specs.Prelude.{◌≡◌, ◌<◌, ◌++◌, length, map, OnOk};
 ghost use Rattle.std.specs.List.{All};
@@ -6,15 +6,15 @@ ghost use Rattle.ds_base.specs.Reading.{Gives};
 ghost use Rattle.dwarf_types.specs.declared.value.Value.TheVariants as values;
 ghost use Rattle.expr_resolve.specs.Context.{context_in};
 ghost use Rattle.object_view.specs.Attributes;
-ghost use Rattle.object_view.specs.Opened.{opened_seen};
-ghost use Rattle.object_view.specs.Ready.{IsOpen, IsReady, IsItem, item_given, items_given};
+ghost use Rattle.object_view.specs.Ready.{IsReady, IsItem, item_given, items_given};
+ghost use Rattle.loc_lists.specs.Reading.{location_bytes};
 
-use crate::expressions::{Expressions, context};
-use crate::open::OpenObject;
-use crate::ranges::{LIST_VERSION, base_of_unit};
+use crate::expressions::{ExprRoom, Expressions, locations_context};
+use crate::ranges::base_of_unit;
 use crate::steps::{Changed, Step};
-use ds_base::{Fault, Kind, NoMemory, Part, ReadError};
-use dwarf_types::{Addr, AttrRef, LocationList, Ops, OpsRef, RawLocation, Span, ValueRef};
+use crate::units::DWARF_5;
+use ds_base::{Fault, Kind, NoMemory, ReadError};
+use dwarf_types::{Addr, AttrRef, LocationList, OpsRef, RawLocation, Span, ValueRef};
 use expr_resolve::{ExprContext, read_expression};
 use expr_walk::new_length;
 use loc_lists::read_locations;
@@ -22,14 +22,13 @@ use moved_parts::span_pieces;
 use std::alloc::Global;
 use unit_tree::{Meaning, meaning_of_offset};
 
-/// An expression of a location list has fewer bytes than this: its length is told in two bytes (DWARF 4, section 2.6.2).
+/// An expression of a location list of version 4 has fewer bytes than this: its length is told in two bytes (DWARF 4,
+/// section 2.6.2).
 pub(crate) const EXPRESSION_LIMIT: u64 = 1 << 16;
 
 /// The step in which section offsets lead to location lists.
 #[derive(Clone, Copy)]
 pub(crate) struct LocationLists<'a> {
-    pub(crate) object: &'a OpenObject<'a>,
-    /// Those of `__debug_loc`.
     pub(crate) expressions: Expressions<'a>,
     /// Of each unit, the address from which its lists count.
     pub(crate) bases: &'a [Addr],
@@ -37,23 +36,24 @@ pub(crate) struct LocationLists<'a> {
 
 impl<'a> Step for LocationLists<'a> {
     ghost use Rattle.std.specs.Prelude.{ℕ};
+    ghost use Rattle.expr_resolve.specs.Context.{AreInOrder};
     ghost use Rattle.dwarf_types.specs.SectionBytes.{bytes_in};
     ghost use Rattle.object_view.specs.Attributes.{locations_meant};
     ghost use Rattle.object_view.specs.Opened.{opened_seen};
-    ghost use Rattle.object_view.specs.Ready.{IsListAttr, IsOpen, IsReady, base_at, context_of};
+    ghost use Rattle.object_view.specs.Ready.{IsListAttr, IsOpen, base_at, context_among, locations_seen};
 
-    ghost ready = { λ s. ((unit : ℕ) → IsReady (context_of s.expressions unit)) × IsOpen (opened_seen s.object.now) s.expressions.map.now };
+    ghost ready = { λ s. IsOpen (opened_seen s.expressions.object.now) s.expressions.map.now × AreInOrder s.expressions.types.now };
 
-    ghost fits = { λ s a. IsListAttr (bytes_in s.object.now.sections) a };
+    ghost fits = { λ s unit a. IsListAttr (bytes_in s.expressions.object.now.sections) (context_among s.expressions.units.now unit).version a };
 
-    ghost meant = { λ s unit a. locations_meant (opened_seen s.object.now) (context_of s.expressions unit) (base_at s.bases.now unit) a a.value };
+    ghost meant = { λ s unit a. locations_meant (locations_seen s.expressions unit) (base_at s.bases.now unit) a a.value };
 
     fn change(
         &self,
         alloc: Global,
         unit: u32,
         attr: &AttrRef<'_>,
-        ops: &mut Ops,
+        room: &mut ExprRoom,
     ) -> Result<Changed, ReadError> {
         let ValueRef::Offset(place) = &attr.value else {
             return Ok(Changed::Same);
@@ -61,9 +61,9 @@ impl<'a> Step for LocationLists<'a> {
         let Meaning::LocationList = meaning_of_offset(attr.name) else {
             return Ok(Changed::Same);
         };
-        let context = context(&self.expressions, unit);
+        let context = locations_context(&self.expressions, unit);
         let base = base_of_unit(self.bases, unit);
-        let locations = locations_at(alloc, self.object, &context, &base, *place, ops)?;
+        let locations = locations_at(alloc, &context, &base, *place, room)?;
         Ok(Changed::Locations(locations))
     }
 }
@@ -71,27 +71,27 @@ impl<'a> Step for LocationLists<'a> {
 /// The location list at a place: first the whole list, then item after item.
 fn locations_at(
     alloc: Global,
-    object: &OpenObject,
     context: &ExprContext,
     base: &Addr,
     place: u64,
-    ops: &mut Ops,
+    room: &mut ExprRoom,
 ) -> Result<LocationList, ReadError>
-    requires open { IsOpen (opened_seen object.now) context.now.map.now }
     requires ready { IsReady (context_in context.now) }
-    requires inside { place < length object.now.sections.loc.now }
-    ensures { Gives (λ items. values.Locations items) result (Attributes.locations_at (opened_seen object.now) (context_in context.now) base.now place) }
+    requires inside { place < length (location_bytes (context_in context.now).sections context.now.version) }
+    ensures { Gives (λ items. values.Locations items) result (Attributes.locations_at (context_in context.now) base.now place) }
 {
     let items = read_locations(
         alloc,
-        &object.sections,
-        &object.relocs.loc,
-        &object.image,
+        context.sections,
+        context.relocs,
+        context.image,
         place as u32,
-        LIST_VERSION,
+        context.version,
         base,
+        context.addresses,
+        context.addr_base,
     )?;
-    locations_of(alloc, context, items.as_slice(), ops)
+    locations_of(alloc, context, items.as_slice(), room)
 }
 
 /// The pieces of the items of a list, each with its operations.
@@ -99,7 +99,7 @@ fn locations_of(
     alloc: Global,
     context: &ExprContext,
     items: &[RawLocation],
-    ops: &mut Ops,
+    room: &mut ExprRoom,
 ) -> Result<LocationList, ReadError>
     requires ready { IsReady (context_in context.now) }
     requires items { All IsItem items.now }
@@ -107,7 +107,7 @@ fn locations_of(
 {
     let mut locations = LocationList::new(alloc);
     for item in items {
-        add_item(alloc, context, item, ops, &mut locations)?;
+        add_item(alloc, context, item, room, &mut locations)?;
     }
     Ok(locations)
 }
@@ -117,19 +117,26 @@ fn add_item(
     alloc: Global,
     context: &ExprContext,
     item: &RawLocation,
-    ops: &mut Ops,
+    room: &mut ExprRoom,
     locations: &mut LocationList,
 ) -> Result<(), ReadError>
     requires ready { IsReady (context_in context.now) }
     requires item { IsItem item.now }
     ensures { Gives (λ _. locations.new) result (item_given (context_in context.now) locations.old item.now) }
 {
-    read_expression(context, item.bytes.as_slice(), item.first, ops)?;
-    let ops = ops.as_ref();
-    if new_length(&ops) >= EXPRESSION_LIMIT {
+    let bytes = item.bytes.as_slice();
+    read_expression(
+        context,
+        bytes,
+        item.first,
+        &mut room.stored,
+        &mut room.meant,
+    )?;
+    let ops = room.meant.as_ref();
+    if context.version != DWARF_5 && new_length(&ops) >= EXPRESSION_LIMIT {
         return Err(ReadError::Faulty(Fault {
             kind: Kind::LongExpression,
-            section: Part::Loc,
+            section: context.part,
             place: item.place,
         }));
     }

@@ -1,35 +1,39 @@
-//! Range lists (DWARF 4, section 2.17.3).
+//! Range lists (DWARF 4 and 5, section 2.17.3).
 
 ghost use Rattle.std.specs.Prelude.{◌≡◌, ◌<◌, map, length, slice_get, IfOk};
 ghost use Rattle.std.specs.List.{filter_map};
 ghost use Rattle.std.specs.Option.{option_map_or};
 ghost use Rattle.ds_base.specs.Reading.{Gives};
+ghost use Rattle.dwarf_types.specs.SectionBytes.{bytes_in};
 ghost use Rattle.dwarf_types.specs.Seen.{attr_seen};
 ghost use Rattle.dwarf_types.specs.declared.address.Addr.TheVariants as addrs;
 ghost use Rattle.dwarf_types.specs.declared.value.Value.TheVariants as values;
 ghost use Rattle.object_view.specs.Attributes;
 ghost use Rattle.object_view.specs.Opened.{opened_seen};
 ghost use Rattle.object_view.specs.Ready.{IsOpen, base_at};
+ghost use Rattle.range_lists.specs.Reading.{range_bytes};
 
-use crate::open::OpenObject;
+use crate::expressions::{ExprRoom, unit_at};
+use crate::open::{DebugRelocs, OpenObject};
 use crate::steps::{Changed, Step};
+use crate::units::{DWARF_5, UnitContext};
 use addr_map::AddrMap;
 use ds_base::dwarf::DW_AT_low_pc;
 use ds_base::{List, NoMemory, ReadError};
-use dwarf_types::{Addr, AttrRef, Entries, EntryRef, InUnit, Ops, Span, ValueRef};
+use dwarf_types::{Addr, AttrRef, Entries, EntryRef, InUnit, Span, ValueRef};
 use moved_parts::move_spans;
 use range_lists::read_ranges;
+use reloc_table::Relocs;
 use std::alloc::Global;
 use unit_tree::{Meaning, meaning_of_offset};
-
-/// The version of the units that are read.
-pub(crate) const LIST_VERSION: u16 = 4;
 
 /// The step in which section offsets lead to range lists.
 #[derive(Clone, Copy)]
 pub(crate) struct RangeLists<'a> {
     pub(crate) object: &'a OpenObject<'a>,
     pub(crate) map: &'a AddrMap,
+    /// Of each unit, what its values are understood by.
+    pub(crate) units: &'a [UnitContext],
     /// Of each unit, the address from which its lists count.
     pub(crate) bases: &'a [Addr],
 }
@@ -38,20 +42,20 @@ impl<'a> Step for RangeLists<'a> {
     ghost use Rattle.dwarf_types.specs.SectionBytes.{bytes_in};
     ghost use Rattle.object_view.specs.Attributes.{ranges_meant};
     ghost use Rattle.object_view.specs.Opened.{opened_seen};
-    ghost use Rattle.object_view.specs.Ready.{IsListAttr, IsOpen, base_at};
+    ghost use Rattle.object_view.specs.Ready.{IsListAttr, IsOpen, base_at, context_among};
 
     ghost ready = { λ s. IsOpen (opened_seen s.object.now) s.map.now };
 
-    ghost fits = { λ s a. IsListAttr (bytes_in s.object.now.sections) a };
+    ghost fits = { λ s unit a. IsListAttr (bytes_in s.object.now.sections) (context_among s.units.now unit).version a };
 
-    ghost meant = { λ s unit a. ranges_meant (opened_seen s.object.now) s.map.now (base_at s.bases.now unit) a a.value };
+    ghost meant = { λ s unit a. ranges_meant (opened_seen s.object.now) s.map.now (context_among s.units.now unit) (base_at s.bases.now unit) a a.value };
 
     fn change(
         &self,
         alloc: Global,
         unit: u32,
         attr: &AttrRef<'_>,
-        _ops: &mut Ops,
+        _room: &mut ExprRoom,
     ) -> Result<Changed, ReadError> {
         let ValueRef::Offset(place) = &attr.value else {
             return Ok(Changed::Same);
@@ -60,7 +64,8 @@ impl<'a> Step for RangeLists<'a> {
             return Ok(Changed::Same);
         };
         let base = base_of_unit(self.bases, unit);
-        let spans = ranges_at(alloc, self.object, self.map, &base, *place)?;
+        let context = unit_at(self.units, unit);
+        let spans = ranges_at(alloc, self.object, self.map, &context, &base, *place)?;
         Ok(Changed::Ranges(spans))
     }
 }
@@ -70,23 +75,37 @@ fn ranges_at(
     alloc: Global,
     object: &OpenObject,
     map: &AddrMap,
+    unit: &UnitContext,
     base: &Addr,
     place: u64,
 ) -> Result<List<Span>, ReadError>
     requires open { IsOpen (opened_seen object.now) map.now }
-    requires inside { place < length object.now.sections.ranges.now }
-    ensures { Gives (λ spans. values.Ranges spans) result (Attributes.ranges_at (opened_seen object.now) map.now base.now place) }
+    requires inside { place < length (range_bytes (bytes_in object.now.sections) unit.now.version) }
+    ensures { Gives (λ spans. values.Ranges spans) result (Attributes.ranges_at (opened_seen object.now) map.now unit.now base.now place) }
 {
     let spans = read_ranges(
         alloc,
         &object.sections,
-        &object.relocs.ranges,
+        ranges_relocs(&object.relocs, unit.version),
         &object.image,
         place as u32,
-        LIST_VERSION,
+        unit.version,
         base,
+        &object.relocs.addr,
+        unit.addr_base,
     )?;
     Ok(move_spans(alloc, map, spans.as_slice())?)
+}
+
+/// The relocations of the section in which the range lists of a version stand.
+fn ranges_relocs<'a>(relocs: &'a DebugRelocs, version: u16) -> &'a Relocs
+    ensures { result.now ≡ Attributes.ranges_relocs relocs.now version }
+{
+    if version == DWARF_5 {
+        &relocs.rnglists
+    } else {
+        &relocs.ranges
+    }
 }
 
 /// The address from which the lists of the unit of this number count.

@@ -9,8 +9,9 @@ ghost use Rattle.object_view.specs.Attributes.{attr_by, entry_by, entries_by, wi
 ghost use Rattle.object_view.specs.Changes.{after, making};
 ghost use Rattle.object_view.specs.Ready.{AllAttrs};
 
+use crate::expressions::ExprRoom;
 use ds_base::{List, NoMemory, ReadError};
-use dwarf_types::{AttrRef, Entries, LocationList, NewValue, Ops, Span};
+use dwarf_types::{AttrRef, Entries, LocationList, NewValue, Span};
 use std::alloc::Global;
 
 /// What becomes of a value.
@@ -35,22 +36,22 @@ pub(crate) trait Step {
     /// What must hold where the step is taken.
     ghost ready: { Self → Type 0 };
 
-    /// What an attribute must keep to.
-    ghost fits: { Self → AnAttr → Type 0 };
+    /// What an attribute must keep to, by its entry's unit.
+    ghost fits: { Self → ℕ → AnAttr → Type 0 };
 
     /// What the value of an attribute means, by its entry's unit.
     ghost meant: { Self → ℕ → AnAttr → Result Value AFault };
 
-    /// What becomes of the value of an attribute, whose entry is of the unit of this number. `ops` helps to read expressions.
+    /// What becomes of the value of an attribute, whose entry is of the unit of this number. `room` is for expressions.
     fn change(
         &self,
         alloc: Global,
         unit: u32,
         attr: &AttrRef<'_>,
-        ops: &mut Ops,
+        room: &mut ExprRoom,
     ) -> Result<Changed, ReadError>
         requires ready { ready self.now }
-        requires fits { fits self.now (attr_seen attr.now) }
+        requires fits { fits self.now unit (attr_seen attr.now) }
         ensures { Gives (after (attr_seen attr.now).value) result (meant self.now unit (attr_seen attr.now)) };
 }
 
@@ -64,9 +65,9 @@ pub(crate) fn change_entries<S: Step>(
     requires fits { AllAttrs (S.fits step.now) entries.old }
     ensures { Gives (λ _. entries.new) result (entries_by (S.meant step.now) entries.old) }
 {
-    let mut ops = Ops::new(alloc);
+    let mut room = ExprRoom::new(alloc);
     for i in 0..entries.len() {
-        change_entry(alloc, step, entries, i, &mut ops)?;
+        change_entry(alloc, step, entries, i, &mut room)?;
     }
     Ok(())
 }
@@ -77,17 +78,17 @@ fn change_entry<S: Step>(
     step: &S,
     entries: &mut Entries,
     i: usize,
-    ops: &mut Ops,
+    room: &mut ExprRoom,
 ) -> Result<(), ReadError>
     requires ready { S.ready step.now }
     requires within { i < length entries.old }
-    requires fits { (e : AnEntry) → slice_get entries.old i ≡ Some e → All (S.fits step.now) e.attrs }
+    requires fits { (e : AnEntry) → slice_get entries.old i ≡ Some e → All (S.fits step.now e.unit) e.attrs }
     ensures { (e : AnEntry) → slice_get entries.old i ≡ Some e
         → Gives (λ _. entries.new) result (making (entry_by (S.meant step.now e.unit) e) (λ made. slice_set entries.old i made)) }
 {
     let count = entries.entry(i).len();
     for j in 0..count {
-        change_attr(alloc, step, entries, i, j, ops)?;
+        change_attr(alloc, step, entries, i, j, room)?;
     }
     Ok(())
 }
@@ -99,15 +100,15 @@ fn change_attr<S: Step>(
     entries: &mut Entries,
     i: usize,
     j: usize,
-    ops: &mut Ops,
+    room: &mut ExprRoom,
 ) -> Result<(), ReadError>
     requires ready { S.ready step.now }
     requires within { (e : AnEntry) × (slice_get entries.old i ≡ Some e) × (j < length e.attrs) }
-    requires fits { (e : AnEntry) (a : AnAttr) → slice_get entries.old i ≡ Some e → slice_get e.attrs j ≡ Some a → S.fits step.now a }
+    requires fits { (e : AnEntry) (a : AnAttr) → slice_get entries.old i ≡ Some e → slice_get e.attrs j ≡ Some a → S.fits step.now e.unit a }
     ensures { (e : AnEntry) (a : AnAttr) → slice_get entries.old i ≡ Some e → slice_get e.attrs j ≡ Some a
         → Gives (λ _. entries.new) result (making (attr_by (S.meant step.now e.unit) a) (λ b. slice_set entries.old i (record e { attrs = slice_set e.attrs j b }))) }
 {
-    let changed = changed_at(alloc, step, entries, i, j, ops)?;
+    let changed = changed_at(alloc, step, entries, i, j, room)?;
     put(entries, i, j, &changed)?;
     Ok(())
 }
@@ -119,16 +120,16 @@ fn changed_at<S: Step>(
     entries: &Entries,
     i: usize,
     j: usize,
-    ops: &mut Ops,
+    room: &mut ExprRoom,
 ) -> Result<Changed, ReadError>
     requires ready { S.ready step.now }
     requires within { (e : AnEntry) × (slice_get entries.now i ≡ Some e) × (j < length e.attrs) }
-    requires fits { (e : AnEntry) (a : AnAttr) → slice_get entries.now i ≡ Some e → slice_get e.attrs j ≡ Some a → S.fits step.now a }
+    requires fits { (e : AnEntry) (a : AnAttr) → slice_get entries.now i ≡ Some e → slice_get e.attrs j ≡ Some a → S.fits step.now e.unit a }
     ensures { (e : AnEntry) (a : AnAttr) → slice_get entries.now i ≡ Some e → slice_get e.attrs j ≡ Some a
         → Gives (after a.value) result (S.meant step.now e.unit a) }
 {
     let entry = entries.entry(i);
-    step.change(alloc, entry.unit(), &entry.attr(j), ops)
+    step.change(alloc, entry.unit(), &entry.attr(j), room)
 }
 
 /// Another value for an attribute.

@@ -1,16 +1,28 @@
-//! Units: where they begin, and their base types.
+//! What the values of units are understood by, and the base types of all.
 
-ghost use Rattle.std.specs.Prelude.{◌≡◌, ◌<◌, ◌^◌, map, length, IfOk};
+ghost use Rattle.std.specs.Prelude.{◌≡◌, ◌<◌, ◌^◌, length, IfOk};
 ghost use Rattle.object_view.specs.Units;
 
 use ds_base::dwarf::DW_TAG_base_type;
 use ds_base::{List, NoMemory};
 use dwarf_types::{InUnit, PlaceTable, RawEntries};
 use expr_resolve::BaseType;
+use index_tables::bases_of;
 use std::alloc::Global;
+use unit_tree::header_size;
 
-/// A unit's header has so many bytes (DWARF 4, section 7.5.1.1, in the 32-bit format).
-pub(crate) const HEADER_SIZE: u32 = 11;
+/// The version of units whose values may be indices, and whose lists and line tables have forms of their own.
+pub(crate) const DWARF_5: u16 = 5;
+
+/// What the values of a unit are understood by.
+#[derive(Clone, Copy, Debug, PartialEq, Eq)]
+pub(crate) struct UnitContext {
+    pub(crate) version: u16,
+    /// The place of its first byte in `__debug_info`.
+    pub(crate) start: u32,
+    /// The place of its first address in `__debug_addr`.
+    pub(crate) addr_base: u64,
+}
 
 /// What is made once of the units and entries of an object, so that a look-up is one by an index or by halves.
 #[derive(Clone, Copy)]
@@ -19,8 +31,8 @@ pub(crate) struct Tables<'a> {
     pub(crate) types: &'a [BaseType],
     /// The places of all entries.
     pub(crate) places: &'a PlaceTable,
-    /// Of each unit, the place of its first byte in `__debug_info`.
-    pub(crate) starts: &'a [u32],
+    /// Of each unit, what its values are understood by.
+    pub(crate) units: &'a [UnitContext],
 }
 
 /// All base types of an object, in the order of the entries.
@@ -42,27 +54,37 @@ pub(crate) fn base_types(alloc: Global, entries: &RawEntries) -> Result<List<Bas
     Ok(bases)
 }
 
-/// Of each unit, the place of its first byte in `__debug_info`.
-pub(crate) fn unit_starts(
+/// Of each unit, what its values are understood by.
+pub(crate) fn unit_contexts(
     alloc: Global,
     units: &[InUnit],
     entries: &RawEntries,
-) -> Result<List<u32>, NoMemory>
-    ensures { IfOk result (λ starts. starts ≡ map (Units.start_of entries.now) units.now) }
+) -> Result<List<UnitContext>, NoMemory>
+    ensures { IfOk result (λ contexts. contexts ≡ Units.contexts_of entries.now units.now) }
 {
-    let mut starts = List::new(alloc);
+    let mut contexts = List::new(alloc);
     for unit in units {
-        starts.push(start_of(entries, unit))?;
+        contexts.push(context_of(entries, unit))?;
     }
-    Ok(starts)
+    Ok(contexts)
 }
 
-/// The place of a unit's first byte: its root stands behind the header.
-fn start_of(entries: &RawEntries, unit: &InUnit) -> u32
-    ensures { result ≡ Units.start_of entries.now unit.now }
+/// What the values of a unit are understood by: its version, and what its root tells.
+fn context_of(entries: &RawEntries, unit: &InUnit) -> UnitContext
+    ensures { result ≡ Units.context_of entries.now unit.now }
 {
     match entries.get(unit.first as usize) {
-        Some(root) => root.place().saturating_sub(HEADER_SIZE),
-        None => 0,
+        Some(root) => UnitContext {
+            version: unit.version,
+            start: root
+                .place()
+                .saturating_sub(u32::from(header_size(unit.version))),
+            addr_base: bases_of(&root).addresses,
+        },
+        None => UnitContext {
+            version: unit.version,
+            start: 0,
+            addr_base: 0,
+        },
     }
 }

@@ -1,12 +1,17 @@
-use Rattle.std.proofs.Common.{◌≡◌, ◌∙◌, ℕ, List, ap, arith, length, refl}
+use Rattle.std.proofs.Common.{◌≡◌, ◌∙◌, ℕ, false, List, ap, arith, length, refl, subst, sym}
 use Rattle.std.proofs.lemmas.List.{length-map}
 use Rattle.std.proofs.lemmas.Result.{err_from_is_err_and}
 use Rattle.ds_base.proofs.Refusals.{refused_from_gives, refused_gives}
 use Rattle.dwarf_types.specs.declared.entry.Entry.{Entry}
 use Rattle.dwarf_types.specs.declared.entry.RawEntry.{RawEntry}
+use Rattle.dwarf_types.specs.Raw.{attr_of}
 use Rattle.dwarf_types.specs.SectionBytes.{bytes_in}
+use Rattle.unit_tree.specs.Meaning.{is_address_index}
+use Rattle.object_view.specs.declared.units.UnitContext.{UnitContext}
 use Rattle.object_view.specs.Opened.{opened_seen}
+use Rattle.object_view.specs.Ready.{AllRawAttrs, IsListAttr, IsReadAttr, context_among}
 use Rattle.object_view.specs.Stages.{bases_of, tables_in}
+use Rattle.object_view.specs.Units.{contexts_of}
 use Rattle.object_view.proofs.Fitting.{all_listed, all_read, lists_count}
 use Rattle.object_view.proofs.Assembling.{done_count, done_lines, done_listed, listed_gives, unlisted_gives}
 use Rattle.object_view.proofs.analysis.analyse_entries.Goals as goal
@@ -27,7 +32,10 @@ returns c =
     c.in_ok-entries.ensures c.in_ok-units.ensures bases c.in_ok-entries-2.entries c.finish.result c.in_ok-entries-2.ensures c.finish.ensures
 
 pub understand_info-requires-clause-fits : goal.understand_info-requires-clause-fits
-understand_info-requires-clause-fits c = rw c.requires.places (all_read (bytes_in c.args.object.now.sections) c.args.raw c.requires.inside)
+understand_info-requires-clause-fits c =
+    let sections = bytes_in c.args.object.now.sections in
+    subst (λ (units : List UnitContext). AllRawAttrs (IsReadAttr sections units c.args.tables.now.places.now) c.args.raw) (sym c.requires.units)
+    (subst (λ (places : List ℕ). AllRawAttrs (IsReadAttr sections (contexts_of c.args.raw c.args.units) places) c.args.raw) (sym c.requires.places) (all_read sections c.args.units c.args.raw c.requires.inside))
 
 pub read_line_tables-requires-clause-inside : goal.read_line_tables-requires-clause-inside
 read_line_tables-requires-clause-inside c =
@@ -35,7 +43,9 @@ read_line_tables-requires-clause-inside c =
 
 pub read_lists-requires-clause-fits : goal.read_lists-requires-clause-fits
 read_lists-requires-clause-fits c =
-    done_listed (opened_seen c.args.object.now) c.args.map.now (tables_in c.args.tables.now) c.args.raw c.in_ok-entries.entries c.in_ok-entries.ensures (all_listed (bytes_in c.args.object.now.sections) c.args.raw c.requires.inside)
+    done_listed (opened_seen c.args.object.now) c.args.map.now (tables_in c.args.tables.now) c.args.raw c.in_ok-entries.entries c.in_ok-entries.ensures
+    (subst (λ (units : List UnitContext). AllRawAttrs (λ unit a. is_address_index a.form ≡ false → IsListAttr (bytes_in c.args.object.now.sections) (context_among units unit).version (attr_of a)) c.args.raw)
+    (sym c.requires.units) (all_listed (bytes_in c.args.object.now.sections) c.args.units c.args.raw c.requires.inside))
 
 pub finish-requires-clause-few : goal.finish-requires-clause-few
 finish-requires-clause-few c =

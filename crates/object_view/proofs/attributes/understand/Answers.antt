@@ -1,32 +1,55 @@
-use Rattle.std.proofs.Common.{subst, sym}
+use Rattle.std.proofs.Common.{ap, subst, sym, ◌∙◌}
+use Rattle.dwarf_types.specs.declared.value.Value.{Value}
+use Rattle.dwarf_types.specs.SectionBytes.{bytes_in}
+use Rattle.dwarf_types.specs.Seen.{raw_attr_seen, value_seen}
 use Rattle.expr_resolve.specs.Context.{context_in}
-use Rattle.object_view.specs.Ready.{IsReady}
+use Rattle.object_view.specs.Ready.{IsReadValue, IsReady, context_among}
+use Rattle.object_view.proofs.Contexts.{index_there, info_ready}
 use Rattle.object_view.proofs.attributes.understand.Goals as goal
 
 pub field_address-at-requires-clause-ready : goal.field_address-at-requires-clause-ready
-field_address-at-requires-clause-ready c = rw c.context-context.ensures (c.requires.ready.context c.args.unit)
+field_address-at-requires-clause-ready c = rw c.info_context-context.ensures (info_ready c.args.values.now.expressions c.requires.ready.opened c.requires.ready.types c.args.unit)
 
 pub place-requires : goal.place-requires
 place-requires c =
-    let ready : IsReady (context_in c.context-context.result) = subst IsReady (sym c.context-context.ensures) (c.requires.ready.context c.args.unit) in
+    let ready : IsReady (context_in c.info_context-context.result) = subst IsReady (sym c.info_context-context.ensures) (info_ready c.args.values.now.expressions c.requires.ready.opened c.requires.ready.types c.args.unit) in
     ready.map
 
 pub read_expression-requires-clause-image : goal.read_expression-requires-clause-image
 read_expression-requires-clause-image c =
-    let ready : IsReady (context_in c.context-context-in-Block.result) = subst IsReady (sym c.context-context-in-Block.ensures) (c.requires.ready.context c.args.unit) in
+    let ready : IsReady (context_in c.info_context-context-in-Block.result) = subst IsReady (sym c.info_context-context-in-Block.ensures) (info_ready c.args.values.now.expressions c.requires.ready.opened c.requires.ready.types c.args.unit) in
     ready.image
 
 pub read_expression-requires-clause-relocs : goal.read_expression-requires-clause-relocs
 read_expression-requires-clause-relocs c =
-    let ready : IsReady (context_in c.context-context-in-Block.result) = subst IsReady (sym c.context-context-in-Block.ensures) (c.requires.ready.context c.args.unit) in
+    let ready : IsReady (context_in c.info_context-context-in-Block.result) = subst IsReady (sym c.info_context-context-in-Block.ensures) (info_ready c.args.values.now.expressions c.requires.ready.opened c.requires.ready.types c.args.unit) in
     ready.relocs
 
 pub read_expression-requires-clause-map : goal.read_expression-requires-clause-map
 read_expression-requires-clause-map c =
-    let ready : IsReady (context_in c.context-context-in-Block.result) = subst IsReady (sym c.context-context-in-Block.ensures) (c.requires.ready.context c.args.unit) in
+    let ready : IsReady (context_in c.info_context-context-in-Block.result) = subst IsReady (sym c.info_context-context-in-Block.ensures) (info_ready c.args.values.now.expressions c.requires.ready.opened c.requires.ready.types c.args.unit) in
     ready.map
 
 pub read_expression-requires-clause-order : goal.read_expression-requires-clause-order
 read_expression-requires-clause-order c =
-    let ready : IsReady (context_in c.context-context-in-Block.result) = subst IsReady (sym c.context-context-in-Block.ensures) (c.requires.ready.context c.args.unit) in
+    let ready : IsReady (context_in c.info_context-context-in-Block.result) = subst IsReady (sym c.info_context-context-in-Block.ensures) (info_ready c.args.values.now.expressions c.requires.ready.opened c.requires.ready.types c.args.unit) in
     ready.order
+
+pub read_expression-requires-clause-addresses : goal.read_expression-requires-clause-addresses
+read_expression-requires-clause-addresses c =
+    let ready : IsReady (context_in c.info_context-context-in-Block.result) = subst IsReady (sym c.info_context-context-in-Block.ensures) (info_ready c.args.values.now.expressions c.requires.ready.opened c.requires.ready.types c.args.unit) in
+    ready.addresses
+
+pub read_expression-requires-clause-small : goal.read_expression-requires-clause-small
+read_expression-requires-clause-small c =
+    let ready : IsReady (context_in c.info_context-context-in-Block.result) = subst IsReady (sym c.info_context-context-in-Block.ensures) (info_ready c.args.values.now.expressions c.requires.ready.opened c.requires.ready.types c.args.unit) in
+    ready.small.addr
+
+pub address_named-requires-clause-ready : goal.address_named-requires-clause-ready
+address_named-requires-clause-ready c = rw c.info_context-context-in-Offset.ensures (info_ready c.args.values.now.expressions c.requires.ready.opened c.requires.ready.types c.args.unit)
+
+pub address_named-requires-clause-there : goal.address_named-requires-clause-there
+address_named-requires-clause-there c =
+    let e = c.args.values.now.expressions in
+    let fits = subst (λ (v : Value). IsReadValue (bytes_in e.object.now.sections) (context_among e.units.now c.args.unit).addr_base c.args.values.now.places.now (raw_attr_seen c.args.attr.now) v) (ap value_seen c.in-Offset.is) c.requires.fits in
+    index_there e c.args.unit _ c.in-Offset.index c.info_context-context-in-Offset.ensures (fits (sym c.is_address_index.ensures ∙ c.if-is_address_index.true))

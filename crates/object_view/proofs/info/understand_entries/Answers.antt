@@ -20,7 +20,7 @@ understand_entry-requires-clause-fits c e is =
     let long = c.loop-i.invariant.long in
     let lt : c.loop-i.i < length c.loop-i.entries = omega (arith, long) in
     let was = item_was (turned (raw_turn (info_value c.args.values.now))) c.args.entries.now c.loop-i.entries c.loop-i.i lt c.loop-i.invariant e is in
-    one_of (λ (x : RawEntry). All (FitsInfo c.args.values.now) x.attrs) c.args.entries.now c.loop-i.i e c.requires.fits was
+    one_of (λ (x : RawEntry). All (FitsInfo c.args.values.now x.unit) x.attrs) c.args.entries.now c.loop-i.i e c.requires.fits was
 
 pub loop-i-preserved : goal.loop-i-preserved
 loop-i-preserved c =

@@ -4,7 +4,7 @@ use Rattle.ds_base.proofs.Refusals.{refused_from_gives, refused_gives}
 use Rattle.dwarf_types.specs.declared.entry.RawEntry.{RawEntry}
 use Rattle.object_view.specs.Infos.{FitsInfo, info_value}
 use Rattle.object_view.proofs.Fitting.{one_of}
-use Rattle.object_view.proofs.InPlace.{raw_turn, part_all, part_more, part_none, part_refused, part_stands, part_was, some_same}
+use Rattle.object_view.proofs.InPlace.{raw_turn, part_all, part_here, part_more, part_none, part_refused, part_stands, part_was, some_same}
 use Rattle.object_view.proofs.info.understand_entry.Goals as goal
 
 pub loop-j-init : goal.loop-j-init
@@ -19,7 +19,8 @@ pub understand_attr-requires-clause-fits : goal.understand_attr-requires-clause-
 understand_attr-requires-clause-fits c e a there is =
     let read = c.entry.ensures.stands in
     let was = part_was (raw_turn (info_value c.args.values.now)) c.args.entries.now c.loop-j.entries c.args.i c.loop-j.j c.entry.result read (omega arith) (c.loop-j.invariant c.entry.result read) e a there is in
-    one_of (FitsInfo c.args.values.now) c.entry.result.attrs c.loop-j.j a (c.requires.fits c.entry.result read) was
+    let same = part_here (raw_turn (info_value c.args.values.now)) c.args.entries.now c.loop-j.entries c.args.i c.loop-j.j c.entry.result read (omega arith) (c.loop-j.invariant c.entry.result read) e there in
+    subst (λ (x : RawEntry). FitsInfo c.args.values.now x.unit a) same (one_of (FitsInfo c.args.values.now c.entry.result.unit) c.entry.result.attrs c.loop-j.j a (c.requires.fits c.entry.result read) was)
 
 pub loop-j-preserved : goal.loop-j-preserved
 loop-j-preserved c e read =

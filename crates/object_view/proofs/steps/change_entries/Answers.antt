@@ -19,7 +19,7 @@ change_entry-requires-clause-fits g c e is =
     let long = c.loop-i.invariant.long in
     let lt : c.loop-i.i < length c.loop-i.entries = omega (arith, long) in
     let was = item_was (turned (entry_turn (g.S.Step.meant c.args.step.now))) c.args.entries.now c.loop-i.entries c.loop-i.i lt c.loop-i.invariant e is in
-    one_of (λ (x : Entry). All (g.S.Step.fits c.args.step.now) x.attrs) c.args.entries.now c.loop-i.i e c.requires.fits was
+    one_of (λ (x : Entry). All (g.S.Step.fits c.args.step.now x.unit) x.attrs) c.args.entries.now c.loop-i.i e c.requires.fits was
 
 pub loop-i-preserved : goal.loop-i-preserved
 loop-i-preserved g c =

@@ -3,7 +3,7 @@ use Rattle.std.proofs.lemmas.Result.{err_from_is_err_and}
 use Rattle.ds_base.proofs.Refusals.{refused_from_gives, refused_gives}
 use Rattle.dwarf_types.specs.declared.entry.Entry.{Entry}
 use Rattle.object_view.proofs.Fitting.{one_of}
-use Rattle.object_view.proofs.InPlace.{entry_turn, part_all, part_more, part_none, part_refused, part_stands, part_was, some_same}
+use Rattle.object_view.proofs.InPlace.{entry_turn, part_all, part_here, part_more, part_none, part_refused, part_stands, part_was, some_same}
 use Rattle.object_view.proofs.steps.change_entry.Goals as goal
 
 pub loop-j-init : goal.loop-j-init
@@ -18,7 +18,8 @@ pub change_attr-requires-clause-fits : goal.change_attr-requires-clause-fits
 change_attr-requires-clause-fits g c e a there is =
     let read = c.entry.ensures.stands in
     let was = part_was (entry_turn (g.S.Step.meant c.args.step.now)) c.args.entries.now c.loop-j.entries c.args.i c.loop-j.j c.entry.result read (omega arith) (c.loop-j.invariant c.entry.result read) e a there is in
-    one_of (g.S.Step.fits c.args.step.now) c.entry.result.attrs c.loop-j.j a (c.requires.fits c.entry.result read) was
+    let same = part_here (entry_turn (g.S.Step.meant c.args.step.now)) c.args.entries.now c.loop-j.entries c.args.i c.loop-j.j c.entry.result read (omega arith) (c.loop-j.invariant c.entry.result read) e there in
+    subst (λ (x : Entry). g.S.Step.fits c.args.step.now x.unit a) same (one_of (g.S.Step.fits c.args.step.now c.entry.result.unit) c.entry.result.attrs c.loop-j.j a (c.requires.fits c.entry.result read) was)
 
 pub loop-j-preserved : goal.loop-j-preserved
 loop-j-preserved g c e read =

@@ -1,11 +1,16 @@
-use Rattle.std.proofs.Common.{ap, subst, sym, ◌∙◌}
+use Rattle.std.proofs.Common.{◌<◌, length, ap, subst, sym, ◌∙◌}
 use Rattle.dwarf_types.specs.SectionBytes.{bytes_in}
 use Rattle.dwarf_types.specs.Seen.{value_seen}
+use Rattle.range_lists.specs.Reading.{range_bytes}
 use Rattle.unit_tree.specs.declared.meaning.Meaning.{Meaning}
 use Rattle.unit_tree.specs.Inside.{IsListInside}
+use Rattle.object_view.specs.declared.units.UnitContext.{UnitContext}
+use Rattle.object_view.specs.Ready.{context_among}
 use Rattle.object_view.proofs.ranges.RangeListsStep.change.Goals as goal
 
 pub ranges_at-requires-clause-inside : goal.ranges_at-requires-clause-inside
 ranges_at-requires-clause-inside c =
+    let s = c.args.self.now in
     let role = sym c.meaning_of_offset.ensures ∙ c.in-RangeList.is in
-    subst (λ (m : Meaning). IsListInside (bytes_in c.args.self.now.object.now.sections) m c.in-Offset.place) role (c.requires.fits c.in-Offset.place (ap value_seen c.in-Offset.is))
+    let inside = subst (λ (m : Meaning). IsListInside (bytes_in s.object.now.sections) (context_among s.units.now c.args.unit).version m c.in-Offset.place) role (c.requires.fits c.in-Offset.place (ap value_seen c.in-Offset.is)) in
+    subst (λ (u : UnitContext). c.in-Offset.place < length (range_bytes (bytes_in s.object.now.sections) u.version)) (sym c.unit_at-context.ensures) inside
