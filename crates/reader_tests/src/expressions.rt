@@ -4,10 +4,10 @@ ghost use Rattle.std.specs.Prelude.{◌≡◌, [], IfOk};
 ghost use Rattle.std.specs.List.{All};
 ghost use Rattle.addr_map.specs.Sound.{IsSound};
 
-use crate::parts::{assert_refused, no_symbols};
+use crate::parts::{ADDRESSES, assert_refused, lists_5, no_symbols, two_relocs};
 use addr_map::{AddrMap, MapRange};
 use ds_base::{Kind, List, NoMemory, Part, ReadError};
-use dwarf_types::{Addr, Base, Ops, RawFrames, RawLines, RawSpan, Span};
+use dwarf_types::{Addr, Base, OpRef, Ops, RawFrames, RawLines, RawSpan, Span};
 use expr_resolve::{BaseType, ExprContext, read_expression};
 use expr_walk::{new_length, walk};
 use moved_parts::{move_frames, move_lines, move_spans, place, span_pieces};
@@ -19,7 +19,7 @@ use std::process::Abort;
 fn walked(rt: &impl Abort, alloc: Global, bytes: &[u8]) -> Result<(usize, u64), ReadError> {
     assert!(rt; bytes.len() < 100);
     let mut ops = Ops::new(alloc);
-    walk(bytes, Part::Info, 0x100, &mut ops)?;
+    walk(bytes, Part::Info, 0x100, 4, &mut ops)?;
     Ok((ops.len(), new_length(&ops.as_ref())))
 }
 
@@ -65,6 +65,7 @@ fn the_first_operation_that_is_wrong_is_told(rt: HostRuntime) {
     refused(&rt, alloc, "a cut operand", Kind::Truncated, 2, b"\x96\x03\x01\x02");
     refused(&rt, alloc, "a wide number", Kind::LebTooWide, 1, b"\x10\xff\xff\xff\xff\xff\xff\xff\xff\xff\x02");
     refused(&rt, alloc, "inside an entry value", Kind::UnknownOp, 3, b"\xa3\x02\x96\0");
+    refused(&rt, alloc, "the index of an address before version 5", Kind::OpOutsideProfile, 1, b"\x96\xa1\0");
     refused(&rt, alloc, "an entry value inside another", Kind::OpOutsideProfile, 3, b"\xa3\x02\x96\xa3");
 }
 
@@ -84,8 +85,8 @@ fn one_range(alloc: Global) -> Result<AddrMap, NoMemory>
     })
 }
 
-/// An expression that begins at 0x100 in unit 1, whose first byte stands at 0xd0, in an object without relocations of
-/// which entry 7 is a base type at 0xfa.
+/// An expression that begins at 0x100 in unit 1 of version 5, whose first byte stands at 0xd0, in an object of which
+/// entry 7 is a base type at 0xfa. Two addresses have relocations.
 fn understood(rt: &impl Abort, alloc: Global, bytes: &[u8]) -> Result<Ops, ReadError> {
     assert!(rt; bytes.len() < 100);
     let image = no_symbols(alloc);
@@ -93,6 +94,8 @@ fn understood(rt: &impl Abort, alloc: Global, bytes: &[u8]) -> Result<Ops, ReadE
     let relocs = Relocs {
         list: List::new(alloc),
     };
+    let addresses = two_relocs(alloc, 8, 16)?;
+    let sections = lists_5(b"", b"", ADDRESSES);
     let bases = [BaseType {
         entry: 7,
         unit: 1,
@@ -106,10 +109,23 @@ fn understood(rt: &impl Abort, alloc: Global, bytes: &[u8]) -> Result<Ops, ReadE
         relocs: &relocs,
         unit: 1,
         start: 0xd0,
+        version: 5,
+        sections: &sections,
+        addresses: &addresses,
+        addr_base: 8,
     };
+    let mut stored = Ops::new(alloc);
     let mut ops = Ops::new(alloc);
-    read_expression(&context, bytes, 0x100, &mut ops)?;
+    read_expression(&context, bytes, 0x100, &mut stored, &mut ops)?;
     Ok(ops)
+}
+
+/// The linked address that an operation holds.
+fn linked_of(op: &OpRef<'_>) -> Option<u64> {
+    match op.address {
+        Some(place) => place.linked,
+        None => None,
+    }
 }
 
 /// How many operations inside others name the base type of entry 7.
@@ -143,6 +159,18 @@ fn operands_of_an_expression_are_understood(rt: HostRuntime) {
         Ok(ops) => assert_eq!(rt; (ops.len(), named_inside(&ops)), (3, 1)),
         Err(error) => panic!(rt; "{error:?}"),
     }
+    // The second address of the table.
+    match understood(&rt, alloc, b"\xa1\x01") {
+        Ok(ops) => {
+            assert_eq!(rt; ops.len(), 1);
+            for k in 0..ops.len() {
+                let op = ops.op(k);
+                assert_eq!(rt; (op.code, op.bytes, linked_of(&op)), (0x03, b"\x03\x20\0\0\0\0\0\0\0".as_slice(), Some(0x1_0000_2000)));
+            }
+        }
+        Err(error) => panic!(rt; "{error:?}"),
+    }
+    assert_refused(&rt, "an index one past the table", understood(&rt, alloc, b"\x96\xa2\x02").err(), Part::Info, Kind::BadIndex, 0x101);
     assert_refused(&rt, "no base type", understood(&rt, alloc, b"\x96\xa8\x2b").err(), Part::Info, Kind::BadOperandType, 0x101);
     assert_refused(&rt, "a branch over a longer operation", understood(&rt, alloc, b"\xa8\x2a\x2f\0\0").err(), Part::Info, Kind::BranchOverRewrite, 0x100);
 }

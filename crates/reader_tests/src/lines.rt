@@ -1,9 +1,9 @@
 //! Line tables, and the rows that they mean or their first fault.
 
-use crate::parts::{assert_refused, no_symbols, sections, two_relocs};
+use crate::parts::{assert_refused, lines_5, no_symbols, sections, two_relocs};
 use ds_base::{Kind, Part, ReadError};
 use dwarf_types::{Addr, RawLines, RawRow, Row};
-use line_read::read_lines;
+use line_read::{read_lines, table_version};
 use std::alloc::Global;
 use std::process::Abort;
 
@@ -97,6 +97,70 @@ fn a_compiled_table_has_the_rows_that_llvm_dwarfdump_prints(rt: HostRuntime) {
         }
         Err(error) => panic!(rt; "{error:?}"),
     }
+}
+
+/// A table of version 5 without sequences, of the directory `/src` and of two files that are both `a.c` there.
+#[rattlefmt::skip]
+const TABLE_5: &[u8; 62] = b"\x3a\0\0\0\x05\0\x08\0\x32\0\0\0\x01\x01\x01\xfb\x0e\x0d\
+    \0\x01\x01\x01\x01\0\0\0\x01\0\0\x01\
+    \x01\x01\x1f\x01\0\0\0\0\
+    \x04\x01\x1f\x02\x0f\x03\x0f\x04\x0f\
+    \x02\x05\0\0\0\0\0\0\x05\0\0\0\0\0\0";
+
+/// The line table at the start of a section, of a unit of version 5.
+fn read_5(rt: &impl Abort, alloc: Global, line: &[u8]) -> Result<RawLines, ReadError> {
+    assert!(rt; !line.is_empty() && line.len() < 1000);
+    let relocs = two_relocs(alloc, 0x100, 0x108)?;
+    let image = no_symbols(alloc);
+    let sections = lines_5(line, b"/src\0a.c\0");
+    read_lines(alloc, &sections, &relocs, &image, 0, 5)
+}
+
+#[test]
+#[rattlefmt::skip]
+fn a_table_of_version_5_has_its_directories_and_files(rt: HostRuntime) {
+    match read_5(&rt, rt.alloc(), TABLE_5) {
+        Ok(lines) => {
+            assert_eq!(rt; (lines.dirs.len(), lines.files.len(), lines.sequences.len()), (1, 2, 0));
+            for dir in lines.dirs.as_slice() {
+                assert_eq!(rt; dir.as_slice(), b"/src".as_slice());
+            }
+            for file in lines.files.as_slice() {
+                assert_eq!(rt; (file.name.as_slice(), file.dir, file.time, file.size), (b"a.c".as_slice(), 0, 0, 0));
+                assert!(rt; file.digest.is_none());
+            }
+        }
+        Err(error) => panic!(rt; "{error:?}"),
+    }
+    assert_eq!(rt; table_version(&lines_5(TABLE_5, b""), 0), Some(5));
+}
+
+/// The table of version 5 with another byte at a place is refused.
+fn refused_5(rt: &impl Abort, alloc: Global, at: usize, byte: u8, kind: Kind, place: u64) {
+    let mut bytes = *TABLE_5;
+    assert!(rt; at < 62);
+    bytes[at] = byte;
+    assert_refused(
+        rt,
+        "a byte",
+        read_5(rt, alloc, &bytes).err(),
+        Part::Line,
+        kind,
+        place,
+    );
+}
+
+#[test]
+#[rattlefmt::skip]
+fn the_first_item_of_version_5_that_is_wrong_is_told(rt: HostRuntime) {
+    let alloc = rt.alloc();
+    refused_5(&rt, alloc, 4, 6, Kind::LineVersion, 4);
+    // An address of 4 bytes.
+    refused_5(&rt, alloc, 6, 4, Kind::BadLineHeader, 0);
+    // A path in the form of a number.
+    refused_5(&rt, alloc, 32, 0x0b, Kind::BadEntryFormat, 0);
+    // A directory that begins behind the texts.
+    refused_5(&rt, alloc, 34, 9, Kind::BadOffset, 34);
 }
 
 #[test]

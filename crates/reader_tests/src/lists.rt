@@ -1,11 +1,12 @@
 //! Range lists and location lists, and what they give or their first fault.
 
-use crate::parts::{assert_refused, no_symbols, sections, two_relocs};
+use crate::parts::{ADDRESSES, assert_refused, lists_5, no_symbols, sections, two_relocs};
 use ds_base::{Kind, List, Part, ReadError};
 use dwarf_types::{Addr, RawLocation, RawSpan};
 use list_items::is_empty;
 use loc_lists::read_locations;
 use range_lists::read_ranges;
+use reloc_table::Relocs;
 use std::alloc::Global;
 use std::process::Abort;
 
@@ -18,7 +19,59 @@ fn ranges(rt: &impl Abort, alloc: Global, bytes: &[u8]) -> Result<List<RawSpan>,
     let relocs = two_relocs(alloc, 0, 8)?;
     let image = no_symbols(alloc);
     let sections = sections(b"", bytes, b"", b"");
-    read_ranges(alloc, &sections, &relocs, &image, 0, 4, &UNIT)
+    read_ranges(alloc, &sections, &relocs, &image, 0, 4, &UNIT, &relocs, 8)
+}
+
+/// The range list of version 5 at the start of a section without relocations, in a unit with two addresses.
+fn ranges_5(rt: &impl Abort, alloc: Global, bytes: &[u8]) -> Result<List<RawSpan>, ReadError> {
+    assert!(rt; !bytes.is_empty() && bytes.len() < 1000);
+    let addresses = two_relocs(alloc, 8, 16)?;
+    let relocs = Relocs {
+        list: List::new(alloc),
+    };
+    let image = no_symbols(alloc);
+    let sections = lists_5(bytes, b"", ADDRESSES);
+    read_ranges(
+        alloc, &sections, &relocs, &image, 0, 5, &UNIT, &addresses, 8,
+    )
+}
+
+/// The same of a location list.
+fn locations_5(
+    rt: &impl Abort,
+    alloc: Global,
+    bytes: &[u8],
+) -> Result<List<RawLocation>, ReadError> {
+    assert!(rt; !bytes.is_empty() && bytes.len() < 1000);
+    let addresses = two_relocs(alloc, 8, 16)?;
+    let relocs = Relocs {
+        list: List::new(alloc),
+    };
+    let image = no_symbols(alloc);
+    let sections = lists_5(b"", bytes, ADDRESSES);
+    read_locations(
+        alloc, &sections, &relocs, &image, 0, 5, &UNIT, &addresses, 8,
+    )
+}
+
+/// A range list of version 5 gives these spans.
+fn assert_ranges_5(rt: &impl Abort, alloc: Global, label: &str, bytes: &[u8], want: &[RawSpan]) {
+    match ranges_5(rt, alloc, bytes) {
+        Ok(spans) => assert_eq!(rt; spans.as_slice(), want, "{label}"),
+        Err(error) => panic!(rt; "{label}: {error:?}"),
+    }
+}
+
+/// A range list of version 5 is refused so.
+fn refused_5(rt: &impl Abort, alloc: Global, label: &str, kind: Kind, place: u64, bytes: &[u8]) {
+    assert_refused(
+        rt,
+        label,
+        ranges_5(rt, alloc, bytes).err(),
+        Part::Rnglists,
+        kind,
+        place,
+    );
 }
 
 /// The same of a location list.
@@ -27,7 +80,7 @@ fn locations(rt: &impl Abort, alloc: Global, bytes: &[u8]) -> Result<List<RawLoc
     let relocs = two_relocs(alloc, 0, 8)?;
     let image = no_symbols(alloc);
     let sections = sections(b"", b"", bytes, b"");
-    read_locations(alloc, &sections, &relocs, &image, 0, 4, &UNIT)
+    read_locations(alloc, &sections, &relocs, &image, 0, 4, &UNIT, &relocs, 8)
 }
 
 /// A range list gives these spans, of which none is empty.
@@ -72,6 +125,39 @@ fn a_range_list_gives_its_spans_or_its_first_fault(rt: HostRuntime) {
     refused(&rt, alloc, "low above high", Kind::BadList, 0, b"\x31\0\0\0\0\0\0\0\x30\0\0\0\0\0\0\0");
     refused(&rt, alloc, "no end", Kind::Truncated, 16, b"\x18\0\0\0\0\0\0\0\x30\0\0\0\0\0\0\0");
     refused(&rt, alloc, "half a span", Kind::Truncated, 8, b"\x18\0\0\0\0\0\0\0\x30\0\0\0\0\0\0");
+}
+
+#[test]
+#[rattlefmt::skip]
+fn a_range_list_of_version_5_gives_its_spans_or_its_first_fault(rt: HostRuntime) {
+    let alloc = rt.alloc();
+    assert_ranges_5(&rt, alloc, "an index and a length", b"\x03\x01\x10\0", &[span(Addr::Placed(0x20), Addr::Placed(0x30))]);
+    assert_ranges_5(&rt, alloc, "two indices, and an empty span", b"\x02\0\x01\x03\x01\0\0", &[span(Addr::Placed(0x18), Addr::Placed(0x20))]);
+    assert_ranges_5(&rt, alloc, "offsets from the unit's base, and from another",
+        b"\x04\x01\x02\x01\x01\x04\x01\x02\0", &[span(Addr::Placed(0x101), Addr::Placed(0x102)), span(Addr::Placed(0x21), Addr::Placed(0x22))]);
+    assert_ranges_5(&rt, alloc, "addresses stand as they are",
+        b"\x07\x05\0\0\0\0\0\0\0\x02\0", &[span(Addr::Fixed(5), Addr::Fixed(7))]);
+    refused_5(&rt, alloc, "an unknown kind", Kind::UnknownListEntry, 0, b"\x09");
+    refused_5(&rt, alloc, "an index one past the table", Kind::BadIndex, 2, b"\x01\x01\x03\x02\x10\0");
+    refused_5(&rt, alloc, "an end below its start", Kind::BadList, 0, b"\x06\x05\0\0\0\0\0\0\0\x04\0\0\0\0\0\0\0");
+    refused_5(&rt, alloc, "no end", Kind::Truncated, 3, b"\x03\x01\x10");
+    refused_5(&rt, alloc, "a cut item", Kind::Truncated, 4, b"\x03\x01\x10\x03");
+}
+
+#[test]
+#[rattlefmt::skip]
+fn a_location_list_of_version_5_gives_its_items(rt: HostRuntime) {
+    match locations_5(&rt, rt.alloc(), b"\x05\x01\x50\0") {
+        Ok(items) => {
+            assert_eq!(rt; items.len(), 1);
+            for item in items.as_slice() {
+                assert_eq!(rt; (item.span, item.place, item.first), (span(Addr::Fixed(0), Addr::Fixed(0xffff_ffff_ffff_ffff)), 0, 2));
+                assert_eq!(rt; item.bytes.as_slice(), b"\x50".as_slice());
+            }
+        }
+        Err(error) => panic!(rt; "{error:?}"),
+    }
+    assert_refused(&rt, "a cut expression", locations_5(&rt, rt.alloc(), b"\x03\x01\x10\x02\x50").err(), Part::Loclists, Kind::Truncated, 4);
 }
 
 #[test]

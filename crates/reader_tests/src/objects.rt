@@ -57,6 +57,64 @@ const OBJECT: &[u8; 648] = b"\
     \x01\0\0\0\x0f\x01\0\0\x02\0\0\0\0\0\0\0\
     \0\x5f\x67\0\x5f\x66\0\0";
 
+/// What llvm-mc 14 writes for x86_64-apple-macos10.12 of a unit of version 5: its name `m.c` has the form DW_FORM_strx1,
+/// and a function `_f` of 2 bytes begins at the first address of `__debug_addr`, by DW_FORM_addrx. `__debug_info` begins
+/// at 0x2d7.
+#[rattlefmt::skip]
+const OBJECT_5: &[u8; 824] = b"\
+    \xcf\xfa\xed\xfe\x07\0\0\x01\x03\0\0\0\x01\0\0\0\
+    \x04\0\0\0\xa0\x02\0\0\0\0\0\0\0\0\0\0\
+    \x19\0\0\0\x28\x02\0\0\0\0\0\0\0\0\0\0\
+    \0\0\0\0\0\0\0\0\0\0\0\0\0\0\0\0\
+    \x54\0\0\0\0\0\0\0\xc0\x02\0\0\0\0\0\0\
+    \x54\0\0\0\0\0\0\0\x07\0\0\0\x07\0\0\0\
+    \x06\0\0\0\0\0\0\0\x5f\x5f\x74\x65\x78\x74\0\0\
+    \0\0\0\0\0\0\0\0\x5f\x5f\x54\x45\x58\x54\0\0\
+    \0\0\0\0\0\0\0\0\0\0\0\0\0\0\0\0\
+    \x02\0\0\0\0\0\0\0\xc0\x02\0\0\0\0\0\0\
+    \0\0\0\0\0\0\0\0\0\x04\0\x80\0\0\0\0\
+    \0\0\0\0\0\0\0\0\x5f\x5f\x64\x65\x62\x75\x67\x5f\
+    \x61\x62\x62\x72\x65\x76\0\0\x5f\x5f\x44\x57\x41\x52\x46\0\
+    \0\0\0\0\0\0\0\0\x02\0\0\0\0\0\0\0\
+    \x15\0\0\0\0\0\0\0\xc2\x02\0\0\0\0\0\0\
+    \0\0\0\0\0\0\0\0\0\0\0\x02\0\0\0\0\
+    \0\0\0\0\0\0\0\0\x5f\x5f\x64\x65\x62\x75\x67\x5f\
+    \x69\x6e\x66\x6f\0\0\0\0\x5f\x5f\x44\x57\x41\x52\x46\0\
+    \0\0\0\0\0\0\0\0\x17\0\0\0\0\0\0\0\
+    \x1d\0\0\0\0\0\0\0\xd7\x02\0\0\0\0\0\0\
+    \0\0\0\0\0\0\0\0\0\0\0\x02\0\0\0\0\
+    \0\0\0\0\0\0\0\0\x5f\x5f\x64\x65\x62\x75\x67\x5f\
+    \x73\x74\x72\x5f\x6f\x66\x66\x73\x5f\x5f\x44\x57\x41\x52\x46\0\
+    \0\0\0\0\0\0\0\0\x34\0\0\0\0\0\0\0\
+    \x0c\0\0\0\0\0\0\0\xf4\x02\0\0\0\0\0\0\
+    \0\0\0\0\0\0\0\0\0\0\0\x02\0\0\0\0\
+    \0\0\0\0\0\0\0\0\x5f\x5f\x64\x65\x62\x75\x67\x5f\
+    \x61\x64\x64\x72\0\0\0\0\x5f\x5f\x44\x57\x41\x52\x46\0\
+    \0\0\0\0\0\0\0\0\x40\0\0\0\0\0\0\0\
+    \x10\0\0\0\0\0\0\0\0\x03\0\0\0\0\0\0\
+    \x18\x03\0\0\x01\0\0\0\0\0\0\x02\0\0\0\0\
+    \0\0\0\0\0\0\0\0\x5f\x5f\x64\x65\x62\x75\x67\x5f\
+    \x73\x74\x72\0\0\0\0\0\x5f\x5f\x44\x57\x41\x52\x46\0\
+    \0\0\0\0\0\0\0\0\x50\0\0\0\0\0\0\0\
+    \x04\0\0\0\0\0\0\0\x10\x03\0\0\0\0\0\0\
+    \0\0\0\0\0\0\0\0\0\0\0\x02\0\0\0\0\
+    \0\0\0\0\0\0\0\0\x24\0\0\0\x10\0\0\0\
+    \0\x0c\x0a\0\0\0\0\0\x02\0\0\0\x18\0\0\0\
+    \x20\x03\0\0\x01\0\0\0\x30\x03\0\0\x08\0\0\0\
+    \x0b\0\0\0\x50\0\0\0\0\0\0\0\0\0\0\0\
+    \0\0\0\0\x01\0\0\0\x01\0\0\0\0\0\0\0\
+    \0\0\0\0\0\0\0\0\0\0\0\0\0\0\0\0\
+    \0\0\0\0\0\0\0\0\0\0\0\0\0\0\0\0\
+    \0\0\0\0\0\0\0\0\0\0\0\0\0\0\0\0\
+    \x90\x90\x01\x11\x01\x72\x17\x73\x17\x03\x25\0\0\x02\x2e\0\
+    \x11\x1b\x12\x06\0\0\0\x19\0\0\0\x05\0\x01\x08\0\
+    \0\0\0\x01\x08\0\0\0\x08\0\0\0\0\x02\0\x02\
+    \0\0\0\0\x08\0\0\0\x05\0\0\0\0\0\0\0\
+    \x0c\0\0\0\x05\0\x08\0\0\0\0\0\0\0\0\0\
+    \x6d\x2e\x63\0\0\0\0\0\x08\0\0\0\x01\0\0\x06\
+    \x01\0\0\0\x0f\x01\0\0\0\0\0\0\0\0\0\0\
+    \0\x5f\x66\0\0\0\0\0";
+
 /// The debug map has `_f` at 0x100001000, with 2 bytes.
 fn map_object(alloc: Global) -> Result<MapObject, NoMemory> {
     let mut entries = List::new(alloc);
@@ -162,6 +220,68 @@ fn refused(
         kind,
         place,
     );
+}
+
+/// The text that an attribute of an entry is.
+fn assert_text(rt: &impl Abort, analysis: &Analysis, entry: usize, attr: usize, want: &[u8]) {
+    let Some(entry) = analysis.entries.get(entry) else {
+        panic!(rt; "no entry {entry}")
+    };
+    assert!(rt; attr < entry.len(), "no attribute {attr}");
+    assert_eq!(rt; text_of(&entry.attr(attr)), Some(want));
+}
+
+/// The text that an attribute is.
+fn text_of<'a>(attr: &AttrRef<'a>) -> Option<&'a [u8]> {
+    match attr.value {
+        ValueRef::Text(text) => Some(text),
+        _ => None,
+    }
+}
+
+#[test]
+#[rattlefmt::skip]
+fn indices_of_version_5_lead_to_texts_and_addresses(rt: HostRuntime) {
+    match analysed(&rt, rt.alloc(), OBJECT_5) {
+        Ok(analysis) => {
+            assert_eq!(rt; analysis.entries.len(), 2);
+            assert_entry(&rt, &analysis, 0, &(None, 0, 0x0c, 0x11));
+            assert_entry(&rt, &analysis, 1, &(Some(0), 0, 0x16, 0x2e));
+            assert_text(&rt, &analysis, 0, 2, b"m.c");
+            assert_eq!(rt; analysis.units.len(), 1);
+            for unit in analysis.units.as_slice() {
+                assert_eq!(rt; (unit.first, unit.count, unit.version, unit.language), (0, 2, 5, 0));
+            }
+            assert_eq!(rt; analysis.code.as_slice(), [CodeRange { entry: 1, span: Span { low: 0x1_0000_1000, high: 0x1_0000_1002 } }].as_slice());
+        }
+        Err(error) => panic!(rt; "{error:?}"),
+    }
+}
+
+/// The object of version 5 with another byte at a place of `__debug_info` is refused there.
+fn refused_5(rt: &impl Abort, alloc: Global, at: usize, byte: u8, kind: Kind, place: u64) {
+    let mut bytes = *OBJECT_5;
+    assert!(rt; at < 29);
+    bytes[0x2d7 + at] = byte;
+    assert_refused(
+        rt,
+        "a byte",
+        analysed(rt, alloc, &bytes).err(),
+        Part::Info,
+        kind,
+        place,
+    );
+}
+
+#[test]
+#[rattlefmt::skip]
+fn the_first_part_of_version_5_that_is_wrong_is_told(rt: HostRuntime) {
+    let alloc = rt.alloc();
+    refused_5(&rt, alloc, 4, 6, Kind::UnsupportedVersion, 4);
+    refused_5(&rt, alloc, 6, 2, Kind::BadUnit, 0);
+    // A text, and an address, one past those that there are.
+    refused_5(&rt, alloc, 0x15, 1, Kind::BadIndex, 0x15);
+    refused_5(&rt, alloc, 0x17, 1, Kind::BadIndex, 0x17);
 }
 
 #[test]

@@ -79,6 +79,56 @@ pub(crate) fn sections<'a>(
     }
 }
 
+/// Sections of version 5: lists, and addresses.
+pub(crate) fn lists_5<'a>(rnglists: &'a [u8], loclists: &'a [u8], addr: &'a [u8]) -> Sections<'a>
+    ensures rnglists { result.rnglists.now ≡ rnglists.now }
+    ensures loclists { result.loclists.now ≡ loclists.now }
+    ensures addr { result.addr.now ≡ addr.now }
+{
+    Sections {
+        info: b"",
+        abbrev: b"",
+        strings: b"",
+        str_offs: b"",
+        addr,
+        line: b"",
+        line_str: b"",
+        ranges: b"",
+        rnglists,
+        loc: b"",
+        loclists,
+        aranges: b"",
+        frame: b"",
+    }
+}
+
+/// A line table, and the texts that it names.
+pub(crate) fn lines_5<'a>(line: &'a [u8], line_str: &'a [u8]) -> Sections<'a>
+    ensures line { result.line.now ≡ line.now }
+    ensures line_str { result.line_str.now ≡ line_str.now }
+{
+    Sections {
+        info: b"",
+        abbrev: b"",
+        strings: b"",
+        str_offs: b"",
+        addr: b"",
+        line,
+        line_str,
+        ranges: b"",
+        rnglists: b"",
+        loc: b"",
+        loclists: b"",
+        aranges: b"",
+        frame: b"",
+    }
+}
+
+/// A table of the addresses 0x18 and 0x20 (DWARF 5, section 7.27), whose base is 8 and whose relocations are those at 8
+/// and 16.
+#[rattlefmt::skip]
+pub(crate) const ADDRESSES: &[u8; 24] = b"\x14\0\0\0\x05\0\x08\0\x18\0\0\0\0\0\0\0\x20\0\0\0\0\0\0\0";
+
 /// A reader refuses with this fault.
 pub(crate) fn assert_refused(
     rt: &impl Abort,
