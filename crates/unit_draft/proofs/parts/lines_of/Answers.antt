@@ -8,6 +8,10 @@ use Rattle.patches.specs.Numbers.{settled}
 use Rattle.unit_draft.specs.Drafted.{lines_len}
 use Rattle.unit_draft.proofs.parts.lines_of.Goals as goal
 
+-- as long as what stands behind no bytes
+behind_none : (bytes : List ℕ) (n m : ℕ) → bytes ≡ [] → m ≡ length bytes + n → m ≡ n
+behind_none bytes n m none is = omega (arith, is, ap length none)
+
 pub returns : goal.returns
 returns c =
     let unit = c.args.unit.now in
@@ -18,8 +22,7 @@ returns c =
           c.settle.ensures.is f ∙ table.bytes g text tells ∙ ap (λ (front : List ℕ). front ++ lines_bytes text unit) (c.new-table.ensures g);
       size = λ f.
           let g : Filling = settled f 0 [] in
-          let zero_add : 0 + lines_len unit ≡ lines_len unit = omega arith in
-          ap length (c.settle.ensures.is f) ∙ c.in_ok-append_lines_of.ensures.size g ∙ ap (λ (bytes : List ℕ). length bytes + lines_len unit) (c.new-table.ensures g) ∙ zero_add;
+          ap length (c.settle.ensures.is f) ∙ behind_none (filled c.new-table.result g) (lines_len unit) (length (filled c.append_lines_of.new.out g)) (c.new-table.ensures g) (c.in_ok-append_lines_of.ensures.size g);
       settled = c.settle.ensures.none;
       names = table.names ∙ ap (λ (names : List (List ℕ)). fold with_text names (line_texts_of_unit unit)) c.new-names.ensures ∙ once-append [] (line_texts_of_unit unit);
     }
