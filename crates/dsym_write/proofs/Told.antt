@@ -8,7 +8,7 @@ use Rattle.ds_base.specs.declared.fault.Part.TheVariants as parts
 use Rattle.ds_base.specs.declared.macho.TheConstants.{LC_SEGMENT_64, SEG_DWARF}
 use Rattle.dwarf_types.specs.declared.graph.Graph.{Graph}
 use Rattle.dwarf_types.specs.declared.graph.Written.{Written}
-use Rattle.dwarf_types.specs.Encode.{abbrev_section, aranges_section, encode, frame_section, has_bytes, info_section, line_section, loc_section, ranges_section, str_section}
+use Rattle.dwarf_types.specs.Encode.{abbrev_section, aranges_section, encode, frame_section, has_bytes, info_section, line_section, line_str_section, loc_section, loclists_section, ranges_section, rnglists_section, str_section}
 use Rattle.layout.specs.declared.sizes.Sizes.{Sizes}
 use Rattle.layout.specs.Laid.{sizes_of}
 use Rattle.macho_read.specs.declared.image.Image.{Image}
@@ -66,8 +66,11 @@ graph_told graph =
     ∷ record { part = parts.Info; bytes = info_section graph }
     ∷ record { part = parts.Str; bytes = str_section graph }
     ∷ record { part = parts.Line; bytes = line_section graph }
+    ∷ record { part = parts.LineStr; bytes = line_str_section graph }
     ∷ record { part = parts.Ranges; bytes = ranges_section graph }
+    ∷ record { part = parts.Rnglists; bytes = rnglists_section graph }
     ∷ record { part = parts.Loc; bytes = loc_section graph }
+    ∷ record { part = parts.Loclists; bytes = loclists_section graph }
     ∷ record { part = parts.Aranges; bytes = aranges_section graph }
     ∷ record { part = parts.Frame; bytes = frame_section graph } ∷ [] in
     record { count = count_told all; size = total_told all; records = records_told all }
@@ -79,8 +82,11 @@ name_short parts.Abbrev = omega arith
 name_short parts.Info = omega arith
 name_short parts.Str = omega arith
 name_short parts.Line = omega arith
+name_short parts.LineStr = omega arith
 name_short parts.Ranges = omega arith
+name_short parts.Rnglists = omega arith
 name_short parts.Loc = omega arith
+name_short parts.Loclists = omega arith
 name_short parts.Aranges = omega arith
 name_short parts.Frame = omega arith
 name_short _ = omega arith

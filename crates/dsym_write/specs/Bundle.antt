@@ -4,7 +4,7 @@ use Rattle.std.specs.List.{filter, flat_map}
 use Rattle.std.specs.Option.{option_map, option_map_or, option_to_list}
 use Rattle.ds_base.specs.declared.fault.Part.{Part}
 use Rattle.ds_base.specs.declared.fault.Part.TheVariants as parts
-use Rattle.ds_base.specs.declared.macho.TheConstants.{MACH_HEADER_64_SIZE, MH_DSYM, NLIST_64_SIZE, SECT_DEBUG_ABBREV, SECT_DEBUG_ARANGES, SECT_DEBUG_FRAME, SECT_DEBUG_INFO, SECT_DEBUG_LINE, SECT_DEBUG_LOC, SECT_DEBUG_RANGES, SECT_DEBUG_STR, SECTION_64_SIZE, SEGMENT_COMMAND_64_SIZE, SEG_DWARF, SYMTAB_COMMAND_SIZE, S_ATTR_DEBUG, UUID_COMMAND_SIZE}
+use Rattle.ds_base.specs.declared.macho.TheConstants.{MACH_HEADER_64_SIZE, MH_DSYM, NLIST_64_SIZE, SECT_DEBUG_ABBREV, SECT_DEBUG_ARANGES, SECT_DEBUG_FRAME, SECT_DEBUG_INFO, SECT_DEBUG_LINE, SECT_DEBUG_LINE_STR, SECT_DEBUG_LOC, SECT_DEBUG_LOCLISTS, SECT_DEBUG_RANGES, SECT_DEBUG_RNGLISTS, SECT_DEBUG_STR, SECTION_64_SIZE, SEGMENT_COMMAND_64_SIZE, SEG_DWARF, SYMTAB_COMMAND_SIZE, S_ATTR_DEBUG, UUID_COMMAND_SIZE}
 use Rattle.ds_base.specs.Texts.{section_of}
 use Rattle.dwarf_types.specs.declared.graph.Graph.{Graph}
 use Rattle.dwarf_types.specs.declared.graph.Written.{Written}
@@ -70,8 +70,11 @@ name_of_part parts.Abbrev = before_zero SECT_DEBUG_ABBREV
 name_of_part parts.Info = before_zero SECT_DEBUG_INFO
 name_of_part parts.Str = before_zero SECT_DEBUG_STR
 name_of_part parts.Line = before_zero SECT_DEBUG_LINE
+name_of_part parts.LineStr = before_zero SECT_DEBUG_LINE_STR
 name_of_part parts.Ranges = before_zero SECT_DEBUG_RANGES
+name_of_part parts.Rnglists = before_zero SECT_DEBUG_RNGLISTS
 name_of_part parts.Loc = before_zero SECT_DEBUG_LOC
+name_of_part parts.Loclists = before_zero SECT_DEBUG_LOCLISTS
 name_of_part parts.Aranges = before_zero SECT_DEBUG_ARANGES
 name_of_part parts.Frame = before_zero SECT_DEBUG_FRAME
 name_of_part _ = []

@@ -10,19 +10,23 @@ ghost use Rattle.dsym_write.specs.Pieces.{dwarf_section, records_from, sized_byt
 use crate::segments::{SectionNumbers, emit_section_numbers};
 use ds_base::macho::{
     S_ATTR_DEBUG, SECT_DEBUG_ABBREV, SECT_DEBUG_ARANGES, SECT_DEBUG_FRAME, SECT_DEBUG_INFO,
-    SECT_DEBUG_LINE, SECT_DEBUG_LOC, SECT_DEBUG_RANGES, SECT_DEBUG_STR, SEG_DWARF,
+    SECT_DEBUG_LINE, SECT_DEBUG_LINE_STR, SECT_DEBUG_LOC, SECT_DEBUG_LOCLISTS, SECT_DEBUG_RANGES,
+    SECT_DEBUG_RNGLISTS, SECT_DEBUG_STR, SEG_DWARF,
 };
 use ds_base::{Part, emit_bytes};
 use layout::{Layout, section_size};
 
 /// The parts that have a section, in the order of the output.
-pub(crate) const WRITTEN_PARTS: [Part; 8] = [
+pub(crate) const WRITTEN_PARTS: [Part; 11] = [
     Part::Abbrev,
     Part::Info,
     Part::Str,
     Part::Line,
+    Part::LineStr,
     Part::Ranges,
+    Part::Rnglists,
     Part::Loc,
+    Part::Loclists,
     Part::Aranges,
     Part::Frame,
 ];
@@ -85,8 +89,11 @@ fn name_field(part: Part) -> [u8; 16]
         Part::Info => SECT_DEBUG_INFO,
         Part::Str => SECT_DEBUG_STR,
         Part::Line => SECT_DEBUG_LINE,
+        Part::LineStr => SECT_DEBUG_LINE_STR,
         Part::Ranges => SECT_DEBUG_RANGES,
+        Part::Rnglists => SECT_DEBUG_RNGLISTS,
         Part::Loc => SECT_DEBUG_LOC,
+        Part::Loclists => SECT_DEBUG_LOCLISTS,
         Part::Aranges => SECT_DEBUG_ARANGES,
         Part::Frame => SECT_DEBUG_FRAME,
         _ => [0; 16],
