@@ -10,7 +10,8 @@ use ds_base::dwarf::{
 use ds_base::{Bytes, List};
 use dsym_write::{image_from, plist_text};
 use dwarf_types::{
-    ExprPart, Graph, Node, OutAttr, OutFrames, OutLines, OutLocation, OutUnit, OutValue, Span,
+    ExprPart, FileName, Graph, Node, OutAttr, OutFrames, OutLines, OutLocation, OutUnit, OutValue,
+    Row, Sequence, Span,
 };
 use layout::measure;
 use macho_read::{Image, read_image};
@@ -45,7 +46,7 @@ fn are_zeros(bytes: &[u8]) -> bool {
 // The image of a program and a graph.
 fn image_of(rt: &impl Abort, alloc: Global, program: &[u8], graph: &Graph) -> Bytes {
     let program = program_in(rt, alloc, program);
-    assert!(rt; graph.units.len() <= 1);
+    assert!(rt; graph.units.len() <= 2);
     let layout = measure(alloc, graph).expect(rt, "a layout");
     image_from(alloc, &program, &layout).expect(rt, "an image")
 }
@@ -123,11 +124,11 @@ fn function(rt: &impl Abort, alloc: Global) -> Node {
 }
 
 // A unit of one function.
-fn unit(rt: &impl Abort, alloc: Global) -> OutUnit {
+fn unit(rt: &impl Abort, alloc: Global, version: u16) -> OutUnit {
     let mut nodes = one(rt, alloc, root(rt, alloc));
     add(rt, &mut nodes, function(rt, alloc));
     OutUnit {
-        version: 4,
+        version,
         nodes,
         lines: None,
         ranges: code(rt, alloc),
@@ -226,11 +227,48 @@ fn an_image_has_the_commands_of_its_program_and_the_sections_of_its_graph(rt: Ho
         0, 0, 0, 0, 0, 0, 0, 0,  0, 0, 0, 0, 0, 0, 0, 0,
     ];
     let graph = Graph {
-        units: one(&rt, alloc, unit(&rt, alloc)),
+        units: one(&rt, alloc, unit(&rt, alloc, 4)),
         frames: OutFrames::new(alloc),
     };
     let image = image_of(&rt, alloc, &program, &graph);
     begins_with(&rt, image.as_slice(), &front);
+    sections_are(&rt, image.as_slice(), &sections);
+}
+
+// The program has neither segments nor symbols.
+#[rattlefmt::skip]
+#[test]
+fn the_ranges_of_a_unit_of_version_5_stand_behind_a_header(rt: HostRuntime) {
+    let alloc = rt.alloc();
+    let program = [
+        0xcf, 0xfa, 0xed, 0xfe,  7, 0, 0, 1,  3, 0, 0, 0,  2, 0, 0, 0,  0, 0, 0, 0,  0, 0, 0, 0,  0, 0, 0, 0,  0, 0, 0, 0,
+    ];
+    let sections = [
+        // __debug_abbrev
+        1, 0x11, 1,  3, 0x0e,  0x13, 5,  0x11, 1,  0x55, 0x17,  0, 0,
+        2, 0x2e, 0,  0x11, 1,  0x12, 6,  3, 0x0e,  0, 0,
+        0,
+        // __debug_info
+        0x2d, 0, 0, 0,  5, 0,  1,  8,  0, 0, 0, 0,
+        1,  0, 0, 0, 0,  0x0c, 0,  0, 0, 0, 0, 0, 0, 0, 0,  0x0c, 0, 0, 0,
+        2,  0x50, 0x3f, 0, 0, 1, 0, 0, 0,  0x2a, 0, 0, 0,  4, 0, 0, 0,
+        0,
+        // __debug_str
+        b'm', b'.', b'c', 0,  b'm', b'a', b'i', b'n', 0,
+        // __debug_rnglists
+        0x1a, 0, 0, 0,  5, 0,  8,  0,  0, 0, 0, 0,
+        6,  0x50, 0x3f, 0, 0, 1, 0, 0, 0,  0x7a, 0x3f, 0, 0, 1, 0, 0, 0,
+        0,
+        // __debug_aranges
+        0x2c, 0, 0, 0,  2, 0,  0, 0, 0, 0,  8,  0,  0, 0, 0, 0,
+        0x50, 0x3f, 0, 0, 1, 0, 0, 0,  0x2a, 0, 0, 0, 0, 0, 0, 0,
+        0, 0, 0, 0, 0, 0, 0, 0,  0, 0, 0, 0, 0, 0, 0, 0,
+    ];
+    let graph = Graph {
+        units: one(&rt, alloc, unit(&rt, alloc, 5)),
+        frames: OutFrames::new(alloc),
+    };
+    let image = image_of(&rt, alloc, &program, &graph);
     sections_are(&rt, image.as_slice(), &sections);
 }
 
@@ -257,7 +295,7 @@ fn variable(rt: &impl Abort, alloc: Global) -> Node {
 }
 
 // Its root has a name, a line table, and the code of the unit.
-fn full_unit(rt: &impl Abort, alloc: Global) -> OutUnit {
+fn full_unit(rt: &impl Abort, alloc: Global, version: u16, lines: OutLines) -> OutUnit {
     let span = Span {
         low: 0x1000,
         high: 0x1010,
@@ -276,14 +314,60 @@ fn full_unit(rt: &impl Abort, alloc: Global) -> OutUnit {
     let mut nodes = one(rt, alloc, root);
     add(rt, &mut nodes, variable(rt, alloc));
     OutUnit {
-        version: 4,
+        version,
         nodes,
-        lines: Some(OutLines {
-            dirs: List::new(alloc),
-            files: List::new(alloc),
-            sequences: List::new(alloc),
-        }),
+        lines: Some(lines),
         ranges: one(rt, alloc, span),
+    }
+}
+
+fn no_lines(alloc: Global) -> OutLines {
+    OutLines {
+        dirs: List::new(alloc),
+        files: List::new(alloc),
+        sequences: List::new(alloc),
+    }
+}
+
+fn file(rt: &impl Abort, alloc: Global) -> FileName {
+    FileName {
+        name: bytes(rt, alloc, b"a.c"),
+        dir: 0,
+        time: 0,
+        size: 0,
+        digest: None,
+    }
+}
+
+fn row(address: u64, line: u32) -> Row {
+    Row {
+        address,
+        file: 1,
+        line,
+        column: 0,
+        discriminator: 0,
+        isa: 0,
+        is_stmt: true,
+        basic_block: false,
+        prologue_end: false,
+        epilogue_begin: false,
+    }
+}
+
+// Two files of one name in one directory, and two rows.
+fn lines(rt: &impl Abort, alloc: Global) -> OutLines {
+    let mut files = one(rt, alloc, file(rt, alloc));
+    add(rt, &mut files, file(rt, alloc));
+    let mut rows = one(rt, alloc, row(0x1_0000_2000, 11));
+    add(rt, &mut rows, row(0x1_0000_2010, 12));
+    let sequence = Sequence {
+        rows,
+        end: 0x1_0000_2020,
+    };
+    OutLines {
+        dirs: one(rt, alloc, bytes(rt, alloc, b"/src")),
+        files,
+        sequences: one(rt, alloc, sequence),
     }
 }
 
@@ -303,7 +387,7 @@ fn eight_sections_stand_one_behind_the_other(rt: HostRuntime) {
         0xcf, 0xfa, 0xed, 0xfe,  7, 0, 0, 1,  3, 0, 0, 0,  2, 0, 0, 0,  0, 0, 0, 0,  0, 0, 0, 0,  0, 0, 0, 0,  0, 0, 0, 0,
     ];
     let graph = Graph {
-        units: one(&rt, alloc, full_unit(&rt, alloc)),
+        units: one(&rt, alloc, full_unit(&rt, alloc, 4, no_lines(alloc))),
         frames: frames(&rt, alloc),
     };
     let sections = [
@@ -334,6 +418,76 @@ fn eight_sections_stand_one_behind_the_other(rt: HostRuntime) {
         0x0c, 0, 0, 0,  0xff, 0xff, 0xff, 0xff,  4, 0, 8, 0, 1, 0x78, 0x1e, 0,
         0x14, 0, 0, 0,  0, 0, 0, 0,  0, 0x10, 0, 0, 0, 0, 0, 0,  0x10, 0, 0, 0, 0, 0, 0, 0,
     ];
+    let image = image_of(&rt, alloc, &program, &graph);
+    sections_are(&rt, image.as_slice(), &sections);
+}
+
+// The program is the same; a unit of version 4 stands before one of version 5.
+#[rattlefmt::skip]
+#[test]
+fn eleven_sections_stand_one_behind_the_other(rt: HostRuntime) {
+    let alloc = rt.alloc();
+    let program = [
+        0xcf, 0xfa, 0xed, 0xfe,  7, 0, 0, 1,  3, 0, 0, 0,  2, 0, 0, 0,  0, 0, 0, 0,  0, 0, 0, 0,  0, 0, 0, 0,  0, 0, 0, 0,
+    ];
+    let sections = [
+        // __debug_abbrev
+        1, 0x11, 1,  3, 0x0e,  0x10, 0x17,  0x11, 1,  0x55, 0x17,  0, 0,
+        2, 0x34, 0,  2, 0x17,  0, 0,
+        0,
+        1, 0x11, 1,  3, 0x0e,  0x10, 0x17,  0x11, 1,  0x55, 0x17,  0, 0,
+        2, 0x34, 0,  2, 0x17,  0, 0,
+        0,
+        // __debug_info
+        0x22, 0, 0, 0,  4, 0,  0, 0, 0, 0,  8,
+        1,  0, 0, 0, 0,  0, 0, 0, 0,  0, 0, 0, 0, 0, 0, 0, 0,  0, 0, 0, 0,
+        2,  0, 0, 0, 0,
+        0,
+        0x23, 0, 0, 0,  5, 0,  1,  8,  0x15, 0, 0, 0,
+        1,  0, 0, 0, 0,  0x1e, 0, 0, 0,  0, 0, 0, 0, 0, 0, 0, 0,  0x0c, 0, 0, 0,
+        2,  0x0c, 0, 0, 0,
+        0,
+        // __debug_str
+        b'm', b'.', b'c', 0,
+        // __debug_line
+        0x1a, 0, 0, 0,  4, 0,  0x14, 0, 0, 0,  1, 1, 1, 0xfb, 0x0e, 0x0d,  0, 1, 1, 1, 1, 0, 0, 0, 1, 0, 0, 1,  0,  0,
+        0x4e, 0, 0, 0,  5, 0,  8,  0,  0x32, 0, 0, 0,  1, 1, 1, 0xfb, 0x0e, 0x0d,  0, 1, 1, 1, 1, 0, 0, 0, 1, 0, 0, 1,
+        1,  1, 0x1f,  1,  0, 0, 0, 0,
+        4,  1, 0x1f,  2, 0x0f,  3, 0x0f,  4, 0x0f,  2,  5, 0, 0, 0,  0,  0,  0,  5, 0, 0, 0,  0,  0,  0,
+        0, 9, 2,  0, 0x20, 0, 0, 1, 0, 0, 0,  3, 0x0a,  1,  0xf3,  2, 0x10,  0, 1, 1,
+        // __debug_line_str
+        b'/', b's', b'r', b'c', 0,  b'a', b'.', b'c', 0,
+        // __debug_ranges
+        0, 0x10, 0, 0, 0, 0, 0, 0,  0x10, 0x10, 0, 0, 0, 0, 0, 0,
+        0, 0, 0, 0, 0, 0, 0, 0,  0, 0, 0, 0, 0, 0, 0, 0,
+        // __debug_rnglists
+        0x1a, 0, 0, 0,  5, 0,  8,  0,  0, 0, 0, 0,
+        6,  0, 0x10, 0, 0, 0, 0, 0, 0,  0x10, 0x10, 0, 0, 0, 0, 0, 0,
+        0,
+        // __debug_loc
+        0, 0x10, 0, 0, 0, 0, 0, 0,  4, 0x10, 0, 0, 0, 0, 0, 0,  2, 0,  0x12, 0x9f,
+        0, 0, 0, 0, 0, 0, 0, 0,  0, 0, 0, 0, 0, 0, 0, 0,
+        // __debug_loclists
+        0x1d, 0, 0, 0,  5, 0,  8,  0,  0, 0, 0, 0,
+        7,  0, 0x10, 0, 0, 0, 0, 0, 0,  4, 0x10, 0, 0, 0, 0, 0, 0,  2,  0x12, 0x9f,
+        0,
+        // __debug_aranges
+        0x2c, 0, 0, 0,  2, 0,  0, 0, 0, 0,  8,  0,  0, 0, 0, 0,
+        0, 0x10, 0, 0, 0, 0, 0, 0,  0x10, 0, 0, 0, 0, 0, 0, 0,
+        0, 0, 0, 0, 0, 0, 0, 0,  0, 0, 0, 0, 0, 0, 0, 0,
+        0x2c, 0, 0, 0,  2, 0,  0x26, 0, 0, 0,  8,  0,  0, 0, 0, 0,
+        0, 0x10, 0, 0, 0, 0, 0, 0,  0x10, 0, 0, 0, 0, 0, 0, 0,
+        0, 0, 0, 0, 0, 0, 0, 0,  0, 0, 0, 0, 0, 0, 0, 0,
+        // __debug_frame
+        0x0c, 0, 0, 0,  0xff, 0xff, 0xff, 0xff,  4, 0, 8, 0, 1, 0x78, 0x1e, 0,
+        0x14, 0, 0, 0,  0, 0, 0, 0,  0, 0x10, 0, 0, 0, 0, 0, 0,  0x10, 0, 0, 0, 0, 0, 0, 0,
+    ];
+    let mut units = one(&rt, alloc, full_unit(&rt, alloc, 4, no_lines(alloc)));
+    add(&rt, &mut units, full_unit(&rt, alloc, 5, lines(&rt, alloc)));
+    let graph = Graph {
+        units,
+        frames: frames(&rt, alloc),
+    };
     let image = image_of(&rt, alloc, &program, &graph);
     sections_are(&rt, image.as_slice(), &sections);
 }
