@@ -1,5 +1,5 @@
 -- How long the sequences of a line table are, and where their addresses stand.
-use Rattle.std.proofs.Common.{◌≡◌, ◌≤◌, ◌<◌, ◌^◌, ◌+◌, ◌-◌, ℕ, List, [], ◌∷◌, length, map, get_or, arith, refl, sym, ap, ◌∙◌, length-append}
+use Rattle.std.proofs.Common.{◌≡◌, ◌≤◌, ◌<◌, ◌^◌, ◌+◌, ◌-◌, ℕ, List, [], ◌∷◌, ◌++◌, length, map, get_or, append-nil, arith, refl, sym, ap, ◌∙◌, length-append}
 use Rattle.std.specs.List.{All, flat_map, sum_by}
 use Rattle.std.specs.Option.{option_map_or}
 use Rattle.std.proofs.lemmas.List.Elements.{All-map}
@@ -12,18 +12,36 @@ use Rattle.dwarf_types.specs.declared.graph.OutUnit.{OutUnit}
 use Rattle.dwarf_types.specs.declared.lines.OutLines.{OutLines}
 use Rattle.dwarf_types.specs.declared.lines.Sequence.{Sequence}
 use Rattle.dwarf_types.specs.LineProgram.{first_address, registers_at, rows_bytes, sequence_bytes, set_address}
-use Rattle.dwarf_types.specs.LineTable.{fields_bytes, line_table_bytes, program_bytes}
+use Rattle.dwarf_types.specs.Encode.{line_section}
+use Rattle.dwarf_types.specs.Layout.{line_text_place}
+use Rattle.dwarf_types.specs.LineTable.{fields_bytes, line_table_bytes, lines_bytes, program_bytes, version_bytes}
+use Rattle.unit_draft.specs.Drafted.{lines_len}
+use Rattle.layout.proofs.LineLengths.{same_lines}
 use Rattle.reloc_table.specs.declared.relocation.Reloc.{Reloc}
 use Rattle.sample_objects.specs.Lines.{places_by}
-use Rattle.sample_objects.specs.ObjectFile.{counts_from_text, line_relocs, operand_places, operands_of}
+use Rattle.sample_objects.specs.ObjectFile.{counts_from_text, graph_of, line_relocs, operand_places, operands_of}
 
 abbrev pub size_in_bytes : Sequence → ℕ
 size_in_bytes s = length (sequence_bytes s)
 
 -- ---- a table and its sequences
 
-pub table_len : (lines : OutLines) → length (line_table_bytes lines) ≡ 10 + length (fields_bytes lines) + length (program_bytes lines)
-table_len lines = omega (arith, length-append (fields_bytes lines) (program_bytes lines))
+-- where its program stands
+abbrev program_place : ℕ → OutLines → ℕ
+program_place version lines = 8 + length (version_bytes version) + length (fields_bytes version (λ text. 0) lines)
+
+pub table_len : (version : ℕ) (lines : OutLines) → length (line_table_bytes version (λ text. 0) lines) ≡ program_place version lines + length (program_bytes lines)
+table_len version lines =
+    let fields = fields_bytes version (λ text. 0) lines in
+    omega (arith, length-append (version_bytes version) (little_bytes 4 (length fields) ++ (fields ++ program_bytes lines)), length-append fields (program_bytes lines))
+
+-- a table of one sequence
+pub measured : (s : Sequence) → length (line_table_bytes 4 (λ text. 0) (record { dirs = []; files = []; sequences = s ∷ [] })) ≡ 30 + size_in_bytes s
+measured s = omega (arith, table_len 4 (record { dirs = []; files = []; sequences = s ∷ [] }), ap length (append-nil (sequence_bytes s)))
+
+-- the one table of a graph of one unit
+pub one_table : (unit : OutUnit) → length (line_section (graph_of unit)) ≡ lines_len unit
+one_table unit = ap length (append-nil (lines_bytes (line_text_place (graph_of unit)) unit)) ∙ same_lines (line_text_place (graph_of unit)) (λ text. 0) unit
 
 pub sizes_sum : (sequences : List Sequence) → sum_by (λ n. n) (map size_in_bytes sequences) ≡ length (flat_map sequence_bytes sequences)
 sizes_sum [] = refl
@@ -45,7 +63,7 @@ pub sizes_some : (sequences : List Sequence) → All (λ n. 11 ≤ n) (map size_
 sizes_some sequences = All-map (λ (n : ℕ). 11 ≤ n) size_in_bytes sequences (λ k d lt. sequence_some (get_or sequences k d))
 
 pub relocs_small : (unit : OutUnit) → All (λ r. r.symbol < 2 ^ 24) (line_relocs unit)
-relocs_small unit = All-map (λ (r : Reloc). r.symbol < 2 ^ 24) counts_from_text (option_map_or operands_of unit.lines []) (λ k d lt. omega arith)
+relocs_small unit = All-map (λ (r : Reloc). r.symbol < 2 ^ 24) counts_from_text (option_map_or (operands_of unit.version) unit.lines []) (λ k d lt. omega arith)
 
 -- ---- where the addresses stand
 
@@ -53,21 +71,21 @@ places_are : (sequences : List Sequence) (at : ℕ) → operand_places at sequen
 places_are [] at = refl
 places_are (s ∷ sequences) at = ap (λ (more : List ℕ). (at + 3) ∷ more) (places_are sequences (at + size_in_bytes s))
 
-module _ (lines : OutLines) (sizes : List ℕ) (size program : ℕ) (told : sizes ≡ map size_in_bytes lines.sequences) (sum : program ≡ sum_by (λ n. n) sizes) (whole : size ≡ length (line_table_bytes lines)) where
+module _ (version : ℕ) (lines : OutLines) (sizes : List ℕ) (size program : ℕ) (told : sizes ≡ map size_in_bytes lines.sequences) (sum : program ≡ sum_by (λ n. n) sizes) (whole : size ≡ length (line_table_bytes version (λ text. 0) lines)) where
   program_is : program ≡ length (program_bytes lines)
   program_is = sum ∙ ap (sum_by (λ (n : ℕ). n)) told ∙ sizes_sum lines.sequences
 
   pub program_within : program ≤ size
-  program_within = omega (arith, program_is, whole, table_len lines)
+  program_within = omega (arith, program_is, whole, table_len version lines)
 
-  start_is : size - program ≡ 10 + length (fields_bytes lines)
-  start_is = omega (arith, program_is, whole, table_len lines)
+  start_is : size - program ≡ program_place version lines
+  start_is = omega (arith, program_is, whole, table_len version lines)
 
   pub sum_small : size < 2 ^ 32 → (size - program) + sum_by (λ n. n) sizes < 2 ^ 32
   sum_small small = omega (arith, sum, program_within, small)
 
-  pub operands_are : map counts_from_text (places_by (size - program) sizes) ≡ map counts_from_text (operands_of lines)
+  pub operands_are : map counts_from_text (places_by (size - program) sizes) ≡ map counts_from_text (operands_of version lines)
   operands_are =
       ap (λ (at : ℕ). map counts_from_text (places_by at sizes)) start_is
-      ∙ ap (λ (l : List ℕ). map counts_from_text (places_by (10 + length (fields_bytes lines)) l)) told
-      ∙ ap (map counts_from_text) (sym (places_are lines.sequences (10 + length (fields_bytes lines))))
+      ∙ ap (λ (l : List ℕ). map counts_from_text (places_by (program_place version lines) l)) told
+      ∙ ap (map counts_from_text) (sym (places_are lines.sequences (program_place version lines)))

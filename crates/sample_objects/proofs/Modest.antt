@@ -28,8 +28,8 @@ pub record IsModest (node : Node) : Type 0 where
   pub attrs : length node.attrs ≤ 8
   pub values : values_len node.attrs ≤ 64
   pub texts : sum_by (λ t. length (ended t)) (texts_of_node node) ≤ 64
-  pub ranges : flat_map (λ a. ranges_bytes a.value) node.attrs ≡ []
-  pub locations : (place : ℕ → ℕ) → flat_map (λ a. locations_bytes place a.value) node.attrs ≡ []
+  pub ranges : (version : ℕ) → flat_map (λ a. ranges_bytes version a.value) node.attrs ≡ []
+  pub locations : (version : ℕ) (place : ℕ → ℕ) → flat_map (λ a. locations_bytes version place a.value) node.attrs ≡ []
 
 abbrev pub AreModest : List Node → Type 0
 AreModest nodes = AllByRecursion IsModest nodes
@@ -168,14 +168,15 @@ texts_few (n ∷ nodes) small = omega (arith, sum_by-append text_len (texts_of_n
 
 -- ---- lists
 
-pub no_ranges : (nodes : List Node) → AreModest nodes → flat_map (λ node. flat_map (λ a. ranges_bytes a.value) node.attrs) nodes ≡ []
-no_ranges [] small = refl
-no_ranges (n ∷ nodes) small = ap (λ (front : List ℕ). front ++ flat_map (λ (node : Node). flat_map (λ (a : OutAttr). ranges_bytes a.value) node.attrs) nodes) small.0.ranges ∙ no_ranges nodes small.1
+pub no_ranges : (version : ℕ) (nodes : List Node) → AreModest nodes → flat_map (λ node. flat_map (λ a. ranges_bytes version a.value) node.attrs) nodes ≡ []
+no_ranges version [] small = refl
+no_ranges version (n ∷ nodes) small =
+    ap (λ (front : List ℕ). front ++ flat_map (λ (node : Node). flat_map (λ (a : OutAttr). ranges_bytes version a.value) node.attrs) nodes) (small.0.ranges version) ∙ no_ranges version nodes small.1
 
-pub no_locations : (place : ℕ → ℕ) (nodes : List Node) → AreModest nodes → flat_map (λ node. flat_map (λ a. locations_bytes place a.value) node.attrs) nodes ≡ []
-no_locations place [] small = refl
-no_locations place (n ∷ nodes) small =
-    ap (λ (front : List ℕ). front ++ flat_map (λ (node : Node). flat_map (λ (a : OutAttr). locations_bytes place a.value) node.attrs) nodes) (small.0.locations place) ∙ no_locations place nodes small.1
+pub no_locations : (version : ℕ) (place : ℕ → ℕ) (nodes : List Node) → AreModest nodes → flat_map (λ node. flat_map (λ a. locations_bytes version place a.value) node.attrs) nodes ≡ []
+no_locations version place [] small = refl
+no_locations version place (n ∷ nodes) small =
+    ap (λ (front : List ℕ). front ++ flat_map (λ (node : Node). flat_map (λ (a : OutAttr). locations_bytes version place a.value) node.attrs) nodes) (small.0.locations version place) ∙ no_locations version place nodes small.1
 
 -- ---- the unit
 

@@ -26,8 +26,8 @@ module _ (i : ℕ) (object : i ≤ 1000) where
         attrs = omega arith;
         values = omega (arith, short_number DW_FORM_data2 DW_LANG_C_plus_plus_14);
         texts = omega (arith, length-append (unit_name i) (0 ∷ []), length-append (decimal i) UNIT_ENDING, short_decimal i (omega (arith, object)));
-        ranges = refl;
-        locations = λ place. refl;
+        ranges = λ version. refl;
+        locations = λ version place. refl;
       }
 
   structure_small : (j : ℕ) → IsModest (structure i j)
@@ -36,8 +36,8 @@ module _ (i : ℕ) (object : i ≤ 1000) where
         attrs = omega arith;
         values = omega (arith, short_number DW_FORM_data1 STRUCTURE_SIZE);
         texts = omega (arith, length-append (structure_name i j) (0 ∷ []), short_decimal (type_number i j) (small_number i j));
-        ranges = refl;
-        locations = λ place. refl;
+        ranges = λ version. refl;
+        locations = λ version place. refl;
       }
 
   g_small : (j : ℕ) → IsModest (g_declaration i j)
@@ -46,8 +46,8 @@ module _ (i : ℕ) (object : i ≤ 1000) where
         attrs = omega arith;
         values = omega (arith, short_number DW_FORM_flag_present 1);
         texts = omega (arith, length-append (linkage_name i j) (0 ∷ []), short_decimal (type_number i j) (small_number i j));
-        ranges = refl;
-        locations = λ place. refl;
+        ranges = λ version. refl;
+        locations = λ version place. refl;
       }
 
   function_small : (j : ℕ) → j < 100 → IsModest (function i j)
@@ -62,15 +62,15 @@ module _ (i : ℕ) (object : i ≤ 1000) where
           short_decimal i (omega (arith, object)),
           short_decimal j (omega (arith, number)),
         );
-        ranges = refl;
-        locations = λ place. refl;
+        ranges = λ version. refl;
+        locations = λ version place. refl;
       }
 
 int_small : IsModest int_type
-int_small = record { attrs = omega arith; values = omega (arith, short_number DW_FORM_data1 INT_SIZE, short_number DW_FORM_data1 DW_ATE_signed); texts = omega arith; ranges = refl; locations = λ place. refl }
+int_small = record { attrs = omega arith; values = omega (arith, short_number DW_FORM_data1 INT_SIZE, short_number DW_FORM_data1 DW_ATE_signed); texts = omega arith; ranges = λ version. refl; locations = λ version place. refl }
 
 namespace_small : IsModest namespace
-namespace_small = record { attrs = omega arith; values = omega arith; texts = omega arith; ranges = refl; locations = λ place. refl }
+namespace_small = record { attrs = omega arith; values = omega arith; texts = omega arith; ranges = λ version. refl; locations = λ version place. refl }
 
 member_small : (j k : ℕ) → k < 8 → IsModest (member j k)
 member_small j k number =
@@ -78,21 +78,21 @@ member_small j k number =
       attrs = omega arith;
       values = omega (arith, short_number DW_FORM_data1 (INT_SIZE * k));
       texts = omega (arith, length-append (member_name k) (0 ∷ []), short_decimal k (omega (arith, number)));
-      ranges = refl;
-      locations = λ place. refl;
+      ranges = λ version. refl;
+      locations = λ version place. refl;
     }
 
 f_small : (j : ℕ) → IsModest (f_declaration j)
-f_small j = record { attrs = omega arith; values = omega (arith, short_number DW_FORM_flag_present 1); texts = omega arith; ranges = refl; locations = λ place. refl }
+f_small j = record { attrs = omega arith; values = omega (arith, short_number DW_FORM_flag_present 1); texts = omega arith; ranges = λ version. refl; locations = λ version place. refl }
 
 parameter_small : (parent j : ℕ) → IsModest (this_parameter parent j)
-parameter_small parent j = record { attrs = omega arith; values = omega (arith, short_number DW_FORM_flag_present 1); texts = omega arith; ranges = refl; locations = λ place. refl }
+parameter_small parent j = record { attrs = omega arith; values = omega (arith, short_number DW_FORM_flag_present 1); texts = omega arith; ranges = λ version. refl; locations = λ version place. refl }
 
 pointer_small : (j : ℕ) → IsModest (pointer j)
-pointer_small j = record { attrs = omega arith; values = omega arith; texts = omega arith; ranges = refl; locations = λ place. refl }
+pointer_small j = record { attrs = omega arith; values = omega arith; texts = omega arith; ranges = λ version. refl; locations = λ version place. refl }
 
 variable_small : (j : ℕ) (name : List ℕ) (offset : ℕ) → length name ≤ 1 → IsModest (variable j name offset)
-variable_small j name offset short = record { attrs = omega arith; values = omega arith; texts = omega (arith, length-append name (0 ∷ []), short); ranges = refl; locations = λ place. refl }
+variable_small j name offset short = record { attrs = omega arith; values = omega arith; texts = omega (arith, length-append name (0 ∷ []), short); ranges = λ version. refl; locations = λ version place. refl }
 
 -- ---- lists of nodes
 

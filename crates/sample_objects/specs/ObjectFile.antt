@@ -13,7 +13,7 @@ use Rattle.dwarf_types.specs.declared.lines.OutLines.{OutLines}
 use Rattle.dwarf_types.specs.declared.lines.Sequence.{Sequence}
 use Rattle.dwarf_types.specs.Encode.{encode}
 use Rattle.dwarf_types.specs.LineProgram.{sequence_bytes}
-use Rattle.dwarf_types.specs.LineTable.{fields_bytes}
+use Rattle.dwarf_types.specs.LineTable.{fields_bytes, version_bytes}
 use Rattle.macho_read.specs.declared.image.Section.{Section}
 use Rattle.macho_read.specs.Fields.{before_zero}
 use Rattle.macho_read.specs.ImageSpelling.{File, LoadCommand, SegmentCommand, SymtabCommand, commands_bytes, header_fields}
@@ -54,9 +54,9 @@ abbrev pub operand_places : ℕ → List Sequence → List ℕ
 operand_places at [] = []
 operand_places at (s ∷ sequences) = (at + 3) ∷ operand_places (at + length (sequence_bytes s)) sequences
 
--- the sequences stand behind unit_length, the version, header_length, and the fields that it counts
-abbrev pub operands_of : OutLines → List ℕ
-operands_of lines = operand_places (10 + length (fields_bytes lines)) lines.sequences
+-- the sequences stand behind unit_length, the version, header_length, and the fields that it counts, whose length depends on no place of a text
+abbrev pub operands_of : ℕ → OutLines → List ℕ
+operands_of version lines = operand_places (8 + length (version_bytes version) + length (fields_bytes version (λ text. 0) lines)) lines.sequences
 
 -- an address of the section of the code
 abbrev pub counts_from_text : ℕ → Reloc
@@ -64,7 +64,7 @@ counts_from_text place = record { place = place; symbol = TEXT_SECTION; outer = 
 
 -- the relocations of the line table of a unit, if it has one
 abbrev pub line_relocs : OutUnit → List Reloc
-line_relocs unit = map counts_from_text (option_map_or operands_of unit.lines [])
+line_relocs unit = map counts_from_text (option_map_or (operands_of unit.version) unit.lines [])
 
 -- ---- where the parts stand
 

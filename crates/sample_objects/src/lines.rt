@@ -3,20 +3,26 @@
 ghost use Rattle.std.specs.Prelude.{◌≡◌, ◌≤◌, ◌<◌, ◌+◌, ◌^◌, [], ◌∷◌, length, map, IfOk};
 ghost use Rattle.std.specs.List.{All, sum_by};
 ghost use Rattle.dwarf_types.specs.LineProgram.{sequence_bytes};
-ghost use Rattle.dwarf_types.specs.LineTable.{line_table_bytes, lines_bytes};
+ghost use Rattle.dwarf_types.specs.LineTable.{line_table_bytes};
 ghost use Rattle.sample_objects.specs.Lines.{places_by};
 ghost use Rattle.sample_objects.specs.ObjectFile;
 ghost use Rattle.sample_objects.specs.ObjectFile.{counts_from_text, operands_of};
+ghost use Rattle.unit_draft.specs.Drafted.{lines_len};
 
 use crate::file::TEXT_SECTION;
 use crate::sums::plus;
-use ds_base::{Bytes, List, NoMemory};
+use ds_base::{List, NoMemory};
 use dwarf_types::{OutLines, OutUnit, Row, Sequence};
 use line_write::append_lines;
+use patches::Buffer;
 use reloc_table::Reloc;
 use std::alloc::Global;
+use text_pool::Names;
 
-/// The size of a table without directories, files and sequences.
+/// The version of a table in which a sequence is measured; sequences are written alike in all.
+const MEASURED_VERSION: u16 = 4;
+
+/// The size of such a table without directories, files and sequences.
 const EMPTY_TABLE_SIZE: u64 = 30;
 
 /// Where the operand of a set_address stands, from its first byte on.
@@ -24,20 +30,25 @@ const OPERAND_OFFSET: u32 = 3;
 
 /// A relocation for the address of each sequence of a unit's line table, which has so many bytes.
 pub(crate) fn line_relocs(alloc: Global, unit: &OutUnit, size: u64) -> Result<List<Reloc>, NoMemory>
-    requires size { size ≡ length (lines_bytes unit.now) }
+    requires size { size ≡ lines_len unit.now }
     requires small { size < 2 ^ 32 }
     ensures { IfOk result (λ relocs. relocs ≡ ObjectFile.line_relocs unit.now) }
 {
     match &unit.lines {
-        Some(lines) => relocs_of_table(alloc, lines, size),
+        Some(lines) => relocs_of_table(alloc, unit.version, lines, size),
         None => Ok(List::new(alloc)),
     }
 }
 
-fn relocs_of_table(alloc: Global, lines: &OutLines, size: u64) -> Result<List<Reloc>, NoMemory>
-    requires size { size ≡ length (line_table_bytes lines.now) }
+fn relocs_of_table(
+    alloc: Global,
+    version: u16,
+    lines: &OutLines,
+    size: u64,
+) -> Result<List<Reloc>, NoMemory>
+    requires size { size ≡ length (line_table_bytes version (λ text. 0) lines.now) }
     requires small { size < 2 ^ 32 }
-    ensures { IfOk result (λ relocs. relocs ≡ map counts_from_text (operands_of lines.now)) }
+    ensures { IfOk result (λ relocs. relocs ≡ map counts_from_text (operands_of version lines.now)) }
 {
     let sizes = sizes_of(alloc, lines.sequences.as_slice())?;
     let program = total(sizes.as_slice())?;
@@ -62,9 +73,11 @@ fn size_of(alloc: Global, sequence: &Sequence) -> Result<u64, NoMemory>
     ensures { IfOk result (λ size. size ≡ length (sequence_bytes sequence.now)) }
 {
     let table = table_of(alloc, sequence)?;
-    let mut bytes = Bytes::new(alloc);
-    append_lines(&mut bytes, &table)?;
-    Ok(bytes.len() as u64 - EMPTY_TABLE_SIZE)
+    let mut bytes = Buffer::new(alloc);
+    let mut names = Names::new(alloc);
+    append_lines(alloc, &mut bytes, &mut names, MEASURED_VERSION, &table)?;
+    let size = bytes.len() as u64;
+    Ok(size - EMPTY_TABLE_SIZE)
 }
 
 /// A table of a copy of one sequence.

@@ -19,13 +19,16 @@ use std::alloc::Global;
 use unit_draft::{Draft, DraftError, draft_unit};
 
 /// The parts that may have a section, in the order of the file.
-pub const PARTS: [Part; 8] = [
+pub const PARTS: [Part; 11] = [
     Part::Abbrev,
     Part::Info,
     Part::Str,
     Part::Line,
+    Part::LineStr,
     Part::Ranges,
+    Part::Rnglists,
     Part::Loc,
+    Part::Loclists,
     Part::Aranges,
     Part::Frame,
 ];
