@@ -50,6 +50,7 @@ use Rattle.object_view.specs.Attributes.{address_named, all_marked, attr_by, att
 use Rattle.object_view.specs.Faults.{object_kinds}
 use Rattle.object_view.specs.Opened.{Opened, opened_of, part_relocs, relocs_among, relocs_in}
 use Rattle.object_view.specs.Parts.{all_tried, is_tried, section_of, section_tried}
+use Rattle.object_view.specs.Units.{unit_context}
 
 abbrev IsOne : Kind → Type 0
 IsOne = Contains object_kinds
@@ -272,7 +273,7 @@ module _ (laws : Laws) where
       bind_kinds IsOne (entries_meant o map raw) _
       (bind_kinds IsOne (raw_entries_by (info_step o map raw) raw.entries) _ (raw_entries_kinds (info_step o map raw) (λ unit a. value_kinds _ _ a a.value) raw.entries) (λ made. ok_kinds IsOne _)) (λ meant.
       bind_kinds IsOne (units_meant o map meant raw.units) _ (units_meant_kinds o map meant raw.units) (λ units.
-      bind_kinds IsOne (entries_by (ranges_step o map raw meant) (all_marked meant)) _ (entries_kinds (ranges_step o map raw meant) (λ unit a. ranges_kinds o map _ _ a a.value) (all_marked meant)) (λ ranged.
+      bind_kinds IsOne (entries_by (ranges_step o map raw meant) (all_marked meant)) _ (entries_kinds (ranges_step o map raw meant) (λ unit a. ranges_kinds o map (unit_context raw.units raw.entries unit) _ a a.value) (all_marked meant)) (λ ranged.
       bind_kinds IsOne (entries_by (locations_step o map raw meant) ranged) _ (entries_kinds (locations_step o map raw meant) (λ unit a. locations_kinds _ _ a a.value) ranged) (λ entries.
       bind_kinds IsOne (frames_of o.image o.relocs.frame o.sections.frame) _ (frames_kinds o) (λ frames. ok_kinds IsOne _)))))
 
