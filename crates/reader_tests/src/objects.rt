@@ -2,7 +2,7 @@
 
 use crate::parts::assert_refused;
 use ds_base::{Bytes, Kind, List, NoMemory, Part, ReadError};
-use dwarf_types::{Analysis, AttrRef, CodeRange, Span, ValueRef};
+use dwarf_types::{Analysis, AttrRef, CodeRange, OutLines, Span, ValueRef};
 use object_view::analyse;
 use stab_map::{MapEntry, MapObject};
 use std::alloc::Global;
@@ -112,6 +112,52 @@ const OBJECT_5: &[u8; 824] = b"\
     \0\0\0\0\x08\0\0\0\x05\0\0\0\0\0\0\0\
     \x0c\0\0\0\x05\0\x08\0\0\0\0\0\0\0\0\0\
     \x6d\x2e\x63\0\0\0\0\0\x08\0\0\0\x01\0\0\x06\
+    \x01\0\0\0\x0f\x01\0\0\0\0\0\0\0\0\0\0\
+    \0\x5f\x66\0\0\0\0\0";
+
+/// What llvm-mc 14 writes for x86_64-apple-macos10.12 of a unit of version 5 in the directory `/d`, whose line table is of
+/// version 4: it has the directory `inc`, and in it the file `m.c`, and no sequences.
+#[rattlefmt::skip]
+const OBJECT_OLDER: &[u8; 648] = b"\
+    \xcf\xfa\xed\xfe\x07\0\0\x01\x03\0\0\0\x01\0\0\0\
+    \x04\0\0\0\0\x02\0\0\0\x20\0\0\0\0\0\0\
+    \x19\0\0\0\x88\x01\0\0\0\0\0\0\0\0\0\0\
+    \0\0\0\0\0\0\0\0\0\0\0\0\0\0\0\0\
+    \x49\0\0\0\0\0\0\0\x20\x02\0\0\0\0\0\0\
+    \x49\0\0\0\0\0\0\0\x07\0\0\0\x07\0\0\0\
+    \x04\0\0\0\0\0\0\0\x5f\x5f\x74\x65\x78\x74\0\0\
+    \0\0\0\0\0\0\0\0\x5f\x5f\x54\x45\x58\x54\0\0\
+    \0\0\0\0\0\0\0\0\0\0\0\0\0\0\0\0\
+    \x02\0\0\0\0\0\0\0\x20\x02\0\0\0\0\0\0\
+    \0\0\0\0\0\0\0\0\0\x04\0\x80\0\0\0\0\
+    \0\0\0\0\0\0\0\0\x5f\x5f\x64\x65\x62\x75\x67\x5f\
+    \x61\x62\x62\x72\x65\x76\0\0\x5f\x5f\x44\x57\x41\x52\x46\0\
+    \0\0\0\0\0\0\0\0\x02\0\0\0\0\0\0\0\
+    \x0a\0\0\0\0\0\0\0\x22\x02\0\0\0\0\0\0\
+    \0\0\0\0\0\0\0\0\0\0\0\x02\0\0\0\0\
+    \0\0\0\0\0\0\0\0\x5f\x5f\x64\x65\x62\x75\x67\x5f\
+    \x69\x6e\x66\x6f\0\0\0\0\x5f\x5f\x44\x57\x41\x52\x46\0\
+    \0\0\0\0\0\0\0\0\x0c\0\0\0\0\0\0\0\
+    \x14\0\0\0\0\0\0\0\x2c\x02\0\0\0\0\0\0\
+    \0\0\0\0\0\0\0\0\0\0\0\x02\0\0\0\0\
+    \0\0\0\0\0\0\0\0\x5f\x5f\x64\x65\x62\x75\x67\x5f\
+    \x6c\x69\x6e\x65\0\0\0\0\x5f\x5f\x44\x57\x41\x52\x46\0\
+    \0\0\0\0\0\0\0\0\x20\0\0\0\0\0\0\0\
+    \x29\0\0\0\0\0\0\0\x40\x02\0\0\0\0\0\0\
+    \0\0\0\0\0\0\0\0\0\0\0\x02\0\0\0\0\
+    \0\0\0\0\0\0\0\0\x24\0\0\0\x10\0\0\0\
+    \0\x0c\x0a\0\0\0\0\0\x02\0\0\0\x18\0\0\0\
+    \x70\x02\0\0\x01\0\0\0\x80\x02\0\0\x08\0\0\0\
+    \x0b\0\0\0\x50\0\0\0\0\0\0\0\0\0\0\0\
+    \0\0\0\0\x01\0\0\0\x01\0\0\0\0\0\0\0\
+    \0\0\0\0\0\0\0\0\0\0\0\0\0\0\0\0\
+    \0\0\0\0\0\0\0\0\0\0\0\0\0\0\0\0\
+    \0\0\0\0\0\0\0\0\0\0\0\0\0\0\0\0\
+    \x90\x90\x01\x11\0\x1b\x08\x10\x17\0\0\0\x10\0\0\0\
+    \x05\0\x01\x08\0\0\0\0\x01\x2f\x64\0\0\0\0\0\
+    \x25\0\0\0\x04\0\x1f\0\0\0\x01\x01\x01\xfb\x0e\x0d\
+    \0\x01\x01\x01\x01\0\0\0\x01\0\0\x01\x69\x6e\x63\0\
+    \0\x6d\x2e\x63\0\x01\0\0\0\0\0\0\0\0\0\0\
     \x01\0\0\0\x0f\x01\0\0\0\0\0\0\0\0\0\0\
     \0\x5f\x66\0\0\0\0\0";
 
@@ -253,6 +299,37 @@ fn indices_of_version_5_lead_to_texts_and_addresses(rt: HostRuntime) {
                 assert_eq!(rt; (unit.first, unit.count, unit.version, unit.language), (0, 2, 5, 0));
             }
             assert_eq!(rt; analysis.code.as_slice(), [CodeRange { entry: 1, span: Span { low: 0x1_0000_1000, high: 0x1_0000_1002 } }].as_slice());
+        }
+        Err(error) => panic!(rt; "{error:?}"),
+    }
+}
+
+/// The directory of a number in a line table.
+fn assert_dir(rt: &impl Abort, lines: &OutLines, i: usize, want: &[u8]) {
+    let Some(dir) = lines.dirs.as_slice().get(i) else {
+        panic!(rt; "no directory {i}")
+    };
+    assert_eq!(rt; dir.as_slice(), want);
+}
+
+/// Directory 0 is that of the unit, and file 0 is a second file 1.
+#[test]
+#[rattlefmt::skip]
+fn an_older_table_counts_from_0_in_a_unit_of_version_5(rt: HostRuntime) {
+    match analysed(&rt, rt.alloc(), OBJECT_OLDER) {
+        Ok(analysis) => {
+            assert_eq!(rt; analysis.units.len(), 1);
+            for unit in analysis.units.as_slice() {
+                let Some(lines) = &unit.lines else {
+                    panic!(rt; "no line table")
+                };
+                assert_eq!(rt; (lines.dirs.len(), lines.files.len(), lines.sequences.len()), (2, 2, 0));
+                assert_dir(&rt, lines, 0, b"/d");
+                assert_dir(&rt, lines, 1, b"inc");
+                for file in lines.files.as_slice() {
+                    assert_eq!(rt; (file.name.as_slice(), file.dir), (b"m.c".as_slice(), 1));
+                }
+            }
         }
         Err(error) => panic!(rt; "{error:?}"),
     }
