@@ -1,6 +1,6 @@
 //! Line tables (DWARF 4, section 6.2.4; DWARF 5, section 6.2.4).
 
-ghost use Rattle.std.specs.Prelude.{ℕ, List as Listed, ◌≡◌, ◌+◌, ◌++◌, length, OnOk};
+ghost use Rattle.std.specs.Prelude.{◌≡◌, ◌+◌, ◌++◌, length, OnOk};
 ghost use Rattle.byteorder.specs.Endian.{little_bytes};
 ghost use Rattle.dwarf_types.specs.LineTable.{fields_bytes, line_table_bytes, names_bytes, version_bytes};
 ghost use Rattle.line_write.specs.Named.{AppendsNamed, table_of, texts_in};

@@ -53,7 +53,12 @@ fn append_value(
     }
 }
 
-fn append_text(drafting: &mut Drafting, number: u32, version: u16, text: &Bytes) -> Result<(), NoMemory>
+fn append_text(
+    drafting: &mut Drafting,
+    number: u32,
+    version: u16,
+    text: &Bytes,
+) -> Result<(), NoMemory>
     ensures { OnOk result (AppendsValue number version drafting.old drafting.new (out_values.Text text.now)) }
 {
     let i = drafting.names.number_of(text.as_slice())?;
@@ -61,7 +66,12 @@ fn append_text(drafting: &mut Drafting, number: u32, version: u16, text: &Bytes)
     Ok(())
 }
 
-fn append_ref(drafting: &mut Drafting, number: u32, version: u16, target: Target) -> Result<(), NoMemory>
+fn append_ref(
+    drafting: &mut Drafting,
+    number: u32,
+    version: u16,
+    target: Target,
+) -> Result<(), NoMemory>
     ensures { OnOk result (AppendsValue number version drafting.old drafting.new (out_values.Ref target)) }
 {
     if target.unit == number {
@@ -72,7 +82,12 @@ fn append_ref(drafting: &mut Drafting, number: u32, version: u16, target: Target
     Ok(())
 }
 
-fn append_ranges(drafting: &mut Drafting, number: u32, version: u16, spans: &[Span]) -> Result<(), NoMemory>
+fn append_ranges(
+    drafting: &mut Drafting,
+    number: u32,
+    version: u16,
+    spans: &[Span],
+) -> Result<(), NoMemory>
     ensures { OnOk result (AppendsValue number version drafting.old drafting.new (out_values.Ranges spans.now)) }
 {
     let offset = drafting.ranges.len();
@@ -81,7 +96,12 @@ fn append_ranges(drafting: &mut Drafting, number: u32, version: u16, spans: &[Sp
     Ok(())
 }
 
-fn append_expr(drafting: &mut Drafting, number: u32, version: u16, parts: &[ExprPart]) -> Result<(), NoMemory>
+fn append_expr(
+    drafting: &mut Drafting,
+    number: u32,
+    version: u16,
+    parts: &[ExprPart],
+) -> Result<(), NoMemory>
     ensures { OnOk result (AppendsValue number version drafting.old drafting.new (out_values.Expr parts.now)) }
 {
     write_expression(&mut drafting.scratch, parts)?;
