@@ -1,6 +1,6 @@
 -- The graph that is linked: its names, its shape, its frames, and the drafts of its units.
 use Rattle.std.proofs.Common.{◌≡◌, ◌<◌, ◌≤◌, ◌+◌, ◌-◌, ◌^◌, ℕ, zero, suc, Bool, true, false, List, [], ◌∷◌, ◌++◌, length, take, drop, get_or, slice_get, Option, Some, None, is_some, map, if◌then◌else◌, Result, Ok, Err, refl, sym, ap, subst, ◌∙◌, arith, append-nil, inl, inr}
-use Rattle.std.specs.List.{All, filter_map, flat_map, zip}
+use Rattle.std.specs.List.{All, flat_map, zip}
 use Rattle.std.proofs.lemmas.Bool.{le-leb, lt-leb}
 use Rattle.std.proofs.lemmas.List.{drop_all, length-map, take_all}
 use Rattle.std.proofs.lemmas.Option.{get_or_from_slice_get, slice_get_within}
@@ -13,11 +13,10 @@ use Rattle.dwarf_types.specs.declared.frames.OutFrame.{OutFrame}
 use Rattle.dwarf_types.specs.declared.graph.Graph.{Graph}
 use Rattle.dwarf_types.specs.declared.shape.Shape.{Shape}
 use Rattle.dwarf_types.specs.declared.shape.ShapeUnit.{ShapeUnit}
-use Rattle.dwarf_types.specs.LinkedShape.{marks_in, objects_of, shape_in}
-use Rattle.dwarf_types.specs.LinkedUnits.{sources}
+use Rattle.dwarf_types.specs.LinkedShape.{marks_in, objects_of}
 use Rattle.dwarf_types.specs.Sound.{IsSound}
-use Rattle.link_graph.specs.Graph.{IsShape, graph_in}
-use Rattle.link_graph.specs.Merged.{kept_objects, linked_names, pool_origin, pool_root, pool_units, shape_of}
+use Rattle.link_graph.specs.Graph.{IsShape, graph_in, pool_version}
+use Rattle.link_graph.specs.Merged.{linked_names, object_units, pool_origin, pool_root, pool_units, shape_of}
 use Rattle.link_graph.specs.Pool.{pool_names, preorder}
 use Rattle.odr_names.specs.Making.{AreLiveRows}
 use Rattle.type_names.specs.Names.{Named}
@@ -72,7 +71,7 @@ pool_none (n ∷ names) e = absurd (omega (arith, e))
 pub pool_first : (shape : Shape) (names : List Named) → HasPool shape names → 0 < length names → (unit : ShapeUnit) × (slice_get shape.units 0 ≡ Some unit) × (length unit.nodes ≡ suc (length (pool_names names)))
 pool_first shape [] h some = absurd (omega (arith, some))
 pool_first shape (n ∷ names) h some = (
-  record { version = 4; nodes = pool_root ∷ map (pool_origin (n ∷ names)) (pool_names (n ∷ names)) },
+  record { version = h.version; nodes = pool_root ∷ map (pool_origin (n ∷ names)) (pool_names (n ∷ names)) },
   ap (λ (us : List ShapeUnit). slice_get us 0) h.units,
   ap suc (length-map (pool_names (n ∷ names)) (pool_origin (n ∷ names))),
 )
@@ -173,8 +172,9 @@ module _ (odr : Bool) (seen : List Analysis) (live : List (List Bool)) (names : 
 
   pub has_pool : HasPool shape names
   has_pool = record {
-    others = filter_map (shape_in (kept_objects odr seen live)) (sources (kept_objects odr seen live));
-    units = ap (λ (s : Shape). s.units) is ∙ ap (λ (ns : List Named). pool_units ns ++ filter_map (shape_in (kept_objects odr seen live)) (sources (kept_objects odr seen live))) (sym named);
+    version = pool_version (object_units odr seen live);
+    others = object_units odr seen live;
+    units = ap (λ (s : Shape). s.units) is ∙ ap (λ (ns : List Named). pool_units (pool_version (object_units odr seen live)) ns ++ object_units odr seen live) (sym named);
   }
 
   pub shape_whole : (pooled paths : ℕ) → length names < 2 ^ 25 → length shape.units < 2 ^ 32 - 1 → pooled ≡ length names → paths ≡ length (pool_names names) → Shapes odr seen live (Ok (record { shape = shape; pooled = pooled; names = paths }))

@@ -71,8 +71,9 @@ Names odr seen live (Err refusals.NoMemory) = Unit {0}
 
 -- where there are names, the first unit has a root and their nodes
 pub record HasPool (shape : Shape) (names : List Named) : Type 0 where
+  pub version : ℕ
   pub others : List ShapeUnit
-  pub units : shape.units ≡ pool_units names ++ others
+  pub units : shape.units ≡ pool_units version names ++ others
 
 -- such a shape, or that too many entries are merged, or that it has too many units
 abbrev pub Shapes : Bool → List Analysis → List (List Bool) → Result Shaped Refusal → Type 0
