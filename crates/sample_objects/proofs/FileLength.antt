@@ -12,9 +12,9 @@ use Rattle.reloc_table.specs.declared.relocation.Reloc.{Reloc}
 use Rattle.sample_objects.specs.declared.spec.ObjectSpec.{ObjectSpec}
 use Rattle.sample_objects.specs.GeneratedProgram.{generated_program, reloc_of, spec_of, symbol_of}
 use Rattle.sample_objects.specs.GeneratedUnit.{all_numbers}
-use Rattle.sample_objects.specs.ObjectFile.{file_of, graph_of, line_relocs, object_bytes, relocs_bytes, sections_of}
+use Rattle.sample_objects.specs.ObjectFile.{commands_len, file_of, graph_of, line_relocs, object_bytes, relocs_bytes, sections_of}
 use Rattle.sample_objects.proofs.PlacedSymbols.{texts_are, texts_few}
-use Rattle.sample_objects.proofs.Short.{contents_few, sections_few}
+use Rattle.sample_objects.proofs.Short.{AreShort, contents_few, sections_few}
 use Rattle.sample_objects.proofs.ShortNames.{symbol_short}
 use Rattle.sample_objects.proofs.Specs.{spec_short}
 use Rattle.sample_objects.proofs.TheFile.{commands_length}
@@ -25,6 +25,18 @@ length-relocs (r ∷ relocs) = let h = length-relocs relocs in omega (arith, h)
 
 length-header : (spec : ObjectSpec) → length (spelled (header_fields (file_of spec))) ≡ 32
 length-header spec = refl
+
+seven_len : (a b c d e f g : List ℕ) → length (a ++ (b ++ (c ++ (d ++ (e ++ (f ++ g)))))) ≡ length a + (length b + (length c + (length d + (length e + (length f + length g)))))
+seven_len a b c d e f g =
+    omega (
+      arith,
+      length-append a (b ++ (c ++ (d ++ (e ++ (f ++ g))))),
+      length-append b (c ++ (d ++ (e ++ (f ++ g)))),
+      length-append c (d ++ (e ++ (f ++ g))),
+      length-append d (e ++ (f ++ g)),
+      length-append e (f ++ g),
+      length-append f g,
+    )
 
 pub file_len : (spec : ObjectSpec) → length (object_bytes spec)
     ≡ 32 + (length (commands_bytes (file_of spec)) + (length (contents (sections_of spec)) + (length (relocs_bytes spec.relocs) + (length (relocs_bytes (line_relocs spec.unit)) + (length (symbols_bytes spec.symbols) + length (strings_bytes spec.symbols))))))
@@ -37,16 +49,8 @@ file_len spec =
     let moved = relocs_bytes (line_relocs spec.unit) in
     let symbols = symbols_bytes spec.symbols in
     let strings = strings_bytes spec.symbols in
-    omega (
-      arith,
-      length-append header (commands ++ (sections ++ (relocs ++ (moved ++ (symbols ++ strings))))),
-      length-append commands (sections ++ (relocs ++ (moved ++ (symbols ++ strings)))),
-      length-append sections (relocs ++ (moved ++ (symbols ++ strings))),
-      length-append relocs (moved ++ (symbols ++ strings)),
-      length-append moved (symbols ++ strings),
-      length-append symbols strings,
-      length-header spec,
-    )
+    seven_len header commands sections relocs moved symbols strings
+    ∙ ap (λ (n : ℕ). n + (length commands + (length sections + (length relocs + (length moved + (length symbols + length strings)))))) (length-header spec)
 
 short_symbols : (i : ℕ) → i ≤ 1000 → (n a : ℕ) → a + n ≤ 100 → AllByRecursion (λ s. length s.name ≤ 12) (map (symbol_of i) (range_with_len a n))
 short_symbols i object zero a fits = tt
@@ -60,24 +64,27 @@ numbers_len : length all_numbers ≡ 100
 unfolding all_numbers
 numbers_len = length-range_with_len 0 100
 
+few_sections : (spec : ObjectSpec) → length (sections_of spec) ≤ 11
+unfolding sections_of
+few_sections spec = sections_few (graph_of spec.unit)
+
+few_contents : (spec : ObjectSpec) → AreShort (graph_of spec.unit) → length (contents (sections_of spec)) ≤ 2 ^ 28
+unfolding sections_of
+few_contents spec small = contents_few (graph_of spec.unit) small
+
+whole_short : (file commands sections bytes relocs moved symbols strings : ℕ) → file ≡ 32 + (commands + (bytes + (relocs + (moved + (symbols + strings))))) → commands ≡ commands_len sections → sections ≤ 11
+    → bytes ≤ 2 ^ 28 → relocs ≡ 800 → moved ≡ 0 → symbols ≡ 1600 → strings ≤ 1300 → file < 2 ^ 32
+whole_short file commands sections bytes relocs moved symbols strings whole first few_parts few_bytes r m s t = omega (arith, whole, first, few_parts, few_bytes, r, m, s, t)
+
 pub object_short : (i : ℕ) → i ≤ 1000 → length (object_bytes (spec_of i)) < 2 ^ 32
 object_short i object =
     let spec = spec_of i in
-    omega (
-      arith,
-      file_len spec,
-      commands_length spec,
-      sections_few (graph_of spec.unit),
-      contents_few (graph_of spec.unit) (spec_short i object),
-      length-relocs spec.relocs,
-      length-map all_numbers (reloc_of i),
-      length-nlists (with_places 1 spec.symbols),
-      length-placed spec.symbols 1,
-      length-map all_numbers (symbol_of i),
-      ap length (texts_are spec.symbols),
-      texts_few spec.symbols (names_short i object),
-      numbers_len,
-    )
+    let symbols_len = length-map all_numbers (symbol_of i) in
+    whole_short _ _ (length (sections_of spec)) _ _ _ _ _ (file_len spec) (commands_length spec) (few_sections spec) (few_contents spec (spec_short i object))
+    (omega (arith, length-relocs spec.relocs, length-map all_numbers (reloc_of i), numbers_len))
+    refl
+    (omega (arith, length-nlists (with_places 1 spec.symbols), length-placed spec.symbols 1, symbols_len, numbers_len))
+    (omega (arith, ap length (texts_are spec.symbols), texts_few spec.symbols (names_short i object), symbols_len, numbers_len))
 
 pub files_short : (count : ℕ) → count ≤ 1000 → All (λ file. length file < 2 ^ 32) (generated_program count).files
 files_short count few =

@@ -17,7 +17,7 @@ use Rattle.dwarf_types.specs.declared.graph.Node.{Node}
 use Rattle.dwarf_types.specs.declared.graph.OutAttr.{OutAttr}
 use Rattle.dwarf_types.specs.declared.graph.OutUnit.{OutUnit}
 use Rattle.dwarf_types.specs.Abbreviations.{declaration_bytes, declaration_of, same_declaration, table_bytes, table_of}
-use Rattle.dwarf_types.specs.Entries.{OutEntry, ancestors_up, entry_len, entry_of, parent_of, unit_len}
+use Rattle.dwarf_types.specs.Entries.{OutEntry, ancestors_up, entry_len, entry_of, header_len, parent_of, unit_len}
 use Rattle.dwarf_types.specs.Forms.{form_of}
 use Rattle.dwarf_types.specs.Layout.{texts_of_node}
 use Rattle.dwarf_types.specs.Lists.{locations_bytes, ranges_bytes}
@@ -180,9 +180,16 @@ no_locations version place (n ∷ nodes) small =
 
 -- ---- the unit
 
+header_few : (version : ℕ) → header_len version ≤ 12
+header_few version = by (version == 5)
+  where
+    by : (five : Bool) → (if five then 12 else 11) ≤ 12
+    by true = omega arith
+    by false = omega arith
+
 module _ (unit : OutUnit) (few : length unit.nodes ≤ 2000) (small : AreModest unit.nodes) where
   pub unit_few : unit_len 0 unit ≤ 2 ^ 23
-  unit_few = omega (arith, entries_few unit.nodes unit.nodes 0 (omega (arith, few)) small, few)
+  unit_few = omega (arith, header_few unit.version, entries_few unit.nodes unit.nodes 0 (omega (arith, few)) small, few)
 
   pub table_few : length (table_bytes 0 unit) ≤ 2 ^ 20
   table_few =

@@ -80,8 +80,20 @@ sections_few graph =
     ∷ record { part = parts.Frame; bytes = frame_section graph } ∷ [] in
     fewer all
 
+eleven_few : (all front lists back a b c d e f g h i j k : ℕ) → all ≡ front + (lists + back) → front ≡ a + (b + (c + (d + e))) → lists ≡ f + (g + (h + i)) → back ≡ j + k
+    → a ≤ 2 ^ 24 → b ≤ 2 ^ 24 → c ≤ 2 ^ 24 → d ≤ 2 ^ 24 → e ≤ 2 ^ 24 → f ≤ 2 ^ 24 → g ≤ 2 ^ 24 → h ≤ 2 ^ 24 → i ≤ 2 ^ 24 → j ≤ 2 ^ 24 → k ≤ 2 ^ 24 → all ≤ 2 ^ 28
+eleven_few all front lists back a b c d e f g h i j k whole first second third la lb lc ld le lf lg lh li lj lk = omega (arith, whole, first, second, third, la, lb, lc, ld, le, lf, lg, lh, li, lj, lk)
+
 pub contents_few : (graph : Graph) → AreShort graph → length (contents (encode graph)) ≤ 2 ^ 28
-contents_few graph h = omega (arith, sections_len graph, front_len graph, lists_len graph, back_len graph, h.tables, h.info, h.texts, h.line, h.line_texts, h.ranges, h.rnglists, h.loc, h.loclists, h.aranges, h.frames)
+contents_few graph h =
+    eleven_few _ _ _ _ _ _ _ _ _ _ _ _ _ _ _ (sections_len graph) (front_len graph) (lists_len graph) (back_len graph) h.tables h.info h.texts h.line h.line_texts h.ranges h.rnglists h.loc h.loclists h.aranges
+    h.frames
+
+short : (n m most : ℕ) → n ≡ m → m ≤ most → most ≤ 2 ^ 24 → n ≤ 2 ^ 24
+short n m most is few within = omega (arith, is, few, within)
+
+none_short : (n : ℕ) → n ≡ 0 → n ≤ 2 ^ 24
+none_short n none = omega (arith, none)
 
 -- the lists of the one unit, which has none, and the names of its line table, which it has not
 only_none : (b : Bool) (lists : List ℕ) → lists ≡ [] → (if b then lists else []) ++ [] ≡ []
@@ -111,15 +123,16 @@ module _ (unit : OutUnit) (few : length unit.nodes ≤ 2000) (small : AreModest 
   pub all_short : AreShort graph
   all_short =
       record {
-        tables = omega (arith, ap length (append-nil (table_bytes 0 unit)), table_few unit few small);
-        info = omega (arith, ap length (append-nil unit_text), length-unit (places_of graph 0 unit) (lists_place graph 0 unit) (table_place graph 0) unit, unit_few unit few small);
-        texts = omega (arith, ap (λ (uses : List (List ℕ)). length (section_of (once bytes_eq uses))) (append-nil (flat_map texts_of_node unit.nodes)), strings_few unit few small);
+        tables = short _ (length (table_bytes 0 unit)) (2 ^ 20) (ap length (append-nil (table_bytes 0 unit))) (table_few unit few small) (omega arith);
+        info = short _ (unit_len 0 unit) (2 ^ 23) (ap length (append-nil unit_text) ∙ length-unit (places_of graph 0 unit) (lists_place graph 0 unit) (table_place graph 0) unit) (unit_few unit few small) (omega arith);
+        texts = short _ (length (section_of (once bytes_eq (flat_map texts_of_node unit.nodes)))) (2 ^ 20)
+            (ap (λ (uses : List (List ℕ)). length (section_of (once bytes_eq uses))) (append-nil (flat_map texts_of_node unit.nodes))) (strings_few unit few small) (omega arith);
         line = rw no_lines (omega arith);
-        line_texts = omega (arith, ap (λ (uses : List (List ℕ)). length (section_of (once bytes_eq uses))) (append-nil (line_texts_of_unit unit) ∙ no_names (unit.version == 5) unit.lines no_lines));
-        ranges = omega (arith, ap length (only_none (stands_in false unit) (unit_ranges unit) no_unit_ranges));
-        rnglists = omega (arith, ap (λ (lists : List ℕ). length (behind_header lists)) (only_none (stands_in true unit) (unit_ranges unit) no_unit_ranges));
-        loc = omega (arith, ap length (only_none (stands_in false unit) (unit_locations (own_node (places_of graph 0 unit)) unit) no_unit_locations));
-        loclists = omega (arith, ap (λ (lists : List ℕ). length (behind_header lists)) (only_none (stands_in true unit) (unit_locations (own_node (places_of graph 0 unit)) unit) no_unit_locations));
+        line_texts = none_short _ (ap (λ (uses : List (List ℕ)). length (section_of (once bytes_eq uses))) (append-nil (line_texts_of_unit unit) ∙ no_names (unit.version == 5) unit.lines no_lines));
+        ranges = none_short _ (ap length (only_none (stands_in false unit) (unit_ranges unit) no_unit_ranges));
+        rnglists = none_short _ (ap (λ (lists : List ℕ). length (behind_header lists)) (only_none (stands_in true unit) (unit_ranges unit) no_unit_ranges));
+        loc = none_short _ (ap length (only_none (stands_in false unit) (unit_locations (own_node (places_of graph 0 unit)) unit) no_unit_locations));
+        loclists = none_short _ (ap (λ (lists : List ℕ). length (behind_header lists)) (only_none (stands_in true unit) (unit_locations (own_node (places_of graph 0 unit)) unit) no_unit_locations));
         aranges = rw no_code (omega arith);
         frames = omega arith;
       }

@@ -70,6 +70,10 @@ module _ (places : Places) (sized : List (Part × ℕ)) (commands : places.comma
   pub segment_len : length (command_bytes (command_of (segment_command places sized))) ≡ places.commands - 24
   segment_len = omega (arith, ap length (append-nil records), length-records places sized places.offset, commands)
 
+-- a segment command and a symbol table, where there are so many sections
+both_len : (sections both segment symtab : ℕ) → both ≡ segment + symtab → segment ≡ commands_len sections - 24 → symtab ≡ 24 → both ≡ commands_len sections
+both_len sections both segment symtab joined first second = omega (arith, joined, first, second)
+
 module _ (spec : ObjectSpec) where
   abbrev sized : List (Part × ℕ)
   sized = sized_of (sections_of spec)
@@ -88,7 +92,8 @@ module _ (spec : ObjectSpec) where
 
   pub commands_length : length (commands_bytes (file_of spec)) ≡ (places_of spec).commands
   commands_length =
-      omega (arith, ap length commands_are, length-append segment_text symtab_text, segment_len (places_of spec) sized commands_told)
+      both_len (length (sections_of spec)) (length (commands_bytes (file_of spec))) (length segment_text) (length symtab_text) (ap length commands_are ∙ length-append segment_text symtab_text)
+      (segment_len (places_of spec) sized commands_told) refl
 
   abbrev header_with : ℕ → List ℕ
   header_with size = flat_map (little_bytes 4) (MH_MAGIC_64 ∷ spec.cpu ∷ 0 ∷ MH_OBJECT ∷ 2 ∷ size ∷ 0 ∷ 0 ∷ [])

@@ -29,7 +29,7 @@ use Rattle.sample_objects.specs.declared.spec.ObjectSpec.{ObjectSpec}
 abbrev pub graph_of : OutUnit → Graph
 graph_of unit = record { units = unit ∷ []; frames = [] }
 
-abbrev pub sections_of : ObjectSpec → List Written
+unfoldable pub sections_of : ObjectSpec → List Written
 sections_of spec = encode (graph_of spec.unit)
 
 -- the parts of sections, each with its size in bytes

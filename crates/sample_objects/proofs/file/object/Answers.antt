@@ -2,18 +2,41 @@ use Rattle.std.proofs.Common.{◌∙◌, ap, arith}
 use Rattle.layout.specs.Laid.{Laid}
 use Rattle.layout.proofs.Limits.{line_short}
 use Rattle.sample_objects.proofs.LineSizes.{one_table}
-use Rattle.sample_objects.specs.ObjectFile.{graph_of}
+use Rattle.sample_objects.specs.ObjectFile.{graph_of, sections_of}
 use Rattle.sample_objects.proofs.file.object.Goals as goal
 
+pub layout_of-requires-clause-unit : goal.layout_of-requires-clause-unit
+layout_of-requires-clause-unit c = c.requires.unit
+
+pub layout_of-requires-clause-sections : goal.layout_of-requires-clause-sections
+layout_of-requires-clause-sections c = c.requires.sections
+
+pub contents_of-requires-clause-measured : goal.contents_of-requires-clause-measured
+contents_of-requires-clause-measured c = record { graph = graph_of c.args.spec.now.unit; measured = c.in_ok-layout.ensures }
+
+pub contents_of-requires-clause-sized : goal.contents_of-requires-clause-sized
+contents_of-requires-clause-sized c = λ graph measured. c.as_slice.ensures ∙ c.in_ok-sized.ensures graph measured
+
+pub line_relocs-requires-clause-size : goal.line_relocs-requires-clause-size
+line_relocs-requires-clause-size c = c.section_size.ensures ∙ ap (λ (l : Laid). l.sizes.line) c.in_ok-layout.ensures.0 ∙ one_table c.args.spec.now.unit
+
+pub line_relocs-requires-clause-small : goal.line_relocs-requires-clause-small
+line_relocs-requires-clause-small c =
+    omega (arith, c.section_size.ensures, ap (λ (l : Laid). l.sizes.line) c.in_ok-layout.ensures.0, line_short (graph_of c.args.spec.now.unit) c.requires.sections)
+
 pub object_of-requires-clause-sized : goal.object_of-requires-clause-sized
+unfolding sections_of
 object_of-requires-clause-sized c = c.as_slice-2.ensures ∙ c.in_ok-sized.ensures (graph_of c.args.spec.now.unit) c.in_ok-layout.ensures
 
 pub object_of-requires-clause-contents : goal.object_of-requires-clause-contents
+unfolding sections_of
 object_of-requires-clause-contents c = c.as_slice-3.ensures ∙ c.in_ok-contents.ensures (graph_of c.args.spec.now.unit) c.in_ok-layout.ensures
 
-pub line_relocs-moved-requires-clause-size : goal.line_relocs-moved-requires-clause-size
-line_relocs-moved-requires-clause-size c = c.section_size.ensures ∙ ap (λ (l : Laid). l.sizes.line) c.in_ok-layout.ensures.0 ∙ one_table c.args.spec.now.unit
+pub object_of-requires-clause-moved : goal.object_of-requires-clause-moved
+object_of-requires-clause-moved c = c.as_slice-4.ensures ∙ c.in_ok-moved.ensures
 
-pub line_relocs-moved-requires-clause-small : goal.line_relocs-moved-requires-clause-small
-line_relocs-moved-requires-clause-small c =
-    omega (arith, c.section_size.ensures, ap (λ (l : Laid). l.sizes.line) c.in_ok-layout.ensures.0, line_short (graph_of c.args.spec.now.unit) c.requires.sections)
+pub object_of-requires-clause-symbols : goal.object_of-requires-clause-symbols
+object_of-requires-clause-symbols c = c.requires.symbols
+
+pub returns : goal.returns
+returns c = c.object_of.ensures

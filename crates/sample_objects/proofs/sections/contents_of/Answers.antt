@@ -1,19 +1,11 @@
 use Rattle.std.proofs.Common.{ℕ, length, ap, arith}
-use Rattle.std.specs.List.{sum_by}
 use Rattle.std.proofs.lemmas.List.{length-replicate}
-use Rattle.ds_base.specs.declared.fault.Part.{Part}
 use Rattle.dwarf_types.specs.Encode.{encode}
-use Rattle.sample_objects.proofs.Told.{size_told}
+use Rattle.sample_objects.proofs.Told.{whole_told}
 use Rattle.sample_objects.proofs.sections.contents_of.Goals as goal
 
 pub emit_sections-requires-clause-size : goal.emit_sections-requires-clause-size
 emit_sections-requires-clause-size c = λ graph measured.
-    omega (
-      arith,
-      ap length c.as_mut_slice.ensures.value,
-      ap length c.in_ok-bytes.ensures,
-      length-replicate {A = ℕ} c.in_ok-size.size 0,
-      c.in_ok-size.ensures,
-      ap (sum_by (λ (s : Part × ℕ). s.1)) (c.requires.sized graph measured),
-      size_told (encode graph),
-    )
+    whole_told (encode graph) c.args.sized.now _
+    (omega (arith, ap length c.as_mut_slice.ensures.value, ap length c.in_ok-bytes.ensures, length-replicate {A = ℕ} c.in_ok-size.size 0, c.in_ok-size.ensures))
+    (c.requires.sized graph measured)
