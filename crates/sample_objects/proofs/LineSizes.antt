@@ -39,6 +39,10 @@ table_len version lines =
 pub measured : (s : Sequence) → length (line_table_bytes 4 (λ text. 0) (record { dirs = []; files = []; sequences = s ∷ [] })) ≡ 30 + size_in_bytes s
 measured s = omega (arith, table_len 4 (record { dirs = []; files = []; sequences = s ∷ [] }), ap length (append-nil (sequence_bytes s)))
 
+-- a number of bytes that is known to be short by another name
+pub below_limit : (n m : ℕ) → n ≡ m → m < 2 ^ 32 - 1 → n < 2 ^ 32
+below_limit n m is few = omega (arith, is, few)
+
 -- the one table of a graph of one unit
 pub one_table : (unit : OutUnit) → length (line_section (graph_of unit)) ≡ lines_len unit
 one_table unit = ap length (append-nil (lines_bytes (line_text_place (graph_of unit)) unit)) ∙ same_lines (line_text_place (graph_of unit)) (λ text. 0) unit

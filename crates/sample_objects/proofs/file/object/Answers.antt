@@ -1,7 +1,7 @@
 use Rattle.std.proofs.Common.{◌∙◌, ap, arith}
 use Rattle.layout.specs.Laid.{Laid}
 use Rattle.layout.proofs.Limits.{line_short}
-use Rattle.sample_objects.proofs.LineSizes.{one_table}
+use Rattle.sample_objects.proofs.LineSizes.{below_limit, one_table}
 use Rattle.sample_objects.specs.ObjectFile.{graph_of, sections_of}
 use Rattle.sample_objects.proofs.file.object.Goals as goal
 
@@ -21,8 +21,7 @@ pub line_relocs-requires-clause-size : goal.line_relocs-requires-clause-size
 line_relocs-requires-clause-size c = c.section_size.ensures ∙ ap (λ (l : Laid). l.sizes.line) c.in_ok-layout.ensures.0 ∙ one_table c.args.spec.now.unit
 
 pub line_relocs-requires-clause-small : goal.line_relocs-requires-clause-small
-line_relocs-requires-clause-small c =
-    omega (arith, c.section_size.ensures, ap (λ (l : Laid). l.sizes.line) c.in_ok-layout.ensures.0, line_short (graph_of c.args.spec.now.unit) c.requires.sections)
+line_relocs-requires-clause-small c = below_limit _ _ (c.section_size.ensures ∙ ap (λ (l : Laid). l.sizes.line) c.in_ok-layout.ensures.0) (line_short (graph_of c.args.spec.now.unit) c.requires.sections)
 
 pub object_of-requires-clause-sized : goal.object_of-requires-clause-sized
 unfolding sections_of
