@@ -1,5 +1,5 @@
 -- The files of the generated objects are short.
-use Rattle.std.proofs.Common.{◌≡◌, ◌≤◌, ◌<◌, ◌^◌, ◌+◌, ◌*◌, ℕ, zero, suc, List, [], ◌∷◌, ◌++◌, length, map, arith, refl, ap, length-append}
+use Rattle.std.proofs.Common.{◌∙◌, ◌≡◌, ◌≤◌, ◌<◌, ◌^◌, ◌+◌, ◌*◌, ℕ, zero, suc, List, [], ◌∷◌, ◌++◌, length, map, arith, refl, ap, length-append}
 use Rattle.std.specs.List.{All, AllByRecursion, range_with_len}
 use Rattle.std.proofs.lemmas.List.{length-map}
 use Rattle.std.proofs.lemmas.List.Elements.{All-map}
@@ -12,7 +12,7 @@ use Rattle.reloc_table.specs.declared.relocation.Reloc.{Reloc}
 use Rattle.sample_objects.specs.declared.spec.ObjectSpec.{ObjectSpec}
 use Rattle.sample_objects.specs.GeneratedProgram.{generated_program, reloc_of, spec_of, symbol_of}
 use Rattle.sample_objects.specs.GeneratedUnit.{all_numbers}
-use Rattle.sample_objects.specs.ObjectFile.{commands_len, file_of, graph_of, line_relocs, object_bytes, relocs_bytes, sections_of}
+use Rattle.sample_objects.specs.ObjectFile.{commands_len, file_of, graph_of, line_relocs, object_bytes, relocs_bytes, sections_in, sections_of}
 use Rattle.sample_objects.proofs.PlacedSymbols.{texts_are, texts_few}
 use Rattle.sample_objects.proofs.Short.{AreShort, contents_few, sections_few}
 use Rattle.sample_objects.proofs.ShortNames.{symbol_short}
@@ -65,15 +65,15 @@ unfolding all_numbers
 numbers_len = length-range_with_len 0 100
 
 few_sections : (spec : ObjectSpec) → length (sections_of spec) ≤ 11
-unfolding sections_of
+unfolding sections_in
 few_sections spec = sections_few (graph_of spec.unit)
 
 few_contents : (spec : ObjectSpec) → AreShort (graph_of spec.unit) → length (contents (sections_of spec)) ≤ 2 ^ 28
-unfolding sections_of
+unfolding sections_in
 few_contents spec small = contents_few (graph_of spec.unit) small
 
 whole_short : (file commands sections bytes relocs moved symbols strings : ℕ) → file ≡ 32 + (commands + (bytes + (relocs + (moved + (symbols + strings))))) → commands ≡ commands_len sections → sections ≤ 11
-    → bytes ≤ 2 ^ 28 → relocs ≡ 800 → moved ≡ 0 → symbols ≡ 1600 → strings ≤ 1300 → file < 2 ^ 32
+    → bytes ≤ 2 ^ 28 → relocs ≡ 800 → moved ≡ 0 → symbols ≡ 1600 → strings ≤ 1400 → file < 2 ^ 32
 whole_short file commands sections bytes relocs moved symbols strings whole first few_parts few_bytes r m s t = omega (arith, whole, first, few_parts, few_bytes, r, m, s, t)
 
 pub object_short : (i : ℕ) → i ≤ 1000 → length (object_bytes (spec_of i)) < 2 ^ 32

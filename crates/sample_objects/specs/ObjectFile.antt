@@ -29,8 +29,12 @@ use Rattle.sample_objects.specs.declared.spec.ObjectSpec.{ObjectSpec}
 abbrev pub graph_of : OutUnit → Graph
 graph_of unit = record { units = unit ∷ []; frames = [] }
 
-unfoldable pub sections_of : ObjectSpec → List Written
-sections_of spec = encode (graph_of spec.unit)
+-- its sections
+unfoldable pub sections_in : Graph → List Written
+sections_in graph = encode graph
+
+abbrev pub sections_of : ObjectSpec → List Written
+sections_of spec = sections_in (graph_of spec.unit)
 
 -- the parts of sections, each with its size in bytes
 abbrev pub sized_of : List Written → List (Part × ℕ)

@@ -4,9 +4,8 @@ ghost use Rattle.std.specs.Prelude.{◌≡◌, ◌↔◌, true, None, Ok, map, I
 ghost use Rattle.std.specs.List.{filter, sum_by};
 ghost use Rattle.dsym_write.specs.Bundle.{contents};
 ghost use Rattle.dwarf_types.specs.declared.graph.Graph.{Graph};
-ghost use Rattle.dwarf_types.specs.Encode.{encode};
 ghost use Rattle.layout.specs.Laid.{AreDrafts, IsMeasured, Measures, long_section, long_unit};
-ghost use Rattle.sample_objects.specs.ObjectFile.{graph_of, sized_of};
+ghost use Rattle.sample_objects.specs.ObjectFile.{graph_of, sections_in, sized_of};
 ghost use Rattle.sample_objects.specs.Sized.{has_size, with_size};
 ghost use Rattle.unit_draft.specs.Drafted.{IsDraft};
 
@@ -86,8 +85,9 @@ fn drafts_of(alloc: Global, unit: &OutUnit, draft: Draft) -> Result<List<Draft>,
 }
 
 /// The sections that have bytes, each with its size.
+#[tactic(auto, unfolding(crate::specs::ObjectFile::sections_in))]
 pub(crate) fn sized_sections(alloc: Global, layout: &Layout) -> Result<List<(Part, u64)>, NoMemory>
-    ensures { IfOk result (λ sized. (graph : Graph) → Measures graph (Ok layout.now) → sized ≡ sized_of (encode graph)) }
+    ensures { IfOk result (λ sized. (graph : Graph) → Measures graph (Ok layout.now) → sized ≡ sized_of (sections_in graph)) }
 {
     let sized = with_bytes(alloc, layout, &PARTS)?;
     Ok(sized)
@@ -108,14 +108,15 @@ fn with_bytes(alloc: Global, layout: &Layout, parts: &[Part]) -> Result<List<(Pa
 }
 
 /// The bytes of the sections, one behind the other.
+#[tactic(auto, unfolding(crate::specs::ObjectFile::sections_in))]
 pub(crate) fn contents_of(
     alloc: Global,
     layout: &Layout,
     sized: &[(Part, u64)],
 ) -> Result<Bytes, NoMemory>
     requires measured { IsMeasured layout.now }
-    requires sized { (graph : Graph) → Measures graph (Ok layout.now) → sized.now ≡ sized_of (encode graph) }
-    ensures { IfOk result (λ bytes. (graph : Graph) → Measures graph (Ok layout.now) → bytes ≡ contents (encode graph)) }
+    requires sized { (graph : Graph) → Measures graph (Ok layout.now) → sized.now ≡ sized_of (sections_in graph) }
+    ensures { IfOk result (λ bytes. (graph : Graph) → Measures graph (Ok layout.now) → bytes ≡ contents (sections_in graph)) }
 {
     let size = total_size(sized)?;
     let mut bytes = Bytes::zeros(alloc, size as usize)?;

@@ -2,7 +2,7 @@ use Rattle.std.proofs.Common.{◌∙◌, ap, arith}
 use Rattle.layout.specs.Laid.{Laid}
 use Rattle.layout.proofs.Limits.{line_short}
 use Rattle.sample_objects.proofs.LineSizes.{below_limit, one_table}
-use Rattle.sample_objects.specs.ObjectFile.{graph_of, sections_of}
+use Rattle.sample_objects.specs.ObjectFile.{graph_of}
 use Rattle.sample_objects.proofs.file.object.Goals as goal
 
 pub layout_of-requires-clause-unit : goal.layout_of-requires-clause-unit
@@ -24,11 +24,9 @@ pub line_relocs-requires-clause-small : goal.line_relocs-requires-clause-small
 line_relocs-requires-clause-small c = below_limit _ _ (c.section_size.ensures ∙ ap (λ (l : Laid). l.sizes.line) c.in_ok-layout.ensures.0) (line_short (graph_of c.args.spec.now.unit) c.requires.sections)
 
 pub object_of-requires-clause-sized : goal.object_of-requires-clause-sized
-unfolding sections_of
 object_of-requires-clause-sized c = c.as_slice-2.ensures ∙ c.in_ok-sized.ensures (graph_of c.args.spec.now.unit) c.in_ok-layout.ensures
 
 pub object_of-requires-clause-contents : goal.object_of-requires-clause-contents
-unfolding sections_of
 object_of-requires-clause-contents c = c.as_slice-3.ensures ∙ c.in_ok-contents.ensures (graph_of c.args.spec.now.unit) c.in_ok-layout.ensures
 
 pub object_of-requires-clause-moved : goal.object_of-requires-clause-moved
