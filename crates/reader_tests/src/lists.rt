@@ -19,6 +19,7 @@ fn ranges(rt: &impl Abort, alloc: Global, bytes: &[u8]) -> Result<List<RawSpan>,
     let relocs = two_relocs(alloc, 0, 8)?;
     let image = no_symbols(alloc);
     let sections = sections(b"", bytes, b"", b"");
+    assert!(rt; sections.addr.len() < 1000);
     read_ranges(alloc, &sections, &relocs, &image, 0, 4, &UNIT, &relocs, 8)
 }
 
@@ -80,6 +81,7 @@ fn locations(rt: &impl Abort, alloc: Global, bytes: &[u8]) -> Result<List<RawLoc
     let relocs = two_relocs(alloc, 0, 8)?;
     let image = no_symbols(alloc);
     let sections = sections(b"", b"", bytes, b"");
+    assert!(rt; sections.addr.len() < 1000);
     read_locations(alloc, &sections, &relocs, &image, 0, 4, &UNIT, &relocs, 8)
 }
 
