@@ -94,14 +94,14 @@ module _ (P : Kind → Type 0) (cut : P Truncated) (bad : P BadList) where
 -- ---- lists
 
 module _ (P : Kind → Type 0) (cut : P Truncated) where
-  module _ {A : Type 0} (c : Context) (item_kinds : (base : Addr) (s : Spot) → FaultsAre P (item_at c base s)) (behind : Behind A) (behind_kinds : (first : Spot) (span : RawSpan) (s : Spot) → FaultsAre P (behind first span s)) where
-    said_kinds : (first : Spot) (item : Item) (s : Spot) → FaultsAre P (said_at behind first item s)
-    said_kinds first items.End s = ok_kinds P (ends, s)
-    said_kinds first (items.Base selected) s = ok_kinds P (selects selected, s)
-    said_kinds first (items.Span span) s = bind_kinds P (behind first span s) _ (behind_kinds first span s) (λ x. ok_kinds P _)
+  module _ {A : Type 0} (c : Context) (item_kinds : (base : Addr) (s : Spot) → FaultsAre P (item_at c base s)) (behind : Behind A) (behind_kinds : (place : ℕ) (span : RawSpan) (s : Spot) → FaultsAre P (behind place span s)) where
+    said_kinds : (place : ℕ) (item : Item) (s : Spot) → FaultsAre P (said_at behind place item s)
+    said_kinds place items.End s = ok_kinds P (ends, s)
+    said_kinds place (items.Base selected) s = ok_kinds P (selects selected, s)
+    said_kinds place (items.Span span) s = bind_kinds P (behind place span s) _ (behind_kinds place span s) (λ x. ok_kinds P _)
 
     whole_kinds : (base : Addr) (s : Spot) → FaultsAre P (whole_at c behind base s)
-    whole_kinds base s = bind_kinds P (item_at c base s) _ (item_kinds base s) (λ item. said_kinds s item.0 item.1)
+    whole_kinds base s = bind_kinds P (item_at c base s) _ (item_kinds base s) (λ item. said_kinds s.place item.0 item.1)
 
     -- what stops a listing
     abbrev StopsSo : Listing A → Type 0

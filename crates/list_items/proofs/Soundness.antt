@@ -55,25 +55,25 @@ sound_from span le differ = rise_from span.low span.high le differ
 
 -- reading behind a span leaves the end where it is
 abbrev pub KeepsEnd : {A : Type 0} → Behind A → Type 0
-KeepsEnd {A = A} behind = (first : Spot) (span : RawSpan) (s : Spot) (x : A) (t : Spot) → behind first span s ≡ Ok (x, t) → t.end ≡ s.end
+KeepsEnd {A = A} behind = (place : ℕ) (span : RawSpan) (s : Spot) (x : A) (t : Spot) → behind place span s ≡ Ok (x, t) → t.end ≡ s.end
 
 -- what is read behind a sound span in front of that end keeps to P
 abbrev pub Keeps : {A : Type 0} → (A → Type 0) → ℕ → Behind A → Type 0
-Keeps {A = A} P end behind = (first : Spot) (span : RawSpan) (s : Spot) (x : A) (t : Spot) → s.end ≡ end → IsSoundSpan span → behind first span s ≡ Ok (x, t) → P x
+Keeps {A = A} P end behind = (place : ℕ) (span : RawSpan) (s : Spot) (x : A) (t : Spot) → s.end ≡ end → IsSoundSpan span → behind place span s ≡ Ok (x, t) → P x
 
 if_given : {A : Type 0} (P : A → Type 0) (empty : Bool) (x : A) → (empty ≡ false → P x) → IfSome (if empty then None else Some x) P
 if_given P true x h = tt
 if_given P false x h = h refl
 
 said_sound : {A : Type 0} (P : A → Type 0) (end : ℕ) (behind : Behind A) → KeepsEnd behind → Keeps P end behind
-    → (first : Spot) (item : Item) (s : Spot) (y : Says A × Spot) → s.end ≡ end → IsOrdered item → said_at behind first item s ≡ Ok y → IfSome (given y.0) P × (y.1.end ≡ end)
-said_sound {A = A} P end behind same keeps first items.End s y at ordered e = subst (λ (r : Says A × Spot). IfSome (given r.0) P × (r.1.end ≡ end)) (ok_is (ends, s) y e) (tt, at)
-said_sound {A = A} P end behind same keeps first (items.Base selected) s y at ordered e = subst (λ (r : Says A × Spot). IfSome (given r.0) P × (r.1.end ≡ end)) (ok_is (selects selected, s) y e) (tt, at)
-said_sound {A = A} P end behind same keeps first (items.Span span) s y at ordered e =
-    let p = bind_ok (behind first span s) _ y e in
+    → (place : ℕ) (item : Item) (s : Spot) (y : Says A × Spot) → s.end ≡ end → IsOrdered item → said_at behind place item s ≡ Ok y → IfSome (given y.0) P × (y.1.end ≡ end)
+said_sound {A = A} P end behind same keeps place items.End s y at ordered e = subst (λ (r : Says A × Spot). IfSome (given r.0) P × (r.1.end ≡ end)) (ok_is (ends, s) y e) (tt, at)
+said_sound {A = A} P end behind same keeps place (items.Base selected) s y at ordered e = subst (λ (r : Says A × Spot). IfSome (given r.0) P × (r.1.end ≡ end)) (ok_is (selects selected, s) y e) (tt, at)
+said_sound {A = A} P end behind same keeps place (items.Span span) s y at ordered e =
+    let p = bind_ok (behind place span s) _ y e in
     subst (λ (r : Says A × Spot). IfSome (given r.0) P × (r.1.end ≡ end)) (ok_is (spans span p.0.0, p.0.1) y p.2) (
-      if_given P (is_empty span) p.0.0 (λ differ. keeps first span s p.0.0 p.0.1 at (sound_from span ordered differ) p.1),
-      same first span s p.0.0 p.0.1 p.1 ∙ at,
+      if_given P (is_empty span) p.0.0 (λ differ. keeps place span s p.0.0 p.0.1 at (sound_from span ordered differ) p.1),
+      same place span s p.0.0 p.0.1 p.1 ∙ at,
     )
 
 whole_sound : {A : Type 0} (P : A → Type 0) (end : ℕ) (c : Context) (behind : Behind A) → KeepsEnd behind → Keeps P end behind
@@ -82,7 +82,7 @@ whole_sound P end c behind same keeps base s y at e =
     let item = bind_ok (item_at c base s) _ y e in
     let kept = item_kept c base s item.0 item.1 in
     let moved = kept.0 in
-    said_sound P end behind same keeps s item.0.0 item.0.1 y (end_kept s item.0.1 moved.onward ∙ at) kept.1 item.2
+    said_sound P end behind same keeps s.place item.0.0 item.0.1 y (end_kept s item.0.1 moved.onward ∙ at) kept.1 item.2
 
 pub list_sound : {A : Type 0} (P : A → Type 0) (end : ℕ) (c : Context) (behind : Behind A) → KeepsEnd behind → Keeps P end behind
     → (left : ℕ) (base : Addr) (s : Spot) (xs : List A) → s.end ≡ end → list_of (items_from (whole_at c behind) left base s) ≡ Ok xs → All P xs

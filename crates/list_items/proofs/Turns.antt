@@ -3,8 +3,10 @@ use Rattle.std.proofs.Common.{◌≡◌, ℕ, true, false, suc, ◌+◌, ◌-◌
 use Rattle.std.specs.List.{filter_map}
 use Rattle.ds_base.specs.declared.fault.Fault.{Fault}
 use Rattle.ds_base.specs.declared.fault.Kind.TheVariants as kinds
+use Rattle.ds_base.specs.declared.fault.ReadError.{ReadError}
+use Rattle.ds_base.specs.declared.fault.ReadError.TheVariants as errors
 use Rattle.ds_base.specs.Spot.{Spot, fault_at}
-use Rattle.ds_base.specs.Reading.{◌>>=◌}
+use Rattle.ds_base.specs.Reading.{◌>>=◌, Gives, ReadsUnlessFull}
 use Rattle.dwarf_types.specs.declared.address.Addr.{Addr}
 use Rattle.dwarf_types.specs.declared.lists.RawSpan.{RawSpan}
 use Rattle.list_items.specs.declared.item.Item.TheVariants as items
@@ -66,13 +68,15 @@ pub base_selected : {A : Type 0} (c : Context) (behind : Behind A) (left i : ℕ
     → before xs (list_at c behind (left - (i + 1)) selected t) ≡ total
 base_selected c behind left i xs base selected s t total lt item so_far = sym (turn c behind left i xs base s total lt so_far ∙ rw item refl)
 
-pub behind_refused : {A : Type 0} (c : Context) (behind : Behind A) (left i : ℕ) (xs : List A) (base : Addr) (span : RawSpan) (s t : Spot) (f : Fault) (total : Result (List A) Fault) → i < left
-    → item_at c base s ≡ Ok (items.Span span, t) → behind s span t ≡ Err f
-    → before xs (list_at c behind (left - i) base s) ≡ total → total ≡ Err f
-behind_refused c behind left i xs base span s t f total lt item read so_far = turn c behind left i xs base s total lt so_far ∙ rw (item, read) refl
+-- what follows the span is refused, or memory runs out
+pub behind_refused : {A : Type 0} (c : Context) (behind : Behind A) (left i : ℕ) (xs : List A) (base : Addr) (span : RawSpan) (s t u : Spot) (e : ReadError) (total : Result (List A) Fault) → i < left
+    → item_at c base s ≡ Ok (items.Span span, t) → ReadsUnlessFull (λ (x : A). x) (Err e) u (behind s.place span t)
+    → before xs (list_at c behind (left - i) base s) ≡ total → Gives (λ (ys : List A). ys) (Err e) total
+behind_refused c behind left i xs base span s t u (errors.Faulty f) total lt item read so_far = turn c behind left i xs base s total lt so_far ∙ rw (item, read) refl
+behind_refused c behind left i xs base span s t u errors.NoMemory total lt item read so_far = tt
 
 pub span_kept : {A : Type 0} (c : Context) (behind : Behind A) (left i : ℕ) (xs : List A) (x : A) (base : Addr) (span : RawSpan) (s t u : Spot) (total : Result (List A) Fault) → i < left
-    → item_at c base s ≡ Ok (items.Span span, t) → behind s span t ≡ Ok (x, u) → is_empty span ≡ false
+    → item_at c base s ≡ Ok (items.Span span, t) → behind s.place span t ≡ Ok (x, u) → is_empty span ≡ false
     → before xs (list_at c behind (left - i) base s) ≡ total
     → before (xs ++ x ∷ []) (list_at c behind (left - (i + 1)) base u) ≡ total
 span_kept {A = A} c behind left i xs x base span s t u total lt item read some so_far =
@@ -80,7 +84,7 @@ span_kept {A = A} c behind left i xs x base span s t u total lt item read some s
     sym (turn c behind left i xs base s total lt so_far ∙ rw (item, read, some) (one_given xs x more.stop (filter_map (λ item. given item.says) more.items)))
 
 pub span_dropped : {A : Type 0} (c : Context) (behind : Behind A) (left i : ℕ) (xs : List A) (x : A) (base : Addr) (span : RawSpan) (s t u : Spot) (total : Result (List A) Fault) → i < left
-    → item_at c base s ≡ Ok (items.Span span, t) → behind s span t ≡ Ok (x, u) → is_empty span ≡ true
+    → item_at c base s ≡ Ok (items.Span span, t) → behind s.place span t ≡ Ok (x, u) → is_empty span ≡ true
     → before xs (list_at c behind (left - i) base s) ≡ total
     → before xs (list_at c behind (left - (i + 1)) base u) ≡ total
 span_dropped c behind left i xs x base span s t u total lt item read none so_far =

@@ -20,20 +20,20 @@ use Rattle.list_items.proofs.Items.{item_kept}
 
 -- reading behind a span goes on from where it begins
 abbrev pub GoesOn : {A : Type 0} → Behind A → Type 0
-GoesOn {A = A} behind = (first : Spot) (span : RawSpan) (s : Spot) (y : A × Spot) → behind first span s ≡ Ok y → Onward s y.1
+GoesOn {A = A} behind = (place : ℕ) (span : RawSpan) (s : Spot) (y : A × Spot) → behind place span s ≡ Ok y → Onward s y.1
 
-said_onward : {A : Type 0} (behind : Behind A) → GoesOn behind → (first : Spot) (item : Item) (s : Spot) (y : Says A × Spot) → said_at behind first item s ≡ Ok y → Onward s y.1
-said_onward {A = A} behind on first items.End s y e = subst (λ (r : Says A × Spot). Onward s r.1) (ok_is (ends, s) y e) (stays s)
-said_onward {A = A} behind on first (items.Base selected) s y e = subst (λ (r : Says A × Spot). Onward s r.1) (ok_is (selects selected, s) y e) (stays s)
-said_onward {A = A} behind on first (items.Span span) s y e =
-    let p = bind_ok (behind first span s) _ y e in
-    subst (λ (r : Says A × Spot). Onward s r.1) (ok_is (spans span p.0.0, p.0.1) y p.2) (on first span s p.0 p.1)
+said_onward : {A : Type 0} (behind : Behind A) → GoesOn behind → (place : ℕ) (item : Item) (s : Spot) (y : Says A × Spot) → said_at behind place item s ≡ Ok y → Onward s y.1
+said_onward {A = A} behind on place items.End s y e = subst (λ (r : Says A × Spot). Onward s r.1) (ok_is (ends, s) y e) (stays s)
+said_onward {A = A} behind on place (items.Base selected) s y e = subst (λ (r : Says A × Spot). Onward s r.1) (ok_is (selects selected, s) y e) (stays s)
+said_onward {A = A} behind on place (items.Span span) s y e =
+    let p = bind_ok (behind place span s) _ y e in
+    subst (λ (r : Says A × Spot). Onward s r.1) (ok_is (spans span p.0.0, p.0.1) y p.2) (on place span s p.0 p.1)
 
 whole_further : {A : Type 0} (c : Context) (behind : Behind A) → GoesOn behind → (base : Addr) (s : Spot) (y : Says A × Spot) → whole_at c behind base s ≡ Ok y → Further s y.1
 whole_further c behind on base s y e =
     let item = bind_ok (item_at c base s) _ y e in
     let kept = item_kept c base s item.0 item.1 in
-    further_then s item.0.1 y.1 kept.0 (said_onward behind on s item.0.0 item.0.1 y item.2)
+    further_then s item.0.1 y.1 kept.0 (said_onward behind on s.place item.0.0 item.0.1 y item.2)
 
 -- ---- items in turn
 

@@ -16,9 +16,9 @@ use Rattle.list_items.specs.Reading.{item_at}
 
 -- ---- an item
 
--- what is read behind a span whose item begins at first
+-- what is read behind a span whose item begins at a place
 abbrev pub Behind : Type 0 → Type 0
-Behind A = Spot → RawSpan → Spot → Result (A × Spot) Fault
+Behind A = ℕ → RawSpan → Spot → Result (A × Spot) Fault
 
 -- what an item says: that the list ends, the base of the items behind it, or a span with what is read behind it
 pub data Says (A : Type 0) : Type 0 where
@@ -27,14 +27,14 @@ pub data Says (A : Type 0) : Type 0 where
   spans : RawSpan → A → Says A
 
 -- what follows an item's span
-abbrev pub said_at : {A : Type 0} → Behind A → Spot → Item → Spot → Result (Says A × Spot) Fault
-said_at behind first items.End s = Ok (ends, s)
-said_at behind first (items.Base selected) s = Ok (selects selected, s)
-said_at behind first (items.Span span) s = behind first span s >>= λ x. Ok (spans span x.0, x.1)
+abbrev pub said_at : {A : Type 0} → Behind A → ℕ → Item → Spot → Result (Says A × Spot) Fault
+said_at behind place items.End s = Ok (ends, s)
+said_at behind place (items.Base selected) s = Ok (selects selected, s)
+said_at behind place (items.Span span) s = behind place span s >>= λ x. Ok (spans span x.0, x.1)
 
 -- the next item of a list that has this base, and what follows its span
 abbrev pub whole_at : {A : Type 0} → Context → Behind A → Addr → Spot → Result (Says A × Spot) Fault
-whole_at c behind base s = item_at c base s >>= λ item. said_at behind s item.0 item.1
+whole_at c behind base s = item_at c base s >>= λ item. said_at behind s.place item.0 item.1
 
 -- ---- the items of a list
 

@@ -4,10 +4,10 @@
 //! `__debug_ranges` and `__debug_loc` (`specs/Words.antt`), in version 5 the entries of `__debug_rnglists` and
 //! `__debug_loclists` (DWARF 5, sections 2.17.3 and 2.6.2; `specs/Entries.antt`). [`read_item`] gives `item_at` where a
 //! cursor stands (`specs/Reading.antt`): the end of the list, a new base, or a span with the base applied
-//! (`specs/Ends.antt`). Both lists are `list_in` their section (`specs/Lists.antt`): a listing of their items, with what
-//! follows a span as its argument (nothing in a range list, an expression in a location list), and what the items give.
-//! `range_lists` and `loc_lists` have the two loops, and the laws that no byte of a list is left out
-//! (`specs/Whole.antt`). Nothing here is moved to the linked program.
+//! (`specs/Ends.antt`). [`read_list`] gives the whole list, `list_in` its section (`specs/Lists.antt`): a listing of the
+//! items, with what follows a span as its argument ([`Behind`]: nothing in a range list, an expression in a location
+//! list), and what the items give. `range_lists` and `loc_lists` say what follows, and have the laws that no byte of a
+//! list is left out (`specs/Whole.antt`). Nothing here is moved to the linked program.
 #![tactic(auto)]
 
 mod context;
@@ -15,8 +15,10 @@ mod ends;
 mod entry;
 mod item;
 mod kinds;
+mod list;
 mod words;
 
 pub use context::{ListContext, ListForm};
 pub use ends::is_empty;
 pub use item::{Item, read_item};
+pub use list::{Behind, read_list};

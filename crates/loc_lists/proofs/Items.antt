@@ -43,17 +43,17 @@ expression_fits version s expression t e =
     )
 
 end_kept : (version : ℕ) → KeepsEnd (location_at version)
-end_kept version first span s x t e =
+end_kept version place span s x t e =
     let p = bind_ok (expression_at version s) _ (x, t) e in
     sym (ap (λ (r : RawLocation × Spot). r.1.end) (ok_is _ (x, t) p.2)) ∙ (expression_fits version s p.0.0 p.0.1 p.1).1
 
 item_kept : (version end : ℕ) → Keeps (IsSoundLocation end) end (location_at version)
-item_kept version end first span s x t at sound e =
+item_kept version end place span s x t at sound e =
     let p = bind_ok (expression_at version s) _ (x, t) e in
     let fits = (expression_fits version s p.0.0 p.0.1 p.1).0 in
     let inside : p.0.0.0 + length p.0.0.1 ≤ end = omega (arith, fits, at) in
-    let made : IsSoundLocation end (location first span p.0.0) = record { span = sound; inside = inside } in
-    subst (IsSoundLocation end) (ap (λ (r : RawLocation × Spot). r.0) (ok_is (location first span p.0.0, p.0.1) (x, t) p.2)) made
+    let made : IsSoundLocation end (location place span p.0.0) = record { span = sound; inside = inside } in
+    subst (IsSoundLocation end) (ap (λ (r : RawLocation × Spot). r.0) (ok_is (location place span p.0.0, p.0.1) (x, t) p.2)) made
 
 pub locations_sound : (sections : SectionBytes) (relocs : Relocs) (image : Image) (offset version : ℕ) (base : Addr) (addresses : Relocs) (addr_base : ℕ) (locations : List RawLocation)
     → locations_of sections relocs image offset version base addresses addr_base ≡ Ok locations → All (IsSoundLocation (length (location_bytes sections version))) locations

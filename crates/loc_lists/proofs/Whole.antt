@@ -34,7 +34,7 @@ expression_onward version s y e =
     (onward_then s len.0.1 bytes.0.1 first.onward (bytes_onward len.0.0 len.0.1 bytes.0 bytes.1))
 
 goes_on : (version : ℕ) → GoesOn (location_at version)
-goes_on version first span s y e =
+goes_on version place span s y e =
     let p = bind_ok (expression_at version s) _ y e in
     subst (λ (r : RawLocation × Spot). Onward s r.1) (ok_is _ y p.2) (expression_onward version s p.0 p.1)
 
@@ -56,9 +56,9 @@ len_kinds : (five : Bool) (s : Spot) → FaultsAre (KindsAre five) (len_at five 
 len_kinds true s = uleb_kinds (KindsAre true) s (0, omega arith, refl) (1, omega arith, refl)
 len_kinds false s = number_kinds (KindsAre false) 2 s (0, omega arith, refl)
 
-behind_kinds : (version : ℕ) (first : Spot) (span : RawSpan) (s : Spot) → FaultsAre (KindsAre (version == 5)) (location_at version first span s)
+behind_kinds : (version place : ℕ) (span : RawSpan) (s : Spot) → FaultsAre (KindsAre (version == 5)) (location_at version place span s)
 unfolding expression_at
-behind_kinds version first span s =
+behind_kinds version place span s =
     bind_kinds (KindsAre (version == 5)) (expression_at version s) _
     (bind_kinds (KindsAre (version == 5)) (len_at (version == 5) s) _ (len_kinds (version == 5) s)
     (λ len. bind_kinds (KindsAre (version == 5)) (bytes_at len.0 len.1) _ (bytes_kinds (KindsAre (version == 5)) len.0 len.1 (cut (version == 5))) (λ bytes. ok_kinds (KindsAre (version == 5)) _)))

@@ -49,10 +49,10 @@ expression_at version s = do
 -- ---- lists
 
 -- an expression follows a span, also an empty one
-abbrev pub location_at : ℕ → Spot → RawSpan → Spot → Result (RawLocation × Spot) Fault
-location_at version first span s = do
+abbrev pub location_at : ℕ → ℕ → RawSpan → Spot → Result (RawLocation × Spot) Fault
+location_at version place span s = do
   expression ← expression_at version s
-  Ok (record { span = span; place = first.place; first = expression.0.0; bytes = expression.0.1 }, expression.1)
+  Ok (record { span = span; place = place; first = expression.0.0; bytes = expression.0.1 }, expression.1)
 
 -- what the items are understood by: the relocations of their section and those of __debug_addr, where the unit's addresses begin at a base
 abbrev pub location_context : SectionBytes → Relocs → Image → ℕ → Relocs → ℕ → Context

@@ -1,23 +1,50 @@
 //! One location list, from its place in the section.
 
-ghost use Rattle.std.specs.Prelude.{◌≡◌, ◌-◌, ◌<◌, ◌^◌, ◌==◌, length, IfOk, OnOk};
+ghost use Rattle.std.specs.Prelude.{◌≡◌, ◌<◌, ◌^◌, ◌==◌, length, IfOk, OnOk};
 ghost use Rattle.std.specs.List.{All};
 ghost use Rattle.ds_base.specs.Reading.{Gives, Moves, Reads};
 ghost use Rattle.ds_base.specs.Spot.{IsSmall};
 ghost use Rattle.dwarf_types.specs.SectionBytes.{bytes_in};
-ghost use Rattle.list_items.specs.Context.{context_in, IsSoundContext};
-ghost use Rattle.list_items.specs.Lists.{items_from, list_of, whole_at};
 ghost use Rattle.macho_read.specs.Sound.{IsSound as IsSoundImage};
 ghost use Rattle.reloc_table.specs.Sound.{IsSound};
 ghost use Rattle.loc_lists.specs.Reading.{expression_at, len_at, location_at, location_bytes, location_form, location_part, locations_of};
 ghost use Rattle.loc_lists.specs.Sound.{IsSoundLocation};
 
-use ds_base::{Bytes, Cursor, Fault, Kind, List, Part, ReadError};
-use dwarf_types::{Addr, RawLocation, Sections};
-use list_items::{Item, ListContext, ListForm, is_empty, read_item};
+use ds_base::{Bytes, Cursor, Fault, List, Part, ReadError};
+use dwarf_types::{Addr, RawLocation, RawSpan, Sections};
+use list_items::{Behind, ListContext, ListForm, read_list};
 use macho_read::Image;
 use reloc_table::Relocs;
 use std::alloc::Global;
+
+/// An expression follows the span of each item.
+#[derive(Clone, Copy)]
+struct Expressions {
+    /// The unit's version.
+    version: u16,
+}
+
+impl Behind for Expressions {
+    type Item = RawLocation;
+
+    ghost behind = { λ expressions. location_at expressions.version };
+
+    fn read(
+        &self,
+        alloc: Global,
+        place: u64,
+        span: &RawSpan,
+        cursor: &mut Cursor<'_>,
+    ) -> Result<RawLocation, ReadError> {
+        let (first, expression) = read_expression(cursor, self.version)?;
+        Ok(RawLocation {
+            span: *span,
+            place,
+            first,
+            bytes: Bytes::from_slice(alloc, expression)?,
+        })
+    }
+}
 
 /// The items of the location list at `offset` (DWARF 4 and 5, section 2.6.2), in their order, without those of empty
 /// spans.
@@ -59,50 +86,15 @@ pub fn read_locations(
         addresses,
         addr_base,
     };
-    let bytes = bytes_of(sections, version);
-    let mut cursor = Cursor::new(
-        bytes,
+    read_list(
+        alloc,
         part_of(version),
-        u64::from(offset),
-        bytes.len() as u64,
-    );
-    read_items(alloc, &mut cursor, &context, version, base)
-}
-
-/// The items of the list that begins where the cursor stands.
-fn read_items(
-    alloc: Global,
-    cursor: &mut Cursor,
-    context: &ListContext<'_>,
-    version: u16,
-    base: &Addr,
-) -> Result<List<RawLocation>, ReadError>
-    requires sound { IsSoundContext (context_in context.now) }
-    requires small { IsSmall cursor.old }
-    ensures { Gives (λ locations. locations) result (list_of (items_from (whole_at (context_in context.now) (location_at version)) (cursor.old.end - cursor.old.place) base.now cursor.old)) }
-{
-    let mut base = *base;
-    let mut locations = List::new(alloc);
-    let left = cursor.left();
-    for _ in 0..left {
-        let place = cursor.place();
-        match read_item(cursor, context, &base)? {
-            Item::End => return Ok(locations),
-            Item::Base(selected) => base = selected,
-            Item::Span(span) => {
-                let (first, expression) = read_expression(cursor, version)?;
-                if !is_empty(&span) {
-                    locations.push(RawLocation {
-                        span,
-                        place,
-                        first,
-                        bytes: Bytes::from_slice(alloc, expression)?,
-                    })?;
-                }
-            }
-        }
-    }
-    Err(ReadError::Faulty(cursor.fault(Kind::Truncated)))
+        bytes_of(sections, version),
+        offset,
+        &context,
+        base,
+        &Expressions { version },
+    )
 }
 
 /// The expression behind its length, and the place of its first byte.

@@ -26,13 +26,13 @@ use Rattle.list_items.proofs.Wholes.{GoesOn, list_whole}
 use Rattle.range_lists.specs.Reading.{range_part, range_bytes, range_faults, range_at, range_context, range_items, ranges_of}
 
 end_kept : KeepsEnd range_at
-end_kept first span s x t e = sym (ap (λ (r : RawSpan × Spot). r.1.end) (ok_is (span, s) (x, t) e))
+end_kept place span s x t e = sym (ap (λ (r : RawSpan × Spot). r.1.end) (ok_is (span, s) (x, t) e))
 
 span_kept : (end : ℕ) → Keeps IsSoundSpan end range_at
-span_kept end first span s x t at sound e = subst IsSoundSpan (ap (λ (r : RawSpan × Spot). r.0) (ok_is (span, s) (x, t) e)) sound
+span_kept end place span s x t at sound e = subst IsSoundSpan (ap (λ (r : RawSpan × Spot). r.0) (ok_is (span, s) (x, t) e)) sound
 
 goes_on : GoesOn range_at
-goes_on first span s y e = subst (λ (r : RawSpan × Spot). Onward s r.1) (ok_is (span, s) y e) (stays s)
+goes_on place span s y e = subst (λ (r : RawSpan × Spot). Onward s r.1) (ok_is (span, s) y e) (stays s)
 
 -- ---- kinds of faults
 
@@ -74,4 +74,4 @@ module _ (sections : SectionBytes) (relocs : Relocs) (image : Image) (offset ver
 
   pub range_kinds : FaultsAre (Contains (range_faults version)) (ranges_of sections relocs image offset version base addresses addr_base)
   unfolding ranges_of
-  range_kinds = list_kinds (KindsAre (version == 5)) (cut (version == 5)) context each_kinds range_at (λ first span s. ok_kinds (KindsAre (version == 5)) (span, s)) (range_part version) bytes offset base
+  range_kinds = list_kinds (KindsAre (version == 5)) (cut (version == 5)) context each_kinds range_at (λ place span s. ok_kinds (KindsAre (version == 5)) (span, s)) (range_part version) bytes offset base

@@ -34,8 +34,8 @@ range_faults version = if version == 5 then Truncated ∷ LebTooWide ∷ BadList
 -- ---- lists
 
 -- nothing follows a span
-abbrev pub range_at : Spot → RawSpan → Spot → Result (RawSpan × Spot) Fault
-range_at first span s = Ok (span, s)
+abbrev pub range_at : ℕ → RawSpan → Spot → Result (RawSpan × Spot) Fault
+range_at place span s = Ok (span, s)
 
 -- what the items are understood by: the relocations of their section and those of __debug_addr, where the unit's addresses begin at a base
 abbrev pub range_context : SectionBytes → Relocs → Image → ℕ → Relocs → ℕ → Context

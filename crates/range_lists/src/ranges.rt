@@ -1,23 +1,40 @@
 //! One range list, from its place in the section.
 
-ghost use Rattle.std.specs.Prelude.{◌≡◌, ◌-◌, ◌<◌, ◌^◌, length, IfOk};
+ghost use Rattle.std.specs.Prelude.{◌≡◌, ◌<◌, ◌^◌, length, IfOk};
 ghost use Rattle.std.specs.List.{All};
 ghost use Rattle.ds_base.specs.Reading.{Gives};
-ghost use Rattle.ds_base.specs.Spot.{IsSmall};
 ghost use Rattle.dwarf_types.specs.SectionBytes.{bytes_in};
-ghost use Rattle.list_items.specs.Context.{context_in, IsSoundContext};
-ghost use Rattle.list_items.specs.Lists.{items_from, list_of, whole_at};
 ghost use Rattle.list_items.specs.Sound.{IsSoundSpan};
 ghost use Rattle.macho_read.specs.Sound.{IsSound as IsSoundImage};
 ghost use Rattle.reloc_table.specs.Sound.{IsSound};
 ghost use Rattle.range_lists.specs.Reading.{range_at, range_bytes, range_form, range_part, ranges_of};
 
-use ds_base::{Cursor, Kind, List, Part, ReadError};
+use ds_base::{Cursor, List, Part, ReadError};
 use dwarf_types::{Addr, RawSpan, Sections};
-use list_items::{Item, ListContext, ListForm, is_empty, read_item};
+use list_items::{Behind, ListContext, ListForm, read_list};
 use macho_read::Image;
 use reloc_table::Relocs;
 use std::alloc::Global;
+
+/// Nothing follows the span of an item.
+#[derive(Clone, Copy)]
+struct Alone;
+
+impl Behind for Alone {
+    type Item = RawSpan;
+
+    ghost behind = { λ alone. range_at };
+
+    fn read(
+        &self,
+        _alloc: Global,
+        _place: u64,
+        span: &RawSpan,
+        _cursor: &mut Cursor<'_>,
+    ) -> Result<RawSpan, ReadError> {
+        Ok(*span)
+    }
+}
 
 /// The spans of the range list at `offset` (DWARF 4 and 5, section 2.17.3), in their order, without the empty ones.
 ///
@@ -56,42 +73,15 @@ pub fn read_ranges(
         addresses,
         addr_base,
     };
-    let bytes = bytes_of(sections, version);
-    let mut cursor = Cursor::new(
-        bytes,
+    read_list(
+        alloc,
         part_of(version),
-        u64::from(offset),
-        bytes.len() as u64,
-    );
-    read_spans(alloc, &mut cursor, &context, base)
-}
-
-/// The spans of the list that begins where the cursor stands.
-fn read_spans(
-    alloc: Global,
-    cursor: &mut Cursor,
-    context: &ListContext<'_>,
-    base: &Addr,
-) -> Result<List<RawSpan>, ReadError>
-    requires sound { IsSoundContext (context_in context.now) }
-    requires small { IsSmall cursor.old }
-    ensures { Gives (λ spans. spans) result (list_of (items_from (whole_at (context_in context.now) range_at) (cursor.old.end - cursor.old.place) base.now cursor.old)) }
-{
-    let mut base = *base;
-    let mut spans = List::new(alloc);
-    let left = cursor.left();
-    for _ in 0..left {
-        match read_item(cursor, context, &base)? {
-            Item::End => return Ok(spans),
-            Item::Base(selected) => base = selected,
-            Item::Span(span) => {
-                if !is_empty(&span) {
-                    spans.push(span)?;
-                }
-            }
-        }
-    }
-    Err(ReadError::Faulty(cursor.fault(Kind::Truncated)))
+        bytes_of(sections, version),
+        offset,
+        &context,
+        base,
+        &Alone,
+    )
 }
 
 /// The section in which a unit of this version has its range lists.

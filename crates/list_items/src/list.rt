@@ -1,0 +1,94 @@
+//! A whole list, whatever follows its spans.
+
+ghost use Rattle.std.specs.Prelude.{◌≡◌, ◌-◌, ◌<◌, ◌^◌, length};
+ghost use Rattle.ds_base.specs.Reading.{Gives};
+ghost use Rattle.ds_base.specs.Spot.{IsSmall};
+ghost use Rattle.list_items.specs.Context.{context_in, IsSoundContext};
+ghost use Rattle.list_items.specs.Lists.{items_from, list_in, list_of, whole_at};
+
+use crate::context::ListContext;
+use crate::ends::is_empty;
+use crate::item::{Item, read_item};
+use ds_base::{Cursor, Kind, List, Part, ReadError};
+use dwarf_types::{Addr, RawSpan};
+use std::alloc::Global;
+
+/// What follows the span of an item: nothing in a range list, an expression in a location list.
+pub trait Behind {
+    ghost use Rattle.std.specs.Prelude.{OnOk};
+    ghost use Rattle.ds_base.specs.Reading.{ReadsUnlessFull};
+    ghost use Rattle.ds_base.specs.Spot.{IsSmall};
+    ghost use Rattle.list_items.specs.Lists.{Behind as ReadBehind};
+
+    /// A span with what follows it.
+    type Item: Drop;
+
+    /// What is read behind a span whose item begins at a place.
+    ghost behind: { Self → ReadBehind Self.Item };
+
+    /// Reads what follows a span whose item begins at `place`.
+    fn read(
+        &self,
+        alloc: Global,
+        place: u64,
+        span: &RawSpan,
+        cursor: &mut Cursor<'_>,
+    ) -> Result<Self::Item, ReadError>
+        requires small { IsSmall cursor.old }
+        ensures read { ReadsUnlessFull (λ item. item) result cursor.new (behind self.now place span.now cursor.old) }
+        ensures small { OnOk result (IsSmall cursor.new) };
+}
+
+/// The items of the list at `offset` of a section whose spans are not empty, in their order (DWARF 4 and 5, sections
+/// 2.17.3 and 2.6.2).
+///
+/// `base` is what offsets count from until the list selects another one. The faults are those of [`read_item`] and of what
+/// follows a span, and `Truncated` where no item is left.
+pub fn read_list<B: Behind>(
+    alloc: Global,
+    part: Part,
+    bytes: &[u8],
+    offset: u32,
+    context: &ListContext<'_>,
+    base: &Addr,
+    behind: &B,
+) -> Result<List<B::Item>, ReadError>
+    requires inside { offset < length bytes.now }
+    requires small { length bytes.now < 2 ^ 32 }
+    requires sound { IsSoundContext (context_in context.now) }
+    ensures { Gives (λ items. items) result (list_in part bytes.now (context_in context.now) (B.behind behind.now) offset base.now) }
+{
+    let mut cursor = Cursor::new(bytes, part, u64::from(offset), bytes.len() as u64);
+    read_items(alloc, &mut cursor, context, base, behind)
+}
+
+/// The items of the list that begins where the cursor stands.
+fn read_items<B: Behind>(
+    alloc: Global,
+    cursor: &mut Cursor<'_>,
+    context: &ListContext<'_>,
+    base: &Addr,
+    behind: &B,
+) -> Result<List<B::Item>, ReadError>
+    requires sound { IsSoundContext (context_in context.now) }
+    requires small { IsSmall cursor.old }
+    ensures { Gives (λ items. items) result (list_of (items_from (whole_at (context_in context.now) (B.behind behind.now)) (cursor.old.end - cursor.old.place) base.now cursor.old)) }
+{
+    let mut base = *base;
+    let mut items = List::new(alloc);
+    let left = cursor.left();
+    for _ in 0..left {
+        let place = cursor.place();
+        match read_item(cursor, context, &base)? {
+            Item::End => return Ok(items),
+            Item::Base(selected) => base = selected,
+            Item::Span(span) => {
+                let item = behind.read(alloc, place, &span, cursor)?;
+                if !is_empty(&span) {
+                    items.push(item)?;
+                }
+            }
+        }
+    }
+    Err(ReadError::Faulty(cursor.fault(Kind::Truncated)))
+}
