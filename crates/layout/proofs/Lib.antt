@@ -7,6 +7,7 @@ pub mod LineLengths
 pub mod Numbered
 pub mod OfDrafts
 pub mod Outsides
+pub mod Ranges
 pub mod SectionLengths
 pub mod TextRuns
 pub mod Whole

@@ -8,6 +8,7 @@
 //! [`outside_of`] tells what stands outside of each, so every part can be written apart from the others.
 #![tactic(auto)]
 
+mod address_sets;
 mod drafting;
 mod error;
 mod layout;

@@ -4,11 +4,11 @@ ghost use Rattle.std.specs.Prelude.{◌≡◌, ◌+◌, ◌<◌, ◌^◌, fold, 
 ghost use Rattle.layout.specs.Pass.{AreBelow, behind_draft, next_list, no_starts, none_placed, parts_of, with_draft};
 ghost use Rattle.dwarf_types.specs.Lists.{lists_header_len};
 
+use crate::address_sets::append_aranges;
 use crate::sizes::LISTS_HEADER_LEN;
 use crate::starts::{LISTS_VERSION, Starts, behind, first_starts};
 use crate::text::places_in;
 use ds_base::{Bytes, List, NoMemory};
-use frame_write::append_aranges;
 use patches::Placed;
 use std::alloc::Global;
 use text_pool::TextPool;

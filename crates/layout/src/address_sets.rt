@@ -1,4 +1,4 @@
-//! The addresses of units: `__debug_aranges` (DWARF 4, section 6.1.2).
+//! The addresses of units' code: `__debug_aranges` (DWARF 4, section 6.1.2).
 
 ghost use Rattle.std.specs.Prelude.{◌≡◌, ◌++◌, ◌∷◌, OnOk, replicate};
 ghost use Rattle.std.specs.List.{flat_map};
@@ -13,7 +13,7 @@ use dwarf_types::Span;
 const SET_VERSION: u16 = 2;
 
 /// Puts the addresses of a unit's code last; nothing where it has none. `start` is the place of the unit's header.
-pub fn append_aranges(out: &mut Bytes, start: u32, spans: &[Span]) -> Result<(), NoMemory>
+pub(crate) fn append_aranges(out: &mut Bytes, start: u32, spans: &[Span]) -> Result<(), NoMemory>
     ensures { OnOk result (out.new ≡ out.old ++ aranges_bytes start spans.now) }
 {
     if spans.is_empty() {

@@ -1,7 +1,7 @@
 use Rattle.dwarf_types.specs.declared.address.Span.{Span}
 use Rattle.dwarf_types.specs.Aranges.{arange_bytes}
 use Rattle.appending.proofs.Places.{append_item}
-use Rattle.frame_write.proofs.address_sets.append_spans.Goals as goal
+use Rattle.layout.proofs.address_sets.append_spans.Goals as goal
 
 pub loop-span-preserved : goal.loop-span-preserved
 loop-span-preserved c =

@@ -1,7 +1,7 @@
 use Rattle.std.proofs.Common.{◌-◌, ◌∙◌, ◌++◌, ap}
 use Rattle.byteorder.specs.Endian.{little_bytes}
 use Rattle.appending.proofs.Places.{append_more}
-use Rattle.frame_write.proofs.address_sets.append_span.Goals as goal
+use Rattle.layout.proofs.address_sets.append_span.Goals as goal
 
 pub returns : goal.returns
 returns c =

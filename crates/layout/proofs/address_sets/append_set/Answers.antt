@@ -3,8 +3,8 @@ use Rattle.std.specs.List.{flat_map}
 use Rattle.byteorder.specs.Endian.{little_bytes}
 use Rattle.dwarf_types.specs.Aranges.{arange_bytes, set_len}
 use Rattle.appending.proofs.Places.{append_more}
-use Rattle.frame_write.proofs.Ranges.{length-aranges}
-use Rattle.frame_write.proofs.address_sets.append_set.Goals as goal
+use Rattle.layout.proofs.Ranges.{length-aranges}
+use Rattle.layout.proofs.address_sets.append_set.Goals as goal
 
 pub returns : goal.returns
 returns c =
