@@ -27,7 +27,7 @@ pub(crate) fn ranges_of(
 {
     let mut pairs = pairs_of(alloc, seen, plain, u, unit)?;
     sort_pairs(&mut pairs);
-    let spans = once(alloc, &pairs)?;
+    let spans = distinct_spans(alloc, &pairs)?;
     Ok(spans)
 }
 
@@ -112,7 +112,7 @@ fn count_below(code: &[CodeRange], number: u64) -> usize
 }
 
 /// Pairs in order as spans, each once.
-fn once(alloc: Global, pairs: &[(u64, u64)]) -> Result<List<Span>, NoMemory>
+fn distinct_spans(alloc: Global, pairs: &[(u64, u64)]) -> Result<List<Span>, NoMemory>
     ensures { IfOk result (λ spans. spans ≡ once_behind None pairs.now) }
 {
     let mut spans = List::new(alloc);

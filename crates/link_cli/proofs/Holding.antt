@@ -12,9 +12,9 @@ use Rattle.link_core.specs.declared.status.Status.{Status}
 use Rattle.link_core.specs.declared.status.Status.TheVariants as statuses
 use Rattle.link_cli.specs.declared.files.HeldFiles.{HeldFiles}
 use Rattle.link_cli.specs.declared.files.Stopped.{Stopped}
-use Rattle.link_cli.specs.Files.{World, world, Held, HeldFile, IsNew, IsUnwritten, MissesFile, content_in, is_gone, lets_go, with_file, with_warning, ReadsFiles, all_held, is_held, was_let_go, is_read, is_let_go, is_unread, ran_out}
-use Rattle.link_cli.specs.Holding.{Becomes, LetsGo, held_of}
-use Rattle.link_cli.specs.Seen.{gone_seen, held_seen}
+use Rattle.link_cli.specs.Files.{World, world, Held, HeldFile, IsNew, IsUnwritten, MissesFile, content_in, is_missing, passes_over, with_file, with_warning, ReadsFiles, all_held, is_held, was_passed_over, is_read, is_passed_over, is_unread, ran_out}
+use Rattle.link_cli.specs.Holding.{Becomes, PassesOver, held_of}
+use Rattle.link_cli.specs.Seen.{missing_seen, held_seen}
 use Rattle.link_cli.proofs.Later.{unwritten_same}
 
 abbrev pub file_seen : Bor (List ℕ) × List ℕ → HeldFile
@@ -32,18 +32,18 @@ content_lookup (e ∷ es) name = by (bytes_eq name e.0.now) refl (content_lookup
 pub content_is : {S : Type 0} (held : HashMap (Bor (List ℕ)) (List ℕ) S) (name : List ℕ) → content_in (held_seen held) name ≡ get_by (λ k. bytes_eq name k.now) held
 content_is held name = content_lookup held.entries name
 
-gone_lookup : {V : Type 0} (es : List (Bor (List ℕ) × V)) (name : List ℕ) → is_gone (map (λ (e : Bor (List ℕ) × V). e.0.now) es) name ≡ is_some (lookup (λ k. bytes_eq name k.now) es)
-gone_lookup [] name = refl
-gone_lookup {V} (e ∷ es) name = by (bytes_eq name e.0.now) refl (gone_lookup es name)
+missing_lookup : {V : Type 0} (es : List (Bor (List ℕ) × V)) (name : List ℕ) → is_missing (map (λ (e : Bor (List ℕ) × V). e.0.now) es) name ≡ is_some (lookup (λ k. bytes_eq name k.now) es)
+missing_lookup [] name = refl
+missing_lookup {V} (e ∷ es) name = by (bytes_eq name e.0.now) refl (missing_lookup es name)
   where
-    by : (b : Bool) → bytes_eq name e.0.now ≡ b → is_gone (map (λ (x : Bor (List ℕ) × V). x.0.now) es) name ≡ is_some (lookup (λ k. bytes_eq name k.now) es)
-        → is_gone (map (λ (x : Bor (List ℕ) × V). x.0.now) (e ∷ es)) name ≡ is_some (lookup (λ k. bytes_eq name k.now) (e ∷ es))
+    by : (b : Bool) → bytes_eq name e.0.now ≡ b → is_missing (map (λ (x : Bor (List ℕ) × V). x.0.now) es) name ≡ is_some (lookup (λ k. bytes_eq name k.now) es)
+        → is_missing (map (λ (x : Bor (List ℕ) × V). x.0.now) (e ∷ es)) name ≡ is_some (lookup (λ k. bytes_eq name k.now) (e ∷ es))
     by true is more = rw is refl
     by false is more = rw is more
 
 -- a look-up finds that a file was let go
-pub gone_is : {S V : Type 0} (gone : HashMap (Bor (List ℕ)) V S) (name : List ℕ) → is_gone (gone_seen gone) name ≡ is_some (get_by (λ k. bytes_eq name k.now) gone)
-gone_is gone name = gone_lookup gone.entries name
+pub missing_is : {S V : Type 0} (missing : HashMap (Bor (List ℕ)) V S) (name : List ℕ) → is_missing (missing_seen missing) name ≡ is_some (get_by (λ k. bytes_eq name k.now) missing)
+missing_is missing name = missing_lookup missing.entries name
 
 -- nothing is found
 pub none_of : {A : Type 0} (o : Option A) → is_some o ≡ false → o ≡ None
@@ -74,11 +74,11 @@ module _ (keep_going : Bool) (number : ℕ) (object : MapObject) (old : Held) wh
         subst (λ (s : Status). ReadsFiles keep_going number (object ∷ objects) old before middle (Err (record { status = s; warnings = new.warnings }))) (sym is)
         (ran_out number (object ∷ objects) old before middle new.warnings unwritten)
 
-    pub goes_gone : (now : World) → content_in old.files object.file ≡ None → is_gone old.gone object.file ≡ true → (result : Result (Unit {0}) Status) → Becomes (with_warning old object) new result
+    pub goes_missing : (now : World) → content_in old.files object.file ≡ None → is_missing old.missing object.file ≡ true → (result : Result (Unit {0}) Status) → Becomes (with_warning old object) new result
         → Goes now now result
-    goes_gone now none gone (Ok ok) is = λ objects after answer rest.
-        was_let_go number object objects old now after answer none gone (subst (λ (h : Held). ReadsFiles keep_going (number + 1) objects h now after answer) is rest)
-    goes_gone now none gone (Err status) is = out_of_memory status now now (unwritten_same now) is
+    goes_missing now none missing (Ok ok) is = λ objects after answer rest.
+        was_passed_over number object objects old now after answer none missing (subst (λ (h : Held). ReadsFiles keep_going (number + 1) objects h now after answer) is rest)
+    goes_missing now none missing (Err status) is = out_of_memory status now now (unwritten_same now) is
 
     pub goes_read : (path name bytes : List ℕ) (o m : Option Contents) (before middle : Counts) → IsNew old object → path ≡ object.file → name ≡ object.file
         → (length bytes ≤ old.left) × Told o (λ files. fin.get files path ≡ Some bytes) → m ≡ o → IsLater before middle → (result : Result (Unit {0}) Status) → Becomes (with_file old name bytes) new result
@@ -97,9 +97,9 @@ module _ (keep_going : Bool) (number : ℕ) (object : MapObject) (was new : Held
       misses : MissesFile object.file was.left error (world o before) (world m middle)
       misses = record { cause = subst (λ (n : List ℕ). ReadFails o n was.left before middle error) is_path fails; same = same; later = later }
 
-      pub goes_missed : (result : Result (Unit {0}) Status) → LetsGo keep_going number object error was new result → Goes keep_going number object (held_of was) new (world o before) (world m middle) result
+      pub goes_missed : (result : Result (Unit {0}) Status) → PassesOver keep_going number object error was new result → Goes keep_going number object (held_of was) new (world o before) (world m middle) result
       goes_missed (Ok ok) is = λ objects after answer rest.
-          is_let_go number object objects (held_of was) (world o before) (world m middle) after error answer is_new misses is.0
+          is_passed_over number object objects (held_of was) (world o before) (world m middle) after error answer is_new misses is.0
           (subst (λ (h : Held). ReadsFiles keep_going (number + 1) objects h (world m middle) after answer) is.1 rest)
       goes_missed (Err status) (inl is) = λ objects.
           subst (λ (s : Stopped). ReadsFiles keep_going number (object ∷ objects) (held_of was) (world o before) (world m middle) (Err s)) (sym (λ i. record { status = is.1 i; warnings = is.2 i }))
@@ -118,16 +118,16 @@ pub held_more : {S : Type 0} (old new : HashMap (Bor (List ℕ)) (List ℕ) S) (
 held_more old new key bytes grown = ap (map file_seen) grown ∙ map_push file_seen old.entries (key, bytes)
 
 -- the table with one more name
-pub gone_more : {S V : Type 0} (old new : HashMap (Bor (List ℕ)) V S) (key : Bor (List ℕ)) (value : V) → new.entries ≡ old.entries ++ (key, value) ∷ []
-    → gone_seen new ≡ gone_seen old ++ key.now ∷ []
-gone_more {S} {V} old new key value grown =
+pub missing_more : {S V : Type 0} (old new : HashMap (Bor (List ℕ)) V S) (key : Bor (List ℕ)) (value : V) → new.entries ≡ old.entries ++ (key, value) ∷ []
+    → missing_seen new ≡ missing_seen old ++ key.now ∷ []
+missing_more {S} {V} old new key value grown =
     ap (map (λ (e : Bor (List ℕ) × V). e.0.now)) grown ∙ map_push (λ (e : Bor (List ℕ) × V). e.0.now) old.entries (key, value)
 
 -- a file was let go, and its object told
-pub let_go_as : (keep_going : Bool) (number : ℕ) (object : MapObject) (error : FileError) (old new : HeldFiles) (gone : List (List ℕ)) (result : Result (Unit {0}) Status) → lets_go keep_going error ≡ true
-    → gone ≡ gone_seen old.gone ++ object.file ∷ [] → Becomes (with_warning (record (held_of old) { gone = gone }) object) new result → LetsGo keep_going number object error old new result
-let_go_as keep_going number object error old new gone (Ok ok) goes more is = (goes, is ∙ ap (λ (names : List (List ℕ)). with_warning (record (held_of old) { gone = names }) object) more)
-let_go_as keep_going number object error old new gone (Err status) goes more is = inr is
+pub pass_over_as : (keep_going : Bool) (number : ℕ) (object : MapObject) (error : FileError) (old new : HeldFiles) (missing : List (List ℕ)) (result : Result (Unit {0}) Status) → passes_over keep_going error ≡ true
+    → missing ≡ missing_seen old.missing ++ object.file ∷ [] → Becomes (with_warning (record (held_of old) { missing = missing }) object) new result → PassesOver keep_going number object error old new result
+pass_over_as keep_going number object error old new missing (Ok ok) goes more is = (goes, is ∙ ap (λ (names : List (List ℕ)). with_warning (record (held_of old) { missing = names }) object) more)
+pass_over_as keep_going number object error old new missing (Err status) goes more is = inr is
 
 -- no object is left
 pub ends_held : (keep_going : Bool) (number k : ℕ) (objects : List MapObject) (held : Held) (now : World) → length objects ≤ k → ReadsFiles keep_going number (drop k objects) held now now (Ok held)

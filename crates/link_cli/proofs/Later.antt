@@ -7,7 +7,7 @@ use Rattle.link_cli.specs.declared.ending.Ending.{Ending}
 use Rattle.link_cli.specs.declared.files.Stopped.{Stopped}
 use Rattle.link_cli.specs.declared.plan.Mode.{Mode}
 use Rattle.link_cli.specs.declared.program.Program.{Program}
-use Rattle.link_cli.specs.Files.{World, Held, IsUnwritten, ReadsFiles, all_held, is_held, was_let_go, is_read, is_let_go, is_unread, ran_out}
+use Rattle.link_cli.specs.Files.{World, Held, IsUnwritten, ReadsFiles, all_held, is_held, was_passed_over, is_read, is_passed_over, is_unread, ran_out}
 use Rattle.link_cli.specs.Plan.{Planned}
 use Rattle.link_cli.specs.Answer.{Writes, not_made, plist_unwritten, image_unwritten, written, LinksSources, refused, untold, bundled, LinksObjects, file_unread, files_untold, files_read, Does, links, tells_map, map_untold, RunsProgram, program_unread, program_untold, program_refused, program_found, Runs, generates, reads_exe, Ends, usage, no_plan, planned}
 
@@ -32,9 +32,9 @@ pub reads_later : {keep_going : Bool} {number : ℕ} {objects : List MapObject} 
     → ReadsFiles keep_going number objects held before after answer → IsLater before.counts after.counts
 reads_later (all_held number held now) = later_same now now refl
 reads_later (is_held number object objects held before after bytes answer is rest) = reads_later rest
-reads_later (was_let_go number object objects held before after answer none gone rest) = reads_later rest
+reads_later (was_passed_over number object objects held before after answer none missing rest) = reads_later rest
 reads_later (is_read number object objects held before middle after bytes answer new reads rest) = later_trans before.counts middle.counts after.counts reads.later (reads_later rest)
-reads_later (is_let_go number object objects held before middle after error answer new misses goes rest) =
+reads_later (is_passed_over number object objects held before middle after error answer new misses goes rest) =
     later_trans before.counts middle.counts after.counts misses.later (reads_later rest)
 reads_later (is_unread number object objects held before after error new misses stays) = misses.later
 reads_later (ran_out number objects held before after warnings unwritten) = unwritten.later
@@ -44,9 +44,9 @@ pub reads_same : {keep_going : Bool} {number : ℕ} {objects : List MapObject} {
     → ReadsFiles keep_going number objects held before after answer → after.files ≡ before.files
 reads_same (all_held number held now) = refl
 reads_same (is_held number object objects held before after bytes answer is rest) = reads_same rest
-reads_same (was_let_go number object objects held before after answer none gone rest) = reads_same rest
+reads_same (was_passed_over number object objects held before after answer none missing rest) = reads_same rest
 reads_same (is_read number object objects held before middle after bytes answer new reads rest) = reads_same rest ∙ reads.same
-reads_same (is_let_go number object objects held before middle after error answer new misses goes rest) = reads_same rest ∙ misses.same
+reads_same (is_passed_over number object objects held before middle after error answer new misses goes rest) = reads_same rest ∙ misses.same
 reads_same (is_unread number object objects held before after error new misses stays) = misses.same
 reads_same (ran_out number objects held before after warnings unwritten) = unwritten.same
 

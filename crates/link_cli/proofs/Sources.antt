@@ -11,7 +11,7 @@ use Rattle.stab_map.specs.declared.object.MapObject.{MapObject}
 use Rattle.link_core.specs.Linked.{Source, sources_of}
 use Rattle.link_cli.specs.declared.files.Stopped.{Stopped}
 use Rattle.link_cli.specs.Answer.{sources_in}
-use Rattle.link_cli.specs.Files.{World, Held, HeldFile, none_held, content_in, ReadsFiles, all_held, is_held, was_let_go, is_read, is_let_go, is_unread, ran_out}
+use Rattle.link_cli.specs.Files.{World, Held, HeldFile, none_held, content_in, ReadsFiles, all_held, is_held, was_passed_over, is_read, is_passed_over, is_unread, ran_out}
 use Rattle.link_cli.specs.Seen.{AreSmall, held_seen, number_in}
 use Rattle.link_cli.proofs.Holding.{file_seen}
 
@@ -96,7 +96,7 @@ held_few (is_held number object objects held before after bytes answer is rest) 
     one_more : (a : Result Held Stopped) → IfOk a (λ all. length all.files ≤ length held.files + length objects) → IfOk a (λ all. length all.files ≤ length held.files + suc (length objects))
     one_more (Ok all) few = omega (arith, few)
     one_more (Err stopped) few = tt
-held_few (was_let_go number object objects held before after answer none gone rest) = one_more answer (held_few rest)
+held_few (was_passed_over number object objects held before after answer none missing rest) = one_more answer (held_few rest)
   where
     one_more : (a : Result Held Stopped) → IfOk a (λ all. length all.files ≤ length held.files + length objects) → IfOk a (λ all. length all.files ≤ length held.files + suc (length objects))
     one_more (Ok all) few = omega (arith, few)
@@ -109,7 +109,7 @@ held_few (is_read number object objects held before middle after bytes answer ne
     one_more : (a : Result Held Stopped) → IfOk a (λ all. length all.files ≤ length (held.files ++ file) + length objects) → IfOk a (λ all. length all.files ≤ length held.files + suc (length objects))
     one_more (Ok all) few = omega (arith, few, length-append held.files file)
     one_more (Err stopped) few = tt
-held_few (is_let_go number object objects held before middle after error answer new misses goes rest) = one_more answer (held_few rest)
+held_few (is_passed_over number object objects held before middle after error answer new misses goes rest) = one_more answer (held_few rest)
   where
     one_more : (a : Result Held Stopped) → IfOk a (λ all. length all.files ≤ length held.files + length objects) → IfOk a (λ all. length all.files ≤ length held.files + suc (length objects))
     one_more (Ok all) few = omega (arith, few)
@@ -139,10 +139,10 @@ pub held_small : {keep_going : Bool} {number : ℕ} {objects : List MapObject} {
     → ReadsFiles keep_going number objects held before after answer → held.left ≤ 2 ^ 29 → AreSmall held.files → IfOk answer (λ all. AreSmall all.files)
 held_small (all_held number held now) bound small = small
 held_small (is_held number object objects held before after bytes answer is rest) bound small = held_small rest bound small
-held_small (was_let_go number object objects held before after answer none gone rest) bound small = held_small rest bound small
+held_small (was_passed_over number object objects held before after answer none missing rest) bound small = held_small rest bound small
 held_small (is_read number object objects held before middle after bytes answer new reads rest) bound small =
     let few = reads.few in
     held_small rest (omega arith) (All-push (λ (f : HeldFile). length f.bytes < 2 ^ 32) held.files (record { name = object.file; bytes = bytes }) small (omega arith))
-held_small (is_let_go number object objects held before middle after error answer new misses goes rest) bound small = held_small rest bound small
+held_small (is_passed_over number object objects held before middle after error answer new misses goes rest) bound small = held_small rest bound small
 held_small (is_unread number object objects held before after error new misses stays) bound small = tt
 held_small (ran_out number objects held before after warnings unwritten) bound small = tt

@@ -19,7 +19,7 @@ use Rattle.link_cli.specs.declared.files.Stopped.{Stopped}
 use Rattle.link_cli.specs.declared.plan.Mode.{Mode}
 use Rattle.link_cli.specs.declared.plan.Mode.TheVariants as modes
 use Rattle.link_cli.specs.declared.program.Program.{Program}
-use Rattle.link_cli.specs.Files.{World, Held, ReadsFile, lets_go, most_input}
+use Rattle.link_cli.specs.Files.{World, Held, ReadsFile, passes_over, most_input}
 use Rattle.link_cli.specs.Answer.{Writes, not_made, plist_unwritten, image_unwritten, written, NotReplaced, Makes, LinksSources, LinksObjects, Does, RunsProgram, Runs, Ends, Links, LinksGenerated, sources_in, sources_made, unwritten}
 use Rattle.link_cli.specs.Answer as answer
 use Rattle.link_cli.specs.Endings.{Puts, Said, no_memory, refused_ending}
@@ -102,7 +102,7 @@ module _ (plan : Planned) (files : Contents) where
   fits : (before after : World) (bytes : List ℕ) → ReadsFile plan.exe most_input bytes before after → file_refusal false 0 most_input (Some bytes) ≡ None
   fits before after bytes reads = rw (le-ltb most_input (length bytes) reads.few) refl
 
-  none_goes : (error : FileError) → lets_go false error ≡ false
+  none_goes : (error : FileError) → passes_over false error ≡ false
   none_goes errors.Missing = refl
   none_goes errors.Failed = refl
   none_goes errors.TooLong = refl

@@ -15,7 +15,7 @@ use Rattle.link_core.specs.Linked.{Source}
 use Rattle.link_core.specs.declared.status.Status.{Status}
 use Rattle.link_core.specs.declared.status.Status.TheVariants as statuses
 use Rattle.link_cli.specs.declared.files.Stopped.{Stopped}
-use Rattle.link_cli.specs.Files.{World, Held, HeldFile, IsNew, MissesFile, ReadsFiles, all_held, is_held, was_let_go, is_read, is_let_go, is_unread, ran_out, content_in, is_gone, lets_go, none_held, unread_status, with_file, with_gone, with_warning}
+use Rattle.link_cli.specs.Files.{World, Held, HeldFile, IsNew, MissesFile, ReadsFiles, all_held, is_held, was_passed_over, is_read, is_passed_over, is_unread, ran_out, content_in, is_missing, passes_over, none_held, unread_status, with_file, with_missing, with_warning}
 use Rattle.link_cli.specs.Answer.{sources_in}
 use Rattle.link_cli.specs.Told.{NoFault, file_refusal, first_unread, input_size, is_known, size_of, sources_at, warned, warning_at}
 
@@ -79,7 +79,7 @@ found_told files (h ∷ held) told name b is = by (bytes_eq name h.name) refl is
 
 -- a file that no failing call kept from being read is let go or refused, or memory ran out
 pub misses_told : (keep_going : Bool) (files : Contents) (number : ℕ) (name : List ℕ) (most : ℕ) (error : FileError) (before after : World) → MissesFile name most error before after → before.files ≡ Some files
-    → NoFault before.counts after.counts → lets_go keep_going error ≡ false
+    → NoFault before.counts after.counts → passes_over keep_going error ≡ false
     → (file_refusal keep_going number most (fin.get files name) ≡ Some (unread_status number error)) ⊎ (unread_status number error ≡ statuses.NoMemory)
 misses_told keep_going files number name most errors.Missing before after misses told quiet stays =
     let got : fin.get files name ≡ None = told_some before.files files (λ m. fin.get m name ≡ None) told misses.cause.1 in
@@ -93,7 +93,7 @@ misses_told keep_going files number name most errors.NoMemory before after misse
 
 -- one that is let go isn't there
 goes_told : (keep_going : Bool) (files : Contents) (name : List ℕ) (most : ℕ) (error : FileError) (before after : World) → MissesFile name most error before after → before.files ≡ Some files
-    → lets_go keep_going error ≡ true → (keep_going ≡ true) × (fin.get files name ≡ None)
+    → passes_over keep_going error ≡ true → (keep_going ≡ true) × (fin.get files name ≡ None)
 goes_told keep_going files name most errors.Missing before after misses told goes = (goes, told_some before.files files (λ m. fin.get m name ≡ None) told misses.cause.1)
 goes_told keep_going files name most errors.Failed before after misses told goes = absurd (true≢false (sym goes))
 goes_told keep_going files name most errors.TooLong before after misses told goes = absurd (true≢false (sym goes))
@@ -107,11 +107,11 @@ source o file = record { object = o; file = file }
 -- Files that are held are those that are told, those that were let go aren't there, and these are all that are known.
 pub record AreSo (files : Contents) (known : List (List ℕ)) (held : Held) : Type 0 where
   pub told : AreTold files held.files
-  pub gone : (name : List ℕ) → is_gone held.gone name ≡ true → fin.get files name ≡ None
-  pub knows : (name : List ℕ) → is_known known name ≡ (is_some (content_in held.files name) || is_gone held.gone name)
+  pub missing : (name : List ℕ) → is_missing held.missing name ≡ true → fin.get files name ≡ None
+  pub knows : (name : List ℕ) → is_known known name ≡ (is_some (content_in held.files name) || is_missing held.missing name)
 
 pub none_so : (files : Contents) (most : ℕ) → AreSo files [] (none_held most)
-none_so files most = record { told = All-nil (IsTold files); gone = λ name is. absurd (true≢false (sym is)); knows = λ name. refl }
+none_so files most = record { told = All-nil (IsTold files); missing = λ name is. absurd (true≢false (sym is)); knows = λ name. refl }
 
 -- what reading the files of objects answers, by what they tell
 pub record ReadAll (keep_going : Bool) (files : Contents) (number : ℕ) (objects : List MapObject) (known : List (List ℕ)) (held : Held) (after : World) (all : Held) : Type 0 where
@@ -178,16 +178,16 @@ module _ (keep_going : Bool) (files : Contents) (number : ℕ) (o : MapObject) (
   behind_held : (bytes : List ℕ) → content_in held.files o.file ≡ Some bytes → (answer : Result Held Stopped)
       → ReadsTold keep_going files (number + 1) objects known held after answer → ReadsTold keep_going files number (o ∷ objects) known held after answer
   behind_held bytes is =
-      let known_it : is_known known o.file ≡ true = so.knows o.file ∙ ap (λ (f : Option (List ℕ)). is_some f || is_gone held.gone o.file) is in
+      let known_it : is_known known o.file ≡ true = so.knows o.file ∙ ap (λ (f : Option (List ℕ)). is_some f || is_missing held.missing o.file) is in
       let got : fin.get files o.file ≡ Some bytes = found_told files held.files so.told o.file bytes is in
       with_one keep_going files number o objects known known held held after (rw known_it refl) (rw known_it refl) (rw got (sym (append-nil held.warnings))) (λ name b there. there)
       (λ all told grown. grown o.file bytes is ∙ sym got)
 
-  behind_gone : is_gone held.gone o.file ≡ true → content_in held.files o.file ≡ None → (answer : Result Held Stopped)
+  behind_missing : is_missing held.missing o.file ≡ true → content_in held.files o.file ≡ None → (answer : Result Held Stopped)
       → ReadsTold keep_going files (number + 1) objects known (with_warning held o) after answer → ReadsTold keep_going files number (o ∷ objects) known held after answer
-  behind_gone gone none =
-      let known_it : is_known known o.file ≡ true = so.knows o.file ∙ (rw (none, gone) refl) in
-      let got : fin.get files o.file ≡ None = so.gone o.file gone in
+  behind_missing missing none =
+      let known_it : is_known known o.file ≡ true = so.knows o.file ∙ (rw (none, missing) refl) in
+      let got : fin.get files o.file ≡ None = so.missing o.file missing in
       with_one keep_going files number o objects known known held (with_warning held o) after (rw known_it refl) (rw known_it refl) (rw got refl) (λ name b there. there)
       (λ all told grown. not_held files all.files told o.file got ∙ sym got)
 
@@ -203,12 +203,12 @@ module _ (keep_going : Bool) (files : Contents) (number : ℕ) (o : MapObject) (
         (rw got (sym (append-nil held.warnings))) (λ name b there. still held.files (one o.file bytes) name b there)
         (λ all told grown. grown o.file bytes (is_new held.files o.file bytes new.unread) ∙ sym got)
 
-    behind_let_go : keep_going ≡ true → fin.get files o.file ≡ None → (answer : Result Held Stopped)
-        → ReadsTold keep_going files (number + 1) objects (known ++ o.file ∷ []) (with_gone held o) after answer → ReadsTold keep_going files number (o ∷ objects) known held after answer
-    behind_let_go keeps got =
+    behind_passed_over : keep_going ≡ true → fin.get files o.file ≡ None → (answer : Result Held Stopped)
+        → ReadsTold keep_going files (number + 1) objects (known ++ o.file ∷ []) (with_missing held o) after answer → ReadsTold keep_going files number (o ∷ objects) known held after answer
+    behind_passed_over keeps got =
         let goes : file_refusal keep_going number held.left (fin.get files o.file) ≡ None = rw (got, keeps) refl in
         let same : held.left - size_of (fin.get files o.file) ≡ held.left = rw got (omega arith) in
-        with_one keep_going files number o objects known (known ++ o.file ∷ []) held (with_gone held o) after
+        with_one keep_going files number o objects known (known ++ o.file ∷ []) held (with_missing held o) after
         (rw (unknown, goes) (ap (λ (left : ℕ). first_unread keep_going files (number + 1) (known ++ o.file ∷ []) left objects) same))
         (rw (unknown, goes) (ap (λ (left : ℕ). warning_at files o ++ warned keep_going files (number + 1) (known ++ o.file ∷ []) left objects) same)) (rw got refl)
         (λ name b there. there) (λ all told grown. not_held files all.files told o.file got ∙ sym got)
@@ -259,25 +259,25 @@ file_so : (files : Contents) (known : List (List ℕ)) (held : Held) (name bytes
     → AreSo files (known ++ name ∷ []) (with_file held name bytes)
 file_so files known held name bytes so got = record {
   told = All-push (IsTold files) held.files (one name bytes) so.told got;
-  gone = so.gone;
+  missing = so.missing;
   knows = λ other.
       any_push (bytes_eq other) known name ∙ ap (λ (b : Bool). b || bytes_eq other name) (so.knows other)
-      ∙ or_swap (is_some (content_in held.files other)) (is_gone held.gone other) (bytes_eq other name)
-      ∙ ap (λ (b : Bool). b || is_gone held.gone other) (sym (some_push held.files name bytes other));
+      ∙ or_swap (is_some (content_in held.files other)) (is_missing held.missing other) (bytes_eq other name)
+      ∙ ap (λ (b : Bool). b || is_missing held.missing other) (sym (some_push held.files name bytes other));
 }
 
-gone_so : (files : Contents) (known : List (List ℕ)) (held : Held) (o : MapObject) → AreSo files known held → fin.get files o.file ≡ None → AreSo files (known ++ o.file ∷ []) (with_gone held o)
-gone_so files known held o so got = record {
+missing_so : (files : Contents) (known : List (List ℕ)) (held : Held) (o : MapObject) → AreSo files known held → fin.get files o.file ≡ None → AreSo files (known ++ o.file ∷ []) (with_missing held o)
+missing_so files known held o so got = record {
   told = so.told;
-  gone = λ name is. by name (is_gone held.gone name) (bytes_eq name o.file) refl refl (sym (any_push (bytes_eq name) held.gone o.file) ∙ is);
+  missing = λ name is. by name (is_missing held.missing name) (bytes_eq name o.file) refl refl (sym (any_push (bytes_eq name) held.missing o.file) ∙ is);
   knows = λ other.
       any_push (bytes_eq other) known o.file ∙ ap (λ (b : Bool). b || bytes_eq other o.file) (so.knows other)
-      ∙ or_last (is_some (content_in held.files other)) (is_gone held.gone other) (bytes_eq other o.file)
-      ∙ ap (λ (b : Bool). is_some (content_in held.files other) || b) (sym (any_push (bytes_eq other) held.gone o.file));
+      ∙ or_last (is_some (content_in held.files other)) (is_missing held.missing other) (bytes_eq other o.file)
+      ∙ ap (λ (b : Bool). is_some (content_in held.files other) || b) (sym (any_push (bytes_eq other) held.missing o.file));
 }
   where
-    by : (name : List ℕ) (a b : Bool) → is_gone held.gone name ≡ a → bytes_eq name o.file ≡ b → (a || b) ≡ true → fin.get files name ≡ None
-    by name true b was is some = so.gone name was
+    by : (name : List ℕ) (a b : Bool) → is_missing held.missing name ≡ a → bytes_eq name o.file ≡ b → (a || b) ≡ true → fin.get files name ≡ None
+    by name true b was is some = so.missing name was
     by name false true was is some = let same : name ≡ o.file = (bytes_eq-Decides name o.file).0 is in rw same got
     by name false false was is some = absurd (true≢false (sym some))
 
@@ -290,19 +290,19 @@ reads_told keep_going files known before after (all_held number held now) told q
     record { unread = refl; warnings = sym (append-nil held.warnings); same = told; grown = λ name b is. is; told = so.told; sources = refl }
 reads_told keep_going files known before after (is_held number o objects held b a bytes answer is rest) told quiet so =
     behind_held keep_going files number o objects known held after so bytes is answer (reads_told keep_going files known before after rest told quiet so)
-reads_told keep_going files known before after (was_let_go number o objects held b a answer none gone rest) told quiet so =
-    behind_gone keep_going files number o objects known held after so gone none answer
-    (reads_told keep_going files known before after rest told quiet (record { told = so.told; gone = so.gone; knows = so.knows }))
+reads_told keep_going files known before after (was_passed_over number o objects held b a answer none missing rest) told quiet so =
+    behind_missing keep_going files number o objects known held after so missing none answer
+    (reads_told keep_going files known before after rest told quiet (record { told = so.told; missing = so.missing; knows = so.knows }))
 reads_told keep_going files known before after (is_read number o objects held b middle a bytes answer new reads rest) told quiet so =
     let got : fin.get files o.file ≡ Some bytes = told_some before.files files (λ m. fin.get m o.file ≡ Some bytes) told reads.told in
     behind_read keep_going files number o objects known held after so new bytes got reads.few answer
     (reads_told keep_going files (known ++ o.file ∷ []) middle after rest (reads.same ∙ told) (quiet_behind before.counts middle.counts after.counts reads.later quiet)
     (file_so files known held o.file bytes so got))
-reads_told keep_going files known before after (is_let_go number o objects held b middle a error answer new misses goes rest) told quiet so =
-    let gone = goes_told keep_going files o.file held.left error before middle misses told goes in
-    behind_let_go keep_going files number o objects known held after so new gone.0 gone.1 answer
+reads_told keep_going files known before after (is_passed_over number o objects held b middle a error answer new misses goes rest) told quiet so =
+    let missing = goes_told keep_going files o.file held.left error before middle misses told goes in
+    behind_passed_over keep_going files number o objects known held after so new missing.0 missing.1 answer
     (reads_told keep_going files (known ++ o.file ∷ []) middle after rest (misses.same ∙ told) (quiet_behind before.counts middle.counts after.counts misses.later quiet)
-    (gone_so files known held o so gone.1))
+    (missing_so files known held o so missing.1))
 reads_told keep_going files known before after (is_unread number o objects held b a error new misses stays) told quiet so = record {
   same = misses.same ∙ told;
   why = elim (misses_told keep_going files number o.file held.left error before after misses told quiet stays) [

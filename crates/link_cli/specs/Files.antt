@@ -65,16 +65,16 @@ content_in held name = option_map (λ f. f.bytes) (find (λ f. bytes_eq name f.n
 -- The files that are held, the names of those that were let go, how many bytes the others may have together, and the warnings so far.
 pub record Held : Type 0 where
   pub files : List HeldFile
-  pub gone : List (List ℕ)
+  pub missing : List (List ℕ)
   pub left : ℕ
   pub warnings : List ℕ
 
 abbrev pub none_held : ℕ → Held
-none_held most = record { files = []; gone = []; left = most; warnings = [] }
+none_held most = record { files = []; missing = []; left = most; warnings = [] }
 
 -- a file of this name was let go
-abbrev pub is_gone : List (List ℕ) → List ℕ → Bool
-is_gone gone name = list_any (bytes_eq name) gone
+abbrev pub is_missing : List (List ℕ) → List ℕ → Bool
+is_missing missing name = list_any (bytes_eq name) missing
 
 -- one more file is held
 abbrev pub with_file : Held → List ℕ → List ℕ → Held
@@ -85,13 +85,13 @@ abbrev pub with_warning : Held → MapObject → Held
 with_warning held object = record held { warnings = held.warnings ++ warning object }
 
 -- the file of an object is let go
-abbrev pub with_gone : Held → MapObject → Held
-with_gone held object = record held { gone = held.gone ++ object.file ∷ []; warnings = held.warnings ++ warning object }
+abbrev pub with_missing : Held → MapObject → Held
+with_missing held object = record held { missing = held.missing ++ object.file ∷ []; warnings = held.warnings ++ warning object }
 
--- a missing file is let go where that is asked
-abbrev pub lets_go : Bool → FileError → Bool
-lets_go keep_going errors.Missing = keep_going
-lets_go keep_going _ = false
+-- a missing file is passed over where that is asked
+abbrev pub passes_over : Bool → FileError → Bool
+passes_over keep_going errors.Missing = keep_going
+passes_over keep_going _ = false
 
 -- nothing was written, and no count fell
 pub record IsUnwritten (before after : World) : Type 0 where
@@ -101,24 +101,24 @@ pub record IsUnwritten (before after : World) : Type 0 where
 -- the file of an object was neither read nor let go before
 pub record IsNew (held : Held) (object : MapObject) : Type 0 where
   pub unread : content_in held.files object.file ≡ None
-  pub kept : is_gone held.gone object.file ≡ false
+  pub kept : is_missing held.missing object.file ≡ false
 
 -- The files of objects are read in the order of the objects, which have numbers from one on, each file once. The answer is what is held then, or why reading ended, with the warnings so far: a file was not read and not let go, or memory ran out.
 pub data ReadsFiles (keep_going : Bool) : (number : ℕ) → List MapObject → Held → (before after : World) → Result Held Stopped → Type 0 where
   all_held : (number : ℕ) (held : Held) (now : World) → ReadsFiles keep_going number [] held now now (Ok held)
   is_held : (number : ℕ) (object : MapObject) (objects : List MapObject) (held : Held) (before after : World) (bytes : List ℕ) (answer : Result Held Stopped)
       → content_in held.files object.file ≡ Some bytes → ReadsFiles keep_going (number + 1) objects held before after answer → ReadsFiles keep_going number (object ∷ objects) held before after answer
-  was_let_go : (number : ℕ) (object : MapObject) (objects : List MapObject) (held : Held) (before after : World) (answer : Result Held Stopped)
-      → content_in held.files object.file ≡ None → is_gone held.gone object.file ≡ true → ReadsFiles keep_going (number + 1) objects (with_warning held object) before after answer
+  was_passed_over : (number : ℕ) (object : MapObject) (objects : List MapObject) (held : Held) (before after : World) (answer : Result Held Stopped)
+      → content_in held.files object.file ≡ None → is_missing held.missing object.file ≡ true → ReadsFiles keep_going (number + 1) objects (with_warning held object) before after answer
       → ReadsFiles keep_going number (object ∷ objects) held before after answer
   is_read : (number : ℕ) (object : MapObject) (objects : List MapObject) (held : Held) (before middle after : World) (bytes : List ℕ) (answer : Result Held Stopped)
       → IsNew held object → ReadsFile object.file held.left bytes before middle → ReadsFiles keep_going (number + 1) objects (with_file held object.file bytes) middle after answer
       → ReadsFiles keep_going number (object ∷ objects) held before after answer
-  is_let_go : (number : ℕ) (object : MapObject) (objects : List MapObject) (held : Held) (before middle after : World) (error : FileError) (answer : Result Held Stopped)
-      → IsNew held object → MissesFile object.file held.left error before middle → lets_go keep_going error ≡ true
-      → ReadsFiles keep_going (number + 1) objects (with_gone held object) middle after answer → ReadsFiles keep_going number (object ∷ objects) held before after answer
+  is_passed_over : (number : ℕ) (object : MapObject) (objects : List MapObject) (held : Held) (before middle after : World) (error : FileError) (answer : Result Held Stopped)
+      → IsNew held object → MissesFile object.file held.left error before middle → passes_over keep_going error ≡ true
+      → ReadsFiles keep_going (number + 1) objects (with_missing held object) middle after answer → ReadsFiles keep_going number (object ∷ objects) held before after answer
   is_unread : (number : ℕ) (object : MapObject) (objects : List MapObject) (held : Held) (before after : World) (error : FileError)
-      → IsNew held object → MissesFile object.file held.left error before after → lets_go keep_going error ≡ false
+      → IsNew held object → MissesFile object.file held.left error before after → passes_over keep_going error ≡ false
       → ReadsFiles keep_going number (object ∷ objects) held before after (Err (record { status = unread_status number error; warnings = held.warnings }))
   ran_out : (number : ℕ) (objects : List MapObject) (held : Held) (before after : World) (warnings : List ℕ) → IsUnwritten before after
       → ReadsFiles keep_going number objects held before after (Err (record { status = statuses.NoMemory; warnings = warnings }))

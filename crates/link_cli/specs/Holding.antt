@@ -6,12 +6,12 @@ use Rattle.link_core.specs.declared.status.Status.{Status}
 use Rattle.link_core.specs.declared.status.Status.TheVariants as statuses
 use Rattle.link_cli.specs.declared.files.HeldFiles.{HeldFiles}
 use Rattle.link_cli.specs.declared.files.Stopped.{Stopped}
-use Rattle.link_cli.specs.Files.{World, Held, ReadsFiles, lets_go, unread_status, with_gone}
-use Rattle.link_cli.specs.Seen.{gone_seen, held_seen}
+use Rattle.link_cli.specs.Files.{World, Held, ReadsFiles, passes_over, unread_status, with_missing}
+use Rattle.link_cli.specs.Seen.{missing_seen, held_seen}
 
 -- what is held
 abbrev pub held_of : HeldFiles → Held
-held_of held = record { files = held_seen held.files; gone = gone_seen held.gone; left = held.left; warnings = held.warnings }
+held_of held = record { files = held_seen held.files; missing = missing_seen held.missing; left = held.left; warnings = held.warnings }
 
 -- what is held, or why reading ended
 abbrev pub held_answer : Result HeldFiles Stopped → Result Held Stopped
@@ -32,7 +32,7 @@ Becomes wanted new (Ok ok) = held_of new ≡ wanted
 Becomes wanted new (Err status) = status ≡ statuses.NoMemory
 
 -- A file that wasn't read is let go, or it is why reading ends; or memory ran out.
-abbrev pub LetsGo : Bool → ℕ → MapObject → FileError → HeldFiles → HeldFiles → Result (Unit {0}) Status → Type 0
-LetsGo keep_going number object error old new (Ok ok) = (lets_go keep_going error ≡ true) × (held_of new ≡ with_gone (held_of old) object)
-LetsGo keep_going number object error old new (Err status) =
-    ((lets_go keep_going error ≡ false) × (status ≡ unread_status number error) × (new.warnings ≡ old.warnings)) ⊎ (status ≡ statuses.NoMemory)
+abbrev pub PassesOver : Bool → ℕ → MapObject → FileError → HeldFiles → HeldFiles → Result (Unit {0}) Status → Type 0
+PassesOver keep_going number object error old new (Ok ok) = (passes_over keep_going error ≡ true) × (held_of new ≡ with_missing (held_of old) object)
+PassesOver keep_going number object error old new (Err status) =
+    ((passes_over keep_going error ≡ false) × (status ≡ unread_status number error) × (new.warnings ≡ old.warnings)) ⊎ (status ≡ statuses.NoMemory)

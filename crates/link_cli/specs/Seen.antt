@@ -13,8 +13,8 @@ abbrev pub held_seen : {S : Type 0} → HashMap (Bor (List ℕ)) (List ℕ) S �
 held_seen held = map (λ e. record { name = e.0.now; bytes = e.1 }) held.entries
 
 -- the names in a table
-abbrev pub gone_seen : {S V : Type 0} → HashMap (Bor (List ℕ)) V S → List (List ℕ)
-gone_seen gone = map (λ e. e.0.now) gone.entries
+abbrev pub missing_seen : {S V : Type 0} → HashMap (Bor (List ℕ)) V S → List (List ℕ)
+missing_seen missing = map (λ e. e.0.now) missing.entries
 
 -- the names of the objects' files are text
 abbrev pub HaveNames : List MapObject → Type 0

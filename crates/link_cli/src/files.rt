@@ -3,9 +3,9 @@
 ghost use Rattle.std.specs.Prelude.{◌≡◌, ◌+◌, ◌<◌, ◌≤◌, ◌^◌, ◌∷◌, [], None, false, true, length, map, IfOk};
 ghost use Rattle.std.specs.Str.{is_utf8};
 ghost use Rattle.indexmap.specs.IndexMap.{values};
-ghost use Rattle.link_cli.specs.Files.{content_in, is_gone, lets_go as is_let_go, none_held, with_file, with_warning, world, ReadsFiles, unread_status};
-ghost use Rattle.link_cli.specs.Seen.{HaveNames, gone_seen, held_seen, number_in};
-ghost use Rattle.link_cli.specs.Holding.{Becomes, LetsGo, held_answer, held_of, Holds};
+ghost use Rattle.link_cli.specs.Files.{content_in, is_missing, passes_over as is_passed_over, none_held, with_file, with_warning, world, ReadsFiles, unread_status};
+ghost use Rattle.link_cli.specs.Seen.{HaveNames, missing_seen, held_seen, number_in};
+ghost use Rattle.link_cli.specs.Holding.{Becomes, PassesOver, held_answer, held_of, Holds};
 
 use crate::texts::warning;
 use ds_base::{Bytes, List, NoMemory};
@@ -23,8 +23,8 @@ pub(crate) const MOST_INPUT: u64 = 1 << 29;
 pub(crate) struct HeldFiles<'a> {
     /// Those that were read, each by its name.
     pub files: IndexMap<&'a [u8], Bytes>,
-    /// The names of those that are missing and were let go.
-    pub gone: IndexMap<&'a [u8], ()>,
+    /// The names of those that are missing and were passed over.
+    pub missing: IndexMap<&'a [u8], ()>,
     /// How many bytes the others may have together.
     pub left: u64,
     /// A line for each object whose file was let go.
@@ -53,7 +53,7 @@ pub(crate) fn read_files<'a, F: Files>(
 {
     let mut held = HeldFiles {
         files: IndexMap::new(alloc),
-        gone: IndexMap::new(alloc),
+        missing: IndexMap::new(alloc),
         left: most,
         warnings: Bytes::new(alloc),
     };
@@ -85,17 +85,17 @@ fn hold_file<'a, F: Files>(
     if held.files.contains_key(name) {
         return Ok(());
     }
-    if held.gone.contains_key(name) {
+    if held.missing.contains_key(name) {
         return warn(alloc, held, object);
     }
     match files.read(alloc, file_name(object), held.left) {
-        Ok(bytes) => keep(held, name, bytes),
-        Err(error) => let_go(alloc, keep_going, held, number, object, error),
+        Ok(bytes) => hold(held, name, bytes),
+        Err(error) => pass_over(alloc, keep_going, held, number, object, error),
     }
 }
 
-/// Keeps the bytes of a file that wasn't held.
-fn keep<'a>(held: &mut HeldFiles<'a>, name: &'a [u8], bytes: Bytes) -> Result<(), Status>
+/// Holds the bytes of a file that wasn't held.
+fn hold<'a>(held: &mut HeldFiles<'a>, name: &'a [u8], bytes: Bytes) -> Result<(), Status>
     requires few { length bytes ≤ held.old.left }
     requires new { content_in (held_seen held.old.files) name.now ≡ None }
     ensures { Becomes (with_file (held_of held.old) name.now bytes) held.new result }
@@ -107,8 +107,8 @@ fn keep<'a>(held: &mut HeldFiles<'a>, name: &'a [u8], bytes: Bytes) -> Result<()
     }
 }
 
-/// Lets the file of an object go that wasn't read, where it is missing and that is asked; or gives the status for it.
-fn let_go<'a>(
+/// Passes over the file of an object that wasn't read, where it is missing and that is asked; or gives the status for it.
+fn pass_over<'a>(
     alloc: Global,
     keep_going: bool,
     held: &mut HeldFiles<'a>,
@@ -116,21 +116,21 @@ fn let_go<'a>(
     object: &'a MapObject,
     error: FileError,
 ) -> Result<(), Status>
-    requires new { is_gone (gone_seen held.old.gone) object.now.file ≡ false }
-    ensures { LetsGo keep_going number object.now error held.old held.new result }
+    requires new { is_missing (missing_seen held.old.missing) object.now.file ≡ false }
+    ensures { PassesOver keep_going number object.now error held.old held.new result }
 {
-    if !lets_go(keep_going, error) {
+    if !passes_over(keep_going, error) {
         return Err(unread(number, error));
     }
-    match held.gone.insert(object.file.as_slice(), ()) {
+    match held.missing.insert(object.file.as_slice(), ()) {
         Ok(_) => warn(alloc, held, object),
         Err(_) => Err(Status::NoMemory),
     }
 }
 
 /// Whether a file that wasn't read is let go.
-fn lets_go(keep_going: bool, error: FileError) -> bool
-    ensures { result ≡ is_let_go keep_going error }
+fn passes_over(keep_going: bool, error: FileError) -> bool
+    ensures { result ≡ is_passed_over keep_going error }
 {
     match error {
         FileError::Missing => keep_going,

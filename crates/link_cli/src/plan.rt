@@ -25,7 +25,7 @@ pub struct Plan {
     pub workers: u32,
     /// Whether types of one name are merged.
     pub odr: bool,
-    /// Whether a missing object file is let go.
+    /// Whether a missing object file is passed over.
     pub keep_going: bool,
     /// Whether the message tells what was counted.
     pub statistics: bool,

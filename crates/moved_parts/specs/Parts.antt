@@ -8,7 +8,7 @@ use Rattle.dwarf_types.specs.declared.lines.RawSequence.{RawSequence}
 use Rattle.addr_map.specs.declared.map.MapRange.{MapRange}
 use Rattle.addr_map.specs.Moved.{holds}
 use Rattle.line_read.specs.Rising.{placed}
-use Rattle.moved_parts.specs.declared.lines.Part.{Part}
+use Rattle.moved_parts.specs.declared.lines.SequencePart.{SequencePart}
 use Rattle.moved_parts.specs.Lines.{sequence_by}
 
 -- the range that holds an address
@@ -20,11 +20,11 @@ abbrev pub is_behind : MapRange → Addr → Bool
 is_behind r at = option_map_or (λ a. nat_le r.end a) (placed at) false
 
 -- what a range holds of a sequence, if anything, with the range
-abbrev pub part_of : RawSequence → MapRange → Option Part
+abbrev pub part_of : RawSequence → MapRange → Option SequencePart
 part_of s r = option_map (λ moved. record { range = r; sequence = moved }) (sequence_by s r)
 
 -- of each range in the object's order
-abbrev pub parts_of : List MapRange → RawSequence → List Part
+abbrev pub parts_of : List MapRange → RawSequence → List SequencePart
 parts_of ranges s = filter_map (part_of s) ranges
 
 -- one range is before another in the linked program, or where both have one place there, in the object

@@ -16,7 +16,7 @@ use std::alloc::Global;
 
 /// What a range holds of a sequence, moved.
 #[derive(Drop)]
-struct Part {
+struct SequencePart {
     range: MapRange,
     sequence: Sequence,
 }
@@ -60,7 +60,7 @@ fn all_parts(
     alloc: Global,
     ranges: &[MapRange],
     sequences: &[RawSequence],
-) -> Result<Vec<Part>, NoMemory>
+) -> Result<Vec<SequencePart>, NoMemory>
     requires sound { All IsSoundRange ranges.now }
     requires apart { AllPairs (λ r later. r.end ≤ later.start) ranges.now }
     requires rising { All DoesNotFall sequences.now }
@@ -79,7 +79,7 @@ fn add_parts(
     alloc: Global,
     ranges: &[MapRange],
     sequence: &RawSequence,
-    parts: &mut Vec<Part>,
+    parts: &mut Vec<SequencePart>,
 ) -> Result<(), NoMemory>
     requires sound { All IsSoundRange ranges.now }
     requires apart { AllPairs (λ r later. r.end ≤ later.start) ranges.now }
@@ -95,7 +95,7 @@ fn add_parts(
         };
         let rest = &rows[next..];
         let count = count_before_end(range, rest);
-        parts.push(Part {
+        parts.push(SequencePart {
             range: *range,
             sequence: Sequence {
                 rows: move_rows(alloc, range, &rest[..count])?,
@@ -199,7 +199,7 @@ fn end_in(range: &MapRange, end: Option<Addr>) -> u64
 }
 
 /// Puts parts in the order of the linked program, those of one range in the order of the table.
-fn sort_parts(parts: &mut Vec<Part>) -> Result<(), NoMemory>
+fn sort_parts(parts: &mut Vec<SequencePart>) -> Result<(), NoMemory>
     ensures sorted { OnOk result (IsSortedBy (λ p other. is_before p.range other.range) parts.new.items) }
     ensures stable { OnOk result (IsStableBy (λ p other. is_before p.range other.range) parts.old.items parts.new.items) }
 {
@@ -208,7 +208,7 @@ fn sort_parts(parts: &mut Vec<Part>) -> Result<(), NoMemory>
 }
 
 /// The sequences of parts.
-fn take_sequences(alloc: Global, parts: Vec<Part>) -> Result<List<Sequence>, NoMemory>
+fn take_sequences(alloc: Global, parts: Vec<SequencePart>) -> Result<List<Sequence>, NoMemory>
     ensures { IfOk result (λ sequences. sequences ≡ map (λ part. part.sequence) parts.items) }
 {
     let mut sequences = List::new(alloc);
