@@ -263,7 +263,7 @@ converted_whole = record {
 }
 
 -- an attribute with a name that may stand
-attribute : (nodes : List Node) (name : ℕ) (value : OutValue) → ltb 0 name ≡ true → ltb name (2 ^ 16) ≡ true → is_dropped name ≡ false → IsValue graph 4 nodes value → MayStand name value → IsAttribute graph 4 nodes (attr name value)
+attribute : (nodes : List Node) (name : ℕ) (value : OutValue) → ltb 0 name ≡ true → ltb name (2 ^ 16) ≡ true → is_dropped name ≡ false → IsValue (IsTarget graph) 4 nodes value → MayStand name value → IsAttribute (IsTarget graph) 4 nodes (attr name value)
 unfolding attr
 attribute nodes name value some fits kept holds stands = record { some = ltb-true _ _ some; fits = ltb-true _ _ fits; kept = kept; value = holds; stands = stands }
 
@@ -278,23 +278,23 @@ is_location : (nodes : List Node) (low high : ℕ) (expression : List ExprPart) 
 unfolding location
 is_location nodes low high expression some fits whole short = record { span = is_span low high some fits; whole = whole; short = λ four. ltb-true _ _ short }
 
-node_of : (nodes : List Node) (node : Node) → ltb 0 node.tag ≡ true → ltb node.tag (2 ^ 16) ≡ true → AllByRecursion (IsAttribute graph 4 nodes) node.attrs → IsNode graph 4 nodes node
-node_of nodes node some fits each = record { some = ltb-true _ _ some; fits = ltb-true _ _ fits; attrs = All-from_recursion (IsAttribute graph 4 nodes) node.attrs each }
+node_of : (nodes : List Node) (node : Node) → ltb 0 node.tag ≡ true → ltb node.tag (2 ^ 16) ≡ true → AllByRecursion (IsAttribute (IsTarget graph) 4 nodes) node.attrs → IsNode (IsTarget graph) 4 nodes node
+node_of nodes node some fits each = record { some = ltb-true _ _ some; fits = ltb-true _ _ fits; attrs = All-from_recursion (IsAttribute (IsTarget graph) 4 nodes) node.attrs each }
 
 -- of the first unit, and of the second
-in_first : (name : ℕ) (value : OutValue) → ltb 0 name ≡ true → ltb name (2 ^ 16) ≡ true → is_dropped name ≡ false → IsValue graph 4 first.nodes value → MayStand name value → IsAttribute graph 4 first.nodes (attr name value)
+in_first : (name : ℕ) (value : OutValue) → ltb 0 name ≡ true → ltb name (2 ^ 16) ≡ true → is_dropped name ≡ false → IsValue (IsTarget graph) 4 first.nodes value → MayStand name value → IsAttribute (IsTarget graph) 4 first.nodes (attr name value)
 in_first name value some fits kept holds stands = attribute first.nodes name value some fits kept holds stands
 
-in_second : (name : ℕ) (value : OutValue) → ltb 0 name ≡ true → ltb name (2 ^ 16) ≡ true → is_dropped name ≡ false → IsValue graph 4 second.nodes value → MayStand name value → IsAttribute graph 4 second.nodes (attr name value)
+in_second : (name : ℕ) (value : OutValue) → ltb 0 name ≡ true → ltb name (2 ^ 16) ≡ true → is_dropped name ≡ false → IsValue (IsTarget graph) 4 second.nodes value → MayStand name value → IsAttribute (IsTarget graph) 4 second.nodes (attr name value)
 in_second name value some fits kept holds stands = attribute second.nodes name value some fits kept holds stands
 
-first_nodes : All (IsNode graph 4 first.nodes) first.nodes
+first_nodes : All (IsNode (IsTarget graph) 4 first.nodes) first.nodes
 unfolding attr entry root u int to span location stretch converted row rows lines first second cie graph operands_of has_no_operands
 first_nodes =
-    let of : (node : Node) → ltb 0 node.tag ≡ true → ltb node.tag (2 ^ 16) ≡ true → AllByRecursion (IsAttribute graph 4 first.nodes) node.attrs → IsNode graph 4 first.nodes node = node_of first.nodes in
+    let of : (node : Node) → ltb 0 node.tag ≡ true → ltb node.tag (2 ^ 16) ≡ true → AllByRecursion (IsAttribute (IsTarget graph) 4 first.nodes) node.attrs → IsNode (IsTarget graph) 4 first.nodes node = node_of first.nodes in
     let base : IsTarget graph (record { unit = 0; node = 1 }) = record { unit = first; stands = refl; inside = omega arith } in
     let structure : IsTarget graph (record { unit = 1; node = 1 }) = record { unit = second; stands = refl; inside = omega arith } in
-    All-from_recursion (IsNode graph 4 first.nodes) first.nodes (
+    All-from_recursion (IsNode (IsTarget graph) 4 first.nodes) first.nodes (
       of _ refl refl (in_first DW_AT_name u refl refl refl byte_texts.0 tt, (in_first DW_AT_stmt_list values.Lines refl refl refl tt tt, tt)),
       (
         of _ refl refl (
@@ -350,12 +350,12 @@ first_nodes =
       ),
     )
 
-second_nodes : All (IsNode graph 4 second.nodes) second.nodes
+second_nodes : All (IsNode (IsTarget graph) 4 second.nodes) second.nodes
 unfolding attr entry root u int to span location stretch converted row rows lines first second cie graph operands_of has_no_operands
 second_nodes =
-    let of : (node : Node) → ltb 0 node.tag ≡ true → ltb node.tag (2 ^ 16) ≡ true → AllByRecursion (IsAttribute graph 4 second.nodes) node.attrs → IsNode graph 4 second.nodes node = node_of second.nodes in
+    let of : (node : Node) → ltb 0 node.tag ≡ true → ltb node.tag (2 ^ 16) ≡ true → AllByRecursion (IsAttribute (IsTarget graph) 4 second.nodes) node.attrs → IsNode (IsTarget graph) 4 second.nodes node = node_of second.nodes in
     let base : IsTarget graph (record { unit = 0; node = 1 }) = record { unit = first; stands = refl; inside = omega arith } in
-    All-from_recursion (IsNode graph 4 second.nodes) second.nodes (
+    All-from_recursion (IsNode (IsTarget graph) 4 second.nodes) second.nodes (
       of _ refl refl (
         in_second DW_AT_name u refl refl refl byte_texts.0 tt,
         (
@@ -456,7 +456,7 @@ well_frames = All-from_recursion IsFrame graph.frames (
 well : IsWell graph
 unfolding attr entry root u int to span location stretch converted row rows lines first second cie graph
 well = record {
-  units = All-from_recursion (IsWellUnit graph) graph.units (
+  units = All-from_recursion (IsWellUnit (IsTarget graph)) graph.units (
     record {
       version = inl refl;
       root = root (attr DW_AT_name u ∷ attr DW_AT_stmt_list values.Lines ∷ []);

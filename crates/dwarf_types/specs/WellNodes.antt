@@ -2,11 +2,11 @@
 use Rattle.std.specs.Prelude.{◌≡◌, ◌<◌, ◌≤◌, ◌^◌, ◌==◌, ◌||◌, ℕ, zero, suc, Bool, true, false, List, slice_get, Option, Some}
 use Rattle.std.specs.List.{All, list_any}
 use Rattle.ds_base.specs.declared.dwarf.TheConstants.{DW_AT_addr_base, DW_AT_loclists_base, DW_AT_rnglists_base, DW_AT_sibling, DW_AT_str_offsets_base}
-use Rattle.dwarf_types.specs.declared.graph.Graph.{Graph}
 use Rattle.dwarf_types.specs.declared.graph.Node.{Node}
 use Rattle.dwarf_types.specs.declared.graph.OutAttr.{OutAttr}
 use Rattle.dwarf_types.specs.declared.graph.OutValue.{OutValue}
 use Rattle.dwarf_types.specs.declared.graph.OutValue.TheVariants as values
+use Rattle.dwarf_types.specs.declared.graph.Target.{Target}
 use Rattle.dwarf_types.specs.WellValues.{IsValue, MayStand}
 
 -- ---- the tree
@@ -32,11 +32,12 @@ is_dropped name =
     name == DW_AT_sibling || (name == DW_AT_str_offsets_base || (name == DW_AT_addr_base
     || (name == DW_AT_rnglists_base || name == DW_AT_loclists_base)))
 
-pub record IsAttribute (graph : Graph) (version : ℕ) (nodes : List Node) (attr : OutAttr) : Type 0 where
+-- the references lead to targets of this kind
+pub record IsAttribute (MayLead : Target → Type 0) (version : ℕ) (nodes : List Node) (attr : OutAttr) : Type 0 where
   pub some : 0 < attr.name
   pub fits : attr.name < 2 ^ 16
   pub kept : is_dropped attr.name ≡ false
-  pub value : IsValue graph version nodes attr.value
+  pub value : IsValue MayLead version nodes attr.value
   pub stands : MayStand attr.name attr.value
 
 abbrev pub is_lines : OutValue → Bool
@@ -47,7 +48,7 @@ is_lines _ = false
 abbrev pub has_lines : Node → Bool
 has_lines node = list_any (λ a. is_lines a.value) node.attrs
 
-pub record IsNode (graph : Graph) (version : ℕ) (nodes : List Node) (node : Node) : Type 0 where
+pub record IsNode (MayLead : Target → Type 0) (version : ℕ) (nodes : List Node) (node : Node) : Type 0 where
   pub some : 0 < node.tag
   pub fits : node.tag < 2 ^ 16
-  pub attrs : All (IsAttribute graph version nodes) node.attrs
+  pub attrs : All (IsAttribute MayLead version nodes) node.attrs

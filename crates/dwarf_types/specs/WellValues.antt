@@ -49,18 +49,18 @@ pub record IsTarget (graph : Graph) (target : Target) : Type 0 where
   pub stands : slice_get graph.units target.unit ≡ Some unit
   pub inside : target.node < length unit.nodes
 
--- a value of a unit of a version with these nodes; constants of 16 bytes stand in units of version 5 alone
-abbrev pub IsValue : Graph → ℕ → List Node → OutValue → Type 0
-IsValue graph version nodes (values.Address address) = address < 2 ^ 64
-IsValue graph version nodes (values.Text text) = AreTextBytes text
-IsValue graph version nodes (values.Number form bits) = FitsForm form bits
-IsValue graph version nodes (values.Wide bytes) = (version ≡ 5) × (length bytes ≡ 16) × AreBytes bytes
-IsValue graph version nodes (values.Block form bytes) = FitsBlock form (length bytes) × AreBytes bytes
-IsValue graph version nodes (values.Expr expression) = IsWhole nodes expression
-IsValue graph version nodes (values.Ref target) = IsTarget graph target
-IsValue graph version nodes (values.Ranges spans) = All IsSpan spans
-IsValue graph version nodes (values.Locations items) = All (IsLocation version nodes) items
-IsValue graph version nodes values.Lines = Unit {0}
+-- A value of a unit of a version with these nodes, whose references lead to targets of this kind. Constants of 16 bytes stand in units of version 5 alone.
+abbrev pub IsValue : (Target → Type 0) → ℕ → List Node → OutValue → Type 0
+IsValue MayLead version nodes (values.Address address) = address < 2 ^ 64
+IsValue MayLead version nodes (values.Text text) = AreTextBytes text
+IsValue MayLead version nodes (values.Number form bits) = FitsForm form bits
+IsValue MayLead version nodes (values.Wide bytes) = (version ≡ 5) × (length bytes ≡ 16) × AreBytes bytes
+IsValue MayLead version nodes (values.Block form bytes) = FitsBlock form (length bytes) × AreBytes bytes
+IsValue MayLead version nodes (values.Expr expression) = IsWhole nodes expression
+IsValue MayLead version nodes (values.Ref target) = MayLead target
+IsValue MayLead version nodes (values.Ranges spans) = All IsSpan spans
+IsValue MayLead version nodes (values.Locations items) = All (IsLocation version nodes) items
+IsValue MayLead version nodes values.Lines = Unit {0}
 
 -- the attributes whose section offset is a location list
 abbrev pub has_locations : ℕ → Bool

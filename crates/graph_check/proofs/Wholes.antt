@@ -11,7 +11,7 @@ use Rattle.dwarf_types.specs.Well.{IsWellUnit}
 use Rattle.dwarf_types.specs.WellLines.{IsLineTable}
 use Rattle.dwarf_types.specs.WellNodes.{IsNode, IsPreorderParent, has_lines}
 use Rattle.dwarf_types.specs.WellRoots.{EndsWith, HasNone, IsRoot, is_split, names_lines_first}
-use Rattle.dwarf_types.specs.WellValues.{IsSpan}
+use Rattle.dwarf_types.specs.WellValues.{IsSpan, IsTarget}
 
 pub root_is : (test : Bool) (unit : OutUnit) (root : Node) → (root.parent ≡ None) × (root.tag ≡ DW_TAG_compile_unit) × HasNone is_split root.attrs
     → EndsWith unit.ranges root.attrs → OnTrue test ((names_lines_first root.attrs ≡ true) × (is_some unit.lines ≡ has_lines root)) → OnTrue test (IsRoot unit root)
@@ -21,11 +21,11 @@ root_is true unit root top ends lines = record { parent = top.0; tag = top.1; wh
 -- the nodes of the unit
 abbrev AreUnitNodes : Graph → ℕ → List Node → List Node → Type 0
 AreUnitNodes graph version below nodes =
-    ((k : ℕ) (node : Node) → slice_get below k ≡ Some node → IsPreorderParent nodes k node.parent) × All (IsNode graph version nodes) nodes
+    ((k : ℕ) (node : Node) → slice_get below k ≡ Some node → IsPreorderParent nodes k node.parent) × All (IsNode (IsTarget graph) version nodes) nodes
 
 pub unit_is : (test : Bool) (graph : Graph) (unit : OutUnit) (root : Node) (below nodes : List Node) (spans : List Span) → (unit.version ≡ 4) ⊎ (unit.version ≡ 5) → nodes ≡ unit.nodes → nodes ≡ root ∷ below
     → IsRoot unit root → AreUnitNodes graph unit.version below nodes → All (λ node. has_lines node ≡ false) below → IfSome unit.lines (IsLineTable unit.version)
-    → spans ≡ unit.ranges → OnTrue test (All IsSpan spans) → OnTrue test (IsWellUnit graph unit)
+    → spans ≡ unit.ranges → OnTrue test (All IsSpan spans) → OnTrue test (IsWellUnit (IsTarget graph) unit)
 unit_is false graph unit root below nodes spans known is split top each none lines same ranges = tt
 unit_is true graph unit root below nodes spans known is split top each none lines same ranges =
     let own = subst (AreUnitNodes graph unit.version below) is each in

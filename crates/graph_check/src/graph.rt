@@ -4,6 +4,7 @@ ghost use Rattle.std.specs.Prelude.{◌≡◌, ◌⊎◌};
 ghost use Rattle.std.specs.Bool.{OnTrue};
 ghost use Rattle.std.specs.List.{All};
 ghost use Rattle.dwarf_types.specs.Well.{IsWell, IsWellUnit};
+ghost use Rattle.dwarf_types.specs.WellValues.{IsTarget};
 
 use crate::lines::{DWARF_4, DWARF_5, are_frames, are_lines};
 use crate::nodes::are_nodes;
@@ -22,7 +23,7 @@ pub fn is_well(graph: &Graph) -> bool
 
 /// Whether these are units of a well graph.
 fn are_units(graph: &Graph, units: &[OutUnit]) -> bool
-    ensures { OnTrue result (All (IsWellUnit graph.now) units.now) }
+    ensures { OnTrue result (All (IsWellUnit (IsTarget graph.now)) units.now) }
 {
     for unit in units {
         if !is_unit(graph, unit) {
@@ -34,7 +35,7 @@ fn are_units(graph: &Graph, units: &[OutUnit]) -> bool
 
 /// Whether this is a unit of a well graph.
 fn is_unit(graph: &Graph, unit: &OutUnit) -> bool
-    ensures { OnTrue result (IsWellUnit graph.now unit.now) }
+    ensures { OnTrue result (IsWellUnit (IsTarget graph.now) unit.now) }
 {
     let nodes = unit.nodes.as_slice();
     let Some((root, below)) = nodes.split_first() else {

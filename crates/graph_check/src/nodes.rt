@@ -4,6 +4,7 @@ ghost use Rattle.std.specs.Prelude.{◌≡◌};
 ghost use Rattle.std.specs.Bool.{OnTrue};
 ghost use Rattle.std.specs.List.{All, list_any};
 ghost use Rattle.dwarf_types.specs.WellNodes.{IsAttribute, IsNode, has_lines, is_dropped, is_lines};
+ghost use Rattle.dwarf_types.specs.WellValues.{IsTarget};
 
 use crate::values::{is_value, may_stand};
 use ds_base::dwarf::{
@@ -14,7 +15,7 @@ use dwarf_types::{Graph, Node, OutAttr, OutValue};
 
 /// Whether these are the nodes of a unit of a version.
 pub(crate) fn are_nodes(graph: &Graph, version: u16, nodes: &[Node]) -> bool
-    ensures { OnTrue result (All (IsNode graph.now version nodes.now) nodes.now) }
+    ensures { OnTrue result (All (IsNode (IsTarget graph.now) version nodes.now) nodes.now) }
 {
     for node in nodes {
         if !is_node(graph, version, nodes, node) {
@@ -26,7 +27,7 @@ pub(crate) fn are_nodes(graph: &Graph, version: u16, nodes: &[Node]) -> bool
 
 /// Whether this is a node of a unit of a version with these nodes.
 fn is_node(graph: &Graph, version: u16, nodes: &[Node], node: &Node) -> bool
-    ensures { OnTrue result (IsNode graph.now version nodes.now node.now) }
+    ensures { OnTrue result (IsNode (IsTarget graph.now) version nodes.now node.now) }
 {
     let tag = node.tag;
     tag != 0 && are_attributes(graph, version, nodes, node.attrs.as_slice())
@@ -34,7 +35,7 @@ fn is_node(graph: &Graph, version: u16, nodes: &[Node], node: &Node) -> bool
 
 /// Whether these are attributes of such a node.
 fn are_attributes(graph: &Graph, version: u16, nodes: &[Node], attrs: &[OutAttr]) -> bool
-    ensures { OnTrue result (All (IsAttribute graph.now version nodes.now) attrs.now) }
+    ensures { OnTrue result (All (IsAttribute (IsTarget graph.now) version nodes.now) attrs.now) }
 {
     for attr in attrs {
         if !is_attribute(graph, version, nodes, attr) {
@@ -46,7 +47,7 @@ fn are_attributes(graph: &Graph, version: u16, nodes: &[Node], attrs: &[OutAttr]
 
 /// Whether this is an attribute of such a node.
 fn is_attribute(graph: &Graph, version: u16, nodes: &[Node], attr: &OutAttr) -> bool
-    ensures { OnTrue result (IsAttribute graph.now version nodes.now attr.now) }
+    ensures { OnTrue result (IsAttribute (IsTarget graph.now) version nodes.now attr.now) }
 {
     let name = attr.name;
     if name == 0 || is_always_dropped(name) {

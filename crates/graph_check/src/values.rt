@@ -22,7 +22,7 @@ use dwarf_types::{ExprPart, Graph, Node, OutLocation, OutValue, Target};
 
 /// Whether this is a value of a unit of a version with these nodes.
 pub(crate) fn is_value(graph: &Graph, version: u16, nodes: &[Node], value: &OutValue) -> bool
-    ensures { OnTrue result (IsValue graph.now version nodes.now value.now) }
+    ensures { OnTrue result (IsValue (IsTarget graph.now) version nodes.now value.now) }
 {
     match value {
         OutValue::Address(address) => is_address(*address),

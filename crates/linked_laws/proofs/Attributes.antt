@@ -143,10 +143,10 @@ module _ (image : ℕ → Option Target) (graph : Graph) (nodes : List Node) whe
     -- ---- values
 
     pub record ValueHolds (name : ℕ) (y : OutValue) : Type 0 where
-      pub value : IsValue graph to nodes y
+      pub value : IsValue (IsTarget graph) to nodes y
       pub stands : MayStand name y
 
-    holds_as : (name : ℕ) (x y : OutValue) → y ≡ x → IsValue graph to nodes x → MayStand name x → ValueHolds name y
+    holds_as : (name : ℕ) (x y : OutValue) → y ≡ x → IsValue (IsTarget graph) to nodes x → MayStand name x → ValueHolds name y
     holds_as name x y is value stands = subst (ValueHolds name) (sym is) (record { value = value; stands = stands })
 
     value_holds : (e : Entry) (a : Attr) (v : Value) (y : OutValue) → a.value ≡ v → (a.name == DW_AT_sibling) ≡ false → IsGivenValue from a.name v → Refers a → All BaseGoes (flat_map op_bases (operations_of v))
@@ -201,7 +201,7 @@ module _ (image : ℕ → Option Target) (graph : Graph) (nodes : List Node) whe
     said_holds files fit false e a y sibling given refers goes written = value_holds e a a.value y refl sibling given refers goes written
 
     pub attribute_holds : (files : FileNumbers) → FilesFit files → (e : Entry) (a : Attr) (y : OutAttr) → IsGivenAttr from a → Refers a → All BaseGoes (flat_map op_bases (operations_of a.value)) → attr_written image files e a ≡ Some y
-        → IsAttribute graph to nodes y
+        → IsAttribute (IsTarget graph) to nodes y
     attribute_holds files fit e a y given refers goes written =
         let said : Option OutValue = cond (a.name == DW_AT_decl_file) (file_written image files e a a.value) (value_written image e a a.value) in
         let left = unless_left (is_left_out image e a.name) (option_map (λ value. record { name = a.name; value = value }) said) y written in
@@ -209,11 +209,11 @@ module _ (image : ℕ → Option Target) (graph : Graph) (nodes : List Node) whe
         let dropped = neither (is_dropped a.name) _ left.0 in
         let sibling = neither (a.name == DW_AT_sibling) _ dropped in
         let h = said_holds files fit (a.name == DW_AT_decl_file) e a made.0 sibling given.value refers goes made.1 in
-        let own : IsAttribute graph to nodes (record { name = a.name; value = made.0 }) = record { some = given.some; fits = given.fits; kept = dropped; value = h.value; stands = h.stands } in
-        subst (IsAttribute graph to nodes) (sym made.2) own
+        let own : IsAttribute (IsTarget graph) to nodes (record { name = a.name; value = made.0 }) = record { some = given.some; fits = given.fits; kept = dropped; value = h.value; stands = h.stands } in
+        subst (IsAttribute (IsTarget graph) to nodes) (sym made.2) own
 
     -- all of an entry
     pub attributes_hold : (files : FileNumbers) → FilesFit files → (e : Entry) → All (IsGivenAttr from) e.attrs → All Refers e.attrs → All (λ a. All BaseGoes (flat_map op_bases (operations_of a.value))) e.attrs
-        → All (IsAttribute graph to nodes) (attrs_written image files e)
+        → All (IsAttribute (IsTarget graph) to nodes) (attrs_written image files e)
     attributes_hold files fit e given refers goes =
-        All-filter_map (IsAttribute graph to nodes) (attr_written image files e) e.attrs (λ k d lt y written. attribute_holds files fit e _ y (given k d lt) (refers k d lt) (goes k d lt) written)
+        All-filter_map (IsAttribute (IsTarget graph) to nodes) (attr_written image files e) e.attrs (λ k d lt y written. attribute_holds files fit e _ y (given k d lt) (refers k d lt) (goes k d lt) written)

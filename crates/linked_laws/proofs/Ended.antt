@@ -8,6 +8,7 @@ use Rattle.dwarf_types.specs.declared.graph.OutUnit.{OutUnit}
 use Rattle.dwarf_types.specs.Entries.{ancestors_of, parent_of}
 use Rattle.dwarf_types.specs.Well.{IsWellUnit}
 use Rattle.dwarf_types.specs.WellNodes.{IsPreorderParent, IsUp}
+use Rattle.dwarf_types.specs.WellValues.{IsTarget}
 use Rattle.dwarf_types.proofs.Ancestors.{ancestors_of_child, no_ancestors}
 use Rattle.linked_laws.specs.Ends.{Ends}
 
@@ -79,7 +80,7 @@ module _ (nodes : List Node) (rooted : Rooted nodes) (preorder : Preorder nodes)
   pub ends : (k : ℕ) → Ends nodes k
   ends k = ends_before k (slice_get nodes (k + 1)) refl
 
-pub unit_ends : (graph : Graph) (unit : OutUnit) (k : ℕ) → IsWellUnit graph unit → Ends unit.nodes k
+pub unit_ends : (graph : Graph) (unit : OutUnit) (k : ℕ) → IsWellUnit (IsTarget graph) unit → Ends unit.nodes k
 unit_ends graph unit k w =
     let rooted : Rooted unit.nodes = λ node at. let root = same_Some _ _ (ap (λ (ns : List Node). slice_get ns 0) (sym w.nodes) ∙ at) in ap (λ (n : Node). n.parent) (sym root) ∙ w.is_root.parent in
     let preorder : Preorder unit.nodes = λ k node at.

@@ -1,3 +1,4 @@
+pub mod Alone
 pub mod Attributes
 pub mod Chains
 pub mod Ended

@@ -93,25 +93,25 @@ module _
 
       -- ---- nodes
 
-      closing_attrs : All (IsAttribute graph unit.version nodes) (closing_pair spans)
+      closing_attrs : All (IsAttribute (IsTarget graph) unit.version nodes) (closing_pair spans)
       closing_attrs =
           let low : OutAttr = record { name = DW_AT_low_pc; value = out.Address 0 } in
           let ranges : OutAttr = record { name = DW_AT_ranges; value = out.Ranges spans } in
-          All-cons (IsAttribute graph unit.version nodes) low (ranges ∷ []) (record { some = omega arith; fits = omega arith; kept = refl; value = omega arith; stands = tt })
-          (All-cons (IsAttribute graph unit.version nodes) ranges [] (record { some = omega arith; fits = omega arith; kept = refl; value = code_spans o s.unit whole.given.code; stands = refl }) (All-nil (IsAttribute graph unit.version nodes)))
+          All-cons (IsAttribute (IsTarget graph) unit.version nodes) low (ranges ∷ []) (record { some = omega arith; fits = omega arith; kept = refl; value = omega arith; stands = tt })
+          (All-cons (IsAttribute (IsTarget graph) unit.version nodes) ranges [] (record { some = omega arith; fits = omega arith; kept = refl; value = code_spans o s.unit whole.given.code; stands = refl }) (All-nil (IsAttribute (IsTarget graph) unit.version nodes)))
 
-      closing_by : (root none : Bool) → All (IsAttribute graph unit.version nodes) (cond root (cond none [] (closing_pair spans)) [])
-      closing_by true true = All-nil (IsAttribute graph unit.version nodes)
+      closing_by : (root none : Bool) → All (IsAttribute (IsTarget graph) unit.version nodes) (cond root (cond none [] (closing_pair spans)) [])
+      closing_by true true = All-nil (IsAttribute (IsTarget graph) unit.version nodes)
       closing_by true false = closing_attrs
-      closing_by false none = All-nil (IsAttribute graph unit.version nodes)
+      closing_by false none = All-nil (IsAttribute (IsTarget graph) unit.version nodes)
 
-      pub node_holds : (x : ℕ × Entry) → IsWritten o s.unit x → IsNode graph unit.version nodes (f x)
+      pub node_holds : (x : ℕ × Entry) → IsWritten o s.unit x → IsNode (IsTarget graph) unit.version nodes (f x)
       node_holds x w =
           let e_given = given_of x.0 x.1 w.stands w.unit in
           record {
             some = e_given.some;
             fits = e_given.fits;
-            attrs = All-append (IsAttribute graph unit.version nodes) (attrs_written image None x.1) (closing x.1 spans)
+            attrs = All-append (IsAttribute (IsTarget graph) unit.version nodes) (attrs_written image None x.1) (closing x.1 spans)
                 (attributes_hold image graph nodes unit.version unit.version (allows_itself unit.version) None tt x.1 e_given.attrs (refers x.1) (bases x.0 x.1 w.stands w.unit w.kept))
                 (closing_by (is_none x.1.parent) (eqb (length spans) 0));
           }
@@ -124,8 +124,8 @@ module _
               subst (λ (version : ℕ). IsGivenEntry version e) (its_version e same)
               (subst (λ (x : Entry). IsGivenEntry (version_of o.seen.units x.unit) x) (get_or_from_slice_get o.seen.entries k e e stands) (whole.given.entries k e (slice_get_within o.seen.entries k e stands)))
 
-      pub all_nodes : All (IsNode graph unit.version nodes) nodes
-      all_nodes = All-map (IsNode graph unit.version nodes) f kept (All-weaker (IsWritten o s.unit) (λ x. IsNode graph unit.version nodes (f x)) node_holds kept (all_written o s.unit))
+      pub all_nodes : All (IsNode (IsTarget graph) unit.version nodes) nodes
+      all_nodes = All-map (IsNode (IsTarget graph) unit.version nodes) f kept (All-weaker (IsWritten o s.unit) (λ x. IsNode (IsTarget graph) unit.version nodes (f x)) node_holds kept (all_written o s.unit))
 
       -- ---- the root
 
@@ -258,7 +258,7 @@ module _
           let none = subst (λ (e : Entry). is_none e.parent ≡ false → given.has_lines e.attrs ≡ false) (get_or_from_slice_get o.seen.entries x.0 x.1 x.1 w.stands) (whole.given.no_lines x.0 x.1 (slice_get_within o.seen.entries x.0 x.1 w.stands)) in
           node_without_lines x below (none below))
 
-      pub unit_well : (length kept == 0) ≡ false → IsWellUnit graph (unit_written image o s.unit unit)
+      pub unit_well : (length kept == 0) ≡ false → IsWellUnit (IsTarget graph) (unit_written image o s.unit unit)
       unit_well some =
           let r = first some in
           record {
@@ -276,16 +276,16 @@ module _
 
     -- ---- the graph
 
-    source_well : (s : Source) (y : OutUnit) → IsSource objects s → written places objects s ≡ Some y → IsWellUnit graph y
-    source_well s y h e = subst (IsWellUnit graph) (same_Some _ y (sym (source_written objects units places s h.object h.unit h.at h.is) ∙ e)) (unit_well s h.object h.unit h.at h.is h.some)
+    source_well : (s : Source) (y : OutUnit) → IsSource objects s → written places objects s ≡ Some y → IsWellUnit (IsTarget graph) y
+    source_well s y h e = subst (IsWellUnit (IsTarget graph)) (same_Some _ y (sym (source_written objects units places s h.object h.unit h.at h.is) ∙ e)) (unit_well s h.object h.unit h.at h.is h.some)
 
     frames_well : (os : List Object) → All (λ o. All IsFrame o.seen.frames) os → All IsFrame (flat_map (λ o. o.seen.frames) os)
     frames_well os h = All-flat_map IsFrame (λ o. o.seen.frames) os h
 
-    pub behind_well : All (IsWellUnit graph) units → IsWell graph
+    pub behind_well : All (IsWellUnit (IsTarget graph)) units → IsWell graph
     behind_well before = record {
-      units = All-append (IsWellUnit graph) units (filter_map (written places objects) (sources objects)) before
-          (All-filter_map (IsWellUnit graph) (written places objects) (sources objects) (λ k d lt y e. source_well _ y (all_sources objects k d lt) e));
+      units = All-append (IsWellUnit (IsTarget graph)) units (filter_map (written places objects) (sources objects)) before
+          (All-filter_map (IsWellUnit (IsTarget graph)) (written places objects) (sources objects) (λ k d lt y e. source_well _ y (all_sources objects k d lt) e));
       frames = frames_well objects (λ k d lt. (each k (get_or objects k d) (slice_get-get_or objects k d lt)).given.frames);
     }
 
@@ -311,4 +311,4 @@ own_nodes objects each i o at = record { targets = there; bases = λ j e j_kept 
         })
 
 pub graph_well : (objects : List Object) → ((i : ℕ) (o : Object) → slice_get objects i ≡ Some o → IsWhole o) → IsWell (linked objects)
-graph_well objects each = behind_well [] (plain_target 0 objects) objects each (own_nodes objects each) (All-nil (IsWellUnit (linked objects)))
+graph_well objects each = behind_well [] (plain_target 0 objects) objects each (own_nodes objects each) (All-nil (IsWellUnit (IsTarget (linked objects))))

@@ -8,7 +8,8 @@ ghost use Rattle.dwarf_types.specs.Live.{IsLive, Needs};
 ghost use Rattle.dwarf_types.specs.declared.graph.Graph.{Graph};
 ghost use Rattle.dwarf_types.specs.declared.graph.OutUnit.{OutUnit};
 ghost use Rattle.dwarf_types.specs.declared.graph.Target.{Target};
-ghost use Rattle.dwarf_types.specs.Well.{IsWell, IsWellUnit};
+ghost use Rattle.dwarf_types.specs.Well.{IsWell, IsWellAlone, IsWellUnit};
+ghost use Rattle.dwarf_types.specs.WellValues.{IsTarget};
 ghost use Rattle.linked_laws.specs.Ends.{Ends};
 ghost use Rattle.linked_laws.specs.Kept.{IsWhole, Leads};
 
@@ -22,7 +23,7 @@ pub fn linked_is_well()
 /// So it is behind some units that are well, where references lead to nodes, and base types keep their own.
 pub fn linked_behind_is_well()
     ensures { (units : Listed OutUnit) (image : ℕ → ℕ → Option Target) (objects : Listed Object) → All IsWhole objects → ((i : ℕ) (o : Object) → slice_get objects i ≡ Some o → Leads units image objects i o)
-        → All (IsWellUnit (linked_behind units image objects)) units → IsWell (linked_behind units image objects) }
+        → All (IsWellUnit (IsTarget (linked_behind units image objects))) units → IsWell (linked_behind units image objects) }
 {}
 
 /// The live entries of an object keep to each other: what a live entry needs is live.
@@ -33,5 +34,10 @@ pub fn live_entries_are_closed()
 
 /// Behind a node of a well unit the lists of siblings end that the next node doesn't stand in.
 pub fn lists_end_by_ancestors()
-    ensures { (graph : Graph) (unit : OutUnit) (k : ℕ) → IsWellUnit graph unit → Ends unit.nodes k }
+    ensures { (graph : Graph) (unit : OutUnit) (k : ℕ) → IsWellUnit (IsTarget graph) unit → Ends unit.nodes k }
+{}
+
+/// A unit of a well graph is well by itself, without a word on where its references lead.
+pub fn well_units_are_well_alone()
+    ensures { (graph : Graph) (unit : OutUnit) → IsWellUnit (IsTarget graph) unit → IsWellAlone unit }
 {}

@@ -55,9 +55,9 @@ text_by (b ∷ bytes) is =
     let own = and_parts (nat_lt 0 b) (nat_lt b 256) parts.0 in
     ((ltb-true 0 b own.0, ltb-true b 256 own.1), text_by bytes parts.1)
 
-root_node : (graph : Graph) (version : ℕ) (nodes : List Node) → IsNode graph version nodes pool_root_node
+root_node : (graph : Graph) (version : ℕ) (nodes : List Node) → IsNode (IsTarget graph) version nodes pool_root_node
 root_node graph version nodes =
-    let P : OutAttr → Type 0 = IsAttribute graph version nodes in
+    let P : OutAttr → Type 0 = IsAttribute (IsTarget graph) version nodes in
     let name : OutAttr = record { name = DW_AT_name; value = out.Text (codes "__artificial_type_unit") } in
     let language : OutAttr = record { name = DW_AT_language; value = out.Number DW_FORM_data2 DW_LANG_C_plus_plus } in
     let lines : OutAttr = record { name = DW_AT_stmt_list; value = out.Lines } in
@@ -173,14 +173,14 @@ module _ (seen : List Analysis) (objects : List Object) (each : (i : ℕ) (o : O
     pool_long = ap length nodes_are ∙ (let long = length-map all f in omega (arith, long))
 
     module _ (bids : AllPairs (λ a b. a.bid ≡ b.bid → ⊥) ns) (graph : Graph) (targets : (i k : ℕ) (target : Target) → image i k ≡ Some target → IsTarget graph target) (few : length files < 2 ^ 64) (known : (version ≡ 4) ⊎ (version ≡ 5)) where
-      name_node : (w : Named) → IsNameOf objects w → IsNode graph version nodes (f w)
+      name_node : (w : Named) → IsNameOf objects w → IsNode (IsTarget graph) version nodes (f w)
       name_node w is =
           let given = given_of w is in
           let at = image (w.object - 1) in
           let number = number_among files is.object.seen is.entry.unit in
           let goes : All (λ a. All (BaseGoes at graph nodes) (flat_map op_bases (operations_of a.value))) is.entry.attrs = All-weaker (λ (a : Attr). is_field a.value ≡ false) (λ a. All (BaseGoes at graph nodes) (flat_map op_bases (operations_of a.value)))
           (λ a none. subst (All (BaseGoes at graph nodes)) (sym (no_bases a.value none)) (All-nil (BaseGoes at graph nodes))) is.entry.attrs (fields w is) in
-          subst (IsNode graph version nodes) (sym (f_is w is)) (record {
+          subst (IsNode (IsTarget graph) version nodes) (sym (f_is w is)) (record {
             some = given.some;
             fits = given.fits;
             attrs = attributes_hold at graph nodes (version_of is.object.seen.units is.entry.unit) version (allows w is) (Some number) (number_fits files few is.object.seen is.entry.unit) is.entry given.attrs (λ k d lt j target sibling found gone. targets (w.object - 1) j target gone) goes;
@@ -191,7 +191,7 @@ module _ (seen : List Analysis) (objects : List Object) (each : (i : ℕ) (o : O
           let o = is.object in
           ap has_lines (f_is w is) ∙ no_lines (image (w.object - 1)) is.entry (number_among files o.seen is.entry.unit) (no_field o w.entry is.entry (sound_parents o.seen (each (w.object - 1) o is.its).sound) is.stands is.pooled)
 
-      pub pool_well : IsWellUnit graph unit
+      pub pool_well : IsWellUnit (IsTarget graph) unit
       pool_well = record {
         version = known;
         root = pool_root_node;
@@ -200,8 +200,8 @@ module _ (seen : List Analysis) (objects : List Object) (each : (i : ℕ) (o : O
         is_root = record { parent = refl; tag = refl; whole = refl; ends = without_ranges refl refl; stmt_list = refl; lines = refl };
         preorder = λ k node at. subst (λ (ns : List Node). IsPreorderParent ns k node.parent) (sym nodes_are) (pool_preorder ns bids pool_root_node f parent_is k node at);
         no_lines = All-map (λ (node : Node). has_lines node ≡ false) f all (All-weaker (IsNameOf objects) (λ w. has_lines (f w) ≡ false) name_lines all all_are_names);
-        each = subst (λ (ns : List Node). All (IsNode graph version ns) ns) (sym nodes_are)
-            (All-cons (IsNode graph version nodes) pool_root_node (map f all) (root_node graph version nodes) (All-map (IsNode graph version nodes) f all (All-weaker (IsNameOf objects) (λ w. IsNode graph version nodes (f w)) name_node all all_are_names)));
+        each = subst (λ (ns : List Node). All (IsNode (IsTarget graph) version ns) ns) (sym nodes_are)
+            (All-cons (IsNode (IsTarget graph) version nodes) pool_root_node (map f all) (root_node graph version nodes) (All-map (IsNode (IsTarget graph) version nodes) f all (All-weaker (IsNameOf objects) (λ w. IsNode (IsTarget graph) version nodes (f w)) name_node all all_are_names)));
         lines = table_holds version files few files_hold;
         ranges = All-nil IsSpan;
       }

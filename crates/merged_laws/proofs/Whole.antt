@@ -228,7 +228,7 @@ module _ (odr : Bool) (seen : List Analysis) (live : List (List Bool)) (sound : 
 
   behind : IsWell graph
   behind = behind_well units image objects each leads
-      (pool_all (IsWellUnit graph) image seen version ns
+      (pool_all (IsWellUnit (IsTarget graph)) image seen version ns
       (λ some. pool_well seen (merged odr seen live) ones image version allows (bids_apart odr seen live few sound rows) graph targets (files_few some) (version_known (object_units odr seen live))))
 
   pub merged_well : IsWell (graph_in seen (shape_of odr seen live))
