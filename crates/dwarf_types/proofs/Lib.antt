@@ -8,6 +8,7 @@ pub mod Kept
 pub mod Lengths
 pub mod Placing
 pub mod Plain
+pub mod PlainCells
 pub mod Readers
 pub mod Setting
 pub mod Texts

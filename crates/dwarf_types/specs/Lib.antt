@@ -25,6 +25,7 @@ pub mod Moves
 pub mod Operations
 pub mod Places
 pub mod PlaceSteps
+pub mod Plain
 pub mod Put
 pub mod Raw
 pub mod SectionBytes

@@ -1,9 +1,10 @@
 //! Heads and cells: an entry but for its attributes, and an attribute.
 
-ghost use Rattle.std.specs.Prelude.{◌≡◌, ◌==◌, ◌≤◌, ◌+◌, length, drop};
+ghost use Rattle.std.specs.Prelude.{◌≡◌, ◌==◌, ◌<◌, ◌≤◌, ◌+◌, length, map, drop, slice_get, Some};
 ghost use Rattle.std.specs.List.{find, list_any};
 ghost use Rattle.std.specs.Option.{option_copied};
 ghost use Rattle.dwarf_types.specs.Columns.{cells_of, parent_of};
+ghost use Rattle.dwarf_types.specs.Plain.{holds_address, holds_offset, holds_plain};
 
 use crate::sides::Kind;
 
@@ -86,4 +87,70 @@ pub(crate) fn has_name(cells: &[RawCell], name: u16) -> bool
     ensures { result ≡ list_any (λ c. c.cell.name == name) cells.now }
 {
     cells.iter().any(|raw| raw.cell.name == name)
+}
+
+/// The kind of a cell.
+pub(crate) fn kind_at(cells: &[Cell], j: usize) -> Kind
+    requires { j < length cells.now }
+    ensures { slice_get (map (λ c. c.kind) cells.now) j ≡ Some result }
+{
+    cells[j].kind
+}
+
+/// The kind of a cell as it is read.
+pub(crate) fn raw_kind_at(cells: &[RawCell], j: usize) -> Kind
+    requires { j < length cells.now }
+    ensures { slice_get (map (λ c. c.cell.kind) cells.now) j ≡ Some result }
+{
+    cells[j].cell.kind
+}
+
+/// Whether a cell of this kind holds a text or a number.
+pub(crate) fn is_plain(kind: Kind) -> bool
+    ensures { result ≡ holds_plain kind }
+{
+    match kind {
+        Kind::Small => true,
+        Kind::Large => true,
+        Kind::Text => true,
+        Kind::OwnText => true,
+        Kind::Wide => true,
+        _ => false,
+    }
+}
+
+/// Whether a cell of this kind holds an offset.
+fn is_offset(kind: Kind) -> bool
+    ensures { result ≡ holds_offset kind }
+{
+    match kind {
+        Kind::Offset => true,
+        Kind::LargeOffset => true,
+        _ => false,
+    }
+}
+
+/// Whether a cell holds an offset.
+pub(crate) fn has_offset(cells: &[Cell]) -> bool
+    ensures { result ≡ list_any (λ c. holds_offset c.kind) cells.now }
+{
+    cells.iter().any(|cell| is_offset(cell.kind))
+}
+
+/// Whether a cell of this kind holds an address.
+fn is_address(kind: Kind) -> bool
+    ensures { result ≡ holds_address kind }
+{
+    match kind {
+        Kind::Stored => true,
+        Kind::Address => true,
+        _ => false,
+    }
+}
+
+/// Whether a cell holds an address.
+pub(crate) fn has_address(cells: &[Cell]) -> bool
+    ensures { result ≡ list_any (λ c. holds_address c.kind) cells.now }
+{
+    cells.iter().any(|cell| is_address(cell.kind))
 }

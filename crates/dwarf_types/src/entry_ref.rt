@@ -1,12 +1,19 @@
 //! An entry where it stands.
 
-ghost use Rattle.std.specs.Prelude.{◌≡◌, ◌<◌, ◌==◌, All, length, map, slice_get, slice_index_or, Some};
+ghost use Rattle.std.specs.Prelude.{◌≡◌, ◌<◌, ◌==◌, All, length, map, slice_get, slice_index_or, is_some, Some};
 ghost use Rattle.std.specs.Option.{option_map};
-ghost use Rattle.std.specs.List.{find};
+ghost use Rattle.std.specs.List.{find, list_any};
+ghost use Rattle.dwarf_types.specs.declared.entry.Attr.{Attr as AnAttr};
+ghost use Rattle.dwarf_types.specs.declared.entry.RawAttr.{RawAttr as ARawAttr};
 ghost use Rattle.dwarf_types.specs.Columns.{CellWithin, RawWithin, attr_of, entry_with, raw_attr_of, raw_entry_with};
+ghost use Rattle.dwarf_types.specs.Moves.{place_in};
+ghost use Rattle.dwarf_types.specs.Plain.{is_offset, is_plain};
 ghost use Rattle.dwarf_types.specs.Seen.{attr_seen, raw_attr_seen};
 
-use crate::columns::{Cell, Head, RawCell, first_named, first_raw_named};
+use crate::columns::{
+    Cell, Head, RawCell, first_named, first_raw_named, has_address, has_offset, is_plain, kind_at,
+    raw_kind_at,
+};
 use crate::seen::{AttrRef, RawAttrRef, attr_in};
 use crate::sides::Sides;
 use std::marker::Model;
@@ -86,6 +93,28 @@ impl<'a> EntryRef<'a> {
         ensures item { attr_seen result ≡ slice_index_or self.now.attrs j (attr_seen result) }
     {
         attr_in(self.sides, self.cells[j])
+    }
+
+    /// Whether its attribute at a place, counted from 0, is a text or a number, which mean the same wherever they stand.
+    pub fn is_plain(&self, j: usize) -> bool
+        requires { j < length self.now.attrs }
+        ensures { (a : AnAttr) → slice_get self.now.attrs j ≡ Some a → result ≡ is_plain a.value }
+    {
+        is_plain(kind_at(self.cells, j))
+    }
+
+    /// Whether it has an attribute of class address.
+    pub fn has_address(&self) -> bool
+        ensures { result ≡ list_any (λ a. is_some (place_in a.value)) self.now.attrs }
+    {
+        has_address(self.cells)
+    }
+
+    /// Whether it has an attribute that is an offset as it was read.
+    pub fn has_offset(&self) -> bool
+        ensures { result ≡ list_any (λ a. is_offset a.value) self.now.attrs }
+    {
+        has_offset(self.cells)
     }
 
     /// Its first attribute of a name.
@@ -174,6 +203,14 @@ impl<'a> RawEntryRef<'a> {
         ensures item { raw_attr_seen result ≡ slice_index_or self.now.attrs j (raw_attr_seen result) }
     {
         raw_attr_in(self.sides, self.cells[j])
+    }
+
+    /// Whether its attribute at a place, counted from 0, is a text or a number, which mean the same wherever they stand.
+    pub fn is_plain(&self, j: usize) -> bool
+        requires { j < length self.now.attrs }
+        ensures { (a : ARawAttr) → slice_get self.now.attrs j ≡ Some a → result ≡ is_plain a.value }
+    {
+        is_plain(raw_kind_at(self.cells, j))
     }
 
     /// Its first attribute of a name.
