@@ -11,6 +11,7 @@ pub mod KnownTypes
 pub mod Marking
 pub mod Names
 pub mod Opening
+pub mod Others
 pub mod Outlines
 pub mod Ordered
 pub mod RawValues

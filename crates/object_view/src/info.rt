@@ -87,6 +87,9 @@ fn understood_at(
         → Gives (understood_as room.new.meant.ops a.value) result (info_value values.now e.unit a) }
 {
     let entry = entries.entry(i);
+    if entry.is_plain(j) {
+        return Ok(Understood::Same);
+    }
     understand(values, entry.unit(), &entry.attr(j), room)
 }
 

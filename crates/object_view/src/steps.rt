@@ -1,10 +1,11 @@
 //! Steps over all attributes of an object, in document order.
 
-ghost use Rattle.std.specs.Prelude.{◌≡◌, ◌<◌, length, slice_get, slice_set, Some, OnOk};
+ghost use Rattle.std.specs.Prelude.{◌≡◌, ◌<◌, ℕ, false, length, slice_get, slice_set, Ok, Some, OnOk};
 ghost use Rattle.std.specs.List.{All};
 ghost use Rattle.ds_base.specs.Reading.{Gives};
 ghost use Rattle.dwarf_types.specs.declared.entry.Attr.{Attr as AnAttr};
 ghost use Rattle.dwarf_types.specs.declared.entry.Entry.{Entry as AnEntry};
+ghost use Rattle.dwarf_types.specs.Plain.{is_offset};
 ghost use Rattle.object_view.specs.Attributes.{attr_by, entry_by, entries_by, with_value};
 ghost use Rattle.object_view.specs.Changes.{after, making};
 ghost use Rattle.object_view.specs.Ready.{AllAttrs};
@@ -55,7 +56,7 @@ pub(crate) trait Step {
         ensures { Gives (after (attr_seen attr.now).value) result (meant self.now unit (attr_seen attr.now)) };
 }
 
-/// Takes a step over all entries, in place.
+/// Takes a step over all entries, in place. Only offsets mean something else than they say.
 pub(crate) fn change_entries<S: Step>(
     alloc: Global,
     step: &S,
@@ -63,6 +64,7 @@ pub(crate) fn change_entries<S: Step>(
 ) -> Result<(), ReadError>
     requires ready { S.ready step.now }
     requires fits { AllAttrs (S.fits step.now) entries.old }
+    requires others { (unit : ℕ) (a : AnAttr) → is_offset a.value ≡ false → S.meant step.now unit a ≡ Ok a.value }
     ensures { Gives (λ _. entries.new) result (entries_by (S.meant step.now) entries.old) }
 {
     let mut room = ExprRoom::new(alloc);
@@ -72,7 +74,7 @@ pub(crate) fn change_entries<S: Step>(
     Ok(())
 }
 
-/// Takes a step over the attributes of an entry.
+/// Takes a step over the attributes of an entry, where one is an offset.
 fn change_entry<S: Step>(
     alloc: Global,
     step: &S,
@@ -83,10 +85,15 @@ fn change_entry<S: Step>(
     requires ready { S.ready step.now }
     requires within { i < length entries.old }
     requires fits { (e : AnEntry) → slice_get entries.old i ≡ Some e → All (S.fits step.now e.unit) e.attrs }
+    requires others { (unit : ℕ) (a : AnAttr) → is_offset a.value ≡ false → S.meant step.now unit a ≡ Ok a.value }
     ensures { (e : AnEntry) → slice_get entries.old i ≡ Some e
         → Gives (λ _. entries.new) result (making (entry_by (S.meant step.now e.unit) e) (λ made. slice_set entries.old i made)) }
 {
-    let count = entries.entry(i).len();
+    let entry = entries.entry(i);
+    if !entry.has_offset() {
+        return Ok(());
+    }
+    let count = entry.len();
     for j in 0..count {
         change_attr(alloc, step, entries, i, j, room)?;
     }

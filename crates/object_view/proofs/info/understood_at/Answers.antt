@@ -1,0 +1,12 @@
+use Rattle.std.proofs.Common.{◌≡◌, ◌∙◌, Some, slice_get, subst, sym}
+use Rattle.dwarf_types.specs.declared.entry.RawEntry.{RawEntry}
+use Rattle.object_view.specs.Ready.{info_seen}
+use Rattle.object_view.proofs.InPlace.{some_same}
+use Rattle.object_view.proofs.Others.{plain_meant}
+use Rattle.object_view.proofs.info.understood_at.Goals as goal
+
+pub returns-then-is_plain : goal.returns-then-is_plain
+returns-then-is_plain c e a read this =
+    let same : e ≡ c.entry-entry.result = some_same _ _ (sym read ∙ c.entry-entry.ensures.stands) in
+    let here = subst (λ (x : RawEntry). slice_get x.attrs c.args.j ≡ Some a) same this in
+    plain_meant (info_seen c.args.values.now.expressions e.unit) c.args.values.now.places.now a a.value (sym (c.is_plain.ensures a here) ∙ c.if-is_plain.true)
