@@ -1,10 +1,11 @@
 -- A table, declaration by declaration.
-use Rattle.std.proofs.Common.{◌≡◌, ℕ, suc, ◌+◌, ◌<◌, ◌≤◌, List, [], ◌∷◌, ◌++◌, length, drop, fold, get_or, drop-cons, map, Some, refl, sym, ap, ◌∙◌, append_assoc, arith}
-use Rattle.std.specs.List.{enumerate_from}
-use Rattle.std.proofs.lemmas.List.{append-nil, drop_all}
+use Rattle.std.proofs.Common.{◌≡◌, ℕ, suc, ◌+◌, ◌<◌, ◌≤◌, Bool, true, false, List, [], ◌∷◌, ◌++◌, length, drop, fold, get_or, drop-cons, map, Some, refl, sym, ap, ◌∙◌, append_assoc, arith}
+use Rattle.std.specs.Prelude.{if◌then◌else◌}
+use Rattle.std.specs.List.{enumerate_from, list_any}
+use Rattle.std.proofs.lemmas.List.{append-nil, drop_all, length_push}
 use Rattle.dwarf_types.specs.declared.abbrev.Declaration.{Declaration}
 use Rattle.dwarf_types.specs.declared.graph.Node.{Node}
-use Rattle.dwarf_types.specs.Abbreviations.{code_in, declaration_of, table_of}
+use Rattle.dwarf_types.specs.Abbreviations.{code_in, declaration_of, same_declaration, table_of}
 use Rattle.abbrev_write.specs.Keys.{code_among, with_declaration}
 use Rattle.abbrev_write.specs.Table.{declared}
 use Rattle.abbrev_write.proofs.Codes.{with_among}
@@ -13,6 +14,14 @@ use Rattle.abbrev_write.proofs.FirstUses.{all_once, code_stays}
 -- what declares the nodes from a number on
 abbrev pub declared_from : ℕ → List Node → ℕ → List Node → List Declaration
 declared_from u nodes k ns = map (λ n. declaration_of u nodes n.0 n.1) (enumerate_from k ns)
+
+more_if : (b : Bool) (ds : List Declaration) (d : Declaration) → length (if b then ds else ds ++ d ∷ []) ≤ length ds + 1
+more_if true ds d = omega arith
+more_if false ds d = omega (arith, length_push ds d)
+
+-- one more declaration at most
+pub one_more : (ds : List Declaration) (d : Declaration) → length (with_declaration ds d) ≤ length ds + 1
+one_more ds d = more_if (list_any (λ x. same_declaration x d) ds) ds d
 
 pub table_is : (u : ℕ) (nodes : List Node) → fold with_declaration [] (declared u nodes) ≡ table_of u nodes
 table_is u nodes = all_once (declared u nodes)

@@ -1,6 +1,6 @@
 //! The table of a unit, and the code of each node.
 
-ghost use Rattle.std.specs.Prelude.{◌≡◌, ◌<◌, length, slice_index, IfOk};
+ghost use Rattle.std.specs.Prelude.{◌≡◌, ◌<◌, ◌^◌, length, slice_index, IfOk};
 ghost use Rattle.abbrev_write.specs.Table.{unit_table};
 
 use crate::declare::{make_key, parents_in};
@@ -30,6 +30,7 @@ impl Model for AbbrevTable {
 /// The table of a unit, whose number in the graph counts from 0: the form of a reference depends on whether it stays
 /// in the unit. The time is linear in the unit's attributes.
 pub fn table(alloc: Global, unit: &OutUnit, number: u32) -> Result<AbbrevTable, NoMemory>
+    requires few { length unit.now.nodes < 2 ^ 28 }
     ensures exact { IfOk result (λ table. table ≡ unit_table number unit.now.nodes) }
 
     // Each node has a code.
@@ -41,10 +42,7 @@ pub fn table(alloc: Global, unit: &OutUnit, number: u32) -> Result<AbbrevTable, 
     let mut codes = List::with_capacity(alloc, nodes.len())?;
     let mut key = Vec::new(alloc);
     for (k, node) in nodes.iter().enumerate() {
-        let Ok(k) = u32::try_from(k) else {
-            return Err(NoMemory);
-        };
-        let children = parents.get(k);
+        let children = parents.get(k as u32);
         make_key(&mut key, number, node, children)?;
         let code = code_for(alloc, &mut known, &key, number, node, children)?;
         codes.push(code)?;

@@ -1,6 +1,6 @@
 //! What declares a node.
 
-ghost use Rattle.std.specs.Prelude.{◌≡◌, ◌<◌, ◌||◌, ◌++◌, ◌∷◌, [], ℕ, length, map, slice_index_or, false, IfOk, OnOk};
+ghost use Rattle.std.specs.Prelude.{◌≡◌, ◌<◌, ◌^◌, ◌||◌, ◌++◌, ◌∷◌, [], ℕ, length, map, slice_index_or, false, IfOk, OnOk};
 ghost use Rattle.std.specs.List.{flat_map};
 ghost use Rattle.dwarf_types.specs.Abbreviations.{has_children, is_number};
 ghost use Rattle.dwarf_types.specs.Forms.{form_of};
@@ -16,12 +16,11 @@ use std::alloc::Global;
 
 /// Marks the nodes that have children.
 pub(crate) fn parents_in(alloc: Global, nodes: &[Node]) -> Result<BitRow, NoMemory>
+    requires few { length nodes.now < 2 ^ 28 }
     ensures len { IfOk result (λ marks. length marks ≡ length nodes.now) }
     ensures marked { IfOk result (λ marks. (k : ℕ) → k < length nodes.now → slice_index_or marks k false ≡ has_children nodes.now k) }
 {
-    let Ok(count) = u32::try_from(nodes.len()) else {
-        return Err(NoMemory);
-    };
+    let count = nodes.len() as u32;
     let mut marks = BitRow::new(alloc, count)?;
     for node in nodes {
         mark(&mut marks, count, node.parent);

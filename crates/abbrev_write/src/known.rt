@@ -1,6 +1,6 @@
 //! The declarations so far, which are looked up by their content.
 
-ghost use Rattle.std.specs.Prelude.{◌≡◌, ◌+◌, [], IfOk, OnOk};
+ghost use Rattle.std.specs.Prelude.{◌≡◌, ◌<◌, ◌^◌, [], length, IfOk, OnOk};
 ghost use Rattle.dwarf_types.specs.Abbreviations.{code_in};
 ghost use Rattle.abbrev_write.specs.Keys.{AreKnown, declaring, key_of, with_declaration};
 
@@ -39,6 +39,7 @@ pub(crate) fn code_for(
     children: bool,
 ) -> Result<u32, NoMemory>
     requires known { AreKnown known.old.codes known.old.declarations }
+    requires few { length known.old.declarations < 2 ^ 28 }
     requires key { key.now ≡ key_of (declaring number node.now children) }
     ensures known { OnOk result (AreKnown known.new.codes known.new.declarations) }
     ensures grown { OnOk result (known.new.declarations ≡ with_declaration known.old.declarations (declaring number node.now children)) }
@@ -47,20 +48,10 @@ pub(crate) fn code_for(
     if let Some(code) = known.codes.get(key) {
         return Ok(*code);
     }
-    let code = code_behind(known.declarations.len())?;
+    let code = known.declarations.len() as u32 + 1;
     let kept = Vec::from_slice(alloc, key)?;
     known.codes.insert(kept, code)?;
     let declared = declare(alloc, number, node, children)?;
     known.declarations.push(declared)?;
     Ok(code)
-}
-
-/// The code of a declaration that stands behind so many, which 32 bits hold where memory holds them.
-fn code_behind(count: usize) -> Result<u32, NoMemory>
-    ensures { IfOk result (λ code. code ≡ count + 1) }
-{
-    match u32::try_from(count) {
-        Ok(count) if count < u32::MAX => Ok(count + 1),
-        _ => Err(NoMemory),
-    }
 }

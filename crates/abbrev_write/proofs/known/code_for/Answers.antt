@@ -31,14 +31,14 @@ new c =
     sym (c.requires.known (declaring c.args.number c.args.node.now c.args.children))
     ∙ ap (λ ks. get_by (λ y. bytes_eq ks y.items) c.args.known.now.codes) (sym c.requires.key) ∙ sym c.in_default.ensures.value
 
-code_is : (c : goal.In_ok-push) → c.in_ok-code.code ≡ length c.args.known.now.declarations + 1
-code_is c = c.in_ok-code.ensures ∙ ap (λ n. n + 1) c.len.ensures
+code_is : (c : goal.In_ok-push) → c.len.result + 1 ≡ length c.args.known.now.declarations + 1
+code_is c = ap (λ n. n + 1) c.len.ensures
 
 unknown : (c : goal.In_ok-push) → get_by (λ y. bytes_eq c.in_ok-kept.kept.items y.items) c.args.known.now.codes ≡ None
 unknown c = ap (λ ks. get_by (λ y. bytes_eq ks y.items) c.args.known.now.codes) c.in_ok-kept.ensures.items ∙ sym c.in_default.ensures.value
 
-grown : (c : goal.In_ok-push) → c.insert.new.self.entries ≡ c.args.known.now.codes.entries ++ (c.in_ok-kept.kept, c.in_ok-code.code) ∷ []
-grown c = c.in_ok-insert.ensures.entries ∙ insert_entry-new _ c.args.known.now.codes c.in_ok-kept.kept c.in_ok-code.code (unknown c)
+grown : (c : goal.In_ok-push) → c.insert.new.self.entries ≡ c.args.known.now.codes.entries ++ (c.in_ok-kept.kept, (c.len.result + 1)) ∷ []
+grown c = c.in_ok-insert.ensures.entries ∙ insert_entry-new _ c.args.known.now.codes c.in_ok-kept.kept (c.len.result + 1) (unknown c)
 
 pushed : (c : goal.In_ok-push) → c.push.new.self ≡ c.args.known.now.declarations ++ declaring c.args.number c.args.node.now c.args.children ∷ []
 pushed c = c.in_ok-push.ensures.ok ∙ ap (λ d. c.args.known.now.declarations ++ d ∷ []) c.in_ok-declared.ensures
@@ -48,9 +48,9 @@ returns-clause-known c = λ d.
     let declared : Declaration = declaring c.args.number c.args.node.now c.args.children in
     let key : bytes_eq (key_of d) c.in_ok-kept.kept.items ≡ same_declaration declared d =
     ap (bytes_eq (key_of d)) (c.in_ok-kept.ensures.items ∙ c.requires.key) ∙ nat_list_eq_equiv.symm (key_of d) (key_of declared) ∙ same_keys declared d in
-    ap (λ es. lookup (λ k. bytes_eq (key_of d) k.items) es) (grown c) ∙ lookup-push (λ k. bytes_eq (key_of d) k.items) c.args.known.now.codes.entries c.in_ok-kept.kept c.in_ok-code.code
-    ∙ ap (λ o. option_or o (if bytes_eq (key_of d) c.in_ok-kept.kept.items then Some c.in_ok-code.code else None)) (c.requires.known d)
-    ∙ ap (λ b. option_or (code_among c.args.known.now.declarations d) (if b then Some c.in_ok-code.code else None)) key
+    ap (λ es. lookup (λ k. bytes_eq (key_of d) k.items) es) (grown c) ∙ lookup-push (λ k. bytes_eq (key_of d) k.items) c.args.known.now.codes.entries c.in_ok-kept.kept (c.len.result + 1)
+    ∙ ap (λ o. option_or o (if bytes_eq (key_of d) c.in_ok-kept.kept.items then Some (c.len.result + 1) else None)) (c.requires.known d)
+    ∙ ap (λ b. option_or (code_among c.args.known.now.declarations d) (if b then Some (c.len.result + 1) else None)) key
     ∙ ap (λ n. option_or (code_among c.args.known.now.declarations d) (if same_declaration declared d then Some n else None)) (code_is c)
     ∙ sym (among_push c.args.known.now.declarations declared d)
     ∙ ap (λ ds. code_among ds d) (sym (pushed c))
