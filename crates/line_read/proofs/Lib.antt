@@ -7,5 +7,6 @@ pub mod ProgramLoop
 pub mod Programs
 pub mod Steps
 pub mod RisingRows
+pub mod EntryTables
 mod Whole
 mod Refused
