@@ -76,11 +76,11 @@ place_ends sections base index at e =
     let ends = counted_ends sections.addr base index (ltb-true _ _ t.0) in
     omega (arith, t.1, ends)
 
-found_ends : (s : Context) (index : Option ℕ) (at : ℕ) → option_and_then (λ n. address_place s.sections s.addr_base n) index ≡ Some at → at + 8 ≤ length s.sections.addr
+pub found_ends : (s : Context) (index : Option ℕ) (at : ℕ) → option_and_then (λ n. address_place s.sections s.addr_base n) index ≡ Some at → at + 8 ≤ length s.sections.addr
 found_ends s None at e = absurd cc
 found_ends s (Some n) at e = place_ends s.sections s.addr_base n at e
 
-named_of : (names : Bool) (entry : Option ℕ) (at : ℕ) → (if names then entry else None) ≡ Some at → (names ≡ true) × (entry ≡ Some at)
+pub named_of : (names : Bool) (entry : Option ℕ) (at : ℕ) → (if names then entry else None) ≡ Some at → (names ≡ true) × (entry ≡ Some at)
 named_of true entry at e = (refl, e)
 named_of false entry at e = absurd cc
 
@@ -94,11 +94,11 @@ constx_row : operands_of DW_OP_constx ≡ Some operands.Index
 unfolding operands_of has_no_operands
 constx_row = refl
 
-addr_row : operands_of DW_OP_addr ≡ Some operands.Address
+pub addr_row : operands_of DW_OP_addr ≡ Some operands.Address
 unfolding operands_of has_no_operands
 addr_row = refl
 
-const8u_row : operands_of DW_OP_const8u ≡ Some (operands.Fixed 8)
+pub const8u_row : operands_of DW_OP_const8u ≡ Some (operands.Fixed 8)
 unfolding operands_of has_no_operands
 const8u_row = refl
 
@@ -106,7 +106,7 @@ either : (a b : Bool) → (a || b) ≡ true → (a ≡ true) ⊎ (b ≡ true)
 either true b e = inl refl
 either false b e = inr e
 
-index_row : (code : ℕ) → names_entry code ≡ true → operands_of code ≡ Some operands.Index
+pub index_row : (code : ℕ) → names_entry code ≡ true → operands_of code ≡ Some operands.Index
 index_row code e = elim (either (code == DW_OP_addrx) (code == DW_OP_constx) e) [
   | inl addrx ↦ ap operands_of (eqb-true code DW_OP_addrx addrx) ∙ addrx_row
   | inr constx ↦ ap operands_of (eqb-true code DW_OP_constx constx) ∙ constx_row

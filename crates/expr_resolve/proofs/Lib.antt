@@ -1,6 +1,6 @@
 mod Bases
 mod Cutting
 mod Each
-mod Entries
+pub mod Entries
 mod Meant
 pub mod Refused
