@@ -17,6 +17,7 @@ use std::alloc::{AllocError, Global};
 use std::io::ErrorKind;
 use std::process::ExitCode;
 use std::rt::{Env, Files};
+use std::thread::Threads;
 use std::{env, rt};
 
 fn main(rt: HostRuntime) -> ExitCode {
@@ -24,14 +25,14 @@ fn main(rt: HostRuntime) -> ExitCode {
 }
 
 /// Links the program that the words name, and gives the code of the status.
-fn exit_code<R: Env + Files + Print + AllocGlobal>(rt: &R) -> ExitCode
+fn exit_code<R: Env + Files + Print + AllocGlobal + Threads + Sync>(rt: &R) -> ExitCode
     ensures { Ends (exit_status result) }
 {
     ExitCode::from(code(&run(rt)))
 }
 
 /// Links the program that the words name. Words that are not UTF-8 name none.
-fn run<R: Env + Files + Print + AllocGlobal>(rt: &R) -> Status
+fn run<R: Env + Files + Print + AllocGlobal + Threads + Sync>(rt: &R) -> Status
     ensures { Runs result }
 {
     let alloc = rt.alloc();
@@ -41,6 +42,7 @@ fn run<R: Env + Files + Print + AllocGlobal>(rt: &R) -> Status
     };
     match words {
         Ok(words) => link_main(
+            rt,
             alloc,
             words.as_slice(),
             &mut HostFiles::new(rt),

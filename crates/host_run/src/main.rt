@@ -8,6 +8,7 @@ use ds_files::{FileError, Files, HostFiles, HostSink, OpenGate, Sink};
 use link_cli::link_main;
 use link_core::Status;
 use std::alloc::{AllocError, Global};
+use std::thread::Threads;
 
 /// Where the bundle of `hello` has its property list and its image.
 const PLIST: &str = "hello.dSYM/Contents/Info.plist";
@@ -55,7 +56,8 @@ fn replace<F: Files, S: Sink>(
 }
 
 /// Links the program of a name.
-fn link<F: Files, S: Sink>(
+fn link<R: Threads + Sync, F: Files, S: Sink>(
+    rt: &R,
     alloc: Global,
     files: &mut F,
     sink: &mut S,
@@ -64,12 +66,18 @@ fn link<F: Files, S: Sink>(
     let mut words = Vec::new(alloc);
     words.push(String::from_str(alloc, name)?)?;
     let gate = OpenGate::new();
-    Ok(link_main(alloc, words.as_slice(), files, sink, &gate))
+    Ok(link_main(rt, alloc, words.as_slice(), files, sink, &gate))
 }
 
 /// Says how a link of the program of a name ends.
-fn tell_link<F: Files, S: Sink>(alloc: Global, files: &mut F, sink: &mut S, name: &str) {
-    match link(alloc, files, sink, name) {
+fn tell_link<R: Threads + Sync, F: Files, S: Sink>(
+    rt: &R,
+    alloc: Global,
+    files: &mut F,
+    sink: &mut S,
+    name: &str,
+) {
+    match link(rt, alloc, files, sink, name) {
         Ok(Status::Done) => tell(sink, name, b"linked"),
         Ok(_) => tell(sink, name, b"not linked"),
         Err(AllocError) => tell(sink, name, b"no memory"),
@@ -92,8 +100,8 @@ fn main(rt: HostRuntime) {
     replace(alloc, &mut files, &mut sink, "text/c", b"");
     read(alloc, &mut files, &mut sink, "text/c", 9);
     read(alloc, &mut files, &mut sink, "text", 9);
-    tell_link(alloc, &mut files, &mut sink, "hello");
+    tell_link(&rt, alloc, &mut files, &mut sink, "hello");
     read(alloc, &mut files, &mut sink, PLIST, 4096);
     read(alloc, &mut files, &mut sink, IMAGE, 4096);
-    tell_link(alloc, &mut files, &mut sink, "main.o");
+    tell_link(&rt, alloc, &mut files, &mut sink, "main.o");
 }

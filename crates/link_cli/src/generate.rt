@@ -19,9 +19,11 @@ use ds_files::Gate;
 use link_core::{Counts, Linked, Options, Refusal, Status, last_part, link_objects};
 use sample_objects::{Generated, generated};
 use std::alloc::Global;
+use std::thread::Threads;
 
 /// Links the generated program of so many objects, and tells what was counted.
-pub(crate) fn link_generated<G: Gate + Sync>(
+pub(crate) fn link_generated<R: Threads + Sync, G: Gate + Sync>(
+    rt: &R,
     alloc: Global,
     plan: &Plan,
     count: u32,
@@ -35,7 +37,7 @@ pub(crate) fn link_generated<G: Gate + Sync>(
     let Ok(made) = generated(alloc, count) else {
         return Ending::no_memory(alloc);
     };
-    match bundle(alloc, plan, count, &made, gate) {
+    match bundle(rt, alloc, plan, count, &made, gate) {
         Ok(linked) => tell_counts(alloc, &linked.counts),
         Err(refusal) => {
             let status = Status::from(refusal);
@@ -64,7 +66,8 @@ fn tell_counts(alloc: Global, counts: &Counts) -> Ending
 }
 
 /// The bundle of the generated program of so many objects.
-fn bundle<G: Gate + Sync>(
+fn bundle<R: Threads + Sync, G: Gate + Sync>(
+    rt: &R,
     alloc: Global,
     plan: &Plan,
     count: u32,
@@ -81,6 +84,7 @@ fn bundle<G: Gate + Sync>(
 {
     let source = numbers_below(alloc, count)?;
     link_objects(
+        rt,
         alloc,
         &made.program,
         last_part(plan.exe.as_str()),

@@ -26,14 +26,16 @@ use ds_files::{Files, Gate, Sink};
 use indexmap::IndexMap;
 use link_core::{Linked, Options, Refusal, Status, last_part, link_objects};
 use std::alloc::Global;
+use std::thread::Threads;
 
 /// Does what the command's words ask: links a program with its objects and writes the program's bundle, Info.plist and
 /// the image; or tells its debug map; or links a generated program, whatever the files are, and tells what was counted.
 /// The words are without the program's own name.
 ///
 /// Files are numbered: 0 is the program, and its objects follow from 1 in the order of its debug map. All that is told
-/// goes out last, by one call.
-pub fn link_main<F: Files, S: Sink, G: Gate + Sync>(
+/// goes out last, by one call. What is answered does not depend on the number of threads that the words ask for.
+pub fn link_main<R: Threads + Sync, F: Files, S: Sink, G: Gate + Sync>(
+    rt: &R,
     alloc: Global,
     words: &[String],
     files: &mut F,
@@ -43,36 +45,49 @@ pub fn link_main<F: Files, S: Sink, G: Gate + Sync>(
     ensures exact { Links (map string_bytes words.now) (world (F.files files.old) (F.counts files.old)) (world (F.files files.new) (F.counts files.new)) (said (S.text messages.old) (S.faults messages.old)) (said (S.text messages.new) (S.faults messages.new)) result }
     ensures later { IsLater (F.counts files.old) (F.counts files.new) }
 {
-    let ending = run(alloc, words, files, gate);
+    let ending = run(rt, alloc, words, files, gate);
     ending.put(messages)
 }
 
 /// Does what the command's words ask.
-fn run<F: Files, G: Gate + Sync>(alloc: Global, words: &[String], files: &mut F, gate: &G) -> Ending
+fn run<R: Threads + Sync, F: Files, G: Gate + Sync>(
+    rt: &R,
+    alloc: Global,
+    words: &[String],
+    files: &mut F,
+    gate: &G,
+) -> Ending
     ensures { Ends (map string_bytes words.now) (world (F.files files.old) (F.counts files.old)) (world (F.files files.new) (F.counts files.new)) result }
 {
     match plan_of_words(alloc, words) {
-        Ok(plan) => run_plan(alloc, &plan, files, gate),
+        Ok(plan) => run_plan(rt, alloc, &plan, files, gate),
         Err(PlanError::Usage) => Ending::usage(alloc),
         Err(PlanError::NoMemory) => Ending::no_memory(alloc),
     }
 }
 
 /// Does what a plan asks.
-fn run_plan<F: Files, G: Gate + Sync>(alloc: Global, plan: &Plan, files: &mut F, gate: &G) -> Ending
+fn run_plan<R: Threads + Sync, F: Files, G: Gate + Sync>(
+    rt: &R,
+    alloc: Global,
+    plan: &Plan,
+    files: &mut F,
+    gate: &G,
+) -> Ending
     requires workers { HasWorkers plan.now.workers }
     requires count { HasCount plan.now.mode }
     ensures { Runs (plan_seen plan.now) (world (F.files files.old) (F.counts files.old)) (world (F.files files.new) (F.counts files.new)) result }
 {
     match plan.mode {
-        Mode::Link => run_program(alloc, plan, files, gate),
-        Mode::Map => run_program(alloc, plan, files, gate),
-        Mode::Generate(count) => link_generated(alloc, plan, count, gate),
+        Mode::Link => run_program(rt, alloc, plan, files, gate),
+        Mode::Map => run_program(rt, alloc, plan, files, gate),
+        Mode::Generate(count) => link_generated(rt, alloc, plan, count, gate),
     }
 }
 
 /// Reads the program of a plan, and does what is to be done with it.
-fn run_program<F: Files, G: Gate + Sync>(
+fn run_program<R: Threads + Sync, F: Files, G: Gate + Sync>(
+    rt: &R,
     alloc: Global,
     plan: &Plan,
     files: &mut F,
@@ -95,7 +110,7 @@ fn run_program<F: Files, G: Gate + Sync>(
     };
     let most = MOST_INPUT - bytes.len() as u64;
     match plan.mode {
-        Mode::Link => link_program(alloc, plan, &program, most, files, gate),
+        Mode::Link => link_program(rt, alloc, plan, &program, most, files, gate),
         Mode::Map => tell_map(alloc, &program),
         Mode::Generate(_) => unreachable!(),
     }
@@ -126,7 +141,8 @@ fn tell_map(alloc: Global, program: &Program) -> Ending
 }
 
 /// Reads the files of a program's objects, which have at most `most` bytes together, links them and writes the bundle.
-fn link_program<F: Files, G: Gate + Sync>(
+fn link_program<R: Threads + Sync, F: Files, G: Gate + Sync>(
+    rt: &R,
     alloc: Global,
     plan: &Plan,
     program: &Program,
@@ -144,13 +160,14 @@ fn link_program<F: Files, G: Gate + Sync>(
 {
     let objects = program.objects.as_slice();
     match read_files(alloc, objects, plan.keep_going, most, files) {
-        Ok(held) => link_held(alloc, plan, program, held, files, gate),
+        Ok(held) => link_held(rt, alloc, plan, program, held, files, gate),
         Err(stopped) => { Ending::refused(alloc, plan, objects, stopped.warnings, stopped.status) }
     }
 }
 
 /// Links a program with its objects, whose files are held, and writes the bundle.
-fn link_held<F: Files, G: Gate + Sync>(
+fn link_held<R: Threads + Sync, F: Files, G: Gate + Sync>(
+    rt: &R,
     alloc: Global,
     plan: &Plan,
     program: &Program,
@@ -167,7 +184,7 @@ fn link_held<F: Files, G: Gate + Sync>(
     ensures { LinksSources (plan_seen plan.now) program.now (held_of held.entry) (world (F.files files.old) (F.counts files.old)) (world (F.files files.new) (F.counts files.new)) result }
 {
     let objects = program.objects.as_slice();
-    match bundle(alloc, plan, program, held.files, gate) {
+    match bundle(rt, alloc, plan, program, held.files, gate) {
         Ok(linked) => write_bundle(alloc, plan, objects, held.warnings, &linked, files),
         Err(refusal) => {
             let status = Status::from(refusal);
@@ -177,7 +194,8 @@ fn link_held<F: Files, G: Gate + Sync>(
 }
 
 /// The bundle of a program with its objects, whose files are held.
-fn bundle<G: Gate + Sync>(
+fn bundle<R: Threads + Sync, G: Gate + Sync>(
+    rt: &R,
     alloc: Global,
     plan: &Plan,
     program: &Program,
@@ -196,6 +214,7 @@ fn bundle<G: Gate + Sync>(
     let source = numbers_of(alloc, objects, &held)?;
     let contents = contents_of(alloc, held)?;
     link_objects(
+        rt,
         alloc,
         &program.image,
         last_part(plan.exe.as_str()),

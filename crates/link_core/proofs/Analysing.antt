@@ -1,5 +1,5 @@
 -- Objects analysed one after the other.
-use Rattle.std.proofs.Common.{◌≡◌, ◌<◌, ◌≤◌, ◌+◌, ◌^◌, ℕ, List, [], ◌∷◌, ◌++◌, length, drop, get_or, Option, Result, Ok, Err, refl, sym, ap, ◌∙◌, arith, append_assoc, append-nil}
+use Rattle.std.proofs.Common.{◌≡◌, ◌<◌, ◌≤◌, ◌+◌, ℕ, List, [], ◌∷◌, ◌++◌, length, drop, get_or, Option, Result, Ok, Err, refl, sym, ap, ◌∙◌, arith, append_assoc, append-nil}
 use Rattle.std.specs.List.{zip}
 use Rattle.std.proofs.lemmas.List.{drop_all, get_or-map, length-map}
 use Rattle.std.proofs.lemmas.Slice.Zip.{get_or-zip, length-zip}
@@ -10,7 +10,7 @@ use Rattle.stab_map.specs.declared.object.MapObject.{MapObject}
 use Rattle.link_core.specs.declared.refusal.Refusal.{Refusal}
 use Rattle.link_core.specs.declared.refusal.Refusal.TheVariants as refusals
 use Rattle.link_core.specs.Linked.{Source, analyses_from, analysis_from, and_then, source_of, sources_of}
-use Rattle.link_core.specs.Passes.{Analyses, Numbered, behind}
+use Rattle.link_core.specs.Passes.{Reads, ReadsObject, behind}
 
 -- ---- all objects
 
@@ -44,7 +44,7 @@ module _ (cpu i : ℕ) (sources : List Source) (seen : List Analysis) (so_far : 
     object_faulty : (f : Fault) → analysis_from cpu s.object s.file ≡ Err f → analyses_from cpu 1 sources ≡ Err (refusals.Faulty (i + 1) f)
     object_faulty f e = here ∙ ap (λ (r : Result Analysis Fault). behind seen (and_then (i + 1) r (analyses_from cpu (i + 1 + 1) (drop (i + 1) sources)))) e
 
-    pub object_refused : (r : Refusal) → Numbered (i + 1) (analysis_from cpu s.object s.file) (Err r) → Analyses (analyses_from cpu 1 sources) (Err r)
+    pub object_refused : (r : Refusal) → ReadsObject (i + 1) (analysis_from cpu s.object s.file) (Err r) → Reads cpu sources (Err r)
     object_refused (refusals.Faulty file fault) h = object_faulty fault h.1 ∙ ap (λ (n : ℕ). Err (refusals.Faulty n fault)) (sym h.0)
     object_refused (refusals.Limit which n) h = absurd h
     object_refused refusals.NoMemory h = tt

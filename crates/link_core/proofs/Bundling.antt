@@ -12,7 +12,7 @@ use Rattle.link_core.specs.declared.bundle.Linked.{Linked}
 use Rattle.link_core.specs.declared.refusal.Refusal.{Refusal}
 use Rattle.link_core.specs.declared.refusal.Refusal.TheVariants as refusals
 use Rattle.link_core.specs.Linked.{Bundles, MarkLive, Source, analyses_from, bundle, counts_of, fault, first_limit, graph_of, limit, no_memory}
-use Rattle.link_core.specs.Passes.{Analyses, DraftsUnits, Images, IsShaped, Links, Shapes}
+use Rattle.link_core.specs.Passes.{DraftsUnits, Images, IsShaped, Links, Reads, Shapes}
 use Rattle.link_core.proofs.Graphs.{limit_is}
 
 module _ (odr : Bool) (program : Image) (name : List ℕ) (seen : List Analysis) (live : List (List Bool)) where
@@ -48,13 +48,10 @@ module _ (odr : Bool) (program : Image) (name : List ℕ) (seen : List Analysis)
         (limit_is odr seen live h.few_names program ∙ d.0, d.1, text, counts_are (graph_of odr seen live) image objects entries marked nodes bytes o e l n b)
 
 module _ (odr : Bool) (program : Image) (name : List ℕ) (sources : List Source) where
-  pub bundle_refused : (r : Refusal) → Analyses (analyses_from program.cpu 1 sources) (Err r) → Bundles odr program name sources (Err r)
+  pub bundle_refused : (r : Refusal) → Reads program.cpu sources (Err r) → Bundles odr program name sources (Err r)
   bundle_refused (refusals.Faulty file why) h = fault file why h
   bundle_refused (refusals.Limit which n) h = absurd h
   bundle_refused refusals.NoMemory h = no_memory
-
-  pub bundle_full : Bundles odr program name sources (Err refusals.NoMemory)
-  bundle_full = no_memory
 
   pub bundle_made : (seen : List Analysis) (marks : List (List Bool)) (r : Result Linked Refusal) → analyses_from program.cpu 1 sources ≡ Ok seen → MarkLive seen marks → Links odr program name seen marks r → Bundles odr program name sources r
   bundle_made seen marks (Ok linked) e live h = bundle seen marks linked e live h.0 h.1 h.2 h.3

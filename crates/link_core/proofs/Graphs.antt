@@ -1,12 +1,12 @@
 -- The graph that is linked: its names, its shape, its frames, and the drafts of its units.
-use Rattle.std.proofs.Common.{◌≡◌, ◌<◌, ◌≤◌, ◌+◌, ◌-◌, ◌^◌, ℕ, zero, suc, Bool, true, false, List, [], ◌∷◌, ◌++◌, length, take, drop, get_or, slice_get, Option, Some, None, is_some, map, if◌then◌else◌, Result, Ok, Err, refl, sym, ap, subst, ◌∙◌, arith, append-nil, inl, inr}
-use Rattle.std.specs.List.{All, flat_map, zip}
+use Rattle.std.proofs.Common.{◌≡◌, ◌<◌, ◌≤◌, ◌+◌, ◌-◌, ◌^◌, ℕ, suc, Bool, true, false, List, [], ◌∷◌, ◌++◌, length, get_or, slice_get, Option, Some, is_some, map, if◌then◌else◌, Result, Ok, Err, refl, sym, ap, subst, ◌∙◌, arith}
+use Rattle.std.specs.List.{flat_map, zip}
 use Rattle.std.proofs.lemmas.Bool.{le-leb, lt-leb}
-use Rattle.std.proofs.lemmas.List.{drop_all, length-map, take_all}
+use Rattle.std.proofs.lemmas.List.{length-map}
 use Rattle.std.proofs.lemmas.Option.{get_or_from_slice_get, slice_get_within}
 use Rattle.std.proofs.lemmas.Slice.Zip.{get_or-zip, length-zip}
-use Rattle.clone_units.specs.Units.{AreThere, object_of}
-use Rattle.clone_units.proofs.Order.{its_object_is, objects_rise, one_object}
+use Rattle.work_share.specs.Results.{GivesAll}
+use Rattle.clone_units.specs.Units.{AreThere}
 use Rattle.clone_units.proofs.Placed.{units_many}
 use Rattle.dwarf_types.specs.declared.analysis.Analysis.{Analysis}
 use Rattle.dwarf_types.specs.declared.frames.OutFrame.{OutFrame}
@@ -14,14 +14,13 @@ use Rattle.dwarf_types.specs.declared.graph.Graph.{Graph}
 use Rattle.dwarf_types.specs.declared.shape.Shape.{Shape}
 use Rattle.dwarf_types.specs.declared.shape.ShapeUnit.{ShapeUnit}
 use Rattle.dwarf_types.specs.LinkedShape.{marks_in, objects_of}
-use Rattle.dwarf_types.specs.Sound.{IsSound}
 use Rattle.link_graph.specs.Graph.{IsShape, graph_in, pool_version}
 use Rattle.link_graph.specs.Merged.{linked_names, object_units, pool_origin, pool_root, pool_units, shape_of}
 use Rattle.link_graph.specs.Pool.{pool_names, preorder}
 use Rattle.odr_names.specs.Making.{AreLiveRows}
 use Rattle.type_names.specs.Names.{Named}
-use Rattle.layout.specs.Laid.{AreDrafts, long_unit}
-use Rattle.layout.proofs.DraftRuns.{Drafted, all_drafted, long_here, one_drafted}
+use Rattle.layout.specs.Laid.{long_unit}
+use Rattle.layout.proofs.DraftRuns.{Drafted, long_here, one_drafted}
 use Rattle.unit_draft.specs.declared.unit.Draft.{Draft}
 use Rattle.macho_read.specs.declared.image.Image.{Image}
 use Rattle.link_core.specs.declared.graph.Shaped.{Shaped}
@@ -29,7 +28,8 @@ use Rattle.link_core.specs.declared.refusal.LimitKind.TheVariants as limits
 use Rattle.link_core.specs.declared.refusal.Refusal.{Refusal}
 use Rattle.link_core.specs.declared.refusal.Refusal.TheVariants as refusals
 use Rattle.link_core.specs.Linked.{AreLive, MarkLive, first_limit, graph_of, limit_of}
-use Rattle.link_core.specs.Passes.{AreLeft, DraftsUnit, DraftsUnits, HasPool, IsShaped, Shapes, first_needed}
+use Rattle.link_core.specs.Passes.{DraftsBy, DraftsUnit, DraftsUnits, HasPool, IsShaped, Shapes}
+use Rattle.link_core.proofs.Turns.{given_as, given_more}
 
 limited : (b : Bool) (found rest : Option Refusal) → b ≡ true → (if b then found else rest) ≡ found
 limited b found rest e = ap (λ (it : Bool). if it then found else rest) e
@@ -75,79 +75,6 @@ pool_first shape (n ∷ names) h some = (
   ap (λ (us : List ShapeUnit). slice_get us 0) h.units,
   ap suc (length-map (pool_names (n ∷ names)) (pool_origin (n ∷ names))),
 )
-
--- ---- the analyses that are left
-
-pub left_all : (all : List Analysis) → AreLeft 0 all all
-left_all all i le = refl
-
-pub left_from : (from to : ℕ) (all left : List Analysis) → from ≤ to → AreLeft from all left → AreLeft to all left
-left_from from to all left le h i le' = h i (omega (arith, le, le'))
-
--- a list whose items were all lent has what they became
-pub lent_all : (became was : List Analysis) → length became ≡ length was → take (length was) (became ++ drop (length became) was) ≡ became
-lent_all became was same =
-    ap (λ (rest : List Analysis). take (length was) (became ++ rest)) (drop_all (length became) was (omega (arith, same)))
-    ∙ ap (take (length was)) (append-nil became) ∙ take_all (length was) became (omega (arith, same))
-
-pub left_sound : (all left : List Analysis) (from : ℕ) → All IsSound all → AreLeft from all left → (it : Analysis) → slice_get left from ≡ Some it → IsSound it
-left_sound all left from sound h it at =
-    let there : slice_get all from ≡ Some it = sym (h from (omega arith)) ∙ at in
-    subst IsSound (get_or_from_slice_get all from it it there) (sound from it (slice_get_within all from it there))
-
--- no unit from this one on names an object before a number, and while the unit of merged entries waits none is let go
-pub record Waits (shape : Shape) (u gone : ℕ) : Type 0 where
-  pub objects : (object : ℕ) → object_of shape u ≡ Some object → gone ≤ object
-  pub merged : u < length shape.units → object_of shape u ≡ None → gone ≡ 0
-
-pub waits_first : (shape : Shape) → Waits shape 0 0
-waits_first shape = record { objects = λ object is. omega arith; merged = λ lt none. refl }
-
-some_is_not_none : {A : Type 0} (o : Option A) (x : A) → o ≡ Some x → o ≡ None → ⊥
-some_is_not_none o x some none = absurd (let clash = ap is_some (sym none ∙ some) in cc)
-
--- a unit behind the first has an object
-behind_first : (seen : List Analysis) (shape : Shape) (u : ℕ) → IsShape seen shape → u + 1 < length shape.units → object_of shape (u + 1) ≡ None → ⊥
-behind_first seen shape u is lt none = elim (its_object_is seen shape (u + 1) is lt) [
-  | inl first ↦ absurd (omega (arith, first.0))
-  | inr object ↦ some_is_not_none (object_of shape (u + 1)) object.0 object.1 none
-]
-
-waits_on : (seen : List Analysis) (shape : Shape) (u object : ℕ) → IsShape seen shape → object_of shape u ≡ Some object → Waits shape (u + 1) object
-waits_on seen shape u object is at = record { objects = λ next at_next. objects_rise seen shape u object next is at at_next; merged = λ lt none. absurd (behind_first seen shape u is lt none) }
-
-waits_behind : (seen : List Analysis) (shape : Shape) (u : ℕ) → IsShape seen shape → Waits shape (u + 1) 0
-waits_behind seen shape u is = record { objects = λ object at. omega arith; merged = λ lt none. refl }
-
--- what the units of an object need is there as long as its analysis is
-left_there : (all left : List Analysis) (shape : Shape) (u object : ℕ) → IsShape all shape → object_of shape u ≡ Some object → AreLeft object all left → AreThere shape u all left
-left_there all left shape u object is named from other names = from other (omega (arith, one_object all shape u object other is named names))
-
--- and while none is let go, what any unit needs is
-all_there : (all left : List Analysis) (shape : Shape) (u : ℕ) → AreLeft 0 all left → AreThere shape u all left
-all_there all left shape u from other names = from other (omega arith)
-
-module _ (seen : List Analysis) (shape : Shape) (u gone : ℕ) (is : IsShape seen shape) (waits : Waits shape u gone) where
-  pub goes_on : gone ≤ first_needed (object_of shape u) gone
-  goes_on = by (object_of shape u) refl
-    where
-      by : (o : Option ℕ) → object_of shape u ≡ o → gone ≤ first_needed o gone
-      by None e = omega arith
-      by (Some object) e = waits.objects object e
-
-  pub unit_there : (left : List Analysis) → u < length shape.units → AreLeft (first_needed (object_of shape u) gone) seen left → AreThere shape u seen left
-  unit_there left lt = by (object_of shape u) refl
-    where
-      by : (o : Option ℕ) → object_of shape u ≡ o → AreLeft (first_needed o gone) seen left → AreThere shape u seen left
-      by None e from = all_there seen left shape u (subst (λ (n : ℕ). AreLeft n seen left) (waits.merged lt e) from)
-      by (Some object) e from = left_there seen left shape u object is e from
-
-  pub waits_next : u < length shape.units → Waits shape (u + 1) (first_needed (object_of shape u) gone)
-  waits_next lt = by (object_of shape u) refl
-    where
-      by : (o : Option ℕ) → object_of shape u ≡ o → Waits shape (u + 1) (first_needed o gone)
-      by None e = subst (Waits shape (u + 1)) (sym (waits.merged lt e)) (waits_behind seen shape u is)
-      by (Some object) e = waits_on seen shape u object is e
 
 -- ---- frames
 
@@ -204,26 +131,30 @@ frames_are odr seen lent live frames shaped h same are =
 pub long_limit : (graph : Graph) (u : ℕ) → length graph.units < 2 ^ 32 - 1 → long_unit graph ≡ Some u → (program : Image) → first_limit program graph ≡ Some (refusals.Limit limits.Unit (2 ^ 28))
 long_limit graph u few is program = unlimited _ _ _ (lt-leb (2 ^ 32 - 1) (length graph.units) few) ∙ limited _ _ _ (ap is_some is)
 
-module _ (seen : List Analysis) (shape : Shape) (h : IsShape seen shape) where
-  units_of_shape : length (graph_in seen shape).units ≡ length shape.units
-  units_of_shape = units_many seen shape h
-
+module _ (graph : Graph) (u : ℕ) (drafts : List Draft) (before : Drafted graph u drafts) where
   -- one more draft, or that the unit is too long
-  pub draft_more : (u : ℕ) (drafts more : List Draft) (draft : Draft) → Drafted (graph_in seen shape) u drafts → DraftsUnit (graph_in seen shape) u (Ok draft) → more ≡ drafts ++ draft ∷ []
-      → Drafted (graph_in seen shape) (u + 1) more
-  draft_more u drafts more draft before one pushed =
-      let graph = graph_in seen shape in
-      one_drafted graph u one.0 drafts more draft (slice_get_within graph.units u one.0 one.1) (sym (get_or_from_slice_get graph.units u one.0 one.0 one.1)) before one.2 pushed
+  pub draft_more : (more : List Draft) (draft : Draft) → DraftsUnit graph u (Ok draft) → more ≡ drafts ++ draft ∷ [] → Drafted graph (u + 1) more
+  draft_more more draft one pushed = one_drafted graph u one.0 drafts more draft (slice_get_within graph.units u one.0 one.1) (sym (get_or_from_slice_get graph.units u one.0 one.0 one.1)) before one.2 pushed
 
-  pub draft_long : (u : ℕ) (drafts : List Draft) (r : Refusal) → length shape.units < 2 ^ 32 - 1 → Drafted (graph_in seen shape) u drafts → DraftsUnit (graph_in seen shape) u (Err r)
-      → DraftsUnits (graph_in seen shape) (Err r)
-  draft_long u drafts (refusals.Faulty file why) few before long = absurd long
-  draft_long u drafts (refusals.Limit which n) few before long =
-      let graph = graph_in seen shape in
+  pub draft_long : (r : Refusal) → length graph.units < 2 ^ 32 - 1 → DraftsUnit graph u (Err r) → DraftsUnits graph (Err r)
+  draft_long (refusals.Faulty file why) few long = absurd long
+  draft_long (refusals.Limit which n) few long =
       let unit = long.2.0 in
       let first = long_here graph u unit drafts (slice_get_within graph.units u unit long.2.1) (sym (get_or_from_slice_get graph.units u unit unit long.2.1)) before long.2.2 in
-      λ program. long_limit graph u (omega (arith, few, units_of_shape)) first program ∙ rw (long.0, long.1) refl
-  draft_long u drafts refusals.NoMemory few before long = tt
+      λ program. long_limit graph u few first program ∙ rw (long.0, long.1) refl
+  draft_long refusals.NoMemory few long = tt
 
-  pub drafts_all : (u : ℕ) (drafts : List Draft) → length shape.units ≤ u → u ≤ length shape.units → Drafted (graph_in seen shape) u drafts → AreDrafts (graph_in seen shape) drafts
-  drafts_all u drafts le ge before = all_drafted (graph_in seen shape) u drafts (omega (arith, le, units_of_shape)) (omega (arith, ge, units_of_shape)) before
+-- what is given of the units of a shape is given of those of its graph
+pub given_whole : (seen : List Analysis) (shape : Shape) (u : ℕ) (outs : List (Result Draft Refusal)) → IsShape seen shape → u ≡ length shape.units → GivesAll (DraftsUnit (graph_in seen shape)) u outs
+    → GivesAll (DraftsUnit (graph_in seen shape)) (length (graph_in seen shape).units) outs
+given_whole seen shape u outs is many given = subst (λ (n : ℕ). GivesAll (DraftsUnit (graph_in seen shape)) n outs) (many ∙ sym (units_many seen shape is)) given
+
+-- and what one batch gives comes behind what those before it gave
+pub given_batch : (seen left : List Analysis) (shape : Shape) (first end : ℕ) (outs more all : List (Result Draft Refusal)) → IsShape seen shape → first ≤ end
+    → ((u : ℕ) → first ≤ u → u < end → AreThere shape u seen left) → GivesAll (DraftsUnit (graph_in seen shape)) first outs → GivesAll (λ k out. DraftsBy left shape (first + k) out) (end - first) more → all ≡ outs ++ more
+    → GivesAll (DraftsUnit (graph_in seen shape)) end all
+given_batch seen left shape first end outs more all is le there before here whole =
+    let graph = graph_in seen shape in
+    let now : GivesAll (λ k out. DraftsUnit graph (first + k) out) (end - first) more =
+    given_as (λ k out. DraftsBy left shape (first + k) out) (λ k out. DraftsUnit graph (first + k) out) (end - first) more (λ k out lt drafts. drafts seen is (there (first + k) (omega arith) (omega (arith, lt, le)))) here in
+    subst (GivesAll (DraftsUnit graph) end) (sym whole) (given_more (DraftsUnit graph) first end outs more le before now)

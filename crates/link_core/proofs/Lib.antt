@@ -1,8 +1,11 @@
 pub mod Analysing
 pub mod Counting
 pub mod LastPart
+pub mod Leaving
 pub mod Marking
 pub mod Members
 pub mod Graphs
+pub mod Turns
+pub mod ObjectsRead
 pub mod Refusing
 pub mod Bundling

@@ -1,8 +1,7 @@
 -- Marks of the live entries, object by object.
-use Rattle.std.proofs.Common.{◌≡◌, ◌<◌, ◌+◌, ℕ, Bool, List, [], ◌∷◌, ◌++◌, length, take, get_or, refl, sym, ap, subst, arith, length-append}
+use Rattle.std.proofs.Common.{◌≡◌, Bool, List, [], ◌∷◌, ◌++◌, length, refl, sym, ap, subst, arith, length-append}
 use Rattle.std.specs.List.{All, zip}
 use Rattle.std.proofs.lemmas.List.Elements.{All-push}
-use Rattle.ds_base.proofs.Walking.{take_one}
 use Rattle.dwarf_types.specs.declared.analysis.Analysis.{Analysis}
 use Rattle.link_core.specs.Linked.{AreLive, MarkLive}
 
@@ -18,7 +17,7 @@ mark_none = record { marked = record { each = refl; whole = λ k d lt. absurd (o
 abbrev is_whole : Analysis × List Bool → Type 0
 is_whole object = length object.1 ≡ length object.0.entries
 
-mark_one : (seen : List Analysis) (marks : List (List Bool)) (a : Analysis) (row : List Bool) → MarkLive seen marks → length row ≡ length a.entries → AreLive (a, row) → MarkLive (seen ++ a ∷ []) (marks ++ row ∷ [])
+pub mark_one : (seen : List Analysis) (marks : List (List Bool)) (a : Analysis) (row : List Bool) → MarkLive seen marks → length row ≡ length a.entries → AreLive (a, row) → MarkLive (seen ++ a ∷ []) (marks ++ row ∷ [])
 mark_one seen marks a row h size live =
     let each = h.marked.each in
     let both = sym (zip_push seen marks a row each) in
@@ -29,7 +28,3 @@ mark_one seen marks a row h size live =
       };
       live = subst (All AreLive) both (All-push AreLive (zip seen marks) (a, row) h.live live);
     }
-
-pub mark_more : (seen : List Analysis) (i : ℕ) (marks : List (List Bool)) (a : Analysis) (row : List Bool) → i < length seen → a ≡ get_or seen i a → MarkLive (take i seen) marks → length row ≡ length a.entries → AreLive (a, row)
-    → MarkLive (take (i + 1) seen) (marks ++ row ∷ [])
-mark_more seen i marks a row lt is h size live = subst (λ (l : List Analysis). MarkLive l (marks ++ row ∷ [])) (sym (take_one seen i a lt is)) (mark_one (take i seen) marks a row h size live)

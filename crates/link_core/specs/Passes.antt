@@ -1,12 +1,15 @@
 -- What the passes of a link answer, each to the next. Want of memory says nothing.
-use Rattle.std.specs.Prelude.{◌≡◌, ◌<◌, ◌≤◌, ◌-◌, ℕ, ◌^◌, Bool, List, ◌++◌, length, slice_get, Option, Some, None, Result, Ok, Err}
+use Rattle.std.specs.Prelude.{◌≡◌, ◌<◌, ◌≤◌, ◌+◌, ◌-◌, ℕ, ◌^◌, Bool, List, ◌++◌, length, slice_get, Option, Some, None, Result, Ok, Err, IfSome}
+use Rattle.std.specs.List.{All}
 use Rattle.std.specs.Option.{option_map_or}
+use Rattle.clone_units.specs.Units.{AreThere, Holds}
 use Rattle.ds_base.specs.declared.fault.Fault.{Fault}
 use Rattle.dwarf_types.specs.declared.analysis.Analysis.{Analysis}
 use Rattle.dwarf_types.specs.declared.frames.OutFrame.{OutFrame}
 use Rattle.dwarf_types.specs.declared.graph.Graph.{Graph}
 use Rattle.dwarf_types.specs.declared.graph.OutUnit.{OutUnit}
 use Rattle.dwarf_types.specs.Entries.{unit_len}
+use Rattle.dwarf_types.specs.Sound.{IsSound}
 use Rattle.macho_read.specs.declared.image.Image.{Image}
 use Rattle.link_graph.specs.Graph.{IsShape, graph_in}
 use Rattle.link_graph.specs.Merged.{linked_names, pool_units}
@@ -23,8 +26,11 @@ use Rattle.link_core.specs.declared.bundle.Linked.{Linked}
 use Rattle.link_core.specs.declared.refusal.LimitKind.TheVariants as limits
 use Rattle.link_core.specs.declared.refusal.Refusal.{Refusal}
 use Rattle.link_core.specs.declared.refusal.Refusal.TheVariants as refusals
+use Rattle.stab_map.specs.declared.object.MapObject.{MapObject}
 use Rattle.link_core.specs.declared.graph.Shaped.{Shaped}
-use Rattle.link_core.specs.Linked.{counts_of, first_limit, graph_of, limit_of}
+use Rattle.link_core.specs.declared.objects.ReadObject.{ReadObject}
+use Rattle.link_core.specs.declared.reading.ReadObjects.{ReadObjects}
+use Rattle.link_core.specs.Linked.{AreLive, MarkLive, Source, analyses_from, analysis_from, counts_of, first_limit, graph_of, limit_of}
 
 -- ---- objects
 
@@ -35,12 +41,46 @@ Numbered number read (Err (refusals.Faulty file fault)) = (file ≡ number) × (
 Numbered number read (Err (refusals.Limit which n)) = ⊥
 Numbered number read (Err refusals.NoMemory) = Unit {0}
 
--- the analyses of all objects, or the first fault of the first that has one
-abbrev pub Analyses : Result (List Analysis) Refusal → Result (List Analysis) Refusal → Type 0
-Analyses read (Ok seen) = read ≡ Ok seen
-Analyses read (Err (refusals.Faulty file fault)) = read ≡ Err (refusals.Faulty file fault)
-Analyses read (Err (refusals.Limit which n)) = ⊥
-Analyses read (Err refusals.NoMemory) = Unit {0}
+-- the object of a number with the marks of its live entries, where it has no fault
+pub record IsRead (read : Result Analysis Fault) (it : ReadObject) : Type 0 where
+  pub exact : read ≡ Ok it.analysis
+  pub sound : IsSound it.analysis
+  pub size : length it.live ≡ length it.analysis.entries
+  pub live : AreLive (it.analysis, it.live)
+
+-- such an object, or its first fault
+abbrev pub ReadsObject : ℕ → Result Analysis Fault → Result ReadObject Refusal → Type 0
+ReadsObject number read (Ok it) = IsRead read it
+ReadsObject number read (Err (refusals.Faulty file fault)) = (file ≡ number) × (read ≡ Err fault)
+ReadsObject number read (Err (refusals.Limit which n)) = ⊥
+ReadsObject number read (Err refusals.NoMemory) = Unit {0}
+
+-- the object at a place may be read: it has a source, and the files are small
+pub record MayRead (objects : List MapObject) (files archives : List (List ℕ)) (source : List (Option ℕ)) (item : ℕ) : Type 0 where
+  pub there : item < length objects
+  pub few : length objects < 2 ^ 16
+  pub each : length source ≡ length objects
+  pub held : All (λ k. IfSome k (λ n. n < length files)) source
+  pub same : archives ≡ files
+  pub small : All (λ file. length file < 2 ^ 32) files
+
+-- what is read of the object at a place, for a program of this CPU type
+abbrev pub ReadsAt : ℕ → List Source → ℕ → Result ReadObject Refusal → Type 0
+ReadsAt cpu sources item out = (s : Source) → slice_get sources item ≡ Some s → ReadsObject (item + 1) (analysis_from cpu s.object s.file) out
+
+-- all objects with the marks of their live entries, where none has a fault
+pub record AreRead (cpu : ℕ) (sources : List Source) (it : ReadObjects) : Type 0 where
+  pub exact : analyses_from cpu 1 sources ≡ Ok it.seen
+  pub sound : All IsSound it.seen
+  pub size : length it.seen ≡ length sources
+  pub live : MarkLive it.seen it.marks
+
+-- such objects, or the first fault of the first that has one
+abbrev pub Reads : ℕ → List Source → Result ReadObjects Refusal → Type 0
+Reads cpu sources (Ok it) = AreRead cpu sources it
+Reads cpu sources (Err (refusals.Faulty file fault)) = analyses_from cpu 1 sources ≡ Err (refusals.Faulty file fault)
+Reads cpu sources (Err (refusals.Limit which n)) = ⊥
+Reads cpu sources (Err refusals.NoMemory) = Unit {0}
 
 -- the analyses so far before those that are left
 abbrev pub behind : List Analysis → Result (List Analysis) Refusal → Result (List Analysis) Refusal
@@ -48,10 +88,6 @@ behind seen (Ok others) = Ok (seen ++ others)
 behind seen (Err refusal) = Err refusal
 
 -- ---- the graph
-
--- of all analyses those from a number on are left
-abbrev pub AreLeft : ℕ → List Analysis → List Analysis → Type 0
-AreLeft from all left = (i : ℕ) → from ≤ i → slice_get left i ≡ slice_get all i
 
 -- the shape of what is linked of analyses with their live entries, and what is counted of its names
 pub record IsShaped (odr : Bool) (seen : List Analysis) (live : List (List Bool)) (it : Shaped) : Type 0 where
@@ -82,9 +118,19 @@ Shapes odr seen live (Err (refusals.Faulty file fault)) = ⊥
 Shapes odr seen live (Err (refusals.Limit which n)) = (program : Image) → limit_of odr program seen live ≡ Some (refusals.Limit which n)
 Shapes odr seen live (Err refusals.NoMemory) = Unit {0}
 
--- the first object whose analysis a unit needs, where those before a number went: its own, or all that are left for a unit of none
-abbrev pub first_needed : Option ℕ → ℕ → ℕ
-first_needed object gone = option_map_or (λ o. o) object gone
+-- of all analyses those from a number on are left
+abbrev pub AreLeft : ℕ → List Analysis → List Analysis → Type 0
+AreLeft from all left = (i : ℕ) → from ≤ i → slice_get left i ≡ slice_get all i
+
+-- the first object whose analysis a unit needs: its own, or the first of all for a unit of none
+abbrev pub first_needed : Option ℕ → ℕ
+first_needed object = option_map_or (λ o. o) object 0
+
+-- the unit of a number may be drafted by the analyses that are left
+pub record MayDraft (left : List Analysis) (shape : Shape) (unit : ℕ) : Type 0 where
+  pub there : unit < length shape.units
+  pub few : length shape.units < 2 ^ 32 - 1
+  pub holds : Holds left shape unit
 
 -- the draft of unit u of a graph, or that it is too long
 abbrev pub DraftsUnit : Graph → ℕ → Result Draft Refusal → Type 0
@@ -92,6 +138,10 @@ DraftsUnit graph u (Ok draft) = (unit : OutUnit) × (slice_get graph.units u ≡
 DraftsUnit graph u (Err (refusals.Faulty file fault)) = ⊥
 DraftsUnit graph u (Err (refusals.Limit which n)) = (which ≡ limits.Unit) × (n ≡ 2 ^ 28) × ((unit : OutUnit) × (slice_get graph.units u ≡ Some unit) × (2 ^ 28 ≤ unit_len u unit))
 DraftsUnit graph u (Err refusals.NoMemory) = Unit {0}
+
+-- the same by the analyses that are left, whichever the others are
+abbrev pub DraftsBy : List Analysis → Shape → ℕ → Result Draft Refusal → Type 0
+DraftsBy left shape u out = (all : List Analysis) → IsShape all shape → AreThere shape u all left → DraftsUnit (graph_in all shape) u out
 
 -- the drafts of all units, or that one is too long
 abbrev pub DraftsUnits : Graph → Result (List Draft) Refusal → Type 0

@@ -7,7 +7,7 @@ use ds_base::Bytes;
 pub struct Options {
     /// Whether types of one name are merged, in C++ and Objective-C++.
     pub odr: bool,
-    /// How many threads work, from 1 to 64. One does yet.
+    /// How many threads work, from 1 to 64.
     pub workers: u32,
 }
 

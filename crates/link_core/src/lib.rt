@@ -1,21 +1,25 @@
 //! The objects of a program linked to its bundle, and how a link ends.
 //!
-//! Layer: top. [`link_objects`] goes over the objects in passes: it reads each (`objects`), marks its live entries
-//! (`marks`), gives the output its shape, makes each unit and drafts its bytes (`graph`), gives the drafts their places
-//! and writes the image (`image`), and counts (`counts`). What it answers is `specs/Linked.antt`; what the passes answer,
-//! each to the next, `specs/Passes.antt`.
+//! Layer: top. [`link_objects`] goes over the objects in passes: it reads each and marks its live entries (`reading`,
+//! `objects`), gives the output its shape (`graph`), makes each unit and drafts its bytes (`drafting`, `batches`), gives the
+//! drafts their places and writes the image (`image`), and counts (`counts`). Several threads share the objects, and then
+//! the units, by `work_share`. What it answers is `specs/Linked.antt`, which knows of no threads; what the passes answer, each
+//! to the next, `specs/Passes.antt`.
 #![tactic(auto)]
 
+mod batches;
 mod bundle;
 mod counts;
+mod drafting;
 mod graph;
 mod image;
 mod link;
-mod marks;
 mod message;
 mod names;
 mod objects;
+mod reading;
 mod refusal;
+mod results;
 mod status;
 
 pub use bundle::{Counts, Linked, Options};

@@ -11,10 +11,10 @@ ghost use Rattle.link_core.specs.Passes.{Links};
 
 use crate::bundle::{Counts, Linked, Options};
 use crate::counts::{count_entries, count_live, count_nodes};
-use crate::graph::{drafts_of, frames_of, shape_of};
+use crate::drafting::drafts_of;
+use crate::graph::{frames_of, shape_of};
 use crate::image::image_of;
-use crate::marks::marks_of;
-use crate::objects::analyses;
+use crate::reading::{ReadObjects, read_objects};
 use crate::refusal::Refusal;
 use ds_base::{BitRow, Bytes, List};
 use ds_files::Gate;
@@ -23,14 +23,18 @@ use dwarf_types::Analysis;
 use macho_read::Image;
 use stab_map::MapObject;
 use std::alloc::Global;
+use std::thread::Threads;
 
 /// Links the objects of a program to its bundle: the image and Info.plist for a program of this name.
 ///
 /// `source` tells for each object the number of its file among `files`; an object without one has no entries. Faults
 /// come in the order of the objects, which are numbered from 1, and behind them the limits: of merged entries, of
-/// units, of a unit's bytes, of a section's, of the image's. `options` tells whether types of one name are merged. Of the
-/// rest of it and of `gate` nothing is looked at: one thread works.
-pub fn link_objects<G: Gate + Sync>(
+/// units, of a unit's bytes, of a section's, of the image's. `options` tells whether types of one name are merged, and how
+/// many threads read the objects, and then clone and draft the units of the output. Each passes `gate` once for an object
+/// before it reads it, and once for a unit before it clones it and before it drafts it. Nothing that is answered depends
+/// on the number of threads.
+pub fn link_objects<R: Threads + Sync, G: Gate + Sync>(
+    rt: &R,
     alloc: Global,
     program: &Image,
     name: &str,
@@ -49,32 +53,53 @@ pub fn link_objects<G: Gate + Sync>(
     requires workers { (1 ≤ options.now.workers) × (options.now.workers ≤ 64) }
     ensures { Bundles options.now.odr program.now name.now (sources_of objects.now files.now source.now) result }
 {
-    let seen = analyses(alloc, program.cpu, objects, files, source)?;
-    let marks = marks_of(alloc, seen.as_slice())?;
-    link_marked(alloc, options.odr, program, name, seen, marks.as_slice())
+    let read = read_objects(
+        rt,
+        alloc,
+        options.workers,
+        gate,
+        program.cpu,
+        objects,
+        files,
+        source,
+    )?;
+    let ReadObjects { seen, marks } = read;
+    link_marked(
+        rt,
+        alloc,
+        options,
+        gate,
+        program,
+        name,
+        seen,
+        marks.as_slice(),
+    )
 }
 
 /// Links the marked entries of objects to the bundle of a program of this name.
-fn link_marked(
+fn link_marked<R: Threads + Sync, G: Gate + Sync>(
+    rt: &R,
     alloc: Global,
-    odr: bool,
+    options: &Options,
+    gate: &G,
     program: &Image,
     name: &str,
     seen: List<Analysis>,
     marks: &[BitRow],
 ) -> Result<Linked, Refusal>
+    requires workers { (1 ≤ options.now.workers) × (options.now.workers ≤ 64) }
     requires program { IsSoundImage program.now }
     requires few { length seen < 2 ^ 16 }
     requires sound { All IsSound seen }
     requires live { MarkLive seen marks.now }
-    ensures { Links odr program.now name.now seen marks.now result }
+    ensures { Links options.now.odr program.now name.now seen marks.now result }
 {
     let objects = seen.len() as u64;
     let entries = count_entries(seen.as_slice());
     let live = count_live(seen.as_slice(), marks);
-    let shaped = shape_of(alloc, odr, seen.as_slice(), marks)?;
+    let shaped = shape_of(alloc, options.odr, seen.as_slice(), marks)?;
     let frames = frames_of(alloc, seen.as_slice())?;
-    let drafts = drafts_of(alloc, seen, &shaped.shape)?;
+    let drafts = drafts_of(rt, alloc, options.workers, gate, seen, &shaped.shape)?;
     let nodes = count_nodes(drafts.as_slice());
     let image = image_of(alloc, program, drafts, &frames)?;
     let plist = plist_text(alloc, name)?;

@@ -1,4 +1,4 @@
-//! The analyses of a program's objects.
+//! One object of a program, as it is read.
 
 ghost use Rattle.std.specs.Prelude.{◌≡◌, ◌<◌, ◌≤◌, ◌^◌, [], Result as Outcome, length, slice_index_or, IfOk, IfSome};
 ghost use Rattle.dwarf_types.specs.declared.analysis.Analysis.{Analysis as Seen};
@@ -8,48 +8,52 @@ ghost use Rattle.std.specs.Option.{option_map};
 ghost use Rattle.ds_base.specs.Reading.{Finds, Gives};
 ghost use Rattle.dwarf_types.specs.Sound.{IsSound};
 ghost use Rattle.object_view.specs.Analysis.{analysis_of};
-ghost use Rattle.link_core.specs.Linked.{analyses_from, analysis_from, analysis_in, content_of as bytes_of, sources_of};
-ghost use Rattle.link_core.specs.Passes.{Analyses, Numbered};
+ghost use Rattle.link_core.specs.Linked.{analysis_from, analysis_in, content_of as bytes_of};
+ghost use Rattle.link_core.specs.Passes.{Numbered, ReadsObject};
 
 use crate::refusal::Refusal;
 use ar_read::{Members, read_members};
-use ds_base::{Bytes, Fault, List, NoMemory, ReadError};
+use ds_base::{BitRow, Bytes, Fault, List, NoMemory, ReadError};
 use dwarf_types::{Analysis, Entries, OutFrames};
+use liveness::live;
 use object_view::analyse;
 use stab_map::MapObject;
 use std::alloc::Global;
 
-/// The analyses of objects for a program of this CPU type, or the first fault of the first object that has one.
-///
-/// Objects are numbered from 1, and `source` tells for each the number of its file among `files`, counted from 0; an
-/// object without one has no entries. Each archive is walked once.
-pub(crate) fn analyses(
+/// An object as it was read.
+#[derive(Drop)]
+pub(crate) struct ReadObject {
+    pub analysis: Analysis,
+    /// The marks of its live entries.
+    pub live: BitRow,
+}
+
+/// The object of a number for a program of this CPU type, or its first fault.
+pub(crate) fn read_object(
     alloc: Global,
     cpu: u32,
-    objects: &[MapObject],
+    number: u32,
+    object: &MapObject,
     files: &[Bytes],
-    source: &[Option<u32>],
-) -> Result<List<Analysis>, Refusal>
-    requires few { length objects.now < 2 ^ 16 }
-    requires each { length source.now ≡ length objects.now }
-    requires held { All (λ k. IfSome k (λ n. n < length files.now)) source.now }
+    archives: &[Members],
+    source: Option<u32>,
+) -> Result<ReadObject, Refusal>
+    requires held { IfSome source (λ n. n < length files.now) }
+    requires archives { archives.now ≡ files.now }
     requires small { All (λ file. length file < 2 ^ 32) files.now }
-    ensures exact { Analyses (analyses_from cpu 1 (sources_of objects.now files.now source.now)) result }
-    ensures sound { IfOk result (All IsSound) }
-    ensures size { IfOk result (λ seen. length seen ≡ length objects.now) }
+    ensures { ReadsObject number (analysis_from cpu object.now (option_map (λ k. slice_index_or files.now k []) source)) result }
 {
-    let archives = members_of(alloc, files)?;
-    let mut seen = List::new(alloc);
-    for (i, number) in source.iter().enumerate() {
-        let read = analysis(alloc, cpu, &objects[i], files, archives.as_slice(), *number);
-        let it = numbered(i as u32 + 1, read)?;
-        seen.push(it)?;
-    }
-    Ok(seen)
+    let read = analysis(alloc, cpu, object, files, archives, source);
+    let analysis = numbered(number, read)?;
+    let live = live(alloc, &analysis)?;
+    Ok(ReadObject { analysis, live })
 }
 
 /// The members of each file; a file that is no archive has none.
-fn members_of<'a>(alloc: Global, files: &'a [Bytes]) -> Result<List<Members<'a>>, NoMemory>
+pub(crate) fn members_of<'a>(
+    alloc: Global,
+    files: &'a [Bytes],
+) -> Result<List<Members<'a>>, NoMemory>
     ensures { IfOk result (λ archives. archives ≡ files.now) }
 {
     let mut archives = List::new(alloc);

@@ -9,3 +9,5 @@ mod bytes;
 mod objects;
 #[cfg(test)]
 mod tests;
+#[cfg(test)]
+mod tests_workers;

@@ -31,6 +31,7 @@ fn objects_that_are_left_away_have_no_entries(rt: HostRuntime) {
         workers: 1,
     };
     let linked = link_objects(
+        &rt,
         alloc,
         &program,
         "a.out",

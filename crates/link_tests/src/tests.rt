@@ -5,6 +5,7 @@ use link_cli::link_main;
 use link_core::Status;
 use std::alloc::Global;
 use std::process::Abort;
+use std::thread::Threads;
 
 /// Where the property list and the image of `a.out` are written.
 const PLIST: &str = "a.out.dSYM/Contents/Info.plist";
@@ -36,7 +37,8 @@ fn files(
 }
 
 /// The command with these words, of whose puts the one of this number fails: its status, and what it told.
-fn run(
+fn run<R: Threads + Sync>(
+    rt: &R,
     alloc: Global,
     words: &[&str],
     files: &mut MemoryFiles,
@@ -50,6 +52,7 @@ fn run(
     failing.push(failing_put)?;
     let mut messages = MemorySink::new(alloc, 1024, failing)?;
     let status = link_main(
+        rt,
         alloc,
         list.as_slice(),
         files,
@@ -68,8 +71,8 @@ fn keeps(files: &MemoryFiles, name: &str, want: &[u8]) -> bool {
 }
 
 /// The command with these words has this status and tells this, and the bundle then has these bytes.
-fn ends(
-    rt: &impl Abort,
+fn ends<R: Threads + Abort + Sync>(
+    rt: &R,
     alloc: Global,
     words: &[&str],
     files: &mut MemoryFiles,
@@ -79,7 +82,7 @@ fn ends(
     plist: &[u8],
     image: &[u8],
 ) {
-    match run(alloc, words, files, failing_put) {
+    match run(rt, alloc, words, files, failing_put) {
         Ok((status, messages)) => {
             assert!(rt; status == want);
             assert!(rt; messages.text() == text.as_bytes());
@@ -92,8 +95,8 @@ fn ends(
 
 /// The command with these words, over this program and object, of whose calls the one of this number fails, is refused so,
 /// tells this, and writes nothing.
-fn refuses(
-    rt: &impl Abort,
+fn refuses<R: Threads + Abort + Sync>(
+    rt: &R,
     alloc: Global,
     words: &[&str],
     program: &[u8],
@@ -111,7 +114,7 @@ fn refuses(
 }
 
 /// Words that are none of the command's.
-fn is_usage(rt: &impl Abort, alloc: Global, words: &[&str]) {
+fn is_usage<R: Threads + Abort + Sync>(rt: &R, alloc: Global, words: &[&str]) {
     refuses(rt, alloc, words, b"", b"", 0, Status::Usage, USAGE);
 }
 

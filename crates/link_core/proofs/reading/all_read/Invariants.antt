@@ -1,0 +1,12 @@
+use Rattle.std.proofs.Common.{◌≡◌, ◌++◌, ℕ, List, length}
+use Rattle.work_share.specs.Results.{GivesAll}
+use Rattle.link_core.specs.Linked.{Source}
+use Rattle.link_core.specs.Passes.{ReadsAt}
+use Rattle.link_core.proofs.ObjectsRead.{Going}
+use Rattle.link_core.proofs.reading.all_read.Given as goal
+
+-- the objects so far are read
+abbrev pub invariant-loop-out : goal.invariant-loop-out
+invariant-loop-out l =
+    (l.yielded ++ l.out-iterator.rest.items ≡ l.initial.out-iterator.rest.items)
+    × ((cpu : ℕ) (sources : List Source) → GivesAll (ReadsAt cpu sources) (length sources) l.initial.out-iterator.rest.items → Going cpu sources (length l.yielded) l.seen l.marks)

@@ -1,0 +1,119 @@
+//! All objects of a program, read by several threads.
+
+ghost use Rattle.std.specs.Prelude.{◌≡◌, ◌<◌, ◌≤◌, ◌^◌, ℕ, List as Listed, IfSome, length};
+ghost use Rattle.std.specs.List.{All};
+ghost use Rattle.work_share.specs.Results.{GivesAll};
+ghost use Rattle.link_core.specs.Linked.{Source, sources_of};
+ghost use Rattle.link_core.specs.Passes.{MayRead, Reads, ReadsAt};
+
+use crate::objects::{ReadObject, members_of, read_object};
+use crate::refusal::Refusal;
+use crate::results::in_turn;
+use ar_read::Members;
+use ds_base::{BitRow, Bytes, List};
+use ds_files::Gate;
+use dwarf_types::Analysis;
+use stab_map::MapObject;
+use std::alloc::Global;
+use std::thread::Threads;
+use work_share::{Job, each};
+
+/// The number of the phase in which objects are read.
+const ANALYSE: u32 = 0;
+
+/// All objects as they were read.
+#[derive(Drop)]
+pub(crate) struct ReadObjects {
+    pub seen: List<Analysis>,
+    /// The marks of the live entries of each.
+    pub marks: List<BitRow>,
+}
+
+/// Each object of a program is read.
+#[derive(Drop)]
+struct Reading<'a> {
+    alloc: Global,
+    cpu: u32,
+    objects: &'a [MapObject],
+    files: &'a [Bytes],
+    archives: &'a [Members<'a>],
+    source: &'a [Option<u32>],
+}
+
+impl<'a> Job for Reading<'a> {
+    type Out = Result<ReadObject, Refusal>;
+
+    ghost takes = { λ job item. MayRead job.objects.now job.files.now job.archives.now job.source.now item };
+
+    ghost gives = { λ job item out. ReadsAt job.cpu (sources_of job.objects.now job.files.now job.source.now) item out };
+
+    fn run(&self, item: u32) -> Result<ReadObject, Refusal> {
+        read_object(
+            self.alloc,
+            self.cpu,
+            item + 1,
+            &self.objects[item as usize],
+            self.files,
+            self.archives,
+            self.source[item as usize],
+        )
+    }
+}
+
+/// The analyses of objects for a program of this CPU type, with the marks of their live entries, or the first fault of the
+/// first object that has one.
+///
+/// Objects are numbered from 1, and `source` tells for each the number of its file among `files`, counted from 0; an
+/// object without one has no entries. Each archive is walked once. So many threads read, and which of them meets a fault
+/// first says nothing.
+pub(crate) fn read_objects<R: Threads + Sync, G: Gate + Sync>(
+    rt: &R,
+    alloc: Global,
+    workers: u32,
+    gate: &G,
+    cpu: u32,
+    objects: &[MapObject],
+    files: &[Bytes],
+    source: &[Option<u32>],
+) -> Result<ReadObjects, Refusal>
+    requires workers { (1 ≤ workers) × (workers ≤ 64) }
+    requires few { length objects.now < 2 ^ 16 }
+    requires each { length source.now ≡ length objects.now }
+    requires held { All (λ k. IfSome k (λ n. n < length files.now)) source.now }
+    requires small { All (λ file. length file < 2 ^ 32) files.now }
+    ensures { Reads cpu (sources_of objects.now files.now source.now) result }
+{
+    let archives = members_of(alloc, files)?;
+    let job = Reading {
+        alloc,
+        cpu,
+        objects,
+        files,
+        archives: archives.as_slice(),
+        source,
+    };
+    let outs = each(
+        rt,
+        alloc,
+        workers,
+        objects.len() as u32,
+        ANALYSE,
+        gate,
+        &job,
+    )?;
+    all_read(alloc, in_turn(alloc, outs)?)
+}
+
+/// The objects that were read, or the first fault of the first that has one.
+fn all_read(alloc: Global, outs: Vec<Result<ReadObject, Refusal>>) -> Result<ReadObjects, Refusal>
+    ensures { (cpu : ℕ) (sources : Listed Source) → GivesAll (ReadsAt cpu sources) (length sources) outs.items → Reads cpu sources result }
+{
+    let mut seen = List::with_capacity(alloc, outs.len())?;
+    let mut marks = List::with_capacity(alloc, outs.len())?;
+    for out in outs {
+        let object = out?;
+        seen.push(object.analysis)?;
+        marks.push(object.live)?;
+    }
+    Ok(ReadObjects { seen, marks })
+}

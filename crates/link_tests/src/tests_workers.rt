@@ -1,0 +1,156 @@
+//! Links by several threads.
+
+use ds_base::{Bytes, Fault, Kind, List, NoMemory, Part};
+use ds_files::{Gate, MemoryFiles, MemorySink, OpenGate};
+use link_cli::link_main;
+use link_core::{Options, Refusal, Status, link_objects};
+use macho_read::{Role, check_kind, read_image};
+use stab_map::MapObject;
+use std::alloc::Global;
+use std::hint::spin_loop;
+use std::process::Abort;
+use std::sync::atomic::AtomicBool;
+use std::sync::atomic::Ordering::SeqCst;
+use std::thread::Threads;
+
+/// A program for arm64 without commands (mach-o/loader.h): magic, cputype, cpusubtype, filetype, ncmds, sizeofcmds,
+/// flags, reserved.
+const PROGRAM: &[u8] =
+    b"\xcf\xfa\xed\xfe\x0c\0\0\x01\0\0\0\0\x02\0\0\0\0\0\0\0\0\0\0\0\0\0\0\0\0\0\0\0";
+
+/// In one phase the gate holds an item until another has passed, for so many turns at most.
+#[derive(Drop)]
+struct Holds {
+    phase: u32,
+    item: u32,
+    other: u32,
+    other_passed: AtomicBool,
+    gave_up: AtomicBool,
+}
+
+impl Holds {
+    fn new(phase: u32, item: u32, other: u32) -> Holds {
+        Holds {
+            phase,
+            item,
+            other,
+            other_passed: AtomicBool::new(false),
+            gave_up: AtomicBool::new(false),
+        }
+    }
+}
+
+const TURNS: u32 = 1 << 24;
+
+impl Gate for Holds {
+    fn pass(&self, phase: u32, item: u32) {
+        if phase != self.phase {
+            return;
+        }
+        if item == self.other {
+            self.other_passed.store(true, SeqCst);
+        }
+        if item != self.item {
+            return;
+        }
+        for _ in 0..TURNS {
+            if self.other_passed.load(SeqCst) {
+                return;
+            }
+            spin_loop();
+        }
+        self.gave_up.store(true, SeqCst);
+    }
+}
+
+/// An object that is no member of an archive.
+fn object(alloc: Global) -> MapObject {
+    MapObject {
+        path: Bytes::new(alloc),
+        file: Bytes::new(alloc),
+        member: None,
+        entries: List::new(alloc),
+    }
+}
+
+/// What is told of a generated program of so many objects, linked by so many threads behind a gate.
+fn told<R: Threads + Abort + Sync, G: Gate + Sync>(
+    rt: &R,
+    alloc: Global,
+    count: &str,
+    workers: &str,
+    gate: &G,
+) -> Result<MemorySink, NoMemory> {
+    let mut words = Vec::new(alloc);
+    for word in ["--generate", count, "-j", workers, "g"] {
+        words.push(String::from_str(alloc, word)?)?;
+    }
+    let mut files = MemoryFiles::new(alloc, List::new(alloc));
+    let mut messages = MemorySink::new(alloc, 1024, List::new(alloc))?;
+    let status = link_main(rt, alloc, words.as_slice(), &mut files, &mut messages, gate);
+    assert!(rt; status == Status::Done);
+    Ok(messages)
+}
+
+/// In a phase two workers have the first two items beside each other.
+fn shares_phase<R: Threads + Abort + Sync>(rt: &R, alloc: Global, phase: u32) {
+    let gate = Holds::new(phase, 0, 1);
+    assert!(rt; told(rt, alloc, "2", "2", &gate).is_ok());
+    assert!(rt; gate.other_passed.load(SeqCst));
+    assert!(rt;
+        !gate.gave_up.load(SeqCst),
+        "item 0 of phase {phase} waited for all turns"
+    );
+}
+
+// Objects 2 and 4 are empty files. The second is read once the fourth is.
+#[test]
+fn the_first_object_with_a_fault_is_told_whoever_met_it(rt: HostRuntime) {
+    let alloc = rt.alloc();
+    let program = read_image(alloc, PROGRAM).expect(&rt, "a program");
+    assert!(rt; check_kind(&program, Role::Program).is_ok());
+    let options = Options {
+        odr: true,
+        workers: 8,
+    };
+    let linked = link_objects(
+        &rt,
+        alloc,
+        &program,
+        "a.out",
+        &[object(alloc), object(alloc), object(alloc), object(alloc)],
+        &[Bytes::new(alloc)],
+        &[None, Some(0), None, Some(0)],
+        &options,
+        &Holds::new(0, 1, 3),
+    );
+    let fault = Fault {
+        kind: Kind::Truncated,
+        section: Part::Header,
+        place: 0,
+    };
+    match linked {
+        Ok(_) => panic!(rt; "linked"),
+        Err(refusal) => assert!(rt; refusal == Refusal::Faulty { file: 2, fault }),
+    }
+}
+
+#[test]
+fn workers_change_nothing_that_is_told(rt: HostRuntime) -> Result<(), NoMemory> {
+    let alloc = rt.alloc();
+    let one = told(&rt, alloc, "4", "1", &OpenGate::new())?;
+    let two = told(&rt, alloc, "4", "2", &OpenGate::new())?;
+    let many = told(&rt, alloc, "4", "16", &OpenGate::new())?;
+    assert!(rt; one.text().starts_with(b"objects 4\nentries 7212\n"));
+    assert!(rt; two.text() == one.text());
+    assert!(rt; many.text() == one.text());
+    Ok(())
+}
+
+#[test]
+fn two_workers_share_each_phase(rt: HostRuntime) {
+    let alloc = rt.alloc();
+    shares_phase(&rt, alloc, 0);
+    shares_phase(&rt, alloc, 2);
+    shares_phase(&rt, alloc, 3);
+}
