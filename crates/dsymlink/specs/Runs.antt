@@ -9,9 +9,8 @@ use Rattle.link_core.specs.Codes.{code_of}
 use Rattle.link_cli.specs.Endings.{said}
 use Rattle.link_cli.specs.Files.{world}
 
--- The arguments are not all text, or memory ran out when they were read, or what the linker answers of the words.
+-- Memory ran out when the arguments were read, or what the linker answers of the words. Arguments that are not all text are no words.
 pub data Runs : Status → Type 0 where
-  no_text : Runs statuses.Usage
   no_memory : Runs statuses.NoMemory
   linked : (words : List (List ℕ)) (after : Counts) (faults : ℕ) (status : Status) → Links words (world None no_counts) (world None after) (said None 0) (said None faults) status → Runs status
 

@@ -4,10 +4,10 @@
 //! the code of the status.
 #![tactic(auto)]
 
-ghost use Rattle.std.specs.Prelude.{◌≡◌, ◌≢◌, IfOk, drop};
+ghost use Rattle.std.specs.Prelude.{◌≡◌, ◌≢◌, [], IfOk, IsErr, drop};
+ghost use Rattle.std.specs.Result.{IsOkAnd};
 ghost use Rattle.std.specs.Process.{exit_status};
 ghost use Rattle.std.specs.Vec.Iter.{into_iter_items};
-ghost use Rattle.link_core.specs.declared.status.Status.TheVariants as statuses;
 ghost use Rattle.dsymlink.specs.Runs.{Ends, Runs};
 
 use ds_files::{HostFiles, HostSink, OpenGate};
@@ -31,14 +31,14 @@ fn exit_code<R: Env + Files + Print + AllocGlobal + Threads + Sync>(rt: &R) -> E
     ExitCode::from(code(&run(rt)))
 }
 
-/// Links the program that the words name. Words that are not UTF-8 name none.
+/// Links the program that the words name. Where the arguments are not all UTF-8, there are no words, which name none.
 fn run<R: Env + Files + Print + AllocGlobal + Threads + Sync>(rt: &R) -> Status
     ensures { Runs result }
 {
     let alloc = rt.alloc();
     let words = match env::args(rt) {
         Ok(args) => words_of(alloc, args),
-        Err(error) => return unread(error.kind()),
+        Err(error) => no_words(alloc, error.kind()),
     };
     match words {
         Ok(words) => link_main(
@@ -66,15 +66,14 @@ fn words_of(alloc: Global, args: env::Args) -> Result<Vec<String>, AllocError>
     Ok(words)
 }
 
-/// How the program ends where its arguments are not read.
-fn unread(kind: ErrorKind) -> Status
-    ensures runs { Runs result }
-    ensures memory { kind ≡ ErrorKind.OutOfMemory → result ≡ statuses.NoMemory }
-    ensures usage { kind ≢ ErrorKind.OutOfMemory → result ≡ statuses.Usage }
+/// No words, where the arguments are not read for another cause than memory.
+fn no_words(alloc: Global, kind: ErrorKind) -> Result<Vec<String>, AllocError>
+    ensures memory { kind ≡ ErrorKind.OutOfMemory → IsErr result }
+    ensures none { kind ≢ ErrorKind.OutOfMemory → IsOkAnd result (λ words. words.items ≡ []) }
 {
     if kind == ErrorKind::OutOfMemory {
-        Status::NoMemory
+        Err(AllocError)
     } else {
-        Status::Usage
+        Ok(Vec::new(alloc))
     }
 }

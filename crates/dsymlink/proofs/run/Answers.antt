@@ -1,9 +1,6 @@
 use Rattle.dsymlink.specs.Runs.{linked, no_memory}
 use Rattle.dsymlink.proofs.run.Goals as goal
 
-pub returns-in-Err : goal.returns-in-Err
-returns-in-Err g c = c.unread.ensures.runs
-
 pub returns-in-Ok-words : goal.returns-in-Ok-words
 returns-in-Ok-words g c = linked _ _ _ _ (rw (c.new.ensures, c.new-in-Ok-words.ensures) at c.link_main.ensures.exact)
 
