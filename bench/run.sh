@@ -1,8 +1,9 @@
 #!/usr/bin/env bash
 # Builds a C++ program of 32 objects with about 150 MB and one of a single object, links the debugging information of both
-# with dsymlink and with dsymutil, in turn, and prints of each the least and the middle of wall time, processor time and
-# memory. Wants Debian's clang-14, lld-14, llvm-19, libstdc++-12-dev and time, a built dsymlink, and ten minutes. What it
-# builds stays in the folder that the first word names, and is used again. The second word is the number of runs.
+# with dsymlink and with dsymutil, each by one thread and by more, in turn, and prints of each the least and the middle of
+# wall time, processor time and memory. Wants Debian's clang-14, lld-14, llvm-19, libstdc++-12-dev and time, a built
+# dsymlink, and a quarter of an hour. What it builds stays in the folder that the first word names, and is used again. The
+# second word is the number of runs.
 set -eu
 dsymlink=$(realpath "$(dirname "$0")/../crates/dsymlink/out/dsymlink")
 folder=${1:-/tmp/dsymlink-bench}
@@ -88,8 +89,10 @@ report() {
 for program in large small; do
     rm -f "$program".*.times
     for _ in $(seq "$runs"); do
-        note "$program.dsymlink" "$dsymlink" "$program"
-        note "$program.dsymutil-one-thread" dsymutil-19 --no-odr --num-threads 1 -o "$program.util.dSYM" "$program"
+        note "$program.dsymlink-no-odr-j1" "$dsymlink" --no-odr -j 1 "$program"
+        note "$program.dsymlink-j1" "$dsymlink" -j 1 "$program"
+        note "$program.dsymlink-j4" "$dsymlink" -j 4 "$program"
+        note "$program.dsymutil-no-odr-one-thread" dsymutil-19 --no-odr --num-threads 1 -o "$program.util.dSYM" "$program"
         note "$program.dsymutil" dsymutil-19 -o "$program.util.dSYM" "$program"
         note "$program.dsymutil-parallel" dsymutil-19 --linker=parallel --num-threads 4 -o "$program.util.dSYM" "$program"
     done
@@ -97,7 +100,7 @@ done
 echo "objects: $(cat s*.o | wc -c) bytes"
 printf '%-36s%19s%19s%19s\n' "least and middle of $runs runs" "seconds" "processor seconds" "MiB"
 for program in large small; do
-    for tool in dsymlink dsymutil-one-thread dsymutil dsymutil-parallel; do
+    for tool in dsymlink-no-odr-j1 dsymlink-j1 dsymlink-j4 dsymutil-no-odr-one-thread dsymutil dsymutil-parallel; do
         report "$program.$tool"
     done
 done
