@@ -5,4 +5,5 @@ pub mod InsideRows
 pub mod RootTests
 pub mod ChildChains
 pub mod NeedLists
+pub mod Naming
 pub mod Spreading

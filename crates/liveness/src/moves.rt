@@ -18,7 +18,7 @@ use dwarf_types::{AttrRef, EntryRef, InnerOpsRef, OpRef, OpsRef, Place, ValueRef
 pub(crate) fn has_address(entry: &EntryRef) -> bool
     ensures { result ≡ has_address entry.now }
 {
-    has_place(entry) || entry.find(DW_AT_ranges).is_some() || has_location(entry)
+    entry.has_address() || entry.find(DW_AT_ranges).is_some() || has_location(entry)
 }
 
 /// Whether one of the entry's addresses moved: an attribute of class address, a piece of its ranges, or all address
@@ -57,18 +57,6 @@ pub fn low_pc_moves(entry: &EntryRef) -> bool
         Some(attr) => address_moved(entry.tag(), &attr).is_some(),
         None => false,
     }
-}
-
-/// Whether the entry has an attribute of class address.
-fn has_place(entry: &EntryRef) -> bool
-    ensures { result ≡ list_any (λ a. is_some (place_in a.value)) entry.now.attrs }
-{
-    for j in 0..entry.len() {
-        if place_in(&entry.attr(j).value).is_some() {
-            return true;
-        }
-    }
-    false
 }
 
 /// Whether an attribute of class address moved.

@@ -1,9 +1,10 @@
 //! What a live entry needs: its parent, the targets of its references, the base types of its expressions, and those
 //! of its children that stay with it.
 
-ghost use Rattle.std.specs.Prelude.{◌≡◌, ◌<◌, ◌↔◌, ◌⊎◌, ℕ, [], ◌∷◌, ◌++◌, ◌==◌, None, length, map, OnOk, if◌then◌else◌};
+ghost use Rattle.std.specs.Prelude.{◌≡◌, ◌<◌, ◌↔◌, ◌⊎◌, ℕ, [], ◌∷◌, ◌++◌, ◌==◌, None, Some, length, map, slice_get, OnOk, if◌then◌else◌};
 ghost use Rattle.std.specs.List.{Contains, filter_map, flat_map};
 ghost use Rattle.std.specs.Option.{option_to_list};
+ghost use Rattle.dwarf_types.specs.declared.entry.Attr.{Attr as AnAttr};
 ghost use Rattle.dwarf_types.specs.Live.{Needs, base_in, is_import, is_left_behind, keeps_children, op_bases, operations_of, target_in};
 ghost use Rattle.dwarf_types.specs.Seen.{attr_seen, inner_seen, location_seen, op_seen, value_seen};
 ghost use Rattle.liveness.specs.ChildTable.{IsKept, IsTable, is_wanted};
@@ -54,8 +55,21 @@ fn push_named(entry: &EntryRef, out: &mut Vec<u32>) -> Result<(), NoMemory>
     ensures { OnOk result (out.new.items ≡ out.old.items ++ flat_map (λ a. option_to_list (if a.name == DW_AT_sibling then None else target_in a.value) ++ flat_map op_bases (operations_of a.value)) entry.now.attrs) }
 {
     for j in 0..entry.len() {
-        push_named_by(&entry.attr(j), out)?;
+        push_named_at(entry, j, out)?;
     }
+    Ok(())
+}
+
+/// Puts what the attribute at a place names behind `out`. A text or a number names nothing.
+fn push_named_at(entry: &EntryRef, j: usize, out: &mut Vec<u32>) -> Result<(), NoMemory>
+    requires { j < length entry.now.attrs }
+    ensures { (a : AnAttr) → slice_get entry.now.attrs j ≡ Some a
+        → OnOk result (out.new.items ≡ out.old.items ++ (option_to_list (if a.name == DW_AT_sibling then None else target_in a.value) ++ flat_map op_bases (operations_of a.value))) }
+{
+    if entry.is_plain(j) {
+        return Ok(());
+    }
+    push_named_by(&entry.attr(j), out)?;
     Ok(())
 }
 
