@@ -1,5 +1,5 @@
--- The fields of a written header of version 4 are read again.
-use Rattle.std.proofs.Common.{◌≡◌, ℕ, suc, ◌+◌, negsuc, true, List, [], ◌∷◌, ◌++◌, length, Ok, refl, sym, ap, ◌∙◌, append_assoc, append-nil, arith}
+-- The fields of a written header are read again.
+use Rattle.std.proofs.Common.{◌≡◌, ℕ, suc, ◌+◌, negsuc, true, List, [], ◌∷◌, ◌++◌, length, Ok, inl, inr, ◌⊎◌, refl, sym, ap, ◌∙◌, append_assoc, append-nil, arith}
 use Rattle.ds_base.specs.Reading.{items_at, number_at}
 use Rattle.ds_base.specs.Spot.{Spot, after}
 use Rattle.dwarf_types.specs.LineTable.{standard_opcode_lengths}
@@ -17,13 +17,19 @@ bytes_in_turn (b ∷ bytes) before s more h =
     ∙ ap (λ (xs : List ℕ). Ok (xs, after (after s 1) (length bytes))) (append_assoc before (b ∷ []) bytes)
     ∙ ap (λ (p : ℕ). Ok (before ++ b ∷ bytes, record s { place = p })) place
 
-pub fields_again : (first s : Spot) (more : List ℕ) → At s (1 ∷ 1 ∷ 1 ∷ 0xfb ∷ 14 ∷ 13 ∷ (standard_opcode_lengths ++ more)) →
-    fields_at first 4 s ≡ Ok (
-      record { version = 4; minimum_instruction_length = 1; default_is_stmt = true; line_base = negsuc 4; line_range = 14; opcode_base = 13; standard_opcode_lengths = standard_opcode_lengths },
+-- versions that are written have maximum_operations_per_instruction, which is 1
+operations_again : (version : ℕ) (first s : Spot) (more : List ℕ) → (version ≡ 4) ⊎ (version ≡ 5) → At s (1 ∷ more) → operations_at first version s ≡ Ok (tt, after s 1)
+unfolding operations_at
+operations_again version first s more (inl four) h = rw (four, byte_again 1 s more h) refl
+operations_again version first s more (inr five) h = rw (five, byte_again 1 s more h) refl
+
+pub fields_again : (version : ℕ) (first s : Spot) (more : List ℕ) → (version ≡ 4) ⊎ (version ≡ 5) → At s (1 ∷ 1 ∷ 1 ∷ 0xfb ∷ 14 ∷ 13 ∷ (standard_opcode_lengths ++ more)) →
+    fields_at first version s ≡ Ok (
+      record { version = version; minimum_instruction_length = 1; default_is_stmt = true; line_base = negsuc 4; line_range = 14; opcode_base = 13; standard_opcode_lengths = standard_opcode_lengths },
       after s 18,
     )
-unfolding fields_at operations_at
-fields_again first s more h0 =
+unfolding fields_at
+fields_again version first s more known h0 =
     let lengths = standard_opcode_lengths ++ more in
     let s1 = after s 1 in
     let s2 = after s1 1 in
@@ -40,7 +46,7 @@ fields_again first s more h0 =
     let place : s.place + 1 + 1 + 1 + 1 + 1 + 1 + 12 ≡ s.place + 18 = omega arith in
     rw (
       byte_again 1 s (1 ∷ 1 ∷ 0xfb ∷ 14 ∷ 13 ∷ lengths) h0,
-      byte_again 1 s1 (1 ∷ 0xfb ∷ 14 ∷ 13 ∷ lengths) h1,
+      operations_again version first s1 (1 ∷ 0xfb ∷ 14 ∷ 13 ∷ lengths) known h1,
       byte_again 1 s2 (0xfb ∷ 14 ∷ 13 ∷ lengths) h2,
       byte_again 0xfb s3 (14 ∷ 13 ∷ lengths) h3,
       byte_again 14 s4 (13 ∷ lengths) h4,

@@ -1,6 +1,9 @@
+pub mod Entries
+pub mod EntryTables
 pub mod Headers
 pub mod Items
 pub mod Operations
 pub mod Rows
 pub mod Tables
 pub mod Whole
+pub mod WithEntries

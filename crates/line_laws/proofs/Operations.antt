@@ -38,13 +38,13 @@ fixed_address : (image : Image) (relocs : Relocs) → relocs.list ≡ [] → (pl
 unfolding address_of
 fixed_address image relocs none place n = rw none refl
 
-module _ (image : Image) (relocs : Relocs) (none : relocs.list ≡ []) (dirs : List (List ℕ)) (files : List FileName) where
+module _ (version : ℕ) (image : Image) (relocs : Relocs) (none : relocs.list ≡ []) (dirs : List (List ℕ)) (files : List FileName) where
   -- what is made of all that is left, where these sequences have ended, these rows are open, and the registers stand so
   abbrev pub going : ℕ → List RawSequence → List RawRow → RawRow → Spot → Result RawLines Fault
   going count sequences rows registers s =
       run_at
-      (op_at (record { version = 4; minimum_instruction_length = 1; default_is_stmt = true; line_base = negsuc 4; line_range = 14; opcode_base = 13; standard_opcode_lengths = standard_opcode_lengths }) image relocs)
-      (record { version = 4; minimum_instruction_length = 1; default_is_stmt = true; line_base = negsuc 4; line_range = 14; opcode_base = 13; standard_opcode_lengths = standard_opcode_lengths })
+      (op_at (record { version = version; minimum_instruction_length = 1; default_is_stmt = true; line_base = negsuc 4; line_range = 14; opcode_base = 13; standard_opcode_lengths = standard_opcode_lengths }) image relocs)
+      (record { version = version; minimum_instruction_length = 1; default_is_stmt = true; line_base = negsuc 4; line_range = 14; opcode_base = 13; standard_opcode_lengths = standard_opcode_lengths })
       count (record { files = files; sequences = sequences; rows = rows; registers = registers; last = None }) s >>= λ m. Ok (finished dirs m)
 
   -- bytes are an operation that leads from some sequences, rows and registers to others

@@ -57,20 +57,20 @@ step_fits : (z : ℤ) (x y : ℕ) → z ≡ pos x -ℤ pos y → x < 2 ^ 32 → 
 step_fits (pos n) x y is a b = lt-ltb n (2 ^ 63) (omega (arith, ints, is, a, b))
 step_fits (negsuc n) x y is a b = lt-ltb n (2 ^ 63) (omega (arith, ints, is, a, b))
 
-module _ (image : Image) (relocs : Relocs) (none : relocs.list ≡ []) (dirs : List (List ℕ)) (files : List FileName) where
+module _ (version : ℕ) (image : Image) (relocs : Relocs) (none : relocs.list ≡ []) (dirs : List (List ℕ)) (files : List FileName) where
   -- where so many bytes are left to be read at most, operations lead from some sequences, rows and registers to others
   abbrev pub Leads : List ℕ → List RawSequence → List RawRow → RawRow → List RawSequence → List RawRow → RawRow → Type 0
   Leads bytes ss rows r new_ss new_rows new_r =
       (k : ℕ) (s : Spot) (more : List ℕ) → At s (bytes ++ more) → length bytes ≤ k
-      → (j : ℕ) × (k ≤ j + length bytes) × (going image relocs none dirs files k ss rows r s ≡ going image relocs none dirs files j new_ss new_rows new_r (after s (length bytes)))
+      → (j : ℕ) × (k ≤ j + length bytes) × (going version image relocs none dirs files k ss rows r s ≡ going version image relocs none dirs files j new_ss new_rows new_r (after s (length bytes)))
 
   module _ (ss : List RawSequence) (rows : List RawRow) (r : RawRow) where
     leads_none : Leads [] ss rows r ss rows r
     leads_none k s more h le =
         let here : s.place ≡ s.place + 0 = omega arith in
-        (k, omega arith, ap (λ (p : ℕ). going image relocs none dirs files k ss rows r (record s { place = p })) here)
+        (k, omega arith, ap (λ (p : ℕ). going version image relocs none dirs files k ss rows r (record s { place = p })) here)
 
-    leads_step : (b : ℕ) (bytes : List ℕ) (new_ss : List RawSequence) (new_rows : List RawRow) (new_r : RawRow) → Steps image relocs none dirs files (b ∷ bytes) ss rows r new_ss new_rows new_r
+    leads_step : (b : ℕ) (bytes : List ℕ) (new_ss : List RawSequence) (new_rows : List RawRow) (new_r : RawRow) → Steps version image relocs none dirs files (b ∷ bytes) ss rows r new_ss new_rows new_r
         → Leads (b ∷ bytes) ss rows r new_ss new_rows new_r
     leads_step b bytes new_ss new_rows new_r step zero s more h le = absurd (omega arith)
     leads_step b bytes new_ss new_rows new_r step (suc k) s more h le = (k, omega arith, step k s more h)
@@ -83,14 +83,14 @@ module _ (image : Image) (relocs : Relocs) (none : relocs.list ≡ []) (dirs : L
         let a = one k s (ys ++ more) h0 (omega (arith, le, len)) in
         let b = two a.0 (after s (length xs)) more (passed s xs (ys ++ more) h0) (omega (arith, le, len, a.1)) in
         let place : s.place + length xs + length ys ≡ s.place + length (xs ++ ys) = omega (arith, len) in
-        (b.0, omega (arith, a.1, b.1, len), a.2 ∙ b.2 ∙ ap (λ (p : ℕ). going image relocs none dirs files b.0 new_ss new_rows new_r (record s { place = p })) place)
+        (b.0, omega (arith, a.1, b.1, len), a.2 ∙ b.2 ∙ ap (λ (p : ℕ). going version image relocs none dirs files b.0 new_ss new_rows new_r (record s { place = p })) place)
 
     -- where nothing is written nothing changes
     leads_unless : (same : Bool) (bytes : List ℕ) (new_r : RawRow) → (same ≡ true → r ≡ new_r) → (same ≡ false → Leads bytes ss rows r ss rows new_r) → Leads (if same then [] else bytes) ss rows r ss rows new_r
     leads_unless true bytes new_r kept step = subst (λ (x : RawRow). Leads [] ss rows r ss rows x) (kept refl) leads_none
     leads_unless false bytes new_r kept step = step refl
 
-    leads_when : (wanted : Bool) (code : ℕ) (new_r : RawRow) → (wanted ≡ false → r ≡ new_r) → (wanted ≡ true → Steps image relocs none dirs files (code ∷ []) ss rows r ss rows new_r)
+    leads_when : (wanted : Bool) (code : ℕ) (new_r : RawRow) → (wanted ≡ false → r ≡ new_r) → (wanted ≡ true → Steps version image relocs none dirs files (code ∷ []) ss rows r ss rows new_r)
         → Leads (when wanted code) ss rows r ss rows new_r
     leads_when true code new_r kept step = leads_step code [] ss rows new_r (step refl)
     leads_when false code new_r kept step = subst (λ (x : RawRow). Leads [] ss rows r ss rows x) (kept refl) leads_none
@@ -107,61 +107,61 @@ module _ (image : Image) (relocs : Relocs) (none : relocs.list ≡ []) (dirs : L
     leads_file n small =
         leads_unless ss rows (read_row row) (n == row.file) (DW_LNS_set_file ∷ uleb n) (read_row (record row { file = n }))
         (λ e. ap (λ (m : ℕ). read_row (record row { file = m })) (sym (eqb-true n row.file e)))
-        (λ e. leads_step ss rows (read_row row) DW_LNS_set_file (uleb n) ss rows (read_row (record row { file = n })) (file_step image relocs none dirs files ss rows row n small))
+        (λ e. leads_step ss rows (read_row row) DW_LNS_set_file (uleb n) ss rows (read_row (record row { file = n })) (file_step version image relocs none dirs files ss rows row n small))
 
     leads_column : (n : ℕ) → n < 2 ^ 64 → Leads (set_number DW_LNS_set_column row.column n) ss rows (read_row row) ss rows (read_row (record row { column = n }))
     leads_column n small =
         leads_unless ss rows (read_row row) (n == row.column) (DW_LNS_set_column ∷ uleb n) (read_row (record row { column = n }))
         (λ e. ap (λ (m : ℕ). read_row (record row { column = m })) (sym (eqb-true n row.column e)))
-        (λ e. leads_step ss rows (read_row row) DW_LNS_set_column (uleb n) ss rows (read_row (record row { column = n })) (column_step image relocs none dirs files ss rows row n small))
+        (λ e. leads_step ss rows (read_row row) DW_LNS_set_column (uleb n) ss rows (read_row (record row { column = n })) (column_step version image relocs none dirs files ss rows row n small))
 
     leads_isa : (n : ℕ) → n < 2 ^ 64 → Leads (set_number DW_LNS_set_isa row.isa n) ss rows (read_row row) ss rows (read_row (record row { isa = n }))
     leads_isa n small =
         leads_unless ss rows (read_row row) (n == row.isa) (DW_LNS_set_isa ∷ uleb n) (read_row (record row { isa = n }))
         (λ e. ap (λ (m : ℕ). read_row (record row { isa = m })) (sym (eqb-true n row.isa e)))
-        (λ e. leads_step ss rows (read_row row) DW_LNS_set_isa (uleb n) ss rows (read_row (record row { isa = n })) (isa_step image relocs none dirs files ss rows row n small))
+        (λ e. leads_step ss rows (read_row row) DW_LNS_set_isa (uleb n) ss rows (read_row (record row { isa = n })) (isa_step version image relocs none dirs files ss rows row n small))
 
     leads_discriminator : (n : ℕ) → row.discriminator ≡ 0 → n < 2 ^ 64 → Leads (set_discriminator n) ss rows (read_row row) ss rows (read_row (record row { discriminator = n }))
     leads_discriminator n unset small =
         leads_unless ss rows (read_row row) (n == 0) (extended (DW_LNE_set_discriminator ∷ uleb n)) (read_row (record row { discriminator = n }))
         (λ e. ap (λ (m : ℕ). read_row (record row { discriminator = m })) (unset ∙ sym (eqb-true n 0 e)))
         (λ e. leads_step ss rows (read_row row) 0 (uleb (length (DW_LNE_set_discriminator ∷ uleb n)) ++ (DW_LNE_set_discriminator ∷ uleb n)) ss rows (read_row (record row { discriminator = n }))
-        (discriminator_step image relocs none dirs files ss rows row n small))
+        (discriminator_step version image relocs none dirs files ss rows row n small))
 
     leads_stmt : (flag : Bool) → Leads (when (not (same_flag row.is_stmt flag)) DW_LNS_negate_stmt) ss rows (read_row row) ss rows (read_row (record row { is_stmt = flag }))
     leads_stmt flag =
         leads_when ss rows (read_row row) (not (same_flag row.is_stmt flag)) DW_LNS_negate_stmt (read_row (record row { is_stmt = flag }))
         (λ e. ap (λ (b : Bool). read_row (record row { is_stmt = b })) (same row.is_stmt flag e))
-        (λ e. subst (λ (b : Bool). Steps image relocs none dirs files (DW_LNS_negate_stmt ∷ []) ss rows (read_row row) ss rows (read_row (record row { is_stmt = b }))) (turned row.is_stmt flag e)
-        (stmt_step image relocs none dirs files ss rows row))
+        (λ e. subst (λ (b : Bool). Steps version image relocs none dirs files (DW_LNS_negate_stmt ∷ []) ss rows (read_row row) ss rows (read_row (record row { is_stmt = b }))) (turned row.is_stmt flag e)
+        (stmt_step version image relocs none dirs files ss rows row))
 
     leads_block : (flag : Bool) → row.basic_block ≡ false → Leads (when flag DW_LNS_set_basic_block) ss rows (read_row row) ss rows (read_row (record row { basic_block = flag }))
     leads_block flag unset =
         leads_when ss rows (read_row row) flag DW_LNS_set_basic_block (read_row (record row { basic_block = flag }))
         (λ e. ap (λ (b : Bool). read_row (record row { basic_block = b })) (unset ∙ sym e))
-        (λ e. subst (λ (b : Bool). Steps image relocs none dirs files (DW_LNS_set_basic_block ∷ []) ss rows (read_row row) ss rows (read_row (record row { basic_block = b }))) (sym e)
-        (block_step image relocs none dirs files ss rows row))
+        (λ e. subst (λ (b : Bool). Steps version image relocs none dirs files (DW_LNS_set_basic_block ∷ []) ss rows (read_row row) ss rows (read_row (record row { basic_block = b }))) (sym e)
+        (block_step version image relocs none dirs files ss rows row))
 
     leads_prologue : (flag : Bool) → row.prologue_end ≡ false → Leads (when flag DW_LNS_set_prologue_end) ss rows (read_row row) ss rows (read_row (record row { prologue_end = flag }))
     leads_prologue flag unset =
         leads_when ss rows (read_row row) flag DW_LNS_set_prologue_end (read_row (record row { prologue_end = flag }))
         (λ e. ap (λ (b : Bool). read_row (record row { prologue_end = b })) (unset ∙ sym e))
-        (λ e. subst (λ (b : Bool). Steps image relocs none dirs files (DW_LNS_set_prologue_end ∷ []) ss rows (read_row row) ss rows (read_row (record row { prologue_end = b }))) (sym e)
-        (prologue_step image relocs none dirs files ss rows row))
+        (λ e. subst (λ (b : Bool). Steps version image relocs none dirs files (DW_LNS_set_prologue_end ∷ []) ss rows (read_row row) ss rows (read_row (record row { prologue_end = b }))) (sym e)
+        (prologue_step version image relocs none dirs files ss rows row))
 
     leads_epilogue : (flag : Bool) → row.epilogue_begin ≡ false → Leads (when flag DW_LNS_set_epilogue_begin) ss rows (read_row row) ss rows (read_row (record row { epilogue_begin = flag }))
     leads_epilogue flag unset =
         leads_when ss rows (read_row row) flag DW_LNS_set_epilogue_begin (read_row (record row { epilogue_begin = flag }))
         (λ e. ap (λ (b : Bool). read_row (record row { epilogue_begin = b })) (unset ∙ sym e))
-        (λ e. subst (λ (b : Bool). Steps image relocs none dirs files (DW_LNS_set_epilogue_begin ∷ []) ss rows (read_row row) ss rows (read_row (record row { epilogue_begin = b }))) (sym e)
-        (epilogue_step image relocs none dirs files ss rows row))
+        (λ e. subst (λ (b : Bool). Steps version image relocs none dirs files (DW_LNS_set_epilogue_begin ∷ []) ss rows (read_row row) ss rows (read_row (record row { epilogue_begin = b }))) (sym e)
+        (epilogue_step version image relocs none dirs files ss rows row))
 
     leads_pc : (address : ℕ) → row.address ≤ address → address < 2 ^ 64 → Leads (advance_pc (address - row.address)) ss rows (read_row row) ss rows (read_row (record row { address = address }))
     leads_pc address le small =
         let n = address - row.address in
         leads_unless ss rows (read_row row) (n == 0) (DW_LNS_advance_pc ∷ uleb n) (read_row (record row { address = address }))
         (λ e. ap (λ (a : ℕ). read_row (record row { address = a })) (let none_left : n ≡ 0 = eqb-true n 0 e in omega (arith, le, none_left)))
-        (λ e. leads_step ss rows (read_row row) DW_LNS_advance_pc (uleb n) ss rows (read_row (record row { address = address })) (pc_step image relocs none dirs files ss rows row n address (omega (arith, le)) small))
+        (λ e. leads_step ss rows (read_row row) DW_LNS_advance_pc (uleb n) ss rows (read_row (record row { address = address })) (pc_step version image relocs none dirs files ss rows row n address (omega (arith, le)) small))
 
     leads_line : (line : ℕ) → row.line < 2 ^ 32 → line < 2 ^ 32 → Leads (advance_line row.line line) ss rows (read_row row) ss rows (read_row (record row { line = line }))
     leads_line line was small =
@@ -169,7 +169,7 @@ module _ (image : Image) (relocs : Relocs) (none : relocs.list ≡ []) (dirs : L
         leads_unless ss rows (read_row row) (line == row.line) (DW_LNS_advance_line ∷ sleb z) (read_row (record row { line = line }))
         (λ e. ap (λ (n : ℕ). read_row (record row { line = n })) (sym (eqb-true line row.line e)))
         (λ e. leads_step ss rows (read_row row) DW_LNS_advance_line (sleb z) ss rows (read_row (record row { line = line }))
-        (line_step image relocs none dirs files ss rows row z line (step_fits z line row.line refl small was) (lines_reach z row.line line (step_reach row.line line) small)))
+        (line_step version image relocs none dirs files ss rows row z line (step_fits z line row.line refl small was) (lines_reach z row.line line (step_reach row.line line) small)))
 
   -- ---- a row
 
@@ -190,7 +190,7 @@ module _ (image : Image) (relocs : Relocs) (none : relocs.list ≡ []) (dirs : L
         let d = row.line + 5 - line in
         let n = row.address - address in
         leads_step ss rows (read_row before) (special_opcode before row) [] ss (rows ++ read_row row ∷ []) (read_row (registers_after row))
-        (special_step image relocs none dirs files ss rows before (special_opcode before row) d n row.line row.address refl (omega (arith, high)) (omega (arith, rises)) sound.address
+        (special_step version image relocs none dirs files ss rows before (special_opcode before row) d n row.line row.address refl (omega (arith, high)) (omega (arith, rises)) sound.address
         (lines_reach (negsuc 4 +ℤ pos d) line row.line (special_reach line row.line d (omega (arith, low))) sound.line))
 
     leads_copy : Leads (advance_line line row.line ++ (advance_pc (row.address - address) ++ (DW_LNS_copy ∷ []))) ss rows (read_row before) ss (rows ++ read_row row ∷ []) (read_row (registers_after row))
@@ -199,7 +199,7 @@ module _ (image : Image) (relocs : Relocs) (none : relocs.list ≡ []) (dirs : L
         (leads_line ss rows before row.line was sound.line)
         (leads_then ss rows (read_row with_line) (advance_pc (row.address - address)) (DW_LNS_copy ∷ []) ss rows (read_row row) ss (rows ++ read_row row ∷ []) (read_row (registers_after row))
         (leads_pc ss rows with_line row.address rises sound.address)
-        (leads_step ss rows (read_row row) DW_LNS_copy [] ss (rows ++ read_row row ∷ []) (read_row (registers_after row)) (copy_step image relocs none dirs files ss rows row)))
+        (leads_step ss rows (read_row row) DW_LNS_copy [] ss (rows ++ read_row row ∷ []) (read_row (registers_after row)) (copy_step version image relocs none dirs files ss rows row)))
 
     leads_append : Leads (append_row before row) ss rows (read_row before) ss (rows ++ read_row row ∷ []) (read_row (registers_after row))
     leads_append =
@@ -268,7 +268,7 @@ module _ (image : Image) (relocs : Relocs) (none : relocs.list ≡ []) (dirs : L
         let last : Row = record (registers_after b) { address = end } in
         leads_then ss rows (read_row (registers_after b)) (advance_pc (end - b.address)) end_sequence ss rows (read_row last) (ended_at rows end) [] start
         (leads_pc ss rows (registers_after b) end rises small)
-        (leads_step ss rows (read_row last) 0 (uleb (length (DW_LNE_end_sequence ∷ [])) ++ (DW_LNE_end_sequence ∷ [])) (ended_at rows end) [] start (end_step image relocs none dirs files ss rows last))
+        (leads_step ss rows (read_row last) 0 (uleb (length (DW_LNE_end_sequence ∷ [])) ++ (DW_LNE_end_sequence ∷ [])) (ended_at rows end) [] start (end_step version image relocs none dirs files ss rows last))
 
     leads_rows : (list : List Row) (rows : List RawRow) (b : Row) (end : ℕ) → All IsRow list → NeverFall b.address list end → end < 2 ^ 64 → b.line < 2 ^ 32
         → Leads (rows_bytes (registers_after b) list end) ss rows (read_row (registers_after b)) (ended_at (rows ++ map read_row list) end) [] start
@@ -291,7 +291,7 @@ module _ (image : Image) (relocs : Relocs) (none : relocs.list ≡ []) (dirs : L
         let first = row.address in
         let body : List ℕ = DW_LNE_set_address ∷ little_bytes 8 first in
         leads_then ss [] start (set_address first) (rows_bytes (registers_at first) (row ∷ list) end) ss [] (read_row (registers_at first)) (ended_at (map read_row (row ∷ list)) end) [] start
-        (leads_step ss [] start 0 (uleb (length body) ++ body) ss [] (read_row (registers_at first)) (address_step image relocs none dirs files ss [] (registers_at 0) first is.address))
+        (leads_step ss [] start 0 (uleb (length body) ++ body) ss [] (read_row (registers_at first)) (address_step version image relocs none dirs files ss [] (registers_at 0) first is.address))
         (leads_rows (row ∷ list) [] (registers_at first) end sound (omega arith, order.1) small (omega arith))
 
   leads_program : (sequences : List Sequence) (ss : List RawSequence) → All IsSequence sequences → Leads (flat_map sequence_bytes sequences) ss [] start (ss ++ map read_sequence sequences) [] start
@@ -304,7 +304,7 @@ module _ (image : Image) (relocs : Relocs) (none : relocs.list ≡ []) (dirs : L
       (append_assoc ss (read_sequence sequence ∷ []) (map read_sequence sequences)) (leads_program sequences (ss ++ read_sequence sequence ∷ []) (All-tail IsSequence sequence sequences sound)))
 
   -- nothing is left
-  all_done : (k : ℕ) (ss : List RawSequence) (s : Spot) → At s [] → going image relocs none dirs files k ss [] start s ≡ Ok (record { dirs = dirs; files = files; sequences = ss })
+  all_done : (k : ℕ) (ss : List RawSequence) (s : Spot) → At s [] → going version image relocs none dirs files k ss [] start s ≡ Ok (record { dirs = dirs; files = files; sequences = ss })
   all_done zero ss s h =
       let done : s.end - s.place ≡ 0 = omega (arith, h.end_is) in
       rw done refl
@@ -314,7 +314,7 @@ module _ (image : Image) (relocs : Relocs) (none : relocs.list ≡ []) (dirs : L
 
   -- a program is read from its first byte to its last
   pub program_again : (sequences : List Sequence) (s : Spot) → All IsSequence sequences → At s (flat_map sequence_bytes sequences)
-      → going image relocs none dirs files (s.end - s.place) [] [] start s ≡ Ok (record { dirs = dirs; files = files; sequences = map read_sequence sequences })
+      → going version image relocs none dirs files (s.end - s.place) [] [] start s ≡ Ok (record { dirs = dirs; files = files; sequences = map read_sequence sequences })
   program_again sequences s sound h =
       let bytes = flat_map sequence_bytes sequences in
       let whole : At s (bytes ++ []) = at_same s bytes (bytes ++ []) (sym (append-nil bytes)) h in

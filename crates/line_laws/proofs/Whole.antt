@@ -1,5 +1,5 @@
 -- A written line table of version 4 is read again, whatever follows it.
-use Rattle.std.proofs.Common.{◌≡◌, ℕ, ◌+◌, ◌-◌, ◌<◌, Bool, true, false, negsuc, List, [], ◌∷◌, ◌++◌, length, take, Ok, refl, sym, ap, subst, ◌∙◌, append_assoc, arith, length-append}
+use Rattle.std.proofs.Common.{◌≡◌, ℕ, ◌+◌, ◌-◌, ◌<◌, Bool, true, false, negsuc, List, [], ◌∷◌, ◌++◌, length, take, Ok, inl, refl, sym, ap, subst, ◌∙◌, append_assoc, arith, length-append}
 use Rattle.std.specs.Prelude.{nat_lt, nat_le, if◌then◌else◌}
 use Rattle.std.specs.List.{flat_map}
 use Rattle.std.proofs.lemmas.Bool.{le-ltb}
@@ -64,7 +64,7 @@ module _ (image : Image) (relocs : Relocs) (none : relocs.list ≡ []) (text : L
       (op_at (record { version = 4; minimum_instruction_length = 1; default_is_stmt = true; line_base = negsuc 4; line_range = 14; opcode_base = 13; standard_opcode_lengths = standard_opcode_lengths }) image relocs)
       (record { version = 4; minimum_instruction_length = 1; default_is_stmt = true; line_base = negsuc 4; line_range = 14; opcode_base = 13; standard_opcode_lengths = standard_opcode_lengths })
       lines.dirs lines.files (s.end - s.place) s)
-      ∙ program_again image relocs none lines.dirs lines.files lines.sequences s sound.sequences h
+      ∙ program_again 4 image relocs none lines.dirs lines.files lines.sequences s sound.sequences h
 
   -- units of every version have tables of version 4
   four_stands : (unit : ℕ) → nat_lt (last_version unit) 4 ≡ false
@@ -114,7 +114,7 @@ module _ (image : Image) (relocs : Relocs) (none : relocs.list ≡ []) (text : L
         four_stands unit,
         number_again 4 (length fields) s1 (fields ++ program) (omega (arith, few, body_len)) h3,
         le-ltb (s2.end - s2.place) (length fields) (omega (arith, h4.end_is, length-append fields program)),
-        fields_again first s2 (tables ++ program) h4,
+        fields_again 4 first s2 (tables ++ program) (inl refl) h4,
         dirs_again first behind lines.dirs s3 (files ++ (0 ∷ program)) (s3.end - s3.place) sound.dirs h7 (omega (arith, fields_len)) (omega (arith, h7.end_is, length-append dirs (0 ∷ (files ++ (0 ∷ program))))),
         files_again first behind lines.files s4 program (s4.end - s4.place) sound.files sound.digests h9 (omega (arith, fields_len)) (omega (arith, h9.end_is, length-append files (0 ∷ program))),
       ) (rows_again behind h5)
