@@ -81,8 +81,6 @@ module _ (f : ℕ → Option Target) where
   plain_long : (op : PlainOp) → IsMeant op → plain_part_len (plain_part f op) ≡ plain_len (operands_of op.code) op.bytes
   plain_long op m = long_by op m m.named op.base refl m.base
 
--- ---- parts that are joined
-
 -- ---- operations of an outermost expression
 
 -- an entry value, or another operation

@@ -1,4 +1,4 @@
--- The directories and files of a line table's header have names that are not empty and have no zero byte.
+-- The directories and files of a line table before version 5 have names that are not empty and have no zero byte.
 use Rattle.std.proofs.Common.{◌≡◌, ℕ, zero, suc, ◌-◌, ◌^◌, ◌<◌, Bool, true, false, List, [], ◌∷◌, ◌++◌, length, Option, Some, None, IfSome, Result, Ok, refl, subst}
 use Rattle.std.specs.Prelude.{◌==◌, if◌then◌else◌}
 use Rattle.std.specs.List.{AllByRecursion}

@@ -12,7 +12,8 @@ ghost use Rattle.linked_laws.specs.Given.{IsGiven};
 ghost use Rattle.object_view.specs.Analysis.{analysis_of};
 ghost use Rattle.object_laws.specs.Analysed.{IsAnalysed};
 
-/// The analysis of an object of fewer than 2^32 bytes is given, whatever its bytes and its part of the debug map.
+/// The analysis of an object of fewer than 2^32 bytes is given, whatever its bytes, the versions of its units and its part
+/// of the debug map.
 pub fn analyses_are_given()
     ensures { (bytes : Listed ℕ) (object : MapObject) (cpu : ℕ) (a : Analysis) → length bytes < 2 ^ 32 → AreBytes bytes → analysis_of bytes object cpu ≡ Ok a → IsGiven a }
 {}
