@@ -7,3 +7,4 @@ pub mod Siblings
 pub mod Closed
 pub mod EnteringRows
 pub mod MakingBooks
+pub mod Stretches

@@ -1,5 +1,6 @@
 -- The book of names: rows that each stand for a pooled entry and lead to the row above.
 use Rattle.std.specs.Prelude.{◌≡◌, ◌↔◌, ℕ, ◌+◌, ◌-◌, ◌*◌, ◌^◌, ◌<◌, ◌≤◌, Bool, List, [], ◌∷◌, ◌++◌, length, slice_get, Option, Some, if◌then◌else◌}
+use Rattle.std.specs.List.Sorted.{IsNonDecreasingBy}
 use Rattle.std.specs.Option.{ForSome, option_and_then, option_map_or}
 use Rattle.dwarf_types.specs.declared.analysis.Analysis.{Analysis}
 use Rattle.dwarf_types.specs.declared.entry.Entry.{Entry}
@@ -92,8 +93,11 @@ pub record AreRows (objects : List Object) (rows : List Row) : Type 0 where
 
 pub record IsBook (os : Objects) (rows : List Row) : Type 0 where
   pub told : AreTold os
+  pub few_objects : length os.seen.now < 2 ^ 16
   pub few : length rows < 2 ^ 25
   pub are_rows : AreRows (objects_in os) rows
+  -- rows stand in the order of their objects
+  pub in_order : IsNonDecreasingBy (λ row. row.object) rows
 
 -- rows a and b have one path where the rows that are left to compare have, which are above them
 pub record Compared (objects : List Object) (rows : List Row) (a b : ℕ) (left right : Option ℕ) : Type 0 where

@@ -1,5 +1,6 @@
 pub mod Pieces
 pub mod Book
+pub mod Stretches
 pub mod Winners
 pub mod Ranking
 pub mod Twins

@@ -12,9 +12,14 @@ pub record IsRank (names : List Named) (r : Ranked) : Type 0 where
   pub hash : r.hash ≡ path_hash (path_at names r.name)
   pub bid : r.bid ≡ bid_at names r.name
 
+-- a name of which there is a rank
+abbrev pub IsAmong : List Ranked → ℕ → Type 0
+IsAmong ranks x = (i : ℕ) × (r : Ranked) × (slice_get ranks i ≡ Some r) × (r.name ≡ x)
+
 pub record AreRanked (names : List Named) (ranks : List Ranked) : Type 0 where
   pub each : (i : ℕ) (r : Ranked) → slice_get ranks i ≡ Some r → IsRank names r
-  pub all : (x : ℕ) → x < length names → (i : ℕ) × (r : Ranked) × (slice_get ranks i ≡ Some r) × (r.name ≡ x)
+  -- of a path all names are among them, or none
+  pub whole : (x y : ℕ) → IsAmong ranks x → y < length names → SamePath names y x → IsAmong ranks y
 
 -- by hash, and then by bid
 abbrev pub AreInOrder : List Ranked → Type 0
@@ -25,10 +30,19 @@ pub record AreFound (names : List Named) (ranks : List Ranked) (winners : List �
   pub len : length winners ≡ length names
   pub each : (j : ℕ) (r : Ranked) → j < i → slice_get ranks j ≡ Some r → IsWinner names r.name (slice_index_or winners r.name 0)
 
+-- the winners of names without a rank are as they were
+abbrev pub AreOthersKept : List Ranked → List ℕ → List ℕ → Type 0
+AreOthersKept ranks old new = (x : ℕ) → (IsAmong ranks x → ⊥) → slice_index_or new x 0 ≡ slice_index_or old x 0
+
 -- the ranks of the first n names, each at its number
 pub record AreRankedTo (names : List Named) (ranks : List Ranked) (n : ℕ) : Type 0 where
   pub len : length ranks ≡ n
   pub each : (i : ℕ) (r : Ranked) → slice_get ranks i ≡ Some r → (r.name ≡ i) × IsRank names r
+
+-- the ranks of the first n of some names, in their order
+pub record AreRanksOf (names : List Named) (some : List ℕ) (ranks : List Ranked) (n : ℕ) : Type 0 where
+  pub len : length ranks ≡ n
+  pub each : (i : ℕ) (r : Ranked) → slice_get ranks i ≡ Some r → (slice_get some i ≡ Some r.name) × IsRank names r
 
 -- the names from rank j up to rank i have the hash of rank i, and none has its path
 pub record IsRun (names : List Named) (ranks : List Ranked) (here : Ranked) (j i : ℕ) : Type 0 where

@@ -23,7 +23,8 @@ pub use book_error::BookError;
 pub use enter::MOST_POOLED;
 pub use entry_place::Occurrence;
 pub use path_book::{
-    Objects, PathBook, Row, above, book, count, number, occurrence, path_equal, path_start,
+    Objects, PathBook, Row, above, bids_are_some, book, count, first_of, number, object_count,
+    occurrence, path_equal, path_start,
 };
 pub use piece::{PartsRef, PieceRef, Private};
-pub use winners::{Ranked, winners_plain};
+pub use winners::{Ranked, put_winners, winners_plain};

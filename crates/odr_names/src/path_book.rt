@@ -2,11 +2,13 @@
 
 ghost use Rattle.std.specs.Prelude.{◌≡◌, ◌<◌, ◌≤◌, ◌-◌, ◌/◌, ◌%◌, ◌^◌, ◌↔◌, ℕ, [], ◌∷◌, ◌++◌, length, slice_get, IsTrue, Some, Err, IfOk};
 ghost use Rattle.std.specs.List.{All};
+ghost use Rattle.std.specs.List.Sorted.{IsNonDecreasingBy, IsPartitionPoint};
 ghost use Rattle.std.specs.Option.{ForSome, option_map, option_map_or};
 ghost use Rattle.dwarf_types.specs.Sound.{IsSound};
 ghost use Rattle.odr_names.specs.declared.book_error.BookError.TheVariants as errors;
 ghost use Rattle.odr_names.specs.Book.{AreRows, AreTold, IsBook, IsRowOf, SamePath, bid_at, objects_in, objects_of, path_at, path_in, row_bid, row_piece};
 ghost use Rattle.odr_names.specs.Making.{AreLiveRows, merged};
+ghost use Rattle.odr_names.specs.Stretches.{AreOfObjects, IsFirstOf};
 ghost use Rattle.odr_names.specs.Pieces.{piece_seen};
 ghost use Rattle.odr_names.specs.declared.path_book.Row.{Row as ARow};
 ghost use Rattle.type_names.specs.Names.{Named, names};
@@ -115,6 +117,21 @@ pub fn count(names: &PathBook) -> u32
     names.rows.len() as u32
 }
 
+/// How many objects there are, with names or without.
+pub fn object_count(names: &PathBook) -> u32
+    ensures objects { AreOfObjects names.now result }
+    ensures few { result < 2 ^ 16 }
+{
+    names.objects.seen.len() as u32
+}
+
+/// The first name of an object, or of one behind it.
+pub fn first_of(names: &PathBook, object: u32) -> u32
+    ensures { IsFirstOf names.now object result }
+{
+    count_before(&names.rows, object) as u32
+}
+
 /// Where a name stands.
 pub fn occurrence(names: &PathBook, x: u32) -> Occurrence
     requires { x < length names.now }
@@ -134,6 +151,13 @@ pub fn number(names: &PathBook, x: u32) -> u64
     ensures { result ≡ bid_at names.now x }
 {
     bid_of(row_at(&names.rows, x))
+}
+
+/// No bid is 2^64 - 1, which stands for none.
+pub fn bids_are_some(names: &PathBook)
+    ensures { (x : ℕ) → x < length names.now → bid_at names.now x < 2 ^ 64 - 1 }
+{
+    let _count = names.rows.len();
 }
 
 /// The name whose path is that of name `x` without its last piece, if that has more pieces than one.
@@ -175,6 +199,15 @@ fn row_at(rows: &[Row], x: u32) -> Row
     ensures { slice_get rows.now x ≡ Some result }
 {
     rows[x as usize]
+}
+
+/// How many rows are of objects before this one.
+fn count_before(rows: &[Row], object: u32) -> usize
+    requires { IsNonDecreasingBy (λ row. row.object) rows.now }
+    ensures within { result ≤ length rows.now }
+    ensures parted { IsPartitionPoint (λ row. row.object < object) (λ row. object ≤ row.object) rows.now result }
+{
+    rows.partition_point(|row| row.object < object)
 }
 
 /// The bid of a row.

@@ -1,11 +1,12 @@
 //! Which name wins each path.
 
 ghost use Rattle.std.specs.Prelude.{◌≡◌, ◌<◌, ◌≤◌, ◌^◌, ◌↔◌, ℕ, [], ◌∷◌, ◌++◌, length, slice_get, slice_index_or, Some, IfOk, IfSome, OnOk, OnErr};
+ghost use Rattle.std.specs.List.{All};
 ghost use Rattle.std.specs.List.Sorted.{IsPermutation};
 ghost use Rattle.odr_names.specs.Book.{SamePath, path_at};
 ghost use Rattle.type_names.specs.Start.{path_hash};
-ghost use Rattle.odr_names.specs.Ranking.{AreFound, AreInOrder, AreRanked, IsRank};
-ghost use Rattle.odr_names.specs.Winners.{AreWinners, IsWinner};
+ghost use Rattle.odr_names.specs.Ranking.{AreFound, AreInOrder, AreOthersKept, AreRanked, AreRanksOf, IsAmong, IsRank};
+ghost use Rattle.odr_names.specs.Winners.{ArePut, AreWholePaths, AreWinners, IsWinner};
 ghost use Rattle.odr_names.specs.declared.winners.Ranked.{Ranked as RankedAs};
 
 use crate::path_book::{PathBook, count, hash_at, number, path_equal};
@@ -29,23 +30,64 @@ pub fn winners_plain(alloc: Global, names: &PathBook) -> Result<Vec<u32>, NoMemo
 {
     let mut ranks = ranks_of(alloc, names)?;
     sort_ranks(&mut ranks);
-    let winners = winners_of(alloc, names, &ranks)?;
+    let mut winners = vec![in alloc; 0; count(names) as usize]?;
+    rank_winners(names, &ranks, &mut winners);
     Ok(winners)
+}
+
+/// Puts the winner of each of these names in its place. All names of a path are among them, or none.
+pub fn put_winners(
+    alloc: Global,
+    names: &PathBook,
+    some: &[u32],
+    winners: &mut Vec<u32>,
+) -> Result<(), NoMemory>
+    requires inside { All (λ x. x < length names.now) some.now }
+    requires whole { AreWholePaths names.now some.now }
+    requires len { length winners.old.items ≡ length names.now }
+    ensures { OnOk result (ArePut names.now some.now winners.old.items winners.new.items) }
+{
+    let mut ranks = ranks_among(alloc, names, some)?;
+    sort_ranks(&mut ranks);
+    rank_winners(names, &ranks, winners);
+    Ok(())
 }
 
 /// The ranks of all names, as they stand.
 fn ranks_of(alloc: Global, names: &PathBook) -> Result<Vec<Ranked>, NoMemory>
-    ensures { IfOk result (λ ranks. AreRanked names.now ranks.items) }
+    ensures ranked { IfOk result (λ ranks. AreRanked names.now ranks.items) }
+    ensures all { IfOk result (λ ranks. (x : ℕ) → x < length names.now → IsAmong ranks.items x) }
 {
     let mut ranks = Vec::with_capacity(alloc, count(names) as usize)?;
     for x in 0..count(names) {
-        ranks.push(Ranked {
-            hash: hash_at(names, x),
-            bid: number(names, x),
-            name: x,
-        })?;
+        ranks.push(rank_of(names, x))?;
     }
     Ok(ranks)
+}
+
+/// The ranks of some names, as they stand.
+fn ranks_among(alloc: Global, names: &PathBook, some: &[u32]) -> Result<Vec<Ranked>, NoMemory>
+    requires inside { All (λ x. x < length names.now) some.now }
+    ensures { IfOk result (λ ranks. AreRanksOf names.now some.now ranks.items (length some.now)) }
+{
+    let mut ranks = Vec::with_capacity(alloc, some.len())?;
+    for i in 0..some.len() {
+        ranks.push(rank_of(names, some[i]))?;
+    }
+    Ok(ranks)
+}
+
+/// The rank of a name.
+fn rank_of(names: &PathBook, x: u32) -> Ranked
+    requires { x < length names.now }
+    ensures name { result.name ≡ x }
+    ensures rank { IsRank names.now result }
+{
+    Ranked {
+        hash: hash_at(names, x),
+        bid: number(names, x),
+        name: x,
+    }
 }
 
 /// Puts ranks in order: by hash, and then by bid.
@@ -56,18 +98,18 @@ pub(crate) fn sort_ranks(ranks: &mut Vec<Ranked>)
     ranks.sort_unstable_by_key(|r| (r.hash, r.bid));
 }
 
-/// The winners, rank by rank.
-fn winners_of(alloc: Global, names: &PathBook, ranks: &[Ranked]) -> Result<Vec<u32>, NoMemory>
+/// Puts the winners in their places, rank by rank.
+fn rank_winners(names: &PathBook, ranks: &[Ranked], winners: &mut Vec<u32>)
     requires ranked { AreRanked names.now ranks.now }
     requires order { AreInOrder ranks.now }
-    ensures { IfOk result (λ winners. AreWinners names.now winners.items) }
+    requires len { length winners.old.items ≡ length names.now }
+    ensures found { AreFound names.now ranks.now winners.new.items (length ranks.now) }
+    ensures others { AreOthersKept ranks.now winners.old.items winners.new.items }
 {
-    let mut winners = vec![in alloc; 0; count(names) as usize]?;
     for i in 0..ranks.len() {
-        let winner = winner_at(names, ranks, &winners, i);
+        let winner = winner_at(names, ranks, winners.as_slice(), i);
         winners[ranks[i].name as usize] = winner;
     }
-    Ok(winners)
 }
 
 /// The winner of the name at rank `i`: that of the nearest name before it with the same path, or itself.
