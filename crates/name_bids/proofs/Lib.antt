@@ -1,0 +1,5 @@
+pub mod Bids
+pub mod Claiming
+pub mod Tables
+pub mod Workers
+pub mod Reading

@@ -1,0 +1,10 @@
+use Rattle.name_bids.specs.Sharing.{Belong, seat_view, turn_view}
+use Rattle.name_bids.proofs.Claiming.{HasClaimed}
+use Rattle.work_share.specs.Numbers.{left}
+use Rattle.name_bids.proofs.bidding.bid_objects.Given as goal
+
+abbrev pub invariant-loop-task : goal.invariant-loop-task
+invariant-loop-task g l = Belong l.pool l.work l.seat l.turn × HasClaimed l.names l.pool.cells (seat_view l.fn.seat) (seat_view l.seat) (turn_view l.fn.turn) (turn_view l.turn)
+
+abbrev pub decreases-loop-task : goal.decreases-loop-task
+decreases-loop-task g l = left l.work.count (turn_view l.turn).drawn

@@ -1,0 +1,4 @@
+pub mod Bids
+pub mod Tables
+pub mod Sharing
+pub mod Reading
