@@ -31,7 +31,7 @@ use Rattle.dwarf_types.specs.WellNodes.{IsAttribute, is_dropped}
 use Rattle.dwarf_types.specs.WellValues.{in_udata, IsLocation, IsTarget, IsValue, MayStand}
 use Rattle.dwarf_types.specs.WholeParts.{IsBaseType}
 use Rattle.link_graph.proofs.Gathered.{All-filter_map}
-use Rattle.linked_laws.specs.Given.{IsGivenAttr, IsGivenLocation, IsGivenPlace, IsGivenValue}
+use Rattle.linked_laws.specs.Spellable.{IsSpellableAttr, IsSpellableLocation, IsSpellablePlace, IsSpellableValue}
 use Rattle.linked_laws.proofs.ExpressionLengths.{expression_long}
 use Rattle.linked_laws.proofs.Expressions.{GoesTo, OpGoes, PlainGoes, expression_whole}
 use Rattle.linked_laws.proofs.Lists.{all_of_each, all_of_kept}
@@ -70,11 +70,11 @@ mapped_some f (Some z) y e = (z, refl, sym (same_Some (f z) y e))
 
 -- ---- addresses
 
-place_fits : (b : Bool) (place : Place) (n : ℕ) → IsGivenPlace place → cond b place.linked_end place.linked ≡ Some n → n < 2 ^ 64
+place_fits : (b : Bool) (place : Place) (n : ℕ) → IsSpellablePlace place → cond b place.linked_end place.linked ≡ Some n → n < 2 ^ 64
 place_fits true place n given e = subst (λ (x : Option ℕ). IfSome x (λ m. m < 2 ^ 64)) e given.linked_end
 place_fits false place n given e = subst (λ (x : Option ℕ). IfSome x (λ m. m < 2 ^ 64)) e given.linked
 
-address_fits : (tag : ℕ) (a : Attr) (place : Place) (n : ℕ) → a.value ≡ values.Address place → IsGivenPlace place → address_moved tag a ≡ Some n → n < 2 ^ 64
+address_fits : (tag : ℕ) (a : Attr) (place : Place) (n : ℕ) → a.value ≡ values.Address place → IsSpellablePlace place → address_moved tag a ≡ Some n → n < 2 ^ 64
 address_fits tag a place n is given moved =
     place_fits (tells_end tag a.name) place n given (sym (ap (λ (v : Value). option_and_then (λ p. cond (tells_end tag a.name) p.linked_end p.linked) (place_in v)) is) ∙ moved)
 
@@ -124,7 +124,7 @@ module _ (image : ℕ → Option Target) (graph : Graph) (nodes : List Node) whe
   module _ (from to : ℕ) (allows : Allows from to) where
     -- ---- location lists
 
-    location_by : (item : Location) (y : OutLocation) → IsGivenLocation from item → All (OpGoes image nodes) item.ops → location_written image item ≡ Some y → IsLocation to nodes y
+    location_by : (item : Location) (y : OutLocation) → IsSpellableLocation from item → All (OpGoes image nodes) item.ops → location_written image item ≡ Some y → IsLocation to nodes y
     location_by item y given goes e =
         let is = when_some (all_move item.ops) (record { span = item.span; parts = parts_of image item.ops }) y e in
         let own : IsLocation to nodes (record { span = item.span; parts = parts_of image item.ops }) = record {
@@ -134,7 +134,7 @@ module _ (image : ℕ → Option Target) (graph : Graph) (nodes : List Node) whe
         } in
         subst (IsLocation to nodes) (sym is) own
 
-    locations_by : (items : List Location) → All (IsGivenLocation from) items → All (λ item. All (OpGoes image nodes) item.ops) items → All (IsLocation to nodes) (filter_map (location_written image) items)
+    locations_by : (items : List Location) → All (IsSpellableLocation from) items → All (λ item. All (OpGoes image nodes) item.ops) items → All (IsLocation to nodes) (filter_map (location_written image) items)
     locations_by [] given goes = All-nil (IsLocation to nodes)
     locations_by (item ∷ items) given goes =
         All-filter_map (IsLocation to nodes) (location_written image) (item ∷ items)
@@ -149,7 +149,7 @@ module _ (image : ℕ → Option Target) (graph : Graph) (nodes : List Node) whe
     holds_as : (name : ℕ) (x y : OutValue) → y ≡ x → IsValue (IsTarget graph) to nodes x → MayStand name x → ValueHolds name y
     holds_as name x y is value stands = subst (ValueHolds name) (sym is) (record { value = value; stands = stands })
 
-    value_holds : (e : Entry) (a : Attr) (v : Value) (y : OutValue) → a.value ≡ v → (a.name == DW_AT_sibling) ≡ false → IsGivenValue from a.name v → Refers a → All BaseGoes (flat_map op_bases (operations_of v))
+    value_holds : (e : Entry) (a : Attr) (v : Value) (y : OutValue) → a.value ≡ v → (a.name == DW_AT_sibling) ≡ false → IsSpellableValue from a.name v → Refers a → All BaseGoes (flat_map op_bases (operations_of v))
         → value_written image e a v ≡ Some y → ValueHolds a.name y
     value_holds e a (values.Address place) y is sibling given refers goes written =
         let h = mapped_some (λ n. out.Address n) (address_moved e.tag a) y written in
@@ -178,7 +178,7 @@ module _ (image : ℕ → Option Target) (graph : Graph) (nodes : List Node) whe
     abbrev pub FilesFit : FileNumbers → Type 0
     FilesFit files = IfSome files (λ number. (n m : ℕ) → number n ≡ Some m → m < 2 ^ 64)
 
-    file_holds : (files : FileNumbers) → FilesFit files → (e : Entry) (a : Attr) (v : Value) (y : OutValue) → a.value ≡ v → (a.name == DW_AT_sibling) ≡ false → IsGivenValue from a.name v → Refers a → All BaseGoes (flat_map op_bases (operations_of v))
+    file_holds : (files : FileNumbers) → FilesFit files → (e : Entry) (a : Attr) (v : Value) (y : OutValue) → a.value ≡ v → (a.name == DW_AT_sibling) ≡ false → IsSpellableValue from a.name v → Refers a → All BaseGoes (flat_map op_bases (operations_of v))
         → file_written image files e a v ≡ Some y → ValueHolds a.name y
     file_holds None fit e a v y is sibling given refers goes written = value_holds e a v y is sibling given refers goes written
     file_holds (Some number) fit e a (values.Number form bits) y is sibling given refers goes written =
@@ -195,12 +195,12 @@ module _ (image : ℕ → Option Target) (graph : Graph) (nodes : List Node) whe
     file_holds (Some number) fit e a values.Lines y is sibling given refers goes written = absurd cc
     file_holds (Some number) fit e a (values.Offset n) y is sibling given refers goes written = absurd cc
 
-    said_holds : (files : FileNumbers) → FilesFit files → (b : Bool) (e : Entry) (a : Attr) (y : OutValue) → (a.name == DW_AT_sibling) ≡ false → IsGivenValue from a.name a.value → Refers a → All BaseGoes (flat_map op_bases (operations_of a.value))
+    said_holds : (files : FileNumbers) → FilesFit files → (b : Bool) (e : Entry) (a : Attr) (y : OutValue) → (a.name == DW_AT_sibling) ≡ false → IsSpellableValue from a.name a.value → Refers a → All BaseGoes (flat_map op_bases (operations_of a.value))
         → cond b (file_written image files e a a.value) (value_written image e a a.value) ≡ Some y → ValueHolds a.name y
     said_holds files fit true e a y sibling given refers goes written = file_holds files fit e a a.value y refl sibling given refers goes written
     said_holds files fit false e a y sibling given refers goes written = value_holds e a a.value y refl sibling given refers goes written
 
-    pub attribute_holds : (files : FileNumbers) → FilesFit files → (e : Entry) (a : Attr) (y : OutAttr) → IsGivenAttr from a → Refers a → All BaseGoes (flat_map op_bases (operations_of a.value)) → attr_written image files e a ≡ Some y
+    pub attribute_holds : (files : FileNumbers) → FilesFit files → (e : Entry) (a : Attr) (y : OutAttr) → IsSpellableAttr from a → Refers a → All BaseGoes (flat_map op_bases (operations_of a.value)) → attr_written image files e a ≡ Some y
         → IsAttribute (IsTarget graph) to nodes y
     attribute_holds files fit e a y given refers goes written =
         let said : Option OutValue = cond (a.name == DW_AT_decl_file) (file_written image files e a a.value) (value_written image e a a.value) in
@@ -213,7 +213,7 @@ module _ (image : ℕ → Option Target) (graph : Graph) (nodes : List Node) whe
         subst (IsAttribute (IsTarget graph) to nodes) (sym made.2) own
 
     -- all of an entry
-    pub attributes_hold : (files : FileNumbers) → FilesFit files → (e : Entry) → All (IsGivenAttr from) e.attrs → All Refers e.attrs → All (λ a. All BaseGoes (flat_map op_bases (operations_of a.value))) e.attrs
+    pub attributes_hold : (files : FileNumbers) → FilesFit files → (e : Entry) → All (IsSpellableAttr from) e.attrs → All Refers e.attrs → All (λ a. All BaseGoes (flat_map op_bases (operations_of a.value))) e.attrs
         → All (IsAttribute (IsTarget graph) to nodes) (attrs_written image files e)
     attributes_hold files fit e given refers goes =
         All-filter_map (IsAttribute (IsTarget graph) to nodes) (attr_written image files e) e.attrs (λ k d lt y written. attribute_holds files fit e _ y (given k d lt) (refers k d lt) (goes k d lt) written)

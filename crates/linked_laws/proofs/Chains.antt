@@ -7,7 +7,7 @@ use Rattle.dwarf_types.specs.LinkedUnits.{Object, is_kept}
 use Rattle.dwarf_types.specs.Live.{Stands}
 use Rattle.dwarf_types.specs.Sound.{IsIn, IsParent, IsSound}
 use Rattle.link_graph.proofs.Units.{unit_of, unit_spans}
-use Rattle.linked_laws.specs.Given.{ArePreorder, IsUp}
+use Rattle.linked_laws.specs.Spellable.{ArePreorder, IsUp}
 
 -- ---- one chain behind the other
 

@@ -18,7 +18,7 @@ use Rattle.dwarf_types.specs.declared.parts.PlainPart.TheVariants as plain
 use Rattle.dwarf_types.specs.LinkedExpressions.{as_part, base_node, before_base, behind_base, joined, joined_plain, moved_bytes, op_part, outside, parts_of, plain_part, plain_parts}
 use Rattle.dwarf_types.specs.Operations.{operands_of}
 use Rattle.dwarf_types.specs.WholeParts.{AreOperations, IsBase, IsBaseType, IsOperation, IsTyped, IsWhole, IsWholeInner, IsWholePart, IsWholePlainPart, SpellsAround}
-use Rattle.linked_laws.specs.Given.{IsGivenBy, IsGivenOp, IsGivenPlain, NamesBase, is_entry_value, is_other}
+use Rattle.linked_laws.specs.Spellable.{IsSpellableBy, IsSpellableOp, IsSpellablePlain, NamesBase, is_entry_value, is_other}
 
 -- ---- stretches
 
@@ -52,7 +52,7 @@ module _ (image : ℕ → Option Target) (nodes : List Node) where
     pub own : IfSome op.base GoesTo
     pub inner : All PlainGoes op.inner
 
-  base_is : (row : Operands) (base : Base) → (may : Rattle.linked_laws.specs.Given.MayName row base) → GoesTo base → IsBase nodes row (base_node image base)
+  base_is : (row : Operands) (base : Base) → (may : Rattle.linked_laws.specs.Spellable.MayName row base) → GoesTo base → IsBase nodes row (base_node image base)
   base_is row bases.Generic may goes = may
   base_is row (bases.Entry k) may goes = subst (λ (node : Option ℕ). IsBase nodes row node) (sym (ap (option_map (λ target. target.node)) goes.1)) goes.2
 
@@ -65,12 +65,12 @@ module _ (image : ℕ → Option Target) (nodes : List Node) where
     base_is = base_is names.row base names.may goes;
   }
 
-  plain_whole_by : (op : PlainOp) (base : Option Base) → IsGivenBy op base → IfSome base GoesTo
+  plain_whole_by : (op : PlainOp) (base : Option Base) → IsSpellableBy op base → IfSome base GoesTo
       → IsWholePlainPart nodes (option_map_or (λ b. plain.Typed op.code (before_base (operands_of op.code) (drop 1 op.bytes)) (base_node image b) (behind_base (operands_of op.code) (drop 1 op.bytes))) base (plain.Plain (moved_bytes op)))
   plain_whole_by op None given goes = one_operation (moved_bytes op) given
   plain_whole_by op (Some base) given goes = typed op base given goes
 
-  pub plain_whole : (op : PlainOp) → IsGivenPlain op → PlainGoes op → IsWholePlainPart nodes (plain_part image op)
+  pub plain_whole : (op : PlainOp) → IsSpellablePlain op → PlainGoes op → IsWholePlainPart nodes (plain_part image op)
   plain_whole op given goes = plain_whole_by op op.base given goes
 
   -- ---- inside entry values
@@ -88,11 +88,11 @@ module _ (image : ℕ → Option Target) (nodes : List Node) where
   inner_more (plain.Typed code before base after) ps whole rest =
       record { each = All-cons (IsWholePlainPart nodes) (plain.Typed code before base after) ps whole rest.each; apart = rest.apart }
 
-  pub inner_whole : (ops : List PlainOp) → All IsGivenPlain ops → All PlainGoes ops → IsWholeInner nodes (plain_parts image ops)
+  pub inner_whole : (ops : List PlainOp) → All IsSpellablePlain ops → All PlainGoes ops → IsWholeInner nodes (plain_parts image ops)
   inner_whole [] given goes = record { each = All-nil (IsWholePlainPart nodes); apart = tt }
   inner_whole (op ∷ ops) given goes =
-      inner_more (plain_part image op) (plain_parts image ops) (plain_whole op (All-head IsGivenPlain op ops given) (All-head PlainGoes op ops goes))
-      (inner_whole ops (All-tail IsGivenPlain op ops given) (All-tail PlainGoes op ops goes))
+      inner_more (plain_part image op) (plain_parts image ops) (plain_whole op (All-head IsSpellablePlain op ops given) (All-head PlainGoes op ops goes))
+      (inner_whole ops (All-tail IsSpellablePlain op ops given) (All-tail PlainGoes op ops goes))
 
   -- ---- expressions
 
@@ -105,7 +105,7 @@ module _ (image : ℕ → Option Target) (nodes : List Node) where
   other_part (Some operands.Expression) op is other = absurd (other refl)
   other_part (Some _) op is other = refl
 
-  op_whole : (op : Op) → IsGivenOp op → OpGoes op → IsWholePart nodes (op_part image (operands_of op.code) op)
+  op_whole : (op : Op) → IsSpellableOp op → OpGoes op → IsWholePart nodes (op_part image (operands_of op.code) op)
   op_whole op (is_entry_value known given) goes =
       subst (λ (row : Option Operands). IsWholePart nodes (op_part image row op)) (sym known) (known, inner_whole op.inner given goes.inner)
   op_whole op (is_other other given) goes =
@@ -128,8 +128,8 @@ module _ (image : ℕ → Option Target) (nodes : List Node) where
   parts_more (parts.Nested code inner) ps whole rest =
       record { each = All-cons (IsWholePart nodes) (parts.Nested code inner) ps whole rest.each; apart = rest.apart }
 
-  pub expression_whole : (ops : List Op) → All IsGivenOp ops → All OpGoes ops → IsWhole nodes (parts_of image ops)
+  pub expression_whole : (ops : List Op) → All IsSpellableOp ops → All OpGoes ops → IsWhole nodes (parts_of image ops)
   expression_whole [] given goes = record { each = All-nil (IsWholePart nodes); apart = tt }
   expression_whole (op ∷ ops) given goes =
-      parts_more (op_part image (operands_of op.code) op) (parts_of image ops) (op_whole op (All-head IsGivenOp op ops given) (All-head OpGoes op ops goes))
-      (expression_whole ops (All-tail IsGivenOp op ops given) (All-tail OpGoes op ops goes))
+      parts_more (op_part image (operands_of op.code) op) (parts_of image ops) (op_whole op (All-head IsSpellableOp op ops given) (All-head OpGoes op ops goes))
+      (expression_whole ops (All-tail IsSpellableOp op ops given) (All-tail OpGoes op ops goes))

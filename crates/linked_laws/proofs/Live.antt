@@ -4,7 +4,7 @@ use Rattle.std.specs.Option.{option_map_or}
 use Rattle.dwarf_types.specs.LinkedUnits.{Object, is_kept}
 use Rattle.dwarf_types.specs.Live.{IsLive, Needs, its_base, its_parent}
 use Rattle.dwarf_types.specs.Sound.{IsSound}
-use Rattle.linked_laws.specs.Given.{IsGiven}
+use Rattle.linked_laws.specs.Spellable.{IsSpellable}
 use Rattle.linked_laws.specs.Kept.{IsWhole}
 
 mark_read : (marks : List Bool) (k : ℕ) → option_map_or (λ b. b) (slice_get marks k) false ≡ slice_index_or marks k false
@@ -18,7 +18,7 @@ live_closed o exact k j kept needs =
     mark_read o.kept j ∙ (exact j).1 (suc live.0, (k, live.1, needs))
 
 -- so the entries that are written keep to each other, where they are the live ones
-pub live_whole : (o : Object) → IsSound o.seen → IsGiven o.seen → ((k : ℕ) → (slice_index_or o.kept k false ≡ true) ↔ IsLive o.seen.entries k) → IsWhole o
+pub live_whole : (o : Object) → IsSound o.seen → IsSpellable o.seen → ((k : ℕ) → (slice_index_or o.kept k false ≡ true) ↔ IsLive o.seen.entries k) → IsWhole o
 live_whole o sound given exact = record {
   sound = sound;
   given = given;

@@ -12,7 +12,7 @@ use Rattle.dwarf_types.specs.Live.{Stands}
 use Rattle.dwarf_types.specs.Sound.{IsParent, IsSound}
 use Rattle.dwarf_types.specs.WellNodes.{IsPreorderParent}
 use Rattle.dwarf_types.specs.WellNodes as nodes_of
-use Rattle.linked_laws.specs.Given.{ArePreorder, IsUp}
+use Rattle.linked_laws.specs.Spellable.{ArePreorder, IsUp}
 use Rattle.linked_laws.proofs.Chains.{entry_of_unit, parent_above, parent_in_unit}
 use Rattle.linked_laws.proofs.Written.{HasNode, node_of_entry, written_at, written_rise}
 

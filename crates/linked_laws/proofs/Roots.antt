@@ -19,7 +19,7 @@ use Rattle.dwarf_types.specs.LinkedValues.{all_move, attr_written, attrs_written
 use Rattle.dwarf_types.specs.Moves.{address_moved}
 use Rattle.dwarf_types.specs.WellNodes.{is_dropped, is_lines}
 use Rattle.dwarf_types.specs.WellRoots.{is_code_range, is_split, names_lines_first}
-use Rattle.linked_laws.specs.Given as given
+use Rattle.linked_laws.specs.Spellable as given
 use Rattle.linked_laws.proofs.Attributes.{made_of, mapped_some, neither, nor_right, unless_left, unless_some, when_some}
 
 not_true : {b : Bool} → not b ≡ true → b ≡ false

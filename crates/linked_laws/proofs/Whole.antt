@@ -30,8 +30,8 @@ use Rattle.dwarf_types.specs.WellRoots.{EndsWith, IsRoot, closing_pair, is_code_
 use Rattle.dwarf_types.specs.WellValues.{IsTarget}
 use Rattle.link_graph.proofs.Gathered.{All-filter_map, All-flat_map}
 use Rattle.link_graph.proofs.Units.{unit_has}
-use Rattle.linked_laws.specs.Given.{IsGivenEntry, IsGivenUnit, version_of}
-use Rattle.linked_laws.specs.Given as given
+use Rattle.linked_laws.specs.Spellable.{IsSpellableEntry, IsSpellableUnit, version_of}
+use Rattle.linked_laws.specs.Spellable as given
 use Rattle.linked_laws.specs.Kept.{IsWhole, Leads}
 use Rattle.linked_laws.proofs.Attributes.{BaseGoes, Refers, allows_itself, attributes_hold, mapped_some}
 use Rattle.linked_laws.proofs.Chains.{entry_of_unit, root_kept}
@@ -119,10 +119,10 @@ module _
           its_version : (e : Entry) → e.unit ≡ s.unit → version_of o.seen.units e.unit ≡ unit.version
           its_version e same = ap (version_of o.seen.units) same ∙ ap (λ (found : Option InUnit). option_map_or (λ (u : InUnit). u.version) found 0) is
 
-          given_of : (k : ℕ) (e : Entry) → Stands o.seen.entries k e → e.unit ≡ s.unit → IsGivenEntry unit.version e
+          given_of : (k : ℕ) (e : Entry) → Stands o.seen.entries k e → e.unit ≡ s.unit → IsSpellableEntry unit.version e
           given_of k e stands same =
-              subst (λ (version : ℕ). IsGivenEntry version e) (its_version e same)
-              (subst (λ (x : Entry). IsGivenEntry (version_of o.seen.units x.unit) x) (get_or_from_slice_get o.seen.entries k e e stands) (whole.given.entries k e (slice_get_within o.seen.entries k e stands)))
+              subst (λ (version : ℕ). IsSpellableEntry version e) (its_version e same)
+              (subst (λ (x : Entry). IsSpellableEntry (version_of o.seen.units x.unit) x) (get_or_from_slice_get o.seen.entries k e e stands) (whole.given.entries k e (slice_get_within o.seen.entries k e stands)))
 
       pub all_nodes : All (IsNode (IsTarget graph) unit.version nodes) nodes
       all_nodes = All-map (IsNode (IsTarget graph) unit.version nodes) f kept (All-weaker (IsWritten o s.unit) (λ x. IsNode (IsTarget graph) unit.version nodes (f x)) node_holds kept (all_written o s.unit))
@@ -172,8 +172,8 @@ module _
           let unit_same : own.unit ≡ unit = same_Some own.unit unit (sym own.its_unit ∙ ap (slice_get o.seen.units) r.unit_is ∙ is) in
           parent_none r.root.parent (subst (λ (x : InUnit). IsParent x unit.first r.root.parent) unit_same own.parent)
 
-      given_unit : IsGivenUnit o.seen.entries unit
-      given_unit = subst (IsGivenUnit o.seen.entries) (get_or_from_slice_get o.seen.units s.unit unit unit is) (whole.given.units s.unit unit (slice_get_within o.seen.units s.unit unit is))
+      given_unit : IsSpellableUnit o.seen.entries unit
+      given_unit = subst (IsSpellableUnit o.seen.entries) (get_or_from_slice_get o.seen.units s.unit unit unit is) (whole.given.units s.unit unit (slice_get_within o.seen.units s.unit unit is))
 
       nothing : (xs : List Span) → length xs ≡ 0 → xs ≡ []
       nothing [] e = refl

@@ -10,12 +10,12 @@ use Rattle.dwarf_types.specs.LinkedGraph.{linked_behind}
 use Rattle.dwarf_types.specs.LinkedUnits.{Object, is_kept, plain_target}
 use Rattle.dwarf_types.specs.Sound.{IsSound}
 use Rattle.dwarf_types.specs.WellValues.{IsTarget}
-use Rattle.linked_laws.specs.Given.{IsGiven}
+use Rattle.linked_laws.specs.Spellable.{IsSpellable}
 
 -- the parent of an entry that is written is written too, and so are the base types that its expressions name
 pub record IsWhole (o : Object) : Type 0 where
   pub sound : IsSound o.seen
-  pub given : IsGiven o.seen
+  pub given : IsSpellable o.seen
   pub parents : (k p : ℕ) (e : Entry) → is_kept o k ≡ true → Stands o.seen.entries k e → e.parent ≡ Some p → is_kept o p ≡ true
   pub bases : (k j : ℕ) (e : Entry) → is_kept o k ≡ true → Stands o.seen.entries k e → Contains (bases_of e) j → is_kept o j ≡ true
 

@@ -1,3 +1,3 @@
 pub mod Ends
-pub mod Given
 pub mod Kept
+pub mod Spellable

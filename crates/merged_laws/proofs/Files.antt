@@ -23,7 +23,7 @@ use Rattle.dwarf_types.specs.Spelled.{AreTextBytes}
 use Rattle.dwarf_types.specs.WellLines.{IsFile, IsLineTable, IsPath, IsSequence, none_has}
 use Rattle.link_graph.specs.PoolFiles.{SourceFile, directories, directory_of_unit, file_at, file_by, file_in, file_named, file_written, files_named, first_directory, first_file, listed_directory, listed_file, number_among, number_of, number_of_directory, place_of_number, same_file, table_of, text_or_empty}
 use Rattle.link_graph.proofs.Gathered.{All-filter_map}
-use Rattle.linked_laws.specs.Given.{IsGiven, IsGivenAttr, IsGivenEntry, IsGivenUnit, IsGivenValue, version_of}
+use Rattle.linked_laws.specs.Spellable.{IsSpellable, IsSpellableAttr, IsSpellableEntry, IsSpellableUnit, IsSpellableValue, version_of}
 use Rattle.linked_laws.proofs.Attributes.{Allows}
 
 -- ---- items by first use
@@ -65,9 +65,9 @@ found_in {A} P test (y ∷ xs) h x is = go (test y) is (λ k. found_in P test xs
     go true e later = subst P (same_Some y x e) (All-head P y xs h)
     go false e later = later e
 
-module _ (seen : Analysis) (given : IsGiven seen) where
-  text_given : (version : ℕ) (v : Value) (a : Attr) → a.value ≡ v → IsGivenAttr version a → AreTextBytes (text_or_empty v)
-  text_given version (values.Text text) a is h = subst (IsGivenValue version a.name) is h.value
+module _ (seen : Analysis) (given : IsSpellable seen) where
+  text_given : (version : ℕ) (v : Value) (a : Attr) → a.value ≡ v → IsSpellableAttr version a → AreTextBytes (text_or_empty v)
+  text_given version (values.Text text) a is h = subst (IsSpellableValue version a.name) is h.value
   text_given version (values.Address place) a is h = tt
   text_given version (values.Number form bits) a is h = tt
   text_given version (values.Wide bytes) a is h = tt
@@ -79,15 +79,15 @@ module _ (seen : Analysis) (given : IsGiven seen) where
   text_given version values.Lines a is h = tt
   text_given version (values.Offset n) a is h = tt
 
-  entry_given : (k : ℕ) (e : Entry) → slice_get seen.entries k ≡ Some e → IsGivenEntry (version_of seen.units e.unit) e
-  entry_given k e at = subst (λ (e : Entry). IsGivenEntry (version_of seen.units e.unit) e) (get_or_from_slice_get seen.entries k e e at) (given.entries k e (slice_get_within seen.entries k e at))
+  entry_given : (k : ℕ) (e : Entry) → slice_get seen.entries k ≡ Some e → IsSpellableEntry (version_of seen.units e.unit) e
+  entry_given k e at = subst (λ (e : Entry). IsSpellableEntry (version_of seen.units e.unit) e) (get_or_from_slice_get seen.entries k e e at) (given.entries k e (slice_get_within seen.entries k e at))
 
   comp_dir : (unit : InUnit) → AreTextBytes (directory_of_unit seen unit)
   comp_dir unit = of_root (slice_get seen.entries unit.first) refl
     where
-      of_attr : (version : ℕ) (root : Entry) → IsGivenEntry version root → (found : Option Attr) → find (λ a. a.name == DW_AT_comp_dir) root.attrs ≡ found → AreTextBytes (option_map_or text_or_empty (option_map (λ a. a.value) found) [])
+      of_attr : (version : ℕ) (root : Entry) → IsSpellableEntry version root → (found : Option Attr) → find (λ a. a.name == DW_AT_comp_dir) root.attrs ≡ found → AreTextBytes (option_map_or text_or_empty (option_map (λ a. a.value) found) [])
       of_attr version root h None none = tt
-      of_attr version root h (Some a) some = text_given version a.value a refl (found_in (IsGivenAttr version) (λ a. a.name == DW_AT_comp_dir) root.attrs h.attrs a some)
+      of_attr version root h (Some a) some = text_given version a.value a refl (found_in (IsSpellableAttr version) (λ a. a.name == DW_AT_comp_dir) root.attrs h.attrs a some)
 
       of_root : (found : Option Entry) → slice_get seen.entries unit.first ≡ found → AreTextBytes (option_map_or (λ root. option_map_or text_or_empty (value_of DW_AT_comp_dir root) []) found [])
       of_root None none = tt
@@ -119,13 +119,13 @@ module _ (seen : Analysis) (given : IsGiven seen) where
       of_lines unit a i None h e = absurd (none-some y e)
       of_lines unit a i (Some lines) h e = of_file unit lines a h i (slice_get lines.files i) refl e
 
-      of_place : (unit : InUnit) → Allows unit.version to → IsGivenUnit seen.entries unit → (place : Option ℕ) → option_and_then (file_at seen unit) place ≡ Some y → IsSourceFile to y
+      of_place : (unit : InUnit) → Allows unit.version to → IsSpellableUnit seen.entries unit → (place : Option ℕ) → option_and_then (file_at seen unit) place ≡ Some y → IsSourceFile to y
       of_place unit a h None e = absurd (none-some y e)
       of_place unit a h (Some i) e = of_lines unit a i unit.lines h.lines e
 
       of_unit : (found : Option InUnit) → slice_get seen.units u ≡ found → Allows (option_map_or (λ (unit : InUnit). unit.version) found 0) to → option_and_then (λ unit. option_and_then (file_at seen unit) (place_of_number unit.version n)) found ≡ Some y → IsSourceFile to y
       of_unit None none a e = absurd (none-some y e)
-      of_unit (Some unit) some a e = of_place unit a (read_of (IsGivenUnit seen.entries) seen.units given.units u unit some) (place_of_number unit.version n) e
+      of_unit (Some unit) some a e = of_place unit a (read_of (IsSpellableUnit seen.entries) seen.units given.units u unit some) (place_of_number unit.version n) e
 
   file_of : (to u : ℕ) (v : Value) (y : SourceFile) → Allows (version_of seen.units u) to → file_by seen u v ≡ Some y → IsSourceFile to y
   file_of to u (values.Number form bits) y allows is = file_given to u bits y allows is

@@ -11,7 +11,7 @@ use Rattle.dwarf_types.specs.LinkedUnits.{is_kept}
 use Rattle.dwarf_types.specs.Live.{Stands, bases_of, its_base}
 use Rattle.dwarf_types.specs.Sound.{IsSound}
 use Rattle.link_graph.specs.Merged.{kept_object, merged_in}
-use Rattle.linked_laws.specs.Given.{IsGiven}
+use Rattle.linked_laws.specs.Spellable.{IsSpellable}
 use Rattle.linked_laws.specs.Kept.{IsWhole}
 use Rattle.odr_names.specs.Entering.{AreLiveParents}
 use Rattle.odr_names.specs.Making.{IsLiveRow}
@@ -236,7 +236,7 @@ module _ (odr : Bool) (o : Object) where
         | inr above ↦ (let same : DW_TAG_base_type ≡ DW_TAG_namespace = sym base ∙ above_is_namespace o j e before at above in omega (arith, same))
       ])
 
-  module _ (sound : IsSound o.seen) (given : IsGiven o.seen) (row : IsLiveRow entries o.live) (lives : AreLiveParents o) where
+  module _ (sound : IsSound o.seen) (given : IsSpellable o.seen) (row : IsLiveRow entries o.live) (lives : AreLiveParents o) where
     before : ParentsStandBefore entries
     before = sound_parents o.seen sound
 

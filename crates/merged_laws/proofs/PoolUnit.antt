@@ -31,7 +31,7 @@ use Rattle.link_graph.specs.Merged.{pool_origin}
 use Rattle.link_graph.specs.Pool.{node_above, pool_names, winners}
 use Rattle.link_graph.specs.PoolFiles.{SourceFile, files_named, number_among, same_file}
 use Rattle.link_graph.proofs.Gathered.{All-filter_map, All-flat_map}
-use Rattle.linked_laws.specs.Given.{IsGiven, IsGivenEntry, version_of}
+use Rattle.linked_laws.specs.Spellable.{IsSpellable, IsSpellableEntry, version_of}
 use Rattle.linked_laws.proofs.Attributes.{Allows, BaseGoes, attributes_hold}
 use Rattle.type_names.specs.Entries.{is_field}
 use Rattle.type_names.specs.Heads.{Object, entries_of}
@@ -79,7 +79,7 @@ mapped_all {C = C} g h f (x ∷ xs) each =
 pub record IsOne (seen : List Analysis) (i : ℕ) (o : Object) : Type 0 where
   pub at : slice_get seen i ≡ Some o.seen
   pub sound : IsSound o.seen
-  pub given : IsGiven o.seen
+  pub given : IsSpellable o.seen
 
 module _ (seen : List Analysis) (objects : List Object) (each : (i : ℕ) (o : Object) → slice_get objects i ≡ Some o → IsOne seen i o) (image : ℕ → ℕ → Option Target) (version : ℕ)
     (allows : (w : Named) (is : IsNameOf objects w) → Allows (version_of is.object.seen.units is.entry.unit) version)
@@ -145,8 +145,8 @@ module _ (seen : List Analysis) (objects : List Object) (each : (i : ℕ) (o : O
         let o = is.object in
         none_pass (λ (a : Attr). is_field a.value) is.entry.attrs (no_field o w.entry is.entry (sound_parents o.seen (each (w.object - 1) o is.its).sound) is.stands is.pooled)
 
-    given_of : (w : Named) (is : IsNameOf objects w) → IsGivenEntry (version_of is.object.seen.units is.entry.unit) is.entry
-    given_of w is = subst (λ (e : Entry). IsGivenEntry (version_of is.object.seen.units e.unit) e) (get_or_from_slice_get (entries_of is.object) w.entry is.entry is.entry is.stands) ((each (w.object - 1) is.object is.its).given.entries w.entry is.entry (slice_get_within (entries_of is.object) w.entry is.entry is.stands))
+    given_of : (w : Named) (is : IsNameOf objects w) → IsSpellableEntry (version_of is.object.seen.units is.entry.unit) is.entry
+    given_of w is = subst (λ (e : Entry). IsSpellableEntry (version_of is.object.seen.units e.unit) e) (get_or_from_slice_get (entries_of is.object) w.entry is.entry is.entry is.stands) ((each (w.object - 1) is.object is.its).given.entries w.entry is.entry (slice_get_within (entries_of is.object) w.entry is.entry is.stands))
 
     -- ---- the line table
 

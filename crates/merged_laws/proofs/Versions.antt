@@ -14,7 +14,7 @@ use Rattle.dwarf_types.specs.Live.{Stands}
 use Rattle.dwarf_types.specs.Sound.{IsParent, IsSound}
 use Rattle.link_graph.specs.Graph.{pool_version}
 use Rattle.link_graph.specs.Merged.{kept_object, kept_objects, object_units}
-use Rattle.linked_laws.specs.Given.{IsGiven, IsGivenUnit, version_of}
+use Rattle.linked_laws.specs.Spellable.{IsSpellable, IsSpellableUnit, version_of}
 use Rattle.linked_laws.specs.Kept.{IsWhole}
 use Rattle.linked_laws.proofs.Attributes.{Allows}
 use Rattle.linked_laws.proofs.Chains.{entry_of_unit, parent_in_unit}
@@ -161,13 +161,13 @@ allowed from to known five = record {
 
 module _ (odr : Bool) (seen : List Analysis) (live : List (List Bool)) where
   -- the unit of merged entries may say what the unit of each of them says
-  pub pool_allows : (i : ℕ) (o : heads.Object) → slice_get (objects_of seen live) i ≡ Some o → IsSound o.seen → IsGiven o.seen → IsLiveRow (entries_of o) o.live → AreLiveParents o → (k : ℕ) (e : Entry) → Stands (entries_of o) k e → is_pooled o k ≡ true
+  pub pool_allows : (i : ℕ) (o : heads.Object) → slice_get (objects_of seen live) i ≡ Some o → IsSound o.seen → IsSpellable o.seen → IsLiveRow (entries_of o) o.live → AreLiveParents o → (k : ℕ) (e : Entry) → Stands (entries_of o) k e → is_pooled o k ≡ true
       → Allows (version_of o.seen.units e.unit) (pool_version (object_units odr seen live))
   pool_allows i o at sound given row lives k e stands pooled =
       let own = sound.entries k e stands in
       let unit = own.unit in
       let version : version_of o.seen.units e.unit ≡ unit.version = ap (λ (found : Option InUnit). option_map_or (λ (u : InUnit). u.version) found 0) own.its_unit in
-      let known = (subst (IsGivenUnit o.seen.entries) (get_or_from_slice_get o.seen.units e.unit unit unit own.its_unit) (given.units e.unit unit (slice_get_within o.seen.units e.unit unit own.its_unit))).version in
+      let known = (subst (IsSpellableUnit o.seen.entries) (get_or_from_slice_get o.seen.units e.unit unit unit own.its_unit) (given.units e.unit unit (slice_get_within o.seen.units e.unit unit own.its_unit))).version in
       let before = sound_parents o.seen sound in
       let whole = kept_whole odr o sound given row lives in
       let r = live_root odr o whole lives k e.unit unit k e e.parent refl own.its_unit stands refl (pooled_live o k before lives pooled) (omega arith) in

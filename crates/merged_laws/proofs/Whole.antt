@@ -24,7 +24,7 @@ use Rattle.dwarf_types.specs.WellValues.{IsTarget}
 use Rattle.link_graph.specs.Graph.{files_of, graph_in, image_of, pool_unit, pool_version}
 use Rattle.link_graph.specs.Merged.{image_in, kept_object, kept_objects, linked_names, object_units, pool_count, shape_of}
 use Rattle.link_graph.specs.Pool.{node_of_path, pool_names, same_path}
-use Rattle.linked_laws.specs.Given.{IsGiven, version_of}
+use Rattle.linked_laws.specs.Spellable.{IsSpellable, version_of}
 use Rattle.linked_laws.specs.Kept.{IsWhole, Leads}
 use Rattle.linked_laws.proofs.Attributes.{Allows, mapped_some}
 use Rattle.linked_laws.proofs.Images.{goes}
@@ -92,7 +92,7 @@ node_small ns (p ∷ path) m is = go (position (λ w. same_path w.path (p ∷ pa
         let d : Named = record { object = 0; entry = 0; path = []; bid = 0 } in
         omega (arith, (position-Some (λ w. same_path w.path (p ∷ path)) (pool_names ns) n d some).0, same_Some (n + 1) m e)
 
-module _ (odr : Bool) (seen : List Analysis) (live : List (List Bool)) (sound : All IsSound seen) (given : All IsGiven seen) (rows : AreLiveRows seen live) (few : length seen < 2 ^ 16) (fit : FilesFit seen (shape_of odr seen live)) where
+module _ (odr : Bool) (seen : List Analysis) (live : List (List Bool)) (sound : All IsSound seen) (given : All IsSpellable seen) (rows : AreLiveRows seen live) (few : length seen < 2 ^ 16) (fit : FilesFit seen (shape_of odr seen live)) where
   abbrev shape : Shape
   shape = shape_of odr seen live
 
@@ -122,12 +122,12 @@ module _ (odr : Bool) (seen : List Analysis) (live : List (List Bool)) (sound : 
     at : slice_get (objects_of seen live) i ≡ Some of
     is : o ≡ kept_object odr of
     good : IsGood of
-    fine : IsGiven of.seen
+    fine : IsSpellable of.seen
 
-  given_at : (i : ℕ) (o : heads.Object) → slice_get (objects_of seen live) i ≡ Some o → IsGiven o.seen
+  given_at : (i : ℕ) (o : heads.Object) → slice_get (objects_of seen live) i ≡ Some o → IsSpellable o.seen
   given_at i o at =
       let part = (object_parts seen live i o at).0 in
-      subst IsGiven (get_or_from_slice_get seen i o.seen o.seen part) (given i o.seen (slice_get_within seen i o.seen part))
+      subst IsSpellable (get_or_from_slice_get seen i o.seen o.seen part) (given i o.seen (slice_get_within seen i o.seen part))
 
   comes : (i : ℕ) (o : Object) → slice_get objects i ≡ Some o → Comes i o
   comes i o at =

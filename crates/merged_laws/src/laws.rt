@@ -10,7 +10,7 @@ ghost use Rattle.dwarf_types.specs.Well.{IsWell};
 ghost use Rattle.link_graph.specs.Graph.{graph_in};
 ghost use Rattle.link_graph.specs.Merged.{linked_names, shape_of};
 ghost use Rattle.link_graph.specs.Pool.{node_of_path, pool_names};
-ghost use Rattle.linked_laws.specs.Given.{IsGiven};
+ghost use Rattle.linked_laws.specs.Spellable.{IsSpellable};
 ghost use Rattle.merged_laws.specs.Files.{FilesFit};
 ghost use Rattle.odr_names.specs.Making.{AreLiveRows};
 
@@ -18,7 +18,7 @@ ghost use Rattle.odr_names.specs.Making.{AreLiveRows};
 ///
 /// The objects' analyses are sound and say what the bytes of an object can say; the live entries of each are marked.
 pub fn merged_is_well()
-    ensures { (odr : Choice) (seen : Listed Analysis) (live : Listed (Listed Choice)) → All IsSound seen → All IsGiven seen → AreLiveRows seen live → length seen < 2 ^ 16 → FilesFit seen (shape_of odr seen live)
+    ensures { (odr : Choice) (seen : Listed Analysis) (live : Listed (Listed Choice)) → All IsSound seen → All IsSpellable seen → AreLiveRows seen live → length seen < 2 ^ 16 → FilesFit seen (shape_of odr seen live)
         → IsWell (graph_in seen (shape_of odr seen live)) }
 {}
 

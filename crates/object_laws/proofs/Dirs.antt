@@ -12,11 +12,11 @@ use Rattle.dwarf_types.specs.declared.entry.InUnit.{InUnit}
 use Rattle.dwarf_types.specs.declared.value.Value.{Value}
 use Rattle.dwarf_types.specs.declared.value.Value.TheVariants as values
 use Rattle.dwarf_types.specs.Spelled.{AreTextBytes}
-use Rattle.linked_laws.specs.Given.{IsGivenAttr, IsGivenValue}
+use Rattle.linked_laws.specs.Spellable.{IsSpellableAttr, IsSpellableValue}
 use Rattle.object_view.specs.Attributes.{comp_dir, text_in}
 use Rattle.object_laws.proofs.Units.{dir_of}
 
-text_given : (version name : ℕ) (value : Value) → IsGivenValue version name value → AreTextBytes (text_in value)
+text_given : (version name : ℕ) (value : Value) → IsSpellableValue version name value → AreTextBytes (text_in value)
 text_given version name (values.Text text) given = given
 text_given version name (values.Address place) given = tt
 text_given version name (values.Number form bits) given = tt
@@ -29,7 +29,7 @@ text_given version name (values.Locations items) given = tt
 text_given version name values.Lines given = tt
 text_given version name (values.Offset n) given = tt
 
-found_given : (version : ℕ) (p : Attr → Bool) (attrs : List Attr) → AllByRecursion (IsGivenAttr version) attrs → AreTextBytes (option_map_or text_in (option_map (λ (a : Attr). a.value) (find p attrs)) [])
+found_given : (version : ℕ) (p : Attr → Bool) (attrs : List Attr) → AllByRecursion (IsSpellableAttr version) attrs → AreTextBytes (option_map_or text_in (option_map (λ (a : Attr). a.value) (find p attrs)) [])
 found_given version p [] all = tt
 found_given version p (a ∷ attrs) all = elim (cases_Bool (p a)) [
   | inl is ↦ let given = all.0 in rw is (text_given version a.name a.value given.value)
@@ -37,8 +37,8 @@ found_given version p (a ∷ attrs) all = elim (cases_Bool (p a)) [
 ]
 
 -- that of a root
-pub dir_given : (version : ℕ) (root : Entry) → All (IsGivenAttr version) root.attrs → AreTextBytes (comp_dir root)
-dir_given version root given = found_given version (λ (a : Attr). a.name == DW_AT_comp_dir) root.attrs (recursion_from_All (IsGivenAttr version) root.attrs given)
+pub dir_given : (version : ℕ) (root : Entry) → All (IsSpellableAttr version) root.attrs → AreTextBytes (comp_dir root)
+dir_given version root given = found_given version (λ (a : Attr). a.name == DW_AT_comp_dir) root.attrs (recursion_from_All (IsSpellableAttr version) root.attrs given)
 
 root_given : (o : Option Entry) → ((e : Entry) → o ≡ Some e → AreTextBytes (comp_dir e)) → AreTextBytes (option_map_or comp_dir o [])
 root_given None known = tt

@@ -23,7 +23,7 @@ use Rattle.dwarf_types.specs.LinkedExpressions.{base_node, before_base, behind_b
 use Rattle.dwarf_types.specs.Operations.{operands_of}
 use Rattle.dwarf_types.specs.WholeParts.{StandsAlone}
 use Rattle.expr_walk.specs.Length.{inner_len, op_len, ops_len, plain_len}
-use Rattle.linked_laws.specs.Given.{IsGivenOp, IsGivenPlain, is_entry_value, is_other}
+use Rattle.linked_laws.specs.Spellable.{IsSpellableOp, IsSpellablePlain, is_entry_value, is_other}
 use Rattle.linked_laws.proofs.ExpressionLengths.{as_long, inner_joined, parts_joined}
 use Rattle.object_laws.proofs.ExpressionBases.{around_long}
 use Rattle.object_laws.proofs.ExpressionOperations.{AddressFits, BaseFits, IsEight, IsMeant, behind_code, linked_number, plain_given}
@@ -94,10 +94,10 @@ no_expression bytes named row spells is = subst (λ (r : Operands). SpellsOperan
 row_is : (x y : Operands) → Some x ≡ Some y → x ≡ y
 row_is x y e = cc
 
-given_all : (ops : List PlainOp) → All IsMeant ops → All IsGivenPlain ops
+given_all : (ops : List PlainOp) → All IsMeant ops → All IsSpellablePlain ops
 given_all ops all k d lt = plain_given _ (all k d lt)
 
-pub op_given : (op : Op) → IsMeantOp op → IsGivenOp op
+pub op_given : (op : Op) → IsMeantOp op → IsSpellableOp op
 op_given op (meant_entry known all) = is_entry_value known (given_all op.inner all)
 op_given op (meant_other m) = is_other (λ known. no_expression m.spells.back m.named m.row m.spells.second (row_is m.row operands.Expression (sym m.known ∙ known))) (plain_given (outside op) m)
 

@@ -30,7 +30,7 @@ use Rattle.expr_resolve.specs.declared.context.BaseType.{BaseType as ContextBase
 use Rattle.expr_resolve.specs.Context.{Context}
 use Rattle.expr_resolve.specs.Expressions.{base_meant, base_named, each_from, entry_of, fault_in, held, holds_address, index_in, indices_tried, inner_start, is_conversion, is_lost, named_by, names_entry, op_indexed, op_meant, op_size, operand_meant, operand_place, outer_part, plain_indexed, plain_meant, plain_size, with_inner}
 use Rattle.expr_resolve.proofs.Entries.{addr_row, const8u_row, found_ends, index_row, named_of}
-use Rattle.linked_laws.specs.Given.{MayName}
+use Rattle.linked_laws.specs.Spellable.{MayName}
 use Rattle.object_laws.proofs.ExpressionEntries.{held_is, index_names, index_no_base, index_spelled, place_fits}
 use Rattle.object_laws.proofs.ExpressionOperations.{AddressFits, BaseFits, IsEight, IsMeant}
 use Rattle.object_laws.proofs.ExpressionLengths.{IsMeantOp, meant_entry, meant_other}

@@ -16,7 +16,7 @@ use Rattle.dwarf_types.specs.SpelledOperands.{SpellsOperands}
 use Rattle.dwarf_types.specs.LinkedExpressions.{before_base, behind_base}
 use Rattle.dwarf_types.specs.Operations.{operands_of}
 use Rattle.dwarf_types.specs.WholeParts.{IsOperation, StandsAlone, SpellsAround}
-use Rattle.linked_laws.specs.Given.{IsGivenBy, IsGivenPlain, MayName, NamesBase}
+use Rattle.linked_laws.specs.Spellable.{IsSpellableBy, IsSpellablePlain, MayName, NamesBase}
 use Rattle.object_laws.proofs.ExpressionBases.{around}
 
 -- an operand in eight bytes
@@ -106,7 +106,7 @@ names_base op base n row known spells may =
       may = may;
     }
 
-given_by : (op : PlainOp) (m : IsMeant op) (named : Named) (base : Option Base) → m.named ≡ named → BaseFits m.row named base → IsGivenBy op base
+given_by : (op : PlainOp) (m : IsMeant op) (named : Named) (base : Option Base) → m.named ≡ named → BaseFits m.row named base → IsSpellableBy op base
 given_by op m Nothing None is fits = moved_operation op op.address m m.address (subst StandsAlone (sym is) tt)
 given_by op m (Address a) None is fits = moved_operation op op.address m m.address (subst StandsAlone (sym is) tt)
 given_by op m (BaseType n) None is fits = absurd fits
@@ -117,5 +117,5 @@ given_by op m (Index n) (Some base) is fits = absurd fits
 given_by op m (BaseType n) (Some base) is fits =
     names_base op base n m.row m.known (subst (λ (named : Named). InTurn (λ bytes. IsNumber 1 bytes op.code) (λ bytes. SpellsOperands m.row bytes named) op.bytes) is m.spells) fits
 
-pub plain_given : (op : PlainOp) → IsMeant op → IsGivenPlain op
+pub plain_given : (op : PlainOp) → IsMeant op → IsSpellablePlain op
 plain_given op m = given_by op m m.named op.base refl m.base

@@ -12,7 +12,7 @@ use Rattle.expr_walk.specs.Reading.{walk_of}
 use Rattle.expr_walk.proofs.SpellingLaws.{expression_spelled}
 use Rattle.expr_resolve.specs.Context.{Context}
 use Rattle.expr_resolve.specs.Expressions.{branches_tried, each_from, expression_of, indices_tried, op_meant, op_size}
-use Rattle.linked_laws.specs.Given.{IsGivenOp}
+use Rattle.linked_laws.specs.Spellable.{IsSpellableOp}
 use Rattle.object_laws.proofs.ExpressionLengths.{IsMeantOp, op_given, ops_long}
 use Rattle.object_laws.proofs.ExpressionMeant.{ops_found, ops_meant}
 
@@ -26,7 +26,7 @@ expressions_are_meant s bytes first ops are table sound e =
     let each = expression_spelled bytes s.part first s.version read.0 are read.1 in
     subst (All IsMeantOp) (ok_is meant.0 ops tried.2) (ops_meant s sound table first read.0 meant.0 each.each (ops_found s first read.0 indices.0 indices.1) meant.1)
 
-pub expressions_are_given : (s : Context) (bytes : List ℕ) (first : ℕ) (ops : List Op) → AreBytes bytes → AreBytes s.sections.addr → IsSoundMap s.map → expression_of s bytes first ≡ Ok ops → All IsGivenOp ops
+pub expressions_are_given : (s : Context) (bytes : List ℕ) (first : ℕ) (ops : List Op) → AreBytes bytes → AreBytes s.sections.addr → IsSoundMap s.map → expression_of s bytes first ≡ Ok ops → All IsSpellableOp ops
 expressions_are_given s bytes first ops are table sound e k d lt = op_given _ (expressions_are_meant s bytes first ops are table sound e k d lt)
 
 pub lengths_agree : (s : Context) (bytes : List ℕ) (first : ℕ) (ops : List Op) → AreBytes bytes → AreBytes s.sections.addr → IsSoundMap s.map → expression_of s bytes first ≡ Ok ops → expression_len (parts_of (λ k. None) ops) ≡ ops_len ops

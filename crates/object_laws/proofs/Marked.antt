@@ -7,7 +7,7 @@ use Rattle.ds_base.specs.declared.dwarf.TheConstants.{DW_AT_stmt_list}
 use Rattle.dwarf_types.specs.declared.entry.Attr.{Attr}
 use Rattle.dwarf_types.specs.declared.value.Value.{Value}
 use Rattle.dwarf_types.specs.declared.value.Value.TheVariants as values
-use Rattle.linked_laws.specs.Given.{has_lines, is_lines, names_lines_first}
+use Rattle.linked_laws.specs.Spellable.{has_lines, is_lines, names_lines_first}
 use Rattle.object_view.specs.Attributes.{lines_marked, lines_value, section_offset, with_value}
 
 -- an attribute's name, and whether it is a line table

@@ -7,7 +7,7 @@ use Rattle.dwarf_types.specs.declared.entry.InUnit.{InUnit}
 use Rattle.dwarf_types.specs.declared.entry.RawEntry.{RawEntry}
 use Rattle.dwarf_types.specs.Live.{Stands}
 use Rattle.dwarf_types.specs.Raw.{entry_of as as_entry}
-use Rattle.linked_laws.specs.Given.{ArePreorder, IsUp}
+use Rattle.linked_laws.specs.Spellable.{ArePreorder, IsUp}
 use Rattle.unit_tree.specs.Spelling.{Forest, UnitTree, entries_of, entry_of, in_units, no_more, preorder, size, tree, unit_entries}
 use Rattle.unit_tree.proofs.TreeLaws.{length_preorder}
 use Rattle.object_view.proofs.Trees.{StandFrom, all_stand, behind_stand, first_stands, left_stand, right_stand, trees_rooted as rooted}

@@ -23,7 +23,7 @@ use Rattle.unit_tree.specs.Spelling.{Forest, Node, Origin, SpellsAttr, SpellsAtt
 use Rattle.unit_tree.specs.Unit.{units_of}
 use Rattle.unit_tree.proofs.UnitLaws.{units_spelled}
 use Rattle.line_read.proofs.EntryTables.{AreTexts}
-use Rattle.linked_laws.specs.Given.{version_of}
+use Rattle.linked_laws.specs.Spellable.{version_of}
 use Rattle.object_view.proofs.Trees.{StandFrom, all_stand, behind_stand, first_stands}
 use Rattle.object_laws.proofs.Forms.{IsVersion}
 use Rattle.object_laws.proofs.Stored.{IsStored, attr_stored, value_stored}

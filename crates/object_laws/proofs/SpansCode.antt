@@ -18,7 +18,7 @@ use Rattle.addr_map.specs.declared.map.AddrMap.{AddrMap}
 use Rattle.addr_map.specs.Moved.{pieces}
 use Rattle.addr_map.specs.Sound.{IsSound}
 use Rattle.object_view.specs.Code.{code_of, code_ranges, end_from, low_high_pieces, object_address, pieces_to, ranges_pieces}
-use Rattle.linked_laws.specs.Given.{IsGivenAttr, IsGivenEntry, IsGivenValue}
+use Rattle.linked_laws.specs.Spellable.{IsSpellableAttr, IsSpellableEntry, IsSpellableValue}
 use Rattle.object_laws.proofs.Spans.{both_all, all_given, pieces_in}
 
 -- ---- from an address to an end
@@ -68,7 +68,7 @@ code_has m entries sound has = All-from_recursion (λ (piece : CodeRange). IsSpa
 
 -- ---- of entries that are given
 
-spans_given : (version name : ℕ) (value : Value) → IsGivenValue version name value → All IsSpan (spans_in value)
+spans_given : (version name : ℕ) (value : Value) → IsSpellableValue version name value → All IsSpan (spans_in value)
 spans_given version name (values.Ranges spans) given = given.1
 spans_given version name (values.Address place) given = All-from_recursion IsSpan [] tt
 spans_given version name (values.Text text) given = All-from_recursion IsSpan [] tt
@@ -81,7 +81,7 @@ spans_given version name (values.Locations items) given = All-from_recursion IsS
 spans_given version name values.Lines given = All-from_recursion IsSpan [] tt
 spans_given version name (values.Offset n) given = All-from_recursion IsSpan [] tt
 
-found_given : (version : ℕ) (p : Attr → Bool) (attrs : List Attr) → AllByRecursion (IsGivenAttr version) attrs → All IsSpan (option_map_or spans_in (option_map (λ (a : Attr). a.value) (find p attrs)) [])
+found_given : (version : ℕ) (p : Attr → Bool) (attrs : List Attr) → AllByRecursion (IsSpellableAttr version) attrs → All IsSpan (option_map_or spans_in (option_map (λ (a : Attr). a.value) (find p attrs)) [])
 found_given version p [] all = All-from_recursion IsSpan [] tt
 found_given version p (a ∷ attrs) all = elim (cases_Bool (p a)) [
   | inl is ↦ let given = all.0 in rw is (spans_given version a.name a.value given.value)
@@ -89,14 +89,14 @@ found_given version p (a ∷ attrs) all = elim (cases_Bool (p a)) [
 ]
 
 -- entries of units that have versions
-abbrev pub IsGivenIn : (ℕ → ℕ) → Entry → Type 0
-IsGivenIn v e = IsGivenEntry (v e.unit) e
+abbrev pub IsSpellableIn : (ℕ → ℕ) → Entry → Type 0
+IsSpellableIn v e = IsSpellableEntry (v e.unit) e
 
-has_given : (v : ℕ → ℕ) (entries : List Entry) → AllByRecursion (IsGivenIn v) entries → AllByRecursion HasSpans entries
+has_given : (v : ℕ → ℕ) (entries : List Entry) → AllByRecursion (IsSpellableIn v) entries → AllByRecursion HasSpans entries
 has_given v [] all = tt
 has_given v (e ∷ entries) all =
     let given = all.0 in
-    (found_given (v e.unit) (λ (a : Attr). a.name == DW_AT_ranges) e.attrs (recursion_from_All (IsGivenAttr (v e.unit)) e.attrs given.attrs), has_given v entries all.1)
+    (found_given (v e.unit) (λ (a : Attr). a.name == DW_AT_ranges) e.attrs (recursion_from_All (IsSpellableAttr (v e.unit)) e.attrs given.attrs), has_given v entries all.1)
 
-pub code_given : (v : ℕ → ℕ) (m : AddrMap) (entries : List Entry) → IsSound m → All (IsGivenIn v) entries → All (λ (piece : CodeRange). IsSpan piece.span) (code_of m entries)
-code_given v m entries sound given = code_has m entries sound (All-from_recursion HasSpans entries (has_given v entries (recursion_from_All (IsGivenIn v) entries given)))
+pub code_given : (v : ℕ → ℕ) (m : AddrMap) (entries : List Entry) → IsSound m → All (IsSpellableIn v) entries → All (λ (piece : CodeRange). IsSpan piece.span) (code_of m entries)
+code_given v m entries sound given = code_has m entries sound (All-from_recursion HasSpans entries (has_given v entries (recursion_from_All (IsSpellableIn v) entries given)))

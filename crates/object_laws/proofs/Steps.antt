@@ -13,7 +13,7 @@ use Rattle.dwarf_types.specs.declared.entry.RawAttr.{RawAttr}
 use Rattle.dwarf_types.specs.declared.entry.RawEntry.{RawEntry}
 use Rattle.dwarf_types.specs.declared.value.Value.{Value}
 use Rattle.dwarf_types.specs.WellRoots.{is_split}
-use Rattle.linked_laws.specs.Given.{IsGivenAttr, IsGivenValue, has_lines, is_lines, names_lines_first}
+use Rattle.linked_laws.specs.Spellable.{IsSpellableAttr, IsSpellableValue, has_lines, is_lines, names_lines_first}
 use Rattle.object_view.specs.Attributes.{all_marked, attr_by, attrs_by, each_of, entries_by, entry_by, entry_marked, lines_marked, lines_value, with_value}
 use Rattle.object_view.proofs.Kept.{each_seen as each_made}
 use Rattle.object_view.proofs.Names.{each_all}
@@ -21,7 +21,7 @@ use Rattle.object_view.proofs.Understood.{as_attr, as_entry, attr_given, entries
 use Rattle.object_laws.proofs.Marked.{first_kept, has_kept, marked_first, seen}
 use Rattle.object_laws.proofs.Read.{IsRawRoot, IsReadAttr, IsReadEntry}
 use Rattle.object_laws.proofs.Stored.{IsStored}
-use Rattle.object_laws.proofs.Values.{IsGivenAs, IsPlainly, lines_given}
+use Rattle.object_laws.proofs.Values.{IsSpellableAs, IsPlainly, lines_given}
 
 -- ---- steps
 
@@ -72,7 +72,7 @@ root_given e attrs same h = record { tag = h.tag; whole = whole_kept (λ (a : Ra
 -- ---- as units are read, with meanings
 
 pub record IsPlainAttr (version : ℕ) (a : Attr) : Type 0 where
-  pub given : IsGivenAttr version a
+  pub given : IsSpellableAttr version a
   pub plain : is_lines a.value ≡ false
 
 -- an entry of a unit of a version
@@ -115,7 +115,7 @@ module _ (v : ℕ → ℕ) (meant : ℕ → RawAttr → Result Value Fault) (giv
 pub record IsMarkedEntry (version : ℕ) (e : Entry) : Type 0 where
   pub some : 0 < e.tag
   pub fits : e.tag < 2 ^ 16
-  pub attrs : All (IsGivenAttr version) e.attrs
+  pub attrs : All (IsSpellableAttr version) e.attrs
   pub root : is_none e.parent ≡ true → IsReadRoot e
   pub first : is_none e.parent ≡ true → names_lines_first e.attrs ≡ true
   pub others : is_none e.parent ≡ false → has_lines e.attrs ≡ false
@@ -125,18 +125,18 @@ module _ (version : ℕ) where
   unmarked [] h = refl
   unmarked (a ∷ attrs) h = rw ((h 0 a (omega arith)).plain, unmarked attrs (λ k d lt. h (suc k) d (omega arith))) refl
 
-  pub plain_given : (attrs : List Attr) → All (IsPlainAttr version) attrs → All (IsGivenAttr version) attrs
+  pub plain_given : (attrs : List Attr) → All (IsPlainAttr version) attrs → All (IsSpellableAttr version) attrs
   plain_given attrs h k d lt = (h k d lt).given
 
-  first_marked : (b : Bool) (a : Attr) (attrs others : List Attr) → IsPlainAttr version a → All (IsGivenAttr version) attrs → All (IsGivenAttr version) others
-      → All (IsGivenAttr version) (if b then with_value a (lines_value a) ∷ attrs else a ∷ others)
+  first_marked : (b : Bool) (a : Attr) (attrs others : List Attr) → IsPlainAttr version a → All (IsSpellableAttr version) attrs → All (IsSpellableAttr version) others
+      → All (IsSpellableAttr version) (if b then with_value a (lines_value a) ∷ attrs else a ∷ others)
   first_marked true a attrs others h behind marked =
       let g = h.given in
-      All-cons (IsGivenAttr version) (with_value a (lines_value a)) attrs (record { some = g.some; fits = g.fits; value = lines_given version a g.value }) behind
-  first_marked false a attrs others h behind marked = All-cons (IsGivenAttr version) a others h.given marked
+      All-cons (IsSpellableAttr version) (with_value a (lines_value a)) attrs (record { some = g.some; fits = g.fits; value = lines_given version a g.value }) behind
+  first_marked false a attrs others h behind marked = All-cons (IsSpellableAttr version) a others h.given marked
 
-  marked_given : (attrs : List Attr) → All (IsPlainAttr version) attrs → All (IsGivenAttr version) (lines_marked attrs)
-  marked_given [] h = All-nil (IsGivenAttr version)
+  marked_given : (attrs : List Attr) → All (IsPlainAttr version) attrs → All (IsSpellableAttr version) (lines_marked attrs)
+  marked_given [] h = All-nil (IsSpellableAttr version)
   marked_given (a ∷ attrs) h =
       let behind : All (IsPlainAttr version) attrs = λ k d lt. h (suc k) d (omega arith) in
       first_marked (a.name == DW_AT_stmt_list) a attrs (lines_marked attrs) (h 0 a (omega arith)) (plain_given attrs behind) (marked_given attrs behind)
@@ -186,19 +186,19 @@ module _ (v : ℕ → ℕ) where
 abbrev pub entry_seen : Entry → Option ℕ × List (ℕ × Bool)
 entry_seen e = (e.parent, map seen e.attrs)
 
-module _ (v : ℕ → ℕ) (meant : ℕ → Attr → Result Value Fault) (given : (unit : ℕ) (a : Attr) (value : Value) → IsGivenValue (v unit) a.name a.value → meant unit a ≡ Ok value → IsGivenAs (v unit) a.name a.value value) where
-  attr_kept : (unit : ℕ) (a : Attr) (value : Value) → IsGivenAttr (v unit) a → meant unit a ≡ Ok value → IsGivenAttr (v unit) (with_value a value)
+module _ (v : ℕ → ℕ) (meant : ℕ → Attr → Result Value Fault) (given : (unit : ℕ) (a : Attr) (value : Value) → IsSpellableValue (v unit) a.name a.value → meant unit a ≡ Ok value → IsSpellableAs (v unit) a.name a.value value) where
+  attr_kept : (unit : ℕ) (a : Attr) (value : Value) → IsSpellableAttr (v unit) a → meant unit a ≡ Ok value → IsSpellableAttr (v unit) (with_value a value)
   attr_kept unit a value h e = record { some = h.some; fits = h.fits; value = (given unit a value h.value e).0 }
 
-  attr_seen_kept : (unit : ℕ) (a : Attr) (value : Value) → IsGivenAttr (v unit) a → meant unit a ≡ Ok value → seen (with_value a value) ≡ seen a
+  attr_seen_kept : (unit : ℕ) (a : Attr) (value : Value) → IsSpellableAttr (v unit) a → meant unit a ≡ Ok value → seen (with_value a value) ≡ seen a
   attr_seen_kept unit a value h e = ap (λ (b : Bool). (a.name, b)) (given unit a value h.value e).1
 
-  seen_kept : (e : Entry) (attrs : List Attr) → All (IsGivenAttr (v e.unit)) e.attrs → attrs_by (meant e.unit) e.attrs ≡ Ok attrs → map seen attrs ≡ map seen e.attrs
-  seen_kept e attrs h is = attrs_seen (meant e.unit) (IsGivenAttr (v e.unit)) (IsGivenAttr (v e.unit)) (attr_kept e.unit) seen (attr_seen_kept e.unit) e.attrs attrs h is
+  seen_kept : (e : Entry) (attrs : List Attr) → All (IsSpellableAttr (v e.unit)) e.attrs → attrs_by (meant e.unit) e.attrs ≡ Ok attrs → map seen attrs ≡ map seen e.attrs
+  seen_kept e attrs h is = attrs_seen (meant e.unit) (IsSpellableAttr (v e.unit)) (IsSpellableAttr (v e.unit)) (attr_kept e.unit) seen (attr_seen_kept e.unit) e.attrs attrs h is
 
   entry_kept : (e now : Entry) → IsMarkedEntry (v e.unit) e → entry_by (meant e.unit) e ≡ Ok now → IsMarkedEntry (v now.unit) now
   entry_kept e now h is =
-      let P : Attr → Type 0 = IsGivenAttr (v e.unit) in
+      let P : Attr → Type 0 = IsSpellableAttr (v e.unit) in
       let attrs = bind_ok (attrs_by (meant e.unit) e.attrs) (λ attrs. Ok (record e { attrs = attrs })) now is in
       let names = attrs_seen (meant e.unit) P P (attr_kept e.unit) (λ a. a.name) (λ a v p i. refl) e.attrs attrs.0 h.attrs attrs.1 in
       let same = seen_kept e attrs.0 h.attrs attrs.1 in

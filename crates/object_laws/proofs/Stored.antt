@@ -24,7 +24,7 @@ use Rattle.form_value.specs.Reading.{in_64_bits, text_of}
 use Rattle.form_value.specs.Spelling.{SpellsClass, SpellsNumber, SpellsValue}
 use Rattle.index_tables.specs.declared.bases.Bases.{Bases}
 use Rattle.line_read.proofs.EntryTables.{AreTexts}
-use Rattle.linked_laws.specs.Given.{IsGivenPlace}
+use Rattle.linked_laws.specs.Spellable.{IsSpellablePlace}
 use Rattle.unit_tree.specs.declared.meaning.Meaning.{Meaning}
 use Rattle.unit_tree.specs.declared.meaning.Meaning.TheVariants.{InUnit, InObject, LineTable, RangeList, LocationList, TextIndex, AddressIndex, RangeListIndex, LocationListIndex, Other}
 use Rattle.unit_tree.specs.Meaning.{meaning_of}
@@ -33,7 +33,7 @@ use Rattle.object_laws.proofs.Forms.{Holds, HoldsIn, IsVersion, bound, forms_hol
 
 -- a value as it is read in a unit of a version; expressions and lists are made of blocks and offsets later
 abbrev pub IsStored : ℕ → Value → Type 0
-IsStored version (values.Address place) = IsGivenPlace place
+IsStored version (values.Address place) = IsSpellablePlace place
 IsStored version (values.Text text) = AreTextBytes text
 IsStored version (values.Number form bits) = FitsForm form bits
 IsStored version (values.Wide bytes) = (version ≡ 5) × (length bytes ≡ 16) × AreBytes bytes

@@ -38,7 +38,7 @@ use Rattle.unit_tree.specs.declared.meaning.Meaning.{Meaning}
 use Rattle.unit_tree.specs.declared.meaning.Meaning.TheVariants as meanings
 use Rattle.unit_tree.specs.Meaning as meaning_of
 use Rattle.unit_tree.specs.Meaning.{is_address_index, table_of}
-use Rattle.linked_laws.specs.Given.{IsGivenLocation, IsGivenOp, IsGivenPlace, IsGivenValue, is_lines}
+use Rattle.linked_laws.specs.Spellable.{IsSpellableLocation, IsSpellableOp, IsSpellablePlace, IsSpellableValue, is_lines}
 use Rattle.object_view.specs.Attributes.{address_named, dangling, each_of, field_address, is_too_long, item_meant, item_moved, lines_value, locations_by_role, locations_meant, locations_read, number_at, ranges_by_role, ranges_meant, ranges_read, section_offset, unnamed, value_meant}
 use Rattle.object_view.specs.Opened.{Opened}
 use Rattle.object_view.proofs.Names.{all_flat, each_all}
@@ -50,7 +50,7 @@ use Rattle.object_laws.proofs.Stored.{IsStored}
 
 -- a value of a unit of a version that is given and no line table
 abbrev pub IsPlainly : ℕ → ℕ → Value → Type 0
-IsPlainly version name value = IsGivenValue version name value × (is_lines value ≡ false)
+IsPlainly version name value = IsSpellableValue version name value × (is_lines value ≡ false)
 
 never : (b : Bool) → b ≡ true → b ≡ false → ⊥
 never b is other = absurd cc
@@ -83,7 +83,7 @@ module _ (s : Context) (places : List ℕ) (sound : IsSoundMap s.map) (version :
   index_given true a n now e =
       let place = bind_ok (or_fault (address_named s n) (unnamed a)) (λ place. Ok (values.Address place)) now e in
       let found = mapped (λ at. place_of s.map (address_of s.image s.addresses at (stored 8 s.sections.addr at))) (address_place s.sections s.addr_base n) place.0 (found_ok (address_named s n) (unnamed a) place.0 place.1) in
-      subst (IsPlainly version a.name) (ok_is (values.Address place.0) now place.2) (subst IsGivenPlace found.1 (place_is_given s.map _ sound), refl)
+      subst (IsPlainly version a.name) (ok_is (values.Address place.0) now place.2) (subst IsSpellablePlace found.1 (place_is_given s.map _ sound), refl)
   index_given false a n now e = subst (IsPlainly version a.name) (ok_is (values.Offset n) now e) (tt, refl)
 
   pub value_given : AreBytes s.sections.addr → (a : RawAttr) (value now : Value) → IsStored version value → value_meant s places a value ≡ Ok now → IsPlainly version a.name now
@@ -101,18 +101,18 @@ module _ (s : Context) (places : List ℕ) (sound : IsSoundMap s.map) (version :
   value_given table a values.Lines now h e = absurd h
   value_given table a (values.Offset n) now h e = index_given (is_address_index a.form) a n now e
 
-lines_if : (version name : ℕ) (b : Bool) (value : Value) → IsGivenValue version name value → IsGivenValue version name (if b then values.Lines else value)
+lines_if : (version name : ℕ) (b : Bool) (value : Value) → IsSpellableValue version name value → IsSpellableValue version name (if b then values.Lines else value)
 lines_if version name true value h = tt
 lines_if version name false value h = h
 
-pub lines_given : (version : ℕ) (a : Attr) → IsGivenValue version a.name a.value → IsGivenValue version a.name (lines_value a)
+pub lines_given : (version : ℕ) (a : Attr) → IsSpellableValue version a.name a.value → IsSpellableValue version a.name (lines_value a)
 lines_given version a h = lines_if version a.name (is_some (section_offset a)) a.value h
 
 -- ---- range lists
 
 -- a value of a unit of a version that is given, and a line table exactly where the other one is
-abbrev pub IsGivenAs : ℕ → ℕ → Value → Value → Type 0
-IsGivenAs version name old now = IsGivenValue version name now × (is_lines now ≡ is_lines old)
+abbrev pub IsSpellableAs : ℕ → ℕ → Value → Value → Type 0
+IsSpellableAs version name old now = IsSpellableValue version name now × (is_lines now ≡ is_lines old)
 
 if_is : (b : Bool) (x y z : Meaning) → (if b then x else y) ≡ z → ((b ≡ true) × (x ≡ z)) ⊎ ((b ≡ false) × (y ≡ z))
 if_is true x y z e = inl (refl, e)
@@ -151,15 +151,15 @@ abbrev Known : Type 0
 Known = Second ranges_read
 
 module _ (o : Opened) (m : AddrMap) (sound : IsSoundMap m) (u : Known) (base : Addr) (version : ℕ) where
-  ranges_role : (name : ℕ) (role : Meaning) (place : ℕ) (now : Value) → (role ≡ meanings.RangeList → name ≡ DW_AT_ranges) → ranges_by_role o m u base role place ≡ Ok now → IsGivenAs version name (values.Offset place) now
+  ranges_role : (name : ℕ) (role : Meaning) (place : ℕ) (now : Value) → (role ≡ meanings.RangeList → name ≡ DW_AT_ranges) → ranges_by_role o m u base role place ≡ Ok now → IsSpellableAs version name (values.Offset place) now
   ranges_role name meanings.RangeList place now known e =
       let spans = bind_ok (ranges_read o u base place) (λ spans. Ok (values.Ranges (spans_moved m spans))) now e in
-      subst (IsGivenAs version name (values.Offset place)) (ok_is (values.Ranges (spans_moved m spans.0)) now spans.2) ((known refl, spans_are m spans.0 sound), refl)
-  ranges_role name role place now known e = subst (IsGivenAs version name (values.Offset place)) (ok_is (values.Offset place) now e) (tt, refl)
+      subst (IsSpellableAs version name (values.Offset place)) (ok_is (values.Ranges (spans_moved m spans.0)) now spans.2) ((known refl, spans_are m spans.0 sound), refl)
+  ranges_role name role place now known e = subst (IsSpellableAs version name (values.Offset place)) (ok_is (values.Offset place) now e) (tt, refl)
 
-  pub ranges_given : (a : Attr) (value now : Value) → IsGivenValue version a.name value → ranges_meant o m u base a value ≡ Ok now → IsGivenAs version a.name value now
+  pub ranges_given : (a : Attr) (value now : Value) → IsSpellableValue version a.name value → ranges_meant o m u base a value ≡ Ok now → IsSpellableAs version a.name value now
   ranges_given a (values.Offset place) now h e = ranges_role a.name (table_of a.name) place now (ranges_name a.name) e
-  ranges_given a value now h e = subst (IsGivenAs version a.name value) (ok_is value now e) (h, refl)
+  ranges_given a value now h e = subst (IsSpellableAs version a.name value) (ok_is value now e) (h, refl)
 
 -- ---- location lists
 
@@ -168,38 +168,38 @@ all_mapped P Q f step [] h = All-nil Q
 all_mapped P Q f step (x ∷ xs) h = All-cons Q (f x) (map f xs) (step x (h 0 x (omega arith))) (all_mapped P Q f step xs (λ k d lt. h (suc k) d (omega arith)))
 
 -- an item with its operations, whose length two bytes hold in version 4
-abbrev IsGivenItem : ℕ → RawLocation × List Op → Type 0
-IsGivenItem version p = All IsGivenOp p.1 × (version ≡ 4 → expression_len (parts_of (λ k. None) p.1) < 2 ^ 16)
+abbrev IsSpellableItem : ℕ → RawLocation × List Op → Type 0
+IsSpellableItem version p = All IsSpellableOp p.1 × (version ≡ 4 → expression_len (parts_of (λ k. None) p.1) < 2 ^ 16)
 
 -- in version 4 the length counts
 counts : (version : ℕ) (b : Bool) → version ≡ 4 → (not (version == 5) && b) ≡ false → b ≡ false
 counts version b four e = subst (λ (n : ℕ). (not (n == 5) && b) ≡ false) four e
 
 module _ (s : Context) (sound : IsSoundMap s.map) (are : AreBytes (location_bytes s.sections s.version)) (table : AreBytes s.sections.addr) (base : Addr) where
-  item_given : (item : RawLocation) (now : RawLocation × List Op) → AreBytes item.bytes → item_meant s item ≡ Ok now → IsGivenItem s.version now
+  item_given : (item : RawLocation) (now : RawLocation × List Op) → AreBytes item.bytes → item_meant s item ≡ Ok now → IsSpellableItem s.version now
   item_given item now h e =
       let long : Fault = record { kind = kinds.LongExpression; section = s.part; place = item.place } in
       let ops = bind_ok (expression_of s item.bytes item.first) (λ ops. refuse_if (is_too_long s.version ops) long >>= λ u. Ok (item, ops)) now e in
       let short = passed (is_too_long s.version ops.0) long (Ok (item, ops.0)) now ops.2 in
       let lt : s.version ≡ 4 → ops_len ops.0 < 2 ^ 16 = λ four. ltb-true (ops_len ops.0) (2 ^ 16) (not-false (nat_lt (ops_len ops.0) (2 ^ 16)) (counts s.version (not (nat_lt (ops_len ops.0) (2 ^ 16))) four short.0)) in
-      subst (IsGivenItem s.version) (ok_is (item, ops.0) now short.1)
+      subst (IsSpellableItem s.version) (ok_is (item, ops.0) now short.1)
       (expressions_are_given s item.bytes item.first ops.0 h table sound ops.1, λ four. subst (λ (n : ℕ). n < 2 ^ 16) (sym (lengths_agree s item.bytes item.first ops.0 h table sound ops.1)) (lt four))
 
-  moved_given : (p : RawLocation × List Op) → IsGivenItem s.version p → All (IsGivenLocation s.version) (item_moved s.map p)
+  moved_given : (p : RawLocation × List Op) → IsSpellableItem s.version p → All (IsSpellableLocation s.version) (item_moved s.map p)
   moved_given p h =
-      all_mapped IsSpan (IsGivenLocation s.version) (λ span. record { span = span; ops = p.1 }) (λ span is. record { span = is; ops = h.0; short = h.1 }) (span_moved s.map p.0.span) (span_is s.map p.0.span sound)
+      all_mapped IsSpan (IsSpellableLocation s.version) (λ span. record { span = span; ops = p.1 }) (λ span is. record { span = is; ops = h.0; short = h.1 }) (span_moved s.map p.0.span) (span_is s.map p.0.span sound)
 
   locations_role : (name : ℕ) (role : Meaning) (place : ℕ) (now : Value) → (role ≡ meanings.LocationList → IsTrue (has_locations name)) → locations_by_role s base role place ≡ Ok now
-      → IsGivenAs s.version name (values.Offset place) now
+      → IsSpellableAs s.version name (values.Offset place) now
   locations_role name meanings.LocationList place now known e =
       let items = bind_ok (locations_read s base place) (λ items. each_of (item_meant s) items >>= λ meant. Ok (values.Locations (flat_map (item_moved s.map) meant))) now e in
       let meant = bind_ok (each_of (item_meant s) items.0) (λ meant. Ok (values.Locations (flat_map (item_moved s.map) meant))) now items.2 in
       let read = locations_are s.sections s.relocs s.image place s.version base s.addresses s.addr_base items.0 are items.1 in
-      let each : All (IsGivenItem s.version) meant.0 = each_all (item_meant s) (λ (item : RawLocation). AreBytes item.bytes) (IsGivenItem s.version) (λ x y u is. item_given x y u is) items.0 meant.0 meant.1 read in
-      subst (IsGivenAs s.version name (values.Offset place)) (ok_is (values.Locations (flat_map (item_moved s.map) meant.0)) now meant.2)
-      ((known refl, all_flat (IsGivenLocation s.version) (item_moved s.map) meant.0 (λ k d lt. moved_given (get_or meant.0 k d) (each k d lt))), refl)
-  locations_role name role place now known e = subst (IsGivenAs s.version name (values.Offset place)) (ok_is (values.Offset place) now e) (tt, refl)
+      let each : All (IsSpellableItem s.version) meant.0 = each_all (item_meant s) (λ (item : RawLocation). AreBytes item.bytes) (IsSpellableItem s.version) (λ x y u is. item_given x y u is) items.0 meant.0 meant.1 read in
+      subst (IsSpellableAs s.version name (values.Offset place)) (ok_is (values.Locations (flat_map (item_moved s.map) meant.0)) now meant.2)
+      ((known refl, all_flat (IsSpellableLocation s.version) (item_moved s.map) meant.0 (λ k d lt. moved_given (get_or meant.0 k d) (each k d lt))), refl)
+  locations_role name role place now known e = subst (IsSpellableAs s.version name (values.Offset place)) (ok_is (values.Offset place) now e) (tt, refl)
 
-  pub locations_given : (a : Attr) (value now : Value) → IsGivenValue s.version a.name value → locations_meant s base a value ≡ Ok now → IsGivenAs s.version a.name value now
+  pub locations_given : (a : Attr) (value now : Value) → IsSpellableValue s.version a.name value → locations_meant s base a value ≡ Ok now → IsSpellableAs s.version a.name value now
   locations_given a (values.Offset place) now h e = locations_role a.name (table_of a.name) place now (locations_name a.name) e
-  locations_given a value now h e = subst (IsGivenAs s.version a.name value) (ok_is value now e) (h, refl)
+  locations_given a value now h e = subst (IsSpellableAs s.version a.name value) (ok_is value now e) (h, refl)

@@ -31,7 +31,7 @@ use Rattle.unit_tree.specs.Unit.{units_of}
 use Rattle.unit_tree.proofs.UnitLaws.{units_spelled}
 use Rattle.line_read.proofs.EntryTables.{AreTexts}
 use Rattle.loc_lists.specs.Reading.{location_bytes}
-use Rattle.linked_laws.specs.Given.{ArePreorder, IsGiven, IsGivenEntry, IsGivenUnit, IsGivenValue, has_lines, version_of}
+use Rattle.linked_laws.specs.Spellable.{ArePreorder, IsSpellable, IsSpellableEntry, IsSpellableUnit, IsSpellableValue, has_lines, version_of}
 use Rattle.object_view.specs.Analysis.{analysis_of, units_analysed}
 use Rattle.object_view.specs.Attributes.{all_marked, entries_by, entries_meant, entry_marked, info_context, info_step, line_place, lines_marked, locations_context, locations_step, ranges_step, unit_base, units_meant}
 use Rattle.object_view.specs.Code.{code_of}
@@ -51,12 +51,12 @@ use Rattle.object_laws.proofs.Marked.{has_kept, marked_has}
 use Rattle.object_laws.proofs.Preorder.{HasRoot, trees_preorder, trees_rooted}
 use Rattle.object_laws.proofs.Raw.{kept_entries}
 use Rattle.object_laws.proofs.Read.{IsReadIn, entries_read}
-use Rattle.object_laws.proofs.SpansCode.{IsGivenIn, code_given}
+use Rattle.object_laws.proofs.SpansCode.{IsSpellableIn, code_given}
 use Rattle.object_laws.proofs.SpansMap.{map_is_sound}
 use Rattle.object_laws.proofs.Steps.{IsMarkedEntry, IsPlainEntry, entries_listed, entries_marked, entries_plain, entry_seen, listed_seen, plain_given, unmarked}
 use Rattle.object_laws.proofs.Stored.{IsStored}
 use Rattle.object_laws.proofs.Units.{HasLines, IsReadUnit, context_version, dir_of, preorder_kept, units_have, units_read, versions_kept}
-use Rattle.object_laws.proofs.Values.{IsGivenAs, IsPlainly, locations_given, ranges_given, value_given}
+use Rattle.object_laws.proofs.Values.{IsSpellableAs, IsPlainly, locations_given, ranges_given, value_given}
 
 -- ---- the root of a unit
 
@@ -96,7 +96,7 @@ abbrev IsMarkedIn : (ℕ → ℕ) → Entry → Type 0
 IsMarkedIn v e = IsMarkedEntry (v e.unit) e
 
 -- a unit with its table, and its root as it was understood and as it is
-unit_given : (v : ℕ → ℕ) (meant now : List Entry) (u : InUnit) → All (IsPlainIn v) meant → All (IsMarkedIn v) now → map entry_seen now ≡ map entry_seen (all_marked meant) → HasRoot now u → HasLines meant u → IsGivenUnit now u
+unit_given : (v : ℕ → ℕ) (meant now : List Entry) (u : InUnit) → All (IsPlainIn v) meant → All (IsMarkedIn v) now → map entry_seen now ≡ map entry_seen (all_marked meant) → HasRoot now u → HasLines meant u → IsSpellableUnit now u
 unit_given v meant now u plain marked same rooted has =
     record {
       version = has.version;
@@ -123,7 +123,7 @@ root_kept now raw u kept h e stands =
     ap (λ (x : Entry). x.parent) was.2 ∙ h was.0 was.1
 
 units_given : (v : ℕ → ℕ) (raw meant now : List Entry) (units : List InUnit) → All (IsPlainIn v) meant → All (IsMarkedIn v) now → map entry_seen now ≡ map entry_seen (all_marked meant) → Kept now raw → All (λ u. HasLines meant u × HasRoot raw u) units
-    → All (IsGivenUnit now) units
+    → All (IsSpellableUnit now) units
 units_given v raw meant now units plain marked same kept have k d lt =
     let h = have k d lt in
     unit_given v meant now (get_or units k d) plain marked same (root_kept now raw (get_or units k d) kept h.1) h.0
@@ -189,7 +189,7 @@ locations_bytes bytes sections version are = by_version (version == 5)
 
 -- ---- the analysis
 
-entry_given : (version : ℕ) (e : Entry) → IsMarkedEntry version e → IsGivenEntry version e
+entry_given : (version : ℕ) (e : Entry) → IsMarkedEntry version e → IsSpellableEntry version e
 entry_given version e h = record { some = h.some; fits = h.fits; attrs = h.attrs }
 
 others_given : (v : ℕ → ℕ) (entries : List Entry) → All (IsMarkedIn v) entries → All (λ e. is_none e.parent ≡ false → has_lines e.attrs ≡ false) entries
@@ -230,17 +230,17 @@ module _ (bytes : List ℕ) (o : Opened) (m : AddrMap) (sound : IsSoundMap m) (a
   info_given unit a now h e =
       value_given (info_context o m (base_types raw.entries) unit (unit_context raw.units raw.entries unit)) (places_of raw.entries) sound (v unit) are.addr.are a a.value now h e
 
-  ranged_given : (meant : List Entry) (unit : ℕ) (a : Attr) (now : Value) → IsGivenValue (v unit) a.name a.value → ranges_step o m raw meant unit a ≡ Ok now → IsGivenAs (v unit) a.name a.value now
+  ranged_given : (meant : List Entry) (unit : ℕ) (a : Attr) (now : Value) → IsSpellableValue (v unit) a.name a.value → ranges_step o m raw meant unit a ≡ Ok now → IsSpellableAs (v unit) a.name a.value now
   ranged_given meant unit a now h e = ranges_given o m sound (unit_context raw.units raw.entries unit) (unit_base raw.units meant unit) (v unit) a a.value now h e
 
-  located_given : (meant : List Entry) (unit : ℕ) (a : Attr) (now : Value) → IsGivenValue (v unit) a.name a.value → locations_step o m raw meant unit a ≡ Ok now → IsGivenAs (v unit) a.name a.value now
+  located_given : (meant : List Entry) (unit : ℕ) (a : Attr) (now : Value) → IsSpellableValue (v unit) a.name a.value → locations_step o m raw meant unit a ≡ Ok now → IsSpellableAs (v unit) a.name a.value now
   located_given meant unit a now h e =
       let same : (unit_context raw.units raw.entries unit).version ≡ v unit = context_version raw.units raw.entries unit in
-      subst (λ (n : ℕ). IsGivenAs n a.name a.value now) same
+      subst (λ (n : ℕ). IsSpellableAs n a.name a.value now) same
       (locations_given (locations_context o m (base_types raw.entries) unit (unit_context raw.units raw.entries unit)) sound (locations_bytes bytes o.sections (unit_context raw.units raw.entries unit).version are) are.addr.are
-      (unit_base raw.units meant unit) a a.value now (subst (λ (n : ℕ). IsGivenValue n a.name a.value) (sym same) h) e)
+      (unit_base raw.units meant unit) a a.value now (subst (λ (n : ℕ). IsSpellableValue n a.name a.value) (sym same) h) e)
 
-  units_analysed_given : (a : Analysis) → units_analysed o m raw ≡ Ok a → IsGiven a
+  units_analysed_given : (a : Analysis) → units_analysed o m raw ≡ Ok a → IsSpellable a
   unfolding units_analysed
   units_analysed_given a e =
       let last : List InUnit → List Entry → Result Analysis Fault = λ units entries. (frames_of o.image o.relocs.frame o.sections.frame >>= λ frames. Ok (record { units = units; entries = entries; code = code_of m entries; frames = frames_moved m frames })) in
@@ -265,17 +265,17 @@ module _ (bytes : List ℕ) (o : Opened) (m : AddrMap) (sound : IsSoundMap m) (a
       let seen_located = listed_seen v (locations_step o m raw meant.0) (located_given meant.0) ranged.0 entries.0 with_ranges entries.1 in
       let tables = tables_are o m sound (texts_are bytes o.sections are) are.line.are in
       let have = units_have o m tables meant.0 (dirs_given v meant.0 plain) old raw.units units.0 read.units read.roots units.1 in
-      let given : All (IsGivenIn v) entries.0 = λ k d lt. entry_given (v (get_or entries.0 k d).unit) (get_or entries.0 k d) (located k d lt) in
-      subst IsGiven (ok_is done a frames.2) (record {
+      let given : All (IsSpellableIn v) entries.0 = λ k d lt. entry_given (v (get_or entries.0 k d).unit) (get_or entries.0 k d) (located k d lt) in
+      subst IsSpellable (ok_is done a frames.2) (record {
         units = units_given v old meant.0 entries.0 units.0 plain located (seen_located ∙ seen_ranged) kept have;
-        entries = λ k d lt. subst (λ (version : ℕ). IsGivenEntry version (get_or entries.0 k d)) (sym (versions_kept o m meant.0 raw.units units.0 units.1 (get_or entries.0 k d).unit)) (given k d lt);
+        entries = λ k d lt. subst (λ (version : ℕ). IsSpellableEntry version (get_or entries.0 k d)) (sym (versions_kept o m meant.0 raw.units units.0 units.1 (get_or entries.0 k d).unit)) (given k d lt);
         no_lines = others_given v entries.0 located;
         preorder = preorder_kept entries.0 old kept read.preorder;
         code = code_given v m entries.0 sound given;
         frames = frames_are o.image o.relocs.frame o.sections.frame frames.0 m frames.1 are.frame.are sound;
       })
 
-pub analysis_given : (bytes : List ℕ) (object : MapObject) (cpu : ℕ) (a : Analysis) → length bytes < 2 ^ 32 → AreBytes bytes → analysis_of bytes object cpu ≡ Ok a → IsGiven a
+pub analysis_given : (bytes : List ℕ) (object : MapObject) (cpu : ℕ) (a : Analysis) → length bytes < 2 ^ 32 → AreBytes bytes → analysis_of bytes object cpu ≡ Ok a → IsSpellable a
 unfolding analysis_of
 analysis_given bytes object cpu a small are e =
     let o = bind_ok (opened_of bytes cpu) (λ o. units_of o.sections >>= λ raw. units_analysed o (map_of object o.image) raw) a e in

@@ -8,14 +8,14 @@ ghost use Rattle.dwarf_types.specs.LinkedUnits.{Object};
 ghost use Rattle.dwarf_types.specs.Spelled.{AreBytes};
 ghost use Rattle.dwarf_types.specs.Well.{IsWell};
 ghost use Rattle.stab_map.specs.declared.object.MapObject.{MapObject};
-ghost use Rattle.linked_laws.specs.Given.{IsGiven};
+ghost use Rattle.linked_laws.specs.Spellable.{IsSpellable};
 ghost use Rattle.object_view.specs.Analysis.{analysis_of};
 ghost use Rattle.object_laws.specs.Analysed.{IsAnalysed};
 
-/// The analysis of an object of fewer than 2^32 bytes is given, whatever its bytes, the versions of its units and its part
+/// The analysis of an object of fewer than 2^32 bytes is spellable, whatever its bytes, the versions of its units and its part
 /// of the debug map.
-pub fn analyses_are_given()
-    ensures { (bytes : Listed ℕ) (object : MapObject) (cpu : ℕ) (a : Analysis) → length bytes < 2 ^ 32 → AreBytes bytes → analysis_of bytes object cpu ≡ Ok a → IsGiven a }
+pub fn analyses_are_spellable()
+    ensures { (bytes : Listed ℕ) (object : MapObject) (cpu : ℕ) (a : Analysis) → length bytes < 2 ^ 32 → AreBytes bytes → analysis_of bytes object cpu ≡ Ok a → IsSpellable a }
 {}
 
 /// What is linked of objects is well: of each the analysis of its bytes, with its live entries marked.

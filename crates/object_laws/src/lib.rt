@@ -1,7 +1,7 @@
-//! What an object's bytes say is given.
+//! What an object's bytes say is spellable.
 //!
-//! Layer: laws. [`analyses_are_given`] says that the analysis of every object keeps to what the linked graph
-//! asks of it beside soundness (`linked_laws/specs/Given.antt`): values fit their forms, operations are whole, lists and
+//! Layer: laws. [`analyses_are_spellable`] says that the analysis of every object keeps to what the linked graph
+//! asks of it beside soundness (`linked_laws/specs/Spellable.antt`): values fit their forms, operations are whole, lists and
 //! code are spans, entries stand in preorder. [`what_is_linked_is_well`] puts this together with the laws of the linked
 //! graph: what is linked of analysed objects (`specs/Analysed.antt`) keeps to what every writer asks of a graph. Nothing
 //! here runs.
@@ -9,4 +9,4 @@
 
 mod laws;
 
-pub use laws::{analyses_are_given, what_is_linked_is_well};
+pub use laws::{analyses_are_spellable, what_is_linked_is_well};

@@ -42,56 +42,56 @@ pub record NamesBase (op : PlainOp) (base : Base) : Type 0 where
   pub may : MayName row base
 
 -- one operation, once its address is the moved one
-abbrev pub IsGivenBy : PlainOp → Option Base → Type 0
-IsGivenBy op None = IsOperation (moved_bytes op)
-IsGivenBy op (Some base) = NamesBase op base
+abbrev pub IsSpellableBy : PlainOp → Option Base → Type 0
+IsSpellableBy op None = IsOperation (moved_bytes op)
+IsSpellableBy op (Some base) = NamesBase op base
 
-abbrev pub IsGivenPlain : PlainOp → Type 0
-IsGivenPlain op = IsGivenBy op op.base
+abbrev pub IsSpellablePlain : PlainOp → Type 0
+IsSpellablePlain op = IsSpellableBy op op.base
 
 -- an entry value with operations inside, or another operation
-pub data IsGivenOp (op : Op) : Type 0 where
-  is_entry_value : operands_of op.code ≡ Some operands.Expression → All IsGivenPlain op.inner → IsGivenOp op
-  is_other : (operands_of op.code ≡ Some operands.Expression → ⊥) → IsGivenPlain (outside op) → IsGivenOp op
+pub data IsSpellableOp (op : Op) : Type 0 where
+  is_entry_value : operands_of op.code ≡ Some operands.Expression → All IsSpellablePlain op.inner → IsSpellableOp op
+  is_other : (operands_of op.code ≡ Some operands.Expression → ⊥) → IsSpellablePlain (outside op) → IsSpellableOp op
 
 -- ---- values
 
 -- an item of a location list of a unit of a version; in version 4 its expression is short enough for a length of two bytes, wherever its base types go
-pub record IsGivenLocation (version : ℕ) (item : Location) : Type 0 where
+pub record IsSpellableLocation (version : ℕ) (item : Location) : Type 0 where
   pub span : IsSpan item.span
-  pub ops : All IsGivenOp item.ops
+  pub ops : All IsSpellableOp item.ops
   pub short : version ≡ 4 → expression_len (parts_of (λ k. None) item.ops) < 2 ^ 16
 
-pub record IsGivenPlace (place : Place) : Type 0 where
+pub record IsSpellablePlace (place : Place) : Type 0 where
   pub linked : IfSome place.linked (λ n. n < 2 ^ 64)
   pub linked_end : IfSome place.linked_end (λ n. n < 2 ^ 64)
 
 -- the value of an attribute of a name, in a unit of a version; a list stands under an attribute of its kind alone, and constants of 16 bytes stand in units of version 5 alone
-abbrev pub IsGivenValue : ℕ → ℕ → Value → Type 0
-IsGivenValue version name (values.Address place) = IsGivenPlace place
-IsGivenValue version name (values.Text text) = AreTextBytes text
-IsGivenValue version name (values.Number form bits) = FitsForm form bits
-IsGivenValue version name (values.Wide bytes) = (version ≡ 5) × (length bytes ≡ 16) × AreBytes bytes
-IsGivenValue version name (values.Block form bytes) = FitsBlock form (length bytes) × AreBytes bytes
-IsGivenValue version name (values.Expr ops) = All IsGivenOp ops
-IsGivenValue version name (values.Ref k) = Unit {0}
-IsGivenValue version name (values.Ranges spans) = (name ≡ DW_AT_ranges) × All IsSpan spans
-IsGivenValue version name (values.Locations items) = IsTrue (has_locations name) × All (IsGivenLocation version) items
-IsGivenValue version name values.Lines = Unit {0}
-IsGivenValue version name (values.Offset n) = Unit {0}
+abbrev pub IsSpellableValue : ℕ → ℕ → Value → Type 0
+IsSpellableValue version name (values.Address place) = IsSpellablePlace place
+IsSpellableValue version name (values.Text text) = AreTextBytes text
+IsSpellableValue version name (values.Number form bits) = FitsForm form bits
+IsSpellableValue version name (values.Wide bytes) = (version ≡ 5) × (length bytes ≡ 16) × AreBytes bytes
+IsSpellableValue version name (values.Block form bytes) = FitsBlock form (length bytes) × AreBytes bytes
+IsSpellableValue version name (values.Expr ops) = All IsSpellableOp ops
+IsSpellableValue version name (values.Ref k) = Unit {0}
+IsSpellableValue version name (values.Ranges spans) = (name ≡ DW_AT_ranges) × All IsSpan spans
+IsSpellableValue version name (values.Locations items) = IsTrue (has_locations name) × All (IsSpellableLocation version) items
+IsSpellableValue version name values.Lines = Unit {0}
+IsSpellableValue version name (values.Offset n) = Unit {0}
 
 -- ---- entries
 
-pub record IsGivenAttr (version : ℕ) (a : Attr) : Type 0 where
+pub record IsSpellableAttr (version : ℕ) (a : Attr) : Type 0 where
   pub some : 0 < a.name
   pub fits : a.name < 2 ^ 16
-  pub value : IsGivenValue version a.name a.value
+  pub value : IsSpellableValue version a.name a.value
 
 -- an entry of a unit of a version
-pub record IsGivenEntry (version : ℕ) (e : Entry) : Type 0 where
+pub record IsSpellableEntry (version : ℕ) (e : Entry) : Type 0 where
   pub some : 0 < e.tag
   pub fits : e.tag < 2 ^ 16
-  pub attrs : All (IsGivenAttr version) e.attrs
+  pub attrs : All (IsSpellableAttr version) e.attrs
 
 -- ---- line tables are named by roots
 
@@ -108,15 +108,15 @@ names_lines_first [] = true
 names_lines_first (a ∷ attrs) = if a.name == DW_AT_stmt_list then not (has_lines attrs) else (not (is_lines a.value) && names_lines_first attrs)
 
 -- the root of a unit, which stands in no other file
-pub record IsGivenRoot (unit : InUnit) (root : Entry) : Type 0 where
+pub record IsSpellableRoot (unit : InUnit) (root : Entry) : Type 0 where
   pub tag : root.tag ≡ DW_TAG_compile_unit
   pub whole : list_any (λ a. is_split a.name) root.attrs ≡ false
   pub stmt_list : names_lines_first root.attrs ≡ true
   pub lines : is_some unit.lines ≡ has_lines root.attrs
 
-pub record IsGivenUnit (entries : List Entry) (unit : InUnit) : Type 0 where
+pub record IsSpellableUnit (entries : List Entry) (unit : InUnit) : Type 0 where
   pub version : (unit.version ≡ 4) ⊎ (unit.version ≡ 5)
-  pub root : (e : Entry) → Stands entries unit.first e → IsGivenRoot unit e
+  pub root : (e : Entry) → Stands entries unit.first e → IsSpellableRoot unit e
   pub lines : IfSome unit.lines (IsLineTable unit.version)
 
 -- ---- preorder
@@ -136,9 +136,9 @@ ArePreorder entries = (k p : ℕ) (e : Entry) → Stands entries (k + 1) e → e
 abbrev pub version_of : List InUnit → ℕ → ℕ
 version_of units u = option_map_or (λ unit. unit.version) (slice_get units u) 0
 
-pub record IsGiven (a : Analysis) : Type 0 where
-  pub units : All (IsGivenUnit a.entries) a.units
-  pub entries : All (λ e. IsGivenEntry (version_of a.units e.unit) e) a.entries
+pub record IsSpellable (a : Analysis) : Type 0 where
+  pub units : All (IsSpellableUnit a.entries) a.units
+  pub entries : All (λ e. IsSpellableEntry (version_of a.units e.unit) e) a.entries
   -- only roots name line tables
   pub no_lines : All (λ e. is_none e.parent ≡ false → has_lines e.attrs ≡ false) a.entries
   pub preorder : ArePreorder a.entries
