@@ -25,7 +25,7 @@ use Rattle.form_value.specs.Spelling.{SpellsClass}
 use Rattle.form_value.proofs.ValueLaws.{value_spelled, value_read}
 use Rattle.index_tables.specs.declared.bases.Bases.{Bases}
 use Rattle.index_tables.specs.Tables.{text_place, address_place, list_place}
-use Rattle.unit_tree.specs.declared.attribute.Home.{Home}
+use Rattle.unit_tree.specs.declared.attribute.UnitContext.{UnitContext}
 use Rattle.unit_tree.specs.declared.meaning.Meaning.{Meaning}
 use Rattle.unit_tree.specs.declared.meaning.Meaning.TheVariants.{InUnit, InObject, LineTable, RangeList, LocationList, TextIndex, AddressIndex, RangeListIndex, LocationListIndex, Other}
 use Rattle.unit_tree.specs.declared.reference.Reference.{Reference}
@@ -93,16 +93,16 @@ cut_not place lt = omega (arith, lt)
 -- ---- what a number means
 
 -- from where the values of a unit that is read count
-abbrev pub origin_of : Home → Origin
-origin_of home = record { place = home.place; version = home.version; bases = home.bases }
+abbrev pub origin_of : UnitContext → Origin
+origin_of context = record { place = context.place; version = context.version; bases = context.bases }
 
-record MeantTaken (all : List RawEntry) (sections : SectionBytes) (home : Home) (lines : Bool) (meaning : Meaning) (n : ℕ) (y : Value × Option Reference) : Type 0 where
-  means : Means sections (origin_of home) lines meaning n y.0
-  leads_on : ValueLeads all home.unit meaning y.0
+record MeantTaken (all : List RawEntry) (sections : SectionBytes) (context : UnitContext) (lines : Bool) (meaning : Meaning) (n : ℕ) (y : Value × Option Reference) : Type 0 where
+  means : Means sections (origin_of context) lines meaning n y.0
+  leads_on : ValueLeads all context.unit meaning y.0
 
-record MeantGoes (all : List RawEntry) (sections : SectionBytes) (home : Home) (lines : Bool) (meaning : Meaning) (n : ℕ) (value : Value) (s : Spot) : Type 0 where
+record MeantGoes (all : List RawEntry) (sections : SectionBytes) (context : UnitContext) (lines : Bool) (meaning : Meaning) (n : ℕ) (value : Value) (s : Spot) : Type 0 where
   reference : Option Reference
-  reads : meant_at sections home lines meaning n s ≡ Ok (value, reference)
+  reads : meant_at sections context lines meaning n s ≡ Ok (value, reference)
   lead : Lead all (option_to_list reference)
 
 abbrev plain : ℕ → Value × Option Reference
@@ -194,61 +194,61 @@ leads_as all place unit value s low is h =
     let r = reference_goes all place unit s low h in
     ((reference_to place unit s).1, ap (λ (v : Value). (v, (reference_to place unit s).1)) (ap (λ (p : ℕ). values.Ref p) r.0 ∙ sym is), r.1)
 
-meant_taken : (all : List RawEntry) → AreLow all → (sections : SectionBytes) (home : Home) (lines : Bool) (meaning : Meaning) (n : ℕ) (s : Spot) (y : Value × Option Reference) → meant_at sections home lines meaning n s ≡ Ok y → Lead all (option_to_list y.1)
-    → MeantTaken all sections home lines meaning n y
+meant_taken : (all : List RawEntry) → AreLow all → (sections : SectionBytes) (context : UnitContext) (lines : Bool) (meaning : Meaning) (n : ℕ) (s : Spot) (y : Value × Option Reference) → meant_at sections context lines meaning n s ≡ Ok y → Lead all (option_to_list y.1)
+    → MeantTaken all sections context lines meaning n y
 unfolding meant_at
-meant_taken all low sections home lines InUnit n s y e h =
-    subst (λ (p : Value × Option Reference). Lead all (option_to_list p.1) → MeantTaken all sections home lines InUnit n p) (ok_is (reference_to (home.place + n) (Some home.unit) s) y e)
+meant_taken all low sections context lines InUnit n s y e h =
+    subst (λ (p : Value × Option Reference). Lead all (option_to_list p.1) → MeantTaken all sections context lines InUnit n p) (ok_is (reference_to (context.place + n) (Some context.unit) s) y e)
     (λ k.
-    let r = reference_taken all (home.place + n) (Some home.unit) s low k in
+    let r = reference_taken all (context.place + n) (Some context.unit) s low k in
     record { means = ap (λ (p : ℕ). values.Ref p) r.0; leads_on = r.1 }) h
-meant_taken all low sections home lines InObject n s y e h =
-    subst (λ (p : Value × Option Reference). Lead all (option_to_list p.1) → MeantTaken all sections home lines InObject n p) (ok_is (reference_to n None s) y e)
+meant_taken all low sections context lines InObject n s y e h =
+    subst (λ (p : Value × Option Reference). Lead all (option_to_list p.1) → MeantTaken all sections context lines InObject n p) (ok_is (reference_to n None s) y e)
     (λ k.
     let r = reference_taken all n None s low k in
     record { means = ap (λ (p : ℕ). values.Ref p) r.0; leads_on = r.1 }) h
-meant_taken all low sections home lines LineTable n s y e h =
+meant_taken all low sections context lines LineTable n s y e h =
     let o = lines_below lines sections.line n s y e in
     record { means = (o.0, value_is (values.Offset n) y o.1); leads_on = tt }
-meant_taken all low sections home lines RangeList n s y e h =
-    let o = offset_below (ranges_of home.version sections) n s y e in
+meant_taken all low sections context lines RangeList n s y e h =
+    let o = offset_below (ranges_of context.version sections) n s y e in
     record { means = (o.0, value_is (values.Offset n) y o.1); leads_on = tt }
-meant_taken all low sections home lines LocationList n s y e h =
-    let o = offset_below (locations_of home.version sections) n s y e in
+meant_taken all low sections context lines LocationList n s y e h =
+    let o = offset_below (locations_of context.version sections) n s y e in
     record { means = (o.0, value_is (values.Offset n) y o.1); leads_on = tt }
-meant_taken all low sections home lines TextIndex n s y e h = record { means = text_taken sections home.bases n s y e; leads_on = tt }
-meant_taken all low sections home lines AddressIndex n s y e h = record { means = address_taken sections home.bases n s y e; leads_on = tt }
-meant_taken all low sections home lines RangeListIndex n s y e h = record { means = list_taken sections.rnglists (λ bases. bases.ranges) home.bases n s y e; leads_on = tt }
-meant_taken all low sections home lines LocationListIndex n s y e h = record { means = list_taken sections.loclists (λ bases. bases.locations) home.bases n s y e; leads_on = tt }
-meant_taken all low sections home lines Other n s y e h = record { means = value_is (values.Offset n) y (ok_is (plain n) y e); leads_on = tt }
+meant_taken all low sections context lines TextIndex n s y e h = record { means = text_taken sections context.bases n s y e; leads_on = tt }
+meant_taken all low sections context lines AddressIndex n s y e h = record { means = address_taken sections context.bases n s y e; leads_on = tt }
+meant_taken all low sections context lines RangeListIndex n s y e h = record { means = list_taken sections.rnglists (λ bases. bases.ranges) context.bases n s y e; leads_on = tt }
+meant_taken all low sections context lines LocationListIndex n s y e h = record { means = list_taken sections.loclists (λ bases. bases.locations) context.bases n s y e; leads_on = tt }
+meant_taken all low sections context lines Other n s y e h = record { means = value_is (values.Offset n) y (ok_is (plain n) y e); leads_on = tt }
 
-meant_goes : (all : List RawEntry) → AreLow all → (sections : SectionBytes) (home : Home) (lines : Bool) (meaning : Meaning) (n : ℕ) (value : Value) (s : Spot) → Means sections (origin_of home) lines meaning n value → ValueLeads all home.unit meaning value
-    → MeantGoes all sections home lines meaning n value s
+meant_goes : (all : List RawEntry) → AreLow all → (sections : SectionBytes) (context : UnitContext) (lines : Bool) (meaning : Meaning) (n : ℕ) (value : Value) (s : Spot) → Means sections (origin_of context) lines meaning n value → ValueLeads all context.unit meaning value
+    → MeantGoes all sections context lines meaning n value s
 unfolding meant_at
-meant_goes all low sections home lines InUnit n value s means h =
-    let r = leads_as all (home.place + n) (Some home.unit) value s low means (subst (ValueLeads all home.unit InUnit) means h) in
+meant_goes all low sections context lines InUnit n value s means h =
+    let r = leads_as all (context.place + n) (Some context.unit) value s low means (subst (ValueLeads all context.unit InUnit) means h) in
     record { reference = r.0; reads = ap Ok r.1; lead = r.2 }
-meant_goes all low sections home lines InObject n value s means h =
-    let r = leads_as all n None value s low means (subst (ValueLeads all home.unit InObject) means h) in
+meant_goes all low sections context lines InObject n value s means h =
+    let r = leads_as all n None value s low means (subst (ValueLeads all context.unit InObject) means h) in
     record { reference = r.0; reads = ap Ok r.1; lead = r.2 }
-meant_goes all low sections home lines LineTable n value s means h = record { reference = None; reads = lines_go lines sections.line n s means.0 ∙ ap (λ (v : Value). Ok (v, None)) (sym means.1); lead = refl }
-meant_goes all low sections home lines RangeList n value s means h = record { reference = None; reads = offset_goes (ranges_of home.version sections) n s means.0 ∙ ap (λ (v : Value). Ok (v, None)) (sym means.1); lead = refl }
-meant_goes all low sections home lines LocationList n value s means h = record { reference = None; reads = offset_goes (locations_of home.version sections) n s means.0 ∙ ap (λ (v : Value). Ok (v, None)) (sym means.1); lead = refl }
-meant_goes all low sections home lines TextIndex n value s means h = record { reference = None; reads = text_goes sections home.bases n value s means; lead = refl }
-meant_goes all low sections home lines AddressIndex n value s means h = record { reference = None; reads = address_goes sections home.bases n value s means; lead = refl }
-meant_goes all low sections home lines RangeListIndex n value s means h = record { reference = None; reads = list_goes sections.rnglists (λ bases. bases.ranges) home.bases n value s means; lead = refl }
-meant_goes all low sections home lines LocationListIndex n value s means h = record { reference = None; reads = list_goes sections.loclists (λ bases. bases.locations) home.bases n value s means; lead = refl }
-meant_goes all low sections home lines Other n value s means h = record { reference = None; reads = ap (λ (v : Value). Ok (v, None)) (sym means); lead = refl }
+meant_goes all low sections context lines LineTable n value s means h = record { reference = None; reads = lines_go lines sections.line n s means.0 ∙ ap (λ (v : Value). Ok (v, None)) (sym means.1); lead = refl }
+meant_goes all low sections context lines RangeList n value s means h = record { reference = None; reads = offset_goes (ranges_of context.version sections) n s means.0 ∙ ap (λ (v : Value). Ok (v, None)) (sym means.1); lead = refl }
+meant_goes all low sections context lines LocationList n value s means h = record { reference = None; reads = offset_goes (locations_of context.version sections) n s means.0 ∙ ap (λ (v : Value). Ok (v, None)) (sym means.1); lead = refl }
+meant_goes all low sections context lines TextIndex n value s means h = record { reference = None; reads = text_goes sections context.bases n value s means; lead = refl }
+meant_goes all low sections context lines AddressIndex n value s means h = record { reference = None; reads = address_goes sections context.bases n value s means; lead = refl }
+meant_goes all low sections context lines RangeListIndex n value s means h = record { reference = None; reads = list_goes sections.rnglists (λ bases. bases.ranges) context.bases n value s means; lead = refl }
+meant_goes all low sections context lines LocationListIndex n value s means h = record { reference = None; reads = list_goes sections.loclists (λ bases. bases.locations) context.bases n value s means; lead = refl }
+meant_goes all low sections context lines Other n value s means h = record { reference = None; reads = ap (λ (v : Value). Ok (v, None)) (sym means); lead = refl }
 
 -- ---- what a value means
 
-record ValueTaken (all : List RawEntry) (sections : SectionBytes) (home : Home) (lines : Bool) (field : Field) (stored : Value) (y : Value × Option Reference) : Type 0 where
-  means : IsMeant sections (origin_of home) lines field stored y.0
-  leads_on : ValueLeads all home.unit (meaning_of field.form field.name) y.0
+record ValueTaken (all : List RawEntry) (sections : SectionBytes) (context : UnitContext) (lines : Bool) (field : Field) (stored : Value) (y : Value × Option Reference) : Type 0 where
+  means : IsMeant sections (origin_of context) lines field stored y.0
+  leads_on : ValueLeads all context.unit (meaning_of field.form field.name) y.0
 
-record ValueGoes (all : List RawEntry) (sections : SectionBytes) (home : Home) (root : Bool) (field : Field) (before : List RawAttr) (stored value : Value) (s : Spot) : Type 0 where
+record ValueGoes (all : List RawEntry) (sections : SectionBytes) (context : UnitContext) (root : Bool) (field : Field) (before : List RawAttr) (stored value : Value) (s : Spot) : Type 0 where
   reference : Option Reference
-  reads : value_meant_at sections home root field before stored s ≡ Ok (value, reference)
+  reads : value_meant_at sections context root field before stored s ≡ Ok (value, reference)
   lead : Lead all (option_to_list reference)
 
 -- a value that is neither a reference nor an offset is no reference
@@ -257,24 +257,24 @@ no_reference all unit InUnit (values.Ref place) ne = absurd (ne place refl)
 no_reference all unit InObject (values.Ref place) ne = absurd (ne place refl)
 no_reference all unit meaning value ne = tt
 
-value_taken : (all : List RawEntry) → AreLow all → (sections : SectionBytes) (home : Home) (root : Bool) (field : Field) (before : List RawAttr) (value : Value) (s : Spot) (y : Value × Option Reference) → ((place : ℕ) → value ≡ values.Ref place → ⊥)
-    → value_meant_at sections home root field before value s ≡ Ok y → Lead all (option_to_list y.1) → ValueTaken all sections home (names_lines root before) field value y
+value_taken : (all : List RawEntry) → AreLow all → (sections : SectionBytes) (context : UnitContext) (root : Bool) (field : Field) (before : List RawAttr) (value : Value) (s : Spot) (y : Value × Option Reference) → ((place : ℕ) → value ≡ values.Ref place → ⊥)
+    → value_meant_at sections context root field before value s ≡ Ok y → Lead all (option_to_list y.1) → ValueTaken all sections context (names_lines root before) field value y
 unfolding value_meant_at
-value_taken all low sections home root field before (values.Offset n) s y stored e h =
-    let m = meant_taken all low sections home (names_lines root before) (meaning_of field.form field.name) n s y e h in
+value_taken all low sections context root field before (values.Offset n) s y stored e h =
+    let m = meant_taken all low sections context (names_lines root before) (meaning_of field.form field.name) n s y e h in
     record { means = m.means; leads_on = m.leads_on }
-value_taken all low sections home root field before (values.Ref place) s y stored e h = absurd (stored place refl)
-value_taken all low sections home root field before value s y stored e h =
-    subst (λ (p : Value × Option Reference). ValueTaken all sections home (names_lines root before) field value p) (ok_is (value, None) y e)
-    (record { means = refl; leads_on = no_reference all home.unit (meaning_of field.form field.name) value stored })
+value_taken all low sections context root field before (values.Ref place) s y stored e h = absurd (stored place refl)
+value_taken all low sections context root field before value s y stored e h =
+    subst (λ (p : Value × Option Reference). ValueTaken all sections context (names_lines root before) field value p) (ok_is (value, None) y e)
+    (record { means = refl; leads_on = no_reference all context.unit (meaning_of field.form field.name) value stored })
 
-value_goes : (all : List RawEntry) → AreLow all → (sections : SectionBytes) (home : Home) (root : Bool) (field : Field) (before : List RawAttr) (stored value : Value) (s : Spot) → IsMeant sections (origin_of home) (names_lines root before) field stored value
-    → ValueLeads all home.unit (meaning_of field.form field.name) value → ValueGoes all sections home root field before stored value s
+value_goes : (all : List RawEntry) → AreLow all → (sections : SectionBytes) (context : UnitContext) (root : Bool) (field : Field) (before : List RawAttr) (stored value : Value) (s : Spot) → IsMeant sections (origin_of context) (names_lines root before) field stored value
+    → ValueLeads all context.unit (meaning_of field.form field.name) value → ValueGoes all sections context root field before stored value s
 unfolding value_meant_at
-value_goes all low sections home root field before (values.Offset n) value s means h =
-    let m = meant_goes all low sections home (names_lines root before) (meaning_of field.form field.name) n value s means h in
+value_goes all low sections context root field before (values.Offset n) value s means h =
+    let m = meant_goes all low sections context (names_lines root before) (meaning_of field.form field.name) n value s means h in
     record { reference = m.reference; reads = m.reads; lead = m.lead }
-value_goes all low sections home root field before stored value s means h = record { reference = None; reads = ap (λ (v : Value). Ok (v, None)) (sym means); lead = refl }
+value_goes all low sections context root field before stored value s means h = record { reference = None; reads = ap (λ (v : Value). Ok (v, None)) (sym means); lead = refl }
 
 -- ---- no reference is stored as one
 
@@ -300,26 +300,26 @@ class_not_ref Outside field sections bytes value m = absurd m
 
 -- ---- one attribute
 
-pub record AttrTaken (all : List RawEntry) (sections : SectionBytes) (home : Home) (root : Bool) (field : Field) (before : List RawAttr) (s : Spot) (y : (RawAttr × Option Reference) × Spot) : Type 0 where
+pub record AttrTaken (all : List RawEntry) (sections : SectionBytes) (context : UnitContext) (root : Bool) (field : Field) (before : List RawAttr) (s : Spot) (y : (RawAttr × Option Reference) × Spot) : Type 0 where
   pub bytes : List ℕ
-  pub spells : SpellsAttr sections (origin_of home) (names_lines root before) field y.0.0 s.place bytes
-  pub leads_on : ValueLeads all home.unit (meaning_of field.form field.name) y.0.0.value
+  pub spells : SpellsAttr sections (origin_of context) (names_lines root before) field y.0.0 s.place bytes
+  pub leads_on : ValueLeads all context.unit (meaning_of field.form field.name) y.0.0.value
   pub passed : Passed bytes s y.1
 
-attr_taken : (all : List RawEntry) → AreLow all → (sections : SectionBytes) (home : Home) (root : Bool) (field : Field) (before : List RawAttr) (s : Spot) (y : (RawAttr × Option Reference) × Spot) → Stands s
-    → attr_at sections home root field before s ≡ Ok y → Lead all (option_to_list y.0.1) → AttrTaken all sections home root field before s y
+attr_taken : (all : List RawEntry) → AreLow all → (sections : SectionBytes) (context : UnitContext) (root : Bool) (field : Field) (before : List RawAttr) (s : Spot) (y : (RawAttr × Option Reference) × Spot) → Stands s
+    → attr_at sections context root field before s ≡ Ok y → Lead all (option_to_list y.0.1) → AttrTaken all sections context root field before s y
 unfolding attr_at
-attr_taken all low sections home root field before s y stands e h =
+attr_taken all low sections context root field before s y stands e h =
     let made : Value × Spot → Value × Option Reference → Result ((RawAttr × Option Reference) × Spot) Fault = λ read meant. Ok ((record { name = field.name; form = field.form; end = read.1.place; value = meant.0 }, meant.1), read.1) in
-    let b = bind_ok (value_at field home.version sections s) (λ read. value_meant_at sections home root field before read.0 s >>= made read) y e in
-    let c = bind_ok (value_meant_at sections home root field before b.0.0 s) (made b.0) y b.2 in
+    let b = bind_ok (value_at field context.version sections s) (λ read. value_meant_at sections context root field before read.0 s >>= made read) y e in
+    let c = bind_ok (value_meant_at sections context root field before b.0.0 s) (made b.0) y b.2 in
     let place = stands.place in
-    let v = value_spelled field home.version sections s b.0.0 b.0.1 stands b.1 in
+    let v = value_spelled field context.version sections s b.0.0 b.0.1 stands b.1 in
     let w = v.spells in
-    let go = passed_by v.bytes s b.0.1 stands (value_onward field home.version sections s b.0 b.1) v.parts in
-    subst (λ (p : (RawAttr × Option Reference) × Spot). Lead all (option_to_list p.0.1) → AttrTaken all sections home root field before s p) (ok_is _ y c.2)
+    let go = passed_by v.bytes s b.0.1 stands (value_onward field context.version sections s b.0 b.1) v.parts in
+    subst (λ (p : (RawAttr × Option Reference) × Spot). Lead all (option_to_list p.0.1) → AttrTaken all sections context root field before s p) (ok_is _ y c.2)
     (λ k.
-    let t = value_taken all low sections home root field before b.0.0 s c.0 (class_not_ref w.row.class field sections v.bytes b.0.0 w.spells) c.1 k in
+    let t = value_taken all low sections context root field before b.0.0 s c.0 (class_not_ref w.row.class field sections v.bytes b.0.0 w.spells) c.1 k in
     record {
       bytes = v.bytes;
       spells = record { stored = b.0.0; spells = w; value = c.0.0; means = t.means; is = ap (λ (n : ℕ). record { name = field.name; form = field.form; end = n; value = c.0.0 }) go.place };
@@ -327,23 +327,23 @@ attr_taken all low sections home root field before s y stands e h =
       passed = go;
     }) h
 
-record AttrGoes (all : List RawEntry) (sections : SectionBytes) (home : Home) (root : Bool) (field : Field) (before : List RawAttr) (s : Spot) (bytes : List ℕ) (attr : RawAttr) (more : List ℕ) : Type 0 where
+record AttrGoes (all : List RawEntry) (sections : SectionBytes) (context : UnitContext) (root : Bool) (field : Field) (before : List RawAttr) (s : Spot) (bytes : List ℕ) (attr : RawAttr) (more : List ℕ) : Type 0 where
   reference : Option Reference
   next : Spot
-  reads : attr_at sections home root field before s ≡ Ok ((attr, reference), next)
+  reads : attr_at sections context root field before s ≡ Ok ((attr, reference), next)
   lead : Lead all (option_to_list reference)
   passed : Passed bytes s next
   left : rest next ≡ more
 
-attr_goes : (all : List RawEntry) → AreLow all → (sections : SectionBytes) (home : Home) (root : Bool) (field : Field) (before : List RawAttr) (s : Spot) (bytes : List ℕ) (attr : RawAttr) (more : List ℕ) → Stands s
-    → SpellsAttr sections (origin_of home) (names_lines root before) field attr s.place bytes → ValueLeads all home.unit (meaning_of field.form field.name) attr.value → rest s ≡ bytes ++ more
-    → AttrGoes all sections home root field before s bytes attr more
+attr_goes : (all : List RawEntry) → AreLow all → (sections : SectionBytes) (context : UnitContext) (root : Bool) (field : Field) (before : List RawAttr) (s : Spot) (bytes : List ℕ) (attr : RawAttr) (more : List ℕ) → Stands s
+    → SpellsAttr sections (origin_of context) (names_lines root before) field attr s.place bytes → ValueLeads all context.unit (meaning_of field.form field.name) attr.value → rest s ≡ bytes ++ more
+    → AttrGoes all sections context root field before s bytes attr more
 unfolding attr_at
-attr_goes all low sections home root field before s bytes attr more stands w leads_on parts =
-    let r = value_read field home.version sections s bytes w.stored more stands w.spells parts in
+attr_goes all low sections context root field before s bytes attr more stands w leads_on parts =
+    let r = value_read field context.version sections s bytes w.stored more stands w.spells parts in
     let value_same : attr.value ≡ w.value = ap (λ (a : RawAttr). a.value) w.is in
-    let g = value_goes all low sections home root field before w.stored w.value s w.means (subst (ValueLeads all home.unit (meaning_of field.form field.name)) value_same leads_on) in
-    let go = passed_by bytes s r.next stands (value_onward field home.version sections s (w.stored, r.next) r.reads) (parts ∙ ap (λ (xs : List ℕ). bytes ++ xs) (sym r.left)) in
+    let g = value_goes all low sections context root field before w.stored w.value s w.means (subst (ValueLeads all context.unit (meaning_of field.form field.name)) value_same leads_on) in
+    let go = passed_by bytes s r.next stands (value_onward field context.version sections s (w.stored, r.next) r.reads) (parts ∙ ap (λ (xs : List ℕ). bytes ++ xs) (sym r.left)) in
     let ended : ℕ → RawAttr = λ n. record { name = field.name; form = field.form; end = n; value = w.value } in
     record {
       reference = g.reference;
@@ -356,29 +356,29 @@ attr_goes all low sections home root field before s bytes attr more stands w lea
 
 -- ---- the attributes of an entry
 
-pub record AttrsTaken (all : List RawEntry) (sections : SectionBytes) (home : Home) (root : Bool) (fields : List Field) (before : Described) (s : Spot) (y : Described × Spot) : Type 0 where
+pub record AttrsTaken (all : List RawEntry) (sections : SectionBytes) (context : UnitContext) (root : Bool) (fields : List Field) (before : Described) (s : Spot) (y : Described × Spot) : Type 0 where
   pub own : List RawAttr
   pub is : y.0.0 ≡ before.0 ++ own
   pub references : List Reference
   pub grown : y.0.1 ≡ before.1 ++ references
   pub bytes : List ℕ
-  pub spells : SpellsAttrs sections (origin_of home) root fields before.0 own s.place bytes
-  pub leads_on : AttrsLead all home.unit fields own
+  pub spells : SpellsAttrs sections (origin_of context) root fields before.0 own s.place bytes
+  pub leads_on : AttrsLead all context.unit fields own
   pub passed : Passed bytes s y.1
 
-pub attrs_taken : (all : List RawEntry) → AreLow all → (sections : SectionBytes) (home : Home) (root : Bool) (fields : List Field) (before : Described) (s : Spot) (y : Described × Spot) → Stands s
-    → attrs_at sections home root fields before s ≡ Ok y → Lead all y.0.1 → AttrsTaken all sections home root fields before s y
+pub attrs_taken : (all : List RawEntry) → AreLow all → (sections : SectionBytes) (context : UnitContext) (root : Bool) (fields : List Field) (before : Described) (s : Spot) (y : Described × Spot) → Stands s
+    → attrs_at sections context root fields before s ≡ Ok y → Lead all y.0.1 → AttrsTaken all sections context root fields before s y
 unfolding attrs_at
-attrs_taken all low sections home root [] before s y stands e h =
-    subst (λ (p : Described × Spot). AttrsTaken all sections home root [] before s p) (ok_is (before, s) y e)
+attrs_taken all low sections context root [] before s y stands e h =
+    subst (λ (p : Described × Spot). AttrsTaken all sections context root [] before s p) (ok_is (before, s) y e)
     (record { own = []; is = sym (append-nil before.0); references = []; grown = sym (append-nil before.1); bytes = []; spells = refl; leads_on = tt; passed = passed_nothing s stands })
-attrs_taken all low sections home root (field ∷ fields) before s y stands e h =
+attrs_taken all low sections context root (field ∷ fields) before s y stands e h =
     let with_attr : (RawAttr × Option Reference) × Spot → Described = λ attr. (before.0 ++ attr.0.0 ∷ [], before.1 ++ option_to_list attr.0.1) in
-    let b = bind_ok (attr_at sections home root field before.0 s) (λ attr. attrs_at sections home root fields (with_attr attr) attr.1) y e in
-    let o = attr_onward sections home root field before.0 s b.0 b.1 in
-    let t = attrs_taken all low sections home root fields (with_attr b.0) b.0.1 y (stands_on s b.0.1 stands o) b.2 h in
+    let b = bind_ok (attr_at sections context root field before.0 s) (λ attr. attrs_at sections context root fields (with_attr attr) attr.1) y e in
+    let o = attr_onward sections context root field before.0 s b.0 b.1 in
+    let t = attrs_taken all low sections context root fields (with_attr b.0) b.0.1 y (stands_on s b.0.1 stands o) b.2 h in
     let mine : Lead all (option_to_list b.0.0.1) = lead_back all before.1 _ (lead_front all (before.1 ++ option_to_list b.0.0.1) t.references (subst (Lead all) t.grown h)) in
-    let a = attr_taken all low sections home root field before.0 s b.0 stands b.1 mine in
+    let a = attr_taken all low sections context root field before.0 s b.0 stands b.1 mine in
     let went = a.passed in
     record {
       own = b.0.0.0 ∷ t.own;
@@ -386,23 +386,23 @@ attrs_taken all low sections home root (field ∷ fields) before s y stands e h 
       references = option_to_list b.0.0.1 ++ t.references;
       grown = t.grown ∙ append_assoc before.1 (option_to_list b.0.0.1) t.references;
       bytes = a.bytes ++ t.bytes;
-      spells = record { front = a.bytes; back = t.bytes; is = refl; first = a.spells; second = subst (λ (n : ℕ). SpellsAttrs sections (origin_of home) root fields (before.0 ++ b.0.0.0 ∷ []) t.own n t.bytes) went.place t.spells };
+      spells = record { front = a.bytes; back = t.bytes; is = refl; first = a.spells; second = subst (λ (n : ℕ). SpellsAttrs sections (origin_of context) root fields (before.0 ++ b.0.0.0 ∷ []) t.own n t.bytes) went.place t.spells };
       leads_on = (a.leads_on, t.leads_on);
       passed = passed_then a.bytes t.bytes s b.0.1 y.1 a.passed t.passed;
     }
 
-pub record AttrsGo (all : List RawEntry) (sections : SectionBytes) (home : Home) (root : Bool) (fields : List Field) (before : Described) (s : Spot) (bytes : List ℕ) (own : List RawAttr) (more : List ℕ) : Type 0 where
+pub record AttrsGo (all : List RawEntry) (sections : SectionBytes) (context : UnitContext) (root : Bool) (fields : List Field) (before : Described) (s : Spot) (bytes : List ℕ) (own : List RawAttr) (more : List ℕ) : Type 0 where
   pub references : List Reference
   pub next : Spot
-  pub reads : attrs_at sections home root fields before s ≡ Ok ((before.0 ++ own, references), next)
+  pub reads : attrs_at sections context root fields before s ≡ Ok ((before.0 ++ own, references), next)
   pub lead : Lead all references
   pub passed : Passed bytes s next
   pub left : rest next ≡ more
 
-pub attrs_go : (all : List RawEntry) → AreLow all → (sections : SectionBytes) (home : Home) (root : Bool) (fields : List Field) (own : List RawAttr) (before : Described) (s : Spot) (bytes more : List ℕ) → Stands s
-    → SpellsAttrs sections (origin_of home) root fields before.0 own s.place bytes → AttrsLead all home.unit fields own → Lead all before.1 → rest s ≡ bytes ++ more → AttrsGo all sections home root fields before s bytes own more
+pub attrs_go : (all : List RawEntry) → AreLow all → (sections : SectionBytes) (context : UnitContext) (root : Bool) (fields : List Field) (own : List RawAttr) (before : Described) (s : Spot) (bytes more : List ℕ) → Stands s
+    → SpellsAttrs sections (origin_of context) root fields before.0 own s.place bytes → AttrsLead all context.unit fields own → Lead all before.1 → rest s ≡ bytes ++ more → AttrsGo all sections context root fields before s bytes own more
 unfolding attrs_at
-attrs_go all low sections home root [] [] before s bytes more stands w leads_on lead parts =
+attrs_go all low sections context root [] [] before s bytes more stands w leads_on lead parts =
     record {
       references = before.1;
       next = s;
@@ -411,15 +411,15 @@ attrs_go all low sections home root [] [] before s bytes more stands w leads_on 
       passed = subst (λ (b : List ℕ). Passed b s s) (sym w) (passed_nothing s stands);
       left = parts ∙ ap (λ (b : List ℕ). b ++ more) w;
     }
-attrs_go all low sections home root [] (attr ∷ own) before s bytes more stands w leads_on lead parts = absurd w
-attrs_go all low sections home root (field ∷ fields) [] before s bytes more stands w leads_on lead parts = absurd w
-attrs_go all low sections home root (field ∷ fields) (attr ∷ own) before s bytes more stands w leads_on lead parts =
+attrs_go all low sections context root [] (attr ∷ own) before s bytes more stands w leads_on lead parts = absurd w
+attrs_go all low sections context root (field ∷ fields) [] before s bytes more stands w leads_on lead parts = absurd w
+attrs_go all low sections context root (field ∷ fields) (attr ∷ own) before s bytes more stands w leads_on lead parts =
     let whole : rest s ≡ w.front ++ (w.back ++ more) = parts ∙ ap (λ (b : List ℕ). b ++ more) w.is ∙ append_assoc w.front w.back more in
-    let a = attr_goes all low sections home root field before.0 s w.front attr (w.back ++ more) stands w.first leads_on.0 whole in
+    let a = attr_goes all low sections context root field before.0 s w.front attr (w.back ++ more) stands w.first leads_on.0 whole in
     let p = a.passed in
     let now : Described = (before.0 ++ attr ∷ [], before.1 ++ option_to_list a.reference) in
-    let rest_spelled = subst (λ (n : ℕ). SpellsAttrs sections (origin_of home) root fields (before.0 ++ attr ∷ []) own n w.back) (sym p.place) w.second in
-    let t = attrs_go all low sections home root fields own now a.next w.back more p.stands rest_spelled leads_on.1 (lead_both all before.1 (option_to_list a.reference) lead a.lead) a.left in
+    let rest_spelled = subst (λ (n : ℕ). SpellsAttrs sections (origin_of context) root fields (before.0 ++ attr ∷ []) own n w.back) (sym p.place) w.second in
+    let t = attrs_go all low sections context root fields own now a.next w.back more p.stands rest_spelled leads_on.1 (lead_both all before.1 (option_to_list a.reference) lead a.lead) a.left in
     record {
       references = t.references;
       next = t.next;

@@ -8,30 +8,30 @@ use Rattle.ds_base.specs.Reading.{◌>>=◌}
 use Rattle.dwarf_types.specs.declared.abbrev.Field.{Field}
 use Rattle.dwarf_types.specs.declared.entry.RawAttr.{RawAttr}
 use Rattle.dwarf_types.specs.SectionBytes.{SectionBytes}
-use Rattle.unit_tree.specs.declared.attribute.Home.{Home}
+use Rattle.unit_tree.specs.declared.attribute.UnitContext.{UnitContext}
 use Rattle.unit_tree.specs.declared.reference.Reference.{Reference}
 use Rattle.unit_tree.specs.Attribute.{Described, attr_at, attrs_at}
 
 -- the next field is read
-next_field : (sections : SectionBytes) (home : Home) (root : Bool) (fields : List Field) (i : ℕ) (d : Field) (before : Described) (s : Spot) (total : Result (Described × Spot) Fault) → i < length fields
-    → attrs_at sections home root (drop i fields) before s ≡ total
-    → total ≡ (attr_at sections home root (get_or fields i d) before.0 s >>= λ attr. attrs_at sections home root (drop (i + 1) fields) (before.0 ++ attr.0.0 ∷ [], before.1 ++ option_to_list attr.0.1) attr.1)
+next_field : (sections : SectionBytes) (context : UnitContext) (root : Bool) (fields : List Field) (i : ℕ) (d : Field) (before : Described) (s : Spot) (total : Result (Described × Spot) Fault) → i < length fields
+    → attrs_at sections context root (drop i fields) before s ≡ total
+    → total ≡ (attr_at sections context root (get_or fields i d) before.0 s >>= λ attr. attrs_at sections context root (drop (i + 1) fields) (before.0 ++ attr.0.0 ∷ [], before.1 ++ option_to_list attr.0.1) attr.1)
 unfolding attrs_at
-next_field sections home root fields i d before s total lt so_far =
+next_field sections context root fields i d before s total lt so_far =
     let next : suc i ≡ i + 1 = omega arith in
     let parts : drop i fields ≡ get_or fields i d ∷ drop (i + 1) fields = drop-cons fields i d lt ∙ ap (λ (n : ℕ). get_or fields i d ∷ drop n fields) next in
-    sym so_far ∙ ap (λ (fs : List Field). attrs_at sections home root fs before s) parts
+    sym so_far ∙ ap (λ (fs : List Field). attrs_at sections context root fs before s) parts
 
-pub attr_fails : (sections : SectionBytes) (home : Home) (root : Bool) (fields : List Field) (i : ℕ) (d : Field) (before : Described) (s : Spot) (f : Fault) (total : Result (Described × Spot) Fault) → i < length fields
-    → attr_at sections home root (get_or fields i d) before.0 s ≡ Err f → attrs_at sections home root (drop i fields) before s ≡ total → total ≡ Err f
-attr_fails sections home root fields i d before s f total lt read so_far = next_field sections home root fields i d before s total lt so_far ∙ rw read refl
+pub attr_fails : (sections : SectionBytes) (context : UnitContext) (root : Bool) (fields : List Field) (i : ℕ) (d : Field) (before : Described) (s : Spot) (f : Fault) (total : Result (Described × Spot) Fault) → i < length fields
+    → attr_at sections context root (get_or fields i d) before.0 s ≡ Err f → attrs_at sections context root (drop i fields) before s ≡ total → total ≡ Err f
+attr_fails sections context root fields i d before s f total lt read so_far = next_field sections context root fields i d before s total lt so_far ∙ rw read refl
 
-pub attr_more : (sections : SectionBytes) (home : Home) (root : Bool) (fields : List Field) (i : ℕ) (d : Field) (before : Described) (s t : Spot) (attr : RawAttr) (reference : Option Reference) (total : Result (Described × Spot) Fault) → i < length fields
-    → attr_at sections home root (get_or fields i d) before.0 s ≡ Ok ((attr, reference), t) → attrs_at sections home root (drop i fields) before s ≡ total
-    → attrs_at sections home root (drop (i + 1) fields) (before.0 ++ attr ∷ [], before.1 ++ option_to_list reference) t ≡ total
-attr_more sections home root fields i d before s t attr reference total lt read so_far = sym (next_field sections home root fields i d before s total lt so_far ∙ rw read refl)
+pub attr_more : (sections : SectionBytes) (context : UnitContext) (root : Bool) (fields : List Field) (i : ℕ) (d : Field) (before : Described) (s t : Spot) (attr : RawAttr) (reference : Option Reference) (total : Result (Described × Spot) Fault) → i < length fields
+    → attr_at sections context root (get_or fields i d) before.0 s ≡ Ok ((attr, reference), t) → attrs_at sections context root (drop i fields) before s ≡ total
+    → attrs_at sections context root (drop (i + 1) fields) (before.0 ++ attr ∷ [], before.1 ++ option_to_list reference) t ≡ total
+attr_more sections context root fields i d before s t attr reference total lt read so_far = sym (next_field sections context root fields i d before s total lt so_far ∙ rw read refl)
 
-pub attrs_end : (sections : SectionBytes) (home : Home) (root : Bool) (fields : List Field) (i : ℕ) (before : Described) (s : Spot) (total : Result (Described × Spot) Fault) → length fields ≤ i
-    → attrs_at sections home root (drop i fields) before s ≡ total → total ≡ Ok (before, s)
+pub attrs_end : (sections : SectionBytes) (context : UnitContext) (root : Bool) (fields : List Field) (i : ℕ) (before : Described) (s : Spot) (total : Result (Described × Spot) Fault) → length fields ≤ i
+    → attrs_at sections context root (drop i fields) before s ≡ total → total ≡ Ok (before, s)
 unfolding attrs_at
-attrs_end sections home root fields i before s total le so_far = sym so_far ∙ ap (λ (fs : List Field). attrs_at sections home root fs before s) (drop_all i fields le)
+attrs_end sections context root fields i before s total le so_far = sym so_far ∙ ap (λ (fs : List Field). attrs_at sections context root fs before s) (drop_all i fields le)

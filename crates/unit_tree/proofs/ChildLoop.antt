@@ -8,56 +8,56 @@ use Rattle.ds_base.specs.Spot.{Spot, fault_at}
 use Rattle.ds_base.specs.Reading.{◌>>=◌}
 use Rattle.dwarf_types.specs.declared.abbrev.Abbrev.{Abbrev}
 use Rattle.dwarf_types.specs.SectionBytes.{SectionBytes}
-use Rattle.unit_tree.specs.declared.attribute.Home.{Home}
+use Rattle.unit_tree.specs.declared.attribute.UnitContext.{UnitContext}
 use Rattle.unit_tree.specs.Entry.{Parsed, Walk, child_at, children_at}
 use Rattle.ds_base.proofs.Refusals.{Refused}
 
 -- no list is open
-pub ends : (sections : SectionBytes) (home : Home) (table : List Abbrev) (n : ℕ) (walk : Walk) (s : Spot) → (length walk.1 == 0) ≡ true → children_at sections home table n walk s ≡ Ok (walk.0, s)
+pub ends : (sections : SectionBytes) (context : UnitContext) (table : List Abbrev) (n : ℕ) (walk : Walk) (s : Spot) → (length walk.1 == 0) ≡ true → children_at sections context table n walk s ≡ Ok (walk.0, s)
 unfolding children_at
-ends sections home table zero walk s none = rw none refl
-ends sections home table (suc n) walk s none = rw none refl
+ends sections context table zero walk s none = rw none refl
+ends sections context table (suc n) walk s none = rw none refl
 
 -- a list is open, and no byte is left
-cut_short : (sections : SectionBytes) (home : Home) (table : List Abbrev) (n : ℕ) (walk : Walk) (s : Spot) → (length walk.1 == 0) ≡ false → (s.end - s.place == 0) ≡ true
-    → children_at sections home table n walk s ≡ Err (fault_at s kinds.UnclosedSiblings)
+cut_short : (sections : SectionBytes) (context : UnitContext) (table : List Abbrev) (n : ℕ) (walk : Walk) (s : Spot) → (length walk.1 == 0) ≡ false → (s.end - s.place == 0) ≡ true
+    → children_at sections context table n walk s ≡ Err (fault_at s kinds.UnclosedSiblings)
 unfolding children_at
-cut_short sections home table zero walk s unclosed_is last = rw unclosed_is refl
-cut_short sections home table (suc n) walk s unclosed_is last = rw (unclosed_is, last) refl
+cut_short sections context table zero walk s unclosed_is last = rw unclosed_is refl
+cut_short sections context table (suc n) walk s unclosed_is last = rw (unclosed_is, last) refl
 
 -- an entry of an open list is read
-next_child : (sections : SectionBytes) (home : Home) (table : List Abbrev) (left i : ℕ) (walk : Walk) (s : Spot) (total : Result (Parsed × Spot) Fault) → i < left → (length walk.1 == 0) ≡ false → (s.end - s.place == 0) ≡ false
-    → children_at sections home table (left - i) walk s ≡ total → total ≡ (child_at sections home table walk s >>= λ read. children_at sections home table (left - (i + 1)) read.0 read.1)
+next_child : (sections : SectionBytes) (context : UnitContext) (table : List Abbrev) (left i : ℕ) (walk : Walk) (s : Spot) (total : Result (Parsed × Spot) Fault) → i < left → (length walk.1 == 0) ≡ false → (s.end - s.place == 0) ≡ false
+    → children_at sections context table (left - i) walk s ≡ total → total ≡ (child_at sections context table walk s >>= λ read. children_at sections context table (left - (i + 1)) read.0 read.1)
 unfolding children_at
-next_child sections home table left i walk s total lt unclosed_is some so_far =
+next_child sections context table left i walk s total lt unclosed_is some so_far =
     let k : left - i ≡ suc (left - (i + 1)) = omega arith in
-    sym so_far ∙ ap (λ (n : ℕ). children_at sections home table n walk s) k ∙ rw (unclosed_is, some) refl
+    sym so_far ∙ ap (λ (n : ℕ). children_at sections context table n walk s) k ∙ rw (unclosed_is, some) refl
 
-pub all_closed : (sections : SectionBytes) (home : Home) (table : List Abbrev) (n : ℕ) (walk : Walk) (s : Spot) (total : Result (Parsed × Spot) Fault) → (length walk.1 == 0) ≡ true
-    → children_at sections home table n walk s ≡ total → total ≡ Ok (walk.0, s)
-all_closed sections home table n walk s total none so_far = sym so_far ∙ ends sections home table n walk s none
+pub all_closed : (sections : SectionBytes) (context : UnitContext) (table : List Abbrev) (n : ℕ) (walk : Walk) (s : Spot) (total : Result (Parsed × Spot) Fault) → (length walk.1 == 0) ≡ true
+    → children_at sections context table n walk s ≡ total → total ≡ Ok (walk.0, s)
+all_closed sections context table n walk s total none so_far = sym so_far ∙ ends sections context table n walk s none
 
-pub unclosed : (sections : SectionBytes) (home : Home) (table : List Abbrev) (n : ℕ) (walk : Walk) (s : Spot) (total : Result (Parsed × Spot) Fault) → (length walk.1 == 0) ≡ false → (s.end - s.place == 0) ≡ true
-    → children_at sections home table n walk s ≡ total → total ≡ Err (fault_at s kinds.UnclosedSiblings)
-unclosed sections home table n walk s total unclosed_is last so_far = sym so_far ∙ cut_short sections home table n walk s unclosed_is last
+pub unclosed : (sections : SectionBytes) (context : UnitContext) (table : List Abbrev) (n : ℕ) (walk : Walk) (s : Spot) (total : Result (Parsed × Spot) Fault) → (length walk.1 == 0) ≡ false → (s.end - s.place == 0) ≡ true
+    → children_at sections context table n walk s ≡ total → total ≡ Err (fault_at s kinds.UnclosedSiblings)
+unclosed sections context table n walk s total unclosed_is last so_far = sym so_far ∙ cut_short sections context table n walk s unclosed_is last
 
 -- all turns were taken
-pub turns_end : (sections : SectionBytes) (home : Home) (table : List Abbrev) (left i : ℕ) (walk : Walk) (s : Spot) (total : Result (Parsed × Spot) Fault) → left ≤ i → (length walk.1 == 0) ≡ false
-    → children_at sections home table (left - i) walk s ≡ total → total ≡ Err (fault_at s kinds.UnclosedSiblings)
+pub turns_end : (sections : SectionBytes) (context : UnitContext) (table : List Abbrev) (left i : ℕ) (walk : Walk) (s : Spot) (total : Result (Parsed × Spot) Fault) → left ≤ i → (length walk.1 == 0) ≡ false
+    → children_at sections context table (left - i) walk s ≡ total → total ≡ Err (fault_at s kinds.UnclosedSiblings)
 unfolding children_at
-turns_end sections home table left i walk s total le unclosed_is so_far =
+turns_end sections context table left i walk s total le unclosed_is so_far =
     let k : left - i ≡ 0 = omega arith in
-    sym so_far ∙ ap (λ (n : ℕ). children_at sections home table n walk s) k ∙ rw unclosed_is refl
+    sym so_far ∙ ap (λ (n : ℕ). children_at sections context table n walk s) k ∙ rw unclosed_is refl
 
-child_fails : (sections : SectionBytes) (home : Home) (table : List Abbrev) (left i : ℕ) (walk : Walk) (s : Spot) (f : Fault) (total : Result (Parsed × Spot) Fault) → i < left → (length walk.1 == 0) ≡ false → (s.end - s.place == 0) ≡ false
-    → child_at sections home table walk s ≡ Err f → children_at sections home table (left - i) walk s ≡ total → total ≡ Err f
-child_fails sections home table left i walk s f total lt unclosed_is some read so_far = next_child sections home table left i walk s total lt unclosed_is some so_far ∙ rw read refl
+child_fails : (sections : SectionBytes) (context : UnitContext) (table : List Abbrev) (left i : ℕ) (walk : Walk) (s : Spot) (f : Fault) (total : Result (Parsed × Spot) Fault) → i < left → (length walk.1 == 0) ≡ false → (s.end - s.place == 0) ≡ false
+    → child_at sections context table walk s ≡ Err f → children_at sections context table (left - i) walk s ≡ total → total ≡ Err f
+child_fails sections context table left i walk s f total lt unclosed_is some read so_far = next_child sections context table left i walk s total lt unclosed_is some so_far ∙ rw read refl
 
-pub child_refused : (sections : SectionBytes) (home : Home) (table : List Abbrev) (left i : ℕ) (walk : Walk) (s : Spot) (e : ReadError) (total : Result (Parsed × Spot) Fault) → i < left → (length walk.1 == 0) ≡ false → (s.end - s.place == 0) ≡ false
-    → Refused e (child_at sections home table walk s) → children_at sections home table (left - i) walk s ≡ total → Refused e total
-child_refused sections home table left i walk s (errors.Faulty f) total lt unclosed_is some read so_far = child_fails sections home table left i walk s f total lt unclosed_is some read so_far
-child_refused sections home table left i walk s errors.NoMemory total lt unclosed_is some read so_far = tt
+pub child_refused : (sections : SectionBytes) (context : UnitContext) (table : List Abbrev) (left i : ℕ) (walk : Walk) (s : Spot) (e : ReadError) (total : Result (Parsed × Spot) Fault) → i < left → (length walk.1 == 0) ≡ false → (s.end - s.place == 0) ≡ false
+    → Refused e (child_at sections context table walk s) → children_at sections context table (left - i) walk s ≡ total → Refused e total
+child_refused sections context table left i walk s (errors.Faulty f) total lt unclosed_is some read so_far = child_fails sections context table left i walk s f total lt unclosed_is some read so_far
+child_refused sections context table left i walk s errors.NoMemory total lt unclosed_is some read so_far = tt
 
-pub child_more : (sections : SectionBytes) (home : Home) (table : List Abbrev) (left i : ℕ) (walk : Walk) (s : Spot) (y : Walk × Spot) (total : Result (Parsed × Spot) Fault) → i < left → (length walk.1 == 0) ≡ false → (s.end - s.place == 0) ≡ false
-    → child_at sections home table walk s ≡ Ok y → children_at sections home table (left - i) walk s ≡ total → children_at sections home table (left - (i + 1)) y.0 y.1 ≡ total
-child_more sections home table left i walk s y total lt unclosed_is some read so_far = sym (next_child sections home table left i walk s total lt unclosed_is some so_far ∙ rw read refl)
+pub child_more : (sections : SectionBytes) (context : UnitContext) (table : List Abbrev) (left i : ℕ) (walk : Walk) (s : Spot) (y : Walk × Spot) (total : Result (Parsed × Spot) Fault) → i < left → (length walk.1 == 0) ≡ false → (s.end - s.place == 0) ≡ false
+    → child_at sections context table walk s ≡ Ok y → children_at sections context table (left - i) walk s ≡ total → children_at sections context table (left - (i + 1)) y.0 y.1 ≡ total
+child_more sections context table left i walk s y total lt unclosed_is some read so_far = sym (next_child sections context table left i walk s total lt unclosed_is some so_far ∙ rw read refl)

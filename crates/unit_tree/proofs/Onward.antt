@@ -19,7 +19,7 @@ use Rattle.form_value.specs.declared.form.FormClass.{FormClass}
 use Rattle.form_value.specs.declared.form.FormClass.TheVariants.{Address, Text, StrText, LineStrText, Number, Signed, Present, Implicit, Wide, Block, Offset, Outside}
 use Rattle.form_value.specs.Forms.{form_row}
 use Rattle.form_value.specs.Reading.{coded_at, block_at, text_of, placed_text_at, made, fixed_address, in_64_bits, class_at, value_at}
-use Rattle.unit_tree.specs.declared.attribute.Home.{Home}
+use Rattle.unit_tree.specs.declared.attribute.UnitContext.{UnitContext}
 use Rattle.unit_tree.specs.declared.reference.Reference.{Reference}
 use Rattle.unit_tree.specs.Attribute.{Described, value_meant_at, attr_at, attrs_at}
 
@@ -76,19 +76,19 @@ value_onward field version sections s y e =
 
 -- ---- attributes
 
-pub attr_onward : (sections : SectionBytes) (home : Home) (root : Bool) (field : Field) (before : List RawAttr) (s : Spot) (y : (RawAttr × Option Reference) × Spot) → attr_at sections home root field before s ≡ Ok y → Onward s y.1
+pub attr_onward : (sections : SectionBytes) (context : UnitContext) (root : Bool) (field : Field) (before : List RawAttr) (s : Spot) (y : (RawAttr × Option Reference) × Spot) → attr_at sections context root field before s ≡ Ok y → Onward s y.1
 unfolding attr_at
-attr_onward sections home root field before s y e =
-    let b = bind_ok (value_at field home.version sections s) (λ read. value_meant_at sections home root field before read.0 s >>= λ meant. Ok ((record { name = field.name; form = field.form; end = read.1.place; value = meant.0 }, meant.1), read.1)) y e in
-    let c = bind_ok (value_meant_at sections home root field before b.0.0 s) (λ meant. Ok ((record { name = field.name; form = field.form; end = b.0.1.place; value = meant.0 }, meant.1), b.0.1)) y b.2 in
-    subst (λ (p : (RawAttr × Option Reference) × Spot). Onward s p.1) (ok_is _ y c.2) (value_onward field home.version sections s b.0 b.1)
+attr_onward sections context root field before s y e =
+    let b = bind_ok (value_at field context.version sections s) (λ read. value_meant_at sections context root field before read.0 s >>= λ meant. Ok ((record { name = field.name; form = field.form; end = read.1.place; value = meant.0 }, meant.1), read.1)) y e in
+    let c = bind_ok (value_meant_at sections context root field before b.0.0 s) (λ meant. Ok ((record { name = field.name; form = field.form; end = b.0.1.place; value = meant.0 }, meant.1), b.0.1)) y b.2 in
+    subst (λ (p : (RawAttr × Option Reference) × Spot). Onward s p.1) (ok_is _ y c.2) (value_onward field context.version sections s b.0 b.1)
 
-pub attrs_onward : (sections : SectionBytes) (home : Home) (root : Bool) (fields : List Field) (before : Described) (s : Spot) (y : Described × Spot) → attrs_at sections home root fields before s ≡ Ok y → Onward s y.1
+pub attrs_onward : (sections : SectionBytes) (context : UnitContext) (root : Bool) (fields : List Field) (before : Described) (s : Spot) (y : Described × Spot) → attrs_at sections context root fields before s ≡ Ok y → Onward s y.1
 unfolding attrs_at
-attrs_onward sections home root [] before s y e = subst (λ (p : Described × Spot). Onward s p.1) (ok_is (before, s) y e) (stays s)
-attrs_onward sections home root (field ∷ fields) before s y e =
-    let b = bind_ok (attr_at sections home root field before.0 s) (λ attr. attrs_at sections home root fields (before.0 ++ attr.0.0 ∷ [], before.1 ++ option_to_list attr.0.1) attr.1) y e in
-    onward_then s b.0.1 y.1 (attr_onward sections home root field before.0 s b.0 b.1) (attrs_onward sections home root fields (before.0 ++ b.0.0.0 ∷ [], before.1 ++ option_to_list b.0.0.1) b.0.1 y b.2)
+attrs_onward sections context root [] before s y e = subst (λ (p : Described × Spot). Onward s p.1) (ok_is (before, s) y e) (stays s)
+attrs_onward sections context root (field ∷ fields) before s y e =
+    let b = bind_ok (attr_at sections context root field before.0 s) (λ attr. attrs_at sections context root fields (before.0 ++ attr.0.0 ∷ [], before.1 ++ option_to_list attr.0.1) attr.1) y e in
+    onward_then s b.0.1 y.1 (attr_onward sections context root field before.0 s b.0 b.1) (attrs_onward sections context root fields (before.0 ++ b.0.0.0 ∷ [], before.1 ++ option_to_list b.0.0.1) b.0.1 y b.2)
 
 -- ---- codes
 

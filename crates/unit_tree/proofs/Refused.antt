@@ -26,7 +26,7 @@ use Rattle.form_value.specs.Reading.{text_of, value_at}
 use Rattle.form_value.proofs.Refused.{IsOne as IsValueKind, value_faults}
 use Rattle.index_tables.specs.declared.bases.Bases.{Bases}
 use Rattle.index_tables.specs.Tables.{text_place, address_place, list_place}
-use Rattle.unit_tree.specs.declared.attribute.Home.{Home}
+use Rattle.unit_tree.specs.declared.attribute.UnitContext.{UnitContext}
 use Rattle.unit_tree.specs.declared.entry.TheConstants.{MOST_OPEN}
 use Rattle.unit_tree.specs.declared.header.TheConstants.{DWARF_4, DWARF_5, ADDRESS_SIZE}
 use Rattle.unit_tree.specs.declared.meaning.Meaning.{Meaning}
@@ -37,7 +37,7 @@ use Rattle.unit_tree.specs.Entry.{Parsed, Walk, bases_at, child_at, children_at,
 use Rattle.unit_tree.specs.Header.{behind_length, fields_4_at, fields_5_at, fields_at, header_at, info_at, is_bad_length}
 use Rattle.unit_tree.specs.Meaning.{meaning_of}
 use Rattle.unit_tree.specs.Reference.{leads, resolved}
-use Rattle.unit_tree.specs.Unit.{home_in, is_zero, nothing, unit_at, units_at, units_of, zeros_at}
+use Rattle.unit_tree.specs.Unit.{context_in, is_zero, nothing, unit_at, units_at, units_of, zeros_at}
 
 abbrev pub IsOne : Kind → Type 0
 IsOne = Contains (
@@ -124,44 +124,44 @@ list_kinds section None n s = ok_kinds IsOne _
 list_kinds section (Some base) n s =
     bind_kinds IsOne (or_fault (list_place section base n) (fault_at s kinds.BadIndex)) _ (found_kinds IsOne (list_place section base n) (fault_at s kinds.BadIndex) index_bad) (λ place. offset_kinds section place s)
 
-meant_kinds : (sections : SectionBytes) (home : Home) (lines : Bool) (meaning : Meaning) (n : ℕ) (s : Spot) → FaultsAre IsOne (meant_at sections home lines meaning n s)
+meant_kinds : (sections : SectionBytes) (context : UnitContext) (lines : Bool) (meaning : Meaning) (n : ℕ) (s : Spot) → FaultsAre IsOne (meant_at sections context lines meaning n s)
 unfolding meant_at
-meant_kinds sections home lines InUnit n s = ok_kinds IsOne _
-meant_kinds sections home lines InObject n s = ok_kinds IsOne _
-meant_kinds sections home lines LineTable n s = either_kinds IsOne lines (offset_in sections.line n s) (Ok _) (offset_kinds sections.line n s) (ok_kinds IsOne _)
-meant_kinds sections home lines RangeList n s = offset_kinds (ranges_of home.version sections) n s
-meant_kinds sections home lines LocationList n s = offset_kinds (locations_of home.version sections) n s
-meant_kinds sections home lines TextIndex n s = text_kinds sections home.bases n s
-meant_kinds sections home lines AddressIndex n s = address_kinds sections home.bases n s
-meant_kinds sections home lines RangeListIndex n s = list_kinds sections.rnglists (option_map (λ bases. bases.ranges) home.bases) n s
-meant_kinds sections home lines LocationListIndex n s = list_kinds sections.loclists (option_map (λ bases. bases.locations) home.bases) n s
-meant_kinds sections home lines Other n s = ok_kinds IsOne _
+meant_kinds sections context lines InUnit n s = ok_kinds IsOne _
+meant_kinds sections context lines InObject n s = ok_kinds IsOne _
+meant_kinds sections context lines LineTable n s = either_kinds IsOne lines (offset_in sections.line n s) (Ok _) (offset_kinds sections.line n s) (ok_kinds IsOne _)
+meant_kinds sections context lines RangeList n s = offset_kinds (ranges_of context.version sections) n s
+meant_kinds sections context lines LocationList n s = offset_kinds (locations_of context.version sections) n s
+meant_kinds sections context lines TextIndex n s = text_kinds sections context.bases n s
+meant_kinds sections context lines AddressIndex n s = address_kinds sections context.bases n s
+meant_kinds sections context lines RangeListIndex n s = list_kinds sections.rnglists (option_map (λ bases. bases.ranges) context.bases) n s
+meant_kinds sections context lines LocationListIndex n s = list_kinds sections.loclists (option_map (λ bases. bases.locations) context.bases) n s
+meant_kinds sections context lines Other n s = ok_kinds IsOne _
 
-value_meant_kinds : (sections : SectionBytes) (home : Home) (root : Bool) (field : Field) (before : List RawAttr) (value : Value) (s : Spot) → FaultsAre IsOne (value_meant_at sections home root field before value s)
+value_meant_kinds : (sections : SectionBytes) (context : UnitContext) (root : Bool) (field : Field) (before : List RawAttr) (value : Value) (s : Spot) → FaultsAre IsOne (value_meant_at sections context root field before value s)
 unfolding value_meant_at
-value_meant_kinds sections home root field before value s =
-    option_kinds (λ n. meant_at sections home (names_lines root before) (meaning_of field.form field.name) n s) (number_in value) (Ok (value, None))
-    (λ n. meant_kinds sections home (names_lines root before) (meaning_of field.form field.name) n s) (ok_kinds IsOne _)
+value_meant_kinds sections context root field before value s =
+    option_kinds (λ n. meant_at sections context (names_lines root before) (meaning_of field.form field.name) n s) (number_in value) (Ok (value, None))
+    (λ n. meant_kinds sections context (names_lines root before) (meaning_of field.form field.name) n s) (ok_kinds IsOne _)
 
-attr_kinds : (sections : SectionBytes) (home : Home) (root : Bool) (field : Field) (before : List RawAttr) (s : Spot) → FaultsAre IsOne (attr_at sections home root field before s)
+attr_kinds : (sections : SectionBytes) (context : UnitContext) (root : Bool) (field : Field) (before : List RawAttr) (s : Spot) → FaultsAre IsOne (attr_at sections context root field before s)
 unfolding attr_at
-attr_kinds sections home root field before s =
-    bind_kinds IsOne (value_at field home.version sections s) _ (λ f e. of_value f.kind (value_faults field home.version sections s f e)) (λ read.
-    bind_kinds IsOne (value_meant_at sections home root field before read.0 s) _ (value_meant_kinds sections home root field before read.0 s) (λ meant. ok_kinds IsOne _))
+attr_kinds sections context root field before s =
+    bind_kinds IsOne (value_at field context.version sections s) _ (λ f e. of_value f.kind (value_faults field context.version sections s f e)) (λ read.
+    bind_kinds IsOne (value_meant_at sections context root field before read.0 s) _ (value_meant_kinds sections context root field before read.0 s) (λ meant. ok_kinds IsOne _))
 
-attrs_kinds : (sections : SectionBytes) (home : Home) (root : Bool) (fields : List Field) (before : Described) (s : Spot) → FaultsAre IsOne (attrs_at sections home root fields before s)
+attrs_kinds : (sections : SectionBytes) (context : UnitContext) (root : Bool) (fields : List Field) (before : Described) (s : Spot) → FaultsAre IsOne (attrs_at sections context root fields before s)
 unfolding attrs_at
-attrs_kinds sections home root [] before s = ok_kinds IsOne _
-attrs_kinds sections home root (field ∷ fields) before s =
-    bind_kinds IsOne (attr_at sections home root field before.0 s) _ (attr_kinds sections home root field before.0 s) (λ attr.
-    attrs_kinds sections home root fields (before.0 ++ attr.0.0 ∷ [], before.1 ++ option_to_list attr.0.1) attr.1)
+attrs_kinds sections context root [] before s = ok_kinds IsOne _
+attrs_kinds sections context root (field ∷ fields) before s =
+    bind_kinds IsOne (attr_at sections context root field before.0 s) _ (attr_kinds sections context root field before.0 s) (λ attr.
+    attrs_kinds sections context root fields (before.0 ++ attr.0.0 ∷ [], before.1 ++ option_to_list attr.0.1) attr.1)
 
 -- ---- entries
 
-entry_kinds : (sections : SectionBytes) (home : Home) (parent : Option ℕ) (place : ℕ) (declared : Abbrev) (before : Parsed) (s : Spot) → FaultsAre IsOne (entry_at sections home parent place declared before s)
+entry_kinds : (sections : SectionBytes) (context : UnitContext) (parent : Option ℕ) (place : ℕ) (declared : Abbrev) (before : Parsed) (s : Spot) → FaultsAre IsOne (entry_at sections context parent place declared before s)
 unfolding entry_at
-entry_kinds sections home parent place declared before s =
-    bind_kinds IsOne (attrs_at sections home (is_none parent) declared.fields ([], before.references) s) _ (attrs_kinds sections home (is_none parent) declared.fields ([], before.references) s) (λ read. ok_kinds IsOne _)
+entry_kinds sections context parent place declared before s =
+    bind_kinds IsOne (attrs_at sections context (is_none parent) declared.fields ([], before.references) s) _ (attrs_kinds sections context (is_none parent) declared.fields ([], before.references) s) (λ read. ok_kinds IsOne _)
 
 first_kinds : (start : Spot) (table : List Abbrev) (before : Parsed) (s : Spot) → FaultsAre IsOne (first_at start table before s)
 unfolding first_at
@@ -173,46 +173,46 @@ first_kinds start table before s =
     (tried_kinds (is_split declared) (fault_at s kinds.SplitUnit) _ split
     (tried_kinds (is_full before) (fault_at s kinds.LimitEntries) _ many (ok_kinds IsOne _))))))
 
-bases_kinds : (start : Spot) (sections : SectionBytes) (home : Home) (table : List Abbrev) (before : Parsed) (s : Spot) → FaultsAre IsOne (bases_at start sections home table before s)
+bases_kinds : (start : Spot) (sections : SectionBytes) (context : UnitContext) (table : List Abbrev) (before : Parsed) (s : Spot) → FaultsAre IsOne (bases_at start sections context table before s)
 unfolding bases_at
-bases_kinds start sections home table before s =
+bases_kinds start sections context table before s =
     bind_kinds IsOne (first_at start table before s) _ (first_kinds start table before s) (λ first.
-    bind_kinds IsOne (attrs_at sections home true first.0.fields ([], []) first.1) _ (attrs_kinds sections home true first.0.fields ([], []) first.1) (λ read. ok_kinds IsOne _))
+    bind_kinds IsOne (attrs_at sections context true first.0.fields ([], []) first.1) _ (attrs_kinds sections context true first.0.fields ([], []) first.1) (λ read. ok_kinds IsOne _))
 
-root_kinds : (start : Spot) (sections : SectionBytes) (home : Home) (table : List Abbrev) (before : Parsed) (s : Spot) → FaultsAre IsOne (root_at start sections home table before s)
+root_kinds : (start : Spot) (sections : SectionBytes) (context : UnitContext) (table : List Abbrev) (before : Parsed) (s : Spot) → FaultsAre IsOne (root_at start sections context table before s)
 unfolding root_at
-root_kinds start sections home table before s =
+root_kinds start sections context table before s =
     bind_kinds IsOne (first_at start table before s) _ (first_kinds start table before s) (λ first.
-    bind_kinds IsOne (entry_at sections home None s.place first.0 before first.1) _ (entry_kinds sections home None s.place first.0 before first.1) (λ read. ok_kinds IsOne _))
+    bind_kinds IsOne (entry_at sections context None s.place first.0 before first.1) _ (entry_kinds sections context None s.place first.0 before first.1) (λ read. ok_kinds IsOne _))
 
-listed_kinds : (sections : SectionBytes) (home : Home) (declared : Abbrev) (walk : Walk) (first s : Spot) → FaultsAre IsOne (listed_at sections home declared walk first s)
+listed_kinds : (sections : SectionBytes) (context : UnitContext) (declared : Abbrev) (walk : Walk) (first s : Spot) → FaultsAre IsOne (listed_at sections context declared walk first s)
 unfolding listed_at
-listed_kinds sections home declared walk first s =
+listed_kinds sections context declared walk first s =
     tried_kinds (declared.children && not (nat_lt (length walk.1) MOST_OPEN)) (fault_at first kinds.LimitDepth) _ deep
     (tried_kinds (is_full walk.0) (fault_at first kinds.LimitEntries) _ many
-    (bind_kinds IsOne (entry_at sections home (innermost walk.1) first.place declared walk.0 s) _ (entry_kinds sections home (innermost walk.1) first.place declared walk.0 s) (λ read. ok_kinds IsOne _)))
+    (bind_kinds IsOne (entry_at sections context (innermost walk.1) first.place declared walk.0 s) _ (entry_kinds sections context (innermost walk.1) first.place declared walk.0 s) (λ read. ok_kinds IsOne _)))
 
-child_kinds : (sections : SectionBytes) (home : Home) (table : List Abbrev) (walk : Walk) (s : Spot) → FaultsAre IsOne (child_at sections home table walk s)
+child_kinds : (sections : SectionBytes) (context : UnitContext) (table : List Abbrev) (walk : Walk) (s : Spot) → FaultsAre IsOne (child_at sections context table walk s)
 unfolding child_at
-child_kinds sections home table walk s =
+child_kinds sections context table walk s =
     bind_kinds IsOne (uleb_at s) _ (uleb_kinds IsOne s cut wide) (λ code.
     either_kinds IsOne (code.0 == 0) (Ok ((walk.0, closed walk.1), code.1)) _ (ok_kinds IsOne _)
     (bind_kinds IsOne (or_fault (declared_as code.0 table) (fault_at s kinds.UnknownCode)) _ (found_kinds IsOne (declared_as code.0 table) (fault_at s kinds.UnknownCode) unknown) (λ declared.
-    listed_kinds sections home declared walk s code.1)))
+    listed_kinds sections context declared walk s code.1)))
 
-children_kinds : (sections : SectionBytes) (home : Home) (table : List Abbrev) (left : ℕ) (walk : Walk) (s : Spot) → FaultsAre IsOne (children_at sections home table left walk s)
+children_kinds : (sections : SectionBytes) (context : UnitContext) (table : List Abbrev) (left : ℕ) (walk : Walk) (s : Spot) → FaultsAre IsOne (children_at sections context table left walk s)
 unfolding children_at
-children_kinds sections home table zero walk s = either_kinds IsOne (length walk.1 == 0) (Ok (walk.0, s)) (Err (fault_at s kinds.UnclosedSiblings)) (ok_kinds IsOne _) (err_kinds IsOne (fault_at s kinds.UnclosedSiblings) unclosed)
-children_kinds sections home table (suc left) walk s =
+children_kinds sections context table zero walk s = either_kinds IsOne (length walk.1 == 0) (Ok (walk.0, s)) (Err (fault_at s kinds.UnclosedSiblings)) (ok_kinds IsOne _) (err_kinds IsOne (fault_at s kinds.UnclosedSiblings) unclosed)
+children_kinds sections context table (suc left) walk s =
     either_kinds IsOne (length walk.1 == 0) (Ok (walk.0, s)) _ (ok_kinds IsOne _)
     (either_kinds IsOne (s.end - s.place == 0) (Err (fault_at s kinds.UnclosedSiblings)) _ (err_kinds IsOne (fault_at s kinds.UnclosedSiblings) unclosed)
-    (bind_kinds IsOne (child_at sections home table walk s) _ (child_kinds sections home table walk s) (λ read. children_kinds sections home table left read.0 read.1)))
+    (bind_kinds IsOne (child_at sections context table walk s) _ (child_kinds sections context table walk s) (λ read. children_kinds sections context table left read.0 read.1)))
 
-tree_kinds : (start : Spot) (sections : SectionBytes) (home : Home) (table : List Abbrev) (before : Parsed) (s : Spot) → FaultsAre IsOne (tree_at start sections home table before s)
+tree_kinds : (start : Spot) (sections : SectionBytes) (context : UnitContext) (table : List Abbrev) (before : Parsed) (s : Spot) → FaultsAre IsOne (tree_at start sections context table before s)
 unfolding tree_at
-tree_kinds start sections home table before s =
-    bind_kinds IsOne (root_at start sections home table before s) _ (root_kinds start sections home table before s) (λ root.
-    children_kinds sections home table (root.1.end - root.1.place) (root.0.1, opened root.0.0 (length before.entries) []) root.1)
+tree_kinds start sections context table before s =
+    bind_kinds IsOne (root_at start sections context table before s) _ (root_kinds start sections context table before s) (λ root.
+    children_kinds sections context table (root.1.end - root.1.place) (root.0.1, opened root.0.0 (length before.entries) []) root.1)
 
 -- ---- units
 
@@ -260,10 +260,10 @@ unit_read_kinds sections number before place =
     bind_kinds IsOne (header_at sections place) _ (header_kinds sections place) (λ header.
     bind_kinds IsOne (table_at sections.abbrev_ header.0.table) _
     (λ f e. of_table f.kind (table_faults sections.abbrev_ header.0.table f e)) (λ table.
-    bind_kinds IsOne (bases_at (info_at sections place) sections (home_in number place header.0.version None) table before header.1) _
-    (bases_kinds (info_at sections place) sections (home_in number place header.0.version None) table before header.1) (λ bases.
-    bind_kinds IsOne (tree_at (info_at sections place) sections (home_in number place header.0.version (Some bases)) table before header.1) _
-    (tree_kinds (info_at sections place) sections (home_in number place header.0.version (Some bases)) table before header.1) (λ tree.
+    bind_kinds IsOne (bases_at (info_at sections place) sections (context_in number place header.0.version None) table before header.1) _
+    (bases_kinds (info_at sections place) sections (context_in number place header.0.version None) table before header.1) (λ bases.
+    bind_kinds IsOne (tree_at (info_at sections place) sections (context_in number place header.0.version (Some bases)) table before header.1) _
+    (tree_kinds (info_at sections place) sections (context_in number place header.0.version (Some bases)) table before header.1) (λ tree.
     bind_kinds IsOne (zeros_at (info_at sections place) tree.1) _ (zeros_kinds (info_at sections place) tree.1) (λ u. ok_kinds IsOne _)))))
 
 units_read_kinds : (sections : SectionBytes) (left : ℕ) (units : List AUnit) (before : Parsed) (place : ℕ) → FaultsAre IsOne (units_at sections left units before place)

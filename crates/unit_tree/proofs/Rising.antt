@@ -9,7 +9,7 @@ use Rattle.dwarf_types.specs.declared.abbrev.Abbrev.{Abbrev}
 use Rattle.dwarf_types.specs.declared.entry.RawEntry.{RawEntry}
 use Rattle.dwarf_types.specs.declared.entry.InUnit.{InUnit}
 use Rattle.dwarf_types.specs.SectionBytes.{SectionBytes}
-use Rattle.unit_tree.specs.declared.attribute.Home.{Home}
+use Rattle.unit_tree.specs.declared.attribute.UnitContext.{UnitContext}
 use Rattle.unit_tree.specs.declared.header.Header.{Header}
 use Rattle.unit_tree.specs.Entry.{Parsed, entry_at, root_at, Walk, child_at, children_at, tree_at}
 use Rattle.unit_tree.specs.Header.{info_at, behind_length, header_at}
@@ -47,16 +47,16 @@ pushed entries e p q h le lt =
 
 -- ---- entries
 
-pub entry_onward : (sections : SectionBytes) (home : Home) (parent : Option ℕ) (place : ℕ) (declared : Abbrev) (before : Parsed) (s : Spot) (y : Parsed × Spot) → entry_at sections home parent place declared before s ≡ Ok y → Onward s y.1
-entry_onward sections home parent place declared before s y e =
-    let w = entry_steps sections home parent place declared before s y e in
-    subst (λ (p : Parsed × Spot). Onward s p.1) w.is (attrs_onward sections home (is_none parent) declared.fields ([], before.references) s w.read w.attrs)
+pub entry_onward : (sections : SectionBytes) (context : UnitContext) (parent : Option ℕ) (place : ℕ) (declared : Abbrev) (before : Parsed) (s : Spot) (y : Parsed × Spot) → entry_at sections context parent place declared before s ≡ Ok y → Onward s y.1
+entry_onward sections context parent place declared before s y e =
+    let w = entry_steps sections context parent place declared before s y e in
+    subst (λ (p : Parsed × Spot). Onward s p.1) w.is (attrs_onward sections context (is_none parent) declared.fields ([], before.references) s w.read w.attrs)
 
-entry_rises : (sections : SectionBytes) (home : Home) (parent : Option ℕ) (place : ℕ) (declared : Abbrev) (before : Parsed) (s : Spot) (y : Parsed × Spot) → entry_at sections home parent place declared before s ≡ Ok y
+entry_rises : (sections : SectionBytes) (context : UnitContext) (parent : Option ℕ) (place : ℕ) (declared : Abbrev) (before : Parsed) (s : Spot) (y : Parsed × Spot) → entry_at sections context parent place declared before s ≡ Ok y
     → RisesBelow before.entries place → place < s.place → RisesBelow y.0.entries y.1.place
-entry_rises sections home parent place declared before s y e h lt =
-    let w = entry_steps sections home parent place declared before s y e in
-    let o = attrs_onward sections home (is_none parent) declared.fields ([], before.references) s w.read w.attrs in
+entry_rises sections context parent place declared before s y e h lt =
+    let w = entry_steps sections context parent place declared before s y e in
+    let o = attrs_onward sections context (is_none parent) declared.fields ([], before.references) s w.read w.attrs in
     subst (λ (p : Parsed × Spot). RisesBelow p.0.entries p.1.place) w.is (pushed before.entries _ place w.read.1.place h (omega arith) (omega (arith, place_rises s w.read.1 o)))
 
 -- onward from a spot, and the entries so far begin below the next one
@@ -64,35 +64,35 @@ pub record Reaches (s : Spot) (entries : List RawEntry) (t : Spot) : Type 0 wher
   pub further : Further s t
   pub rises : RisesBelow entries t.place
 
-root_reaches : (start : Spot) (sections : SectionBytes) (home : Home) (table : List Abbrev) (before : Parsed) (s : Spot) (y : (Bool × Parsed) × Spot) → root_at start sections home table before s ≡ Ok y
+root_reaches : (start : Spot) (sections : SectionBytes) (context : UnitContext) (table : List Abbrev) (before : Parsed) (s : Spot) (y : (Bool × Parsed) × Spot) → root_at start sections context table before s ≡ Ok y
     → RisesBelow before.entries s.place → Reaches s y.0.1.entries y.1
-root_reaches start sections home table before s y e h =
-    let w = root_steps start sections home table before s y e in
+root_reaches start sections context table before s y e h =
+    let w = root_steps start sections context table before s y e in
     let f = uleb_further s w.code w.coded in
-    let o = entry_onward sections home _ s.place w.declared before w.code.1 w.read w.entry in
-    let r = entry_rises sections home _ s.place w.declared before w.code.1 w.read w.entry h f.some in
+    let o = entry_onward sections context _ s.place w.declared before w.code.1 w.read w.entry in
+    let r = entry_rises sections context _ s.place w.declared before w.code.1 w.read w.entry h f.some in
     subst (λ (p : (Bool × Parsed) × Spot). Reaches s p.0.1.entries p.1) w.is (record { further = further_then s w.code.1 w.read.1 f o; rises = r })
 
-pub child_further : (sections : SectionBytes) (home : Home) (table : List Abbrev) (walk : Walk) (s : Spot) (y : Walk × Spot) → child_at sections home table walk s ≡ Ok y → Further s y.1
-child_further sections home table walk s y e =
-    elim (child_steps sections home table walk s y e) [
+pub child_further : (sections : SectionBytes) (context : UnitContext) (table : List Abbrev) (walk : Walk) (s : Spot) (y : Walk × Spot) → child_at sections context table walk s ≡ Ok y → Further s y.1
+child_further sections context table walk s y e =
+    elim (child_steps sections context table walk s y e) [
       | inl w ↦ subst (λ (p : Walk × Spot). Further s p.1) w.is (uleb_further s w.code w.coded)
       | inr w ↦
-          let l = listed_steps sections home w.declared walk s w.code.1 y w.listed in
-          let o = entry_onward sections home _ s.place w.declared walk.0 w.code.1 l.read l.entry in
+          let l = listed_steps sections context w.declared walk s w.code.1 y w.listed in
+          let o = entry_onward sections context _ s.place w.declared walk.0 w.code.1 l.read l.entry in
           subst (λ (p : Walk × Spot). Further s p.1) l.is (further_then s w.code.1 l.read.1 (uleb_further s w.code w.coded) o)
     ]
 
-child_rises : (sections : SectionBytes) (home : Home) (table : List Abbrev) (walk : Walk) (s : Spot) (y : Walk × Spot) → child_at sections home table walk s ≡ Ok y → RisesBelow walk.0.entries s.place → RisesBelow y.0.0.entries y.1.place
-child_rises sections home table walk s y e h =
-    elim (child_steps sections home table walk s y e) [
+child_rises : (sections : SectionBytes) (context : UnitContext) (table : List Abbrev) (walk : Walk) (s : Spot) (y : Walk × Spot) → child_at sections context table walk s ≡ Ok y → RisesBelow walk.0.entries s.place → RisesBelow y.0.0.entries y.1.place
+child_rises sections context table walk s y e h =
+    elim (child_steps sections context table walk s y e) [
       | inl w ↦
           let f = uleb_further s w.code w.coded in
           subst (λ (p : Walk × Spot). RisesBelow p.0.0.entries p.1.place) w.is (higher walk.0.entries s.place w.code.1.place (omega (arith, f.some)) h)
       | inr w ↦
           let f = uleb_further s w.code w.coded in
-          let l = listed_steps sections home w.declared walk s w.code.1 y w.listed in
-          subst (λ (p : Walk × Spot). RisesBelow p.0.0.entries p.1.place) l.is (entry_rises sections home _ s.place w.declared walk.0 w.code.1 l.read l.entry h f.some)
+          let l = listed_steps sections context w.declared walk s w.code.1 y w.listed in
+          subst (λ (p : Walk × Spot). RisesBelow p.0.0.entries p.1.place) l.is (entry_rises sections context _ s.place w.declared walk.0 w.code.1 l.read l.entry h f.some)
     ]
 
 -- onward, or no further
@@ -100,26 +100,26 @@ record Stretches (s : Spot) (entries : List RawEntry) (t : Spot) : Type 0 where
   onward : Onward s t
   rises : RisesBelow entries t.place
 
-children_reach : (sections : SectionBytes) (home : Home) (table : List Abbrev) (left : ℕ) (walk : Walk) (s : Spot) (y : Parsed × Spot) → children_at sections home table left walk s ≡ Ok y → RisesBelow walk.0.entries s.place
+children_reach : (sections : SectionBytes) (context : UnitContext) (table : List Abbrev) (left : ℕ) (walk : Walk) (s : Spot) (y : Parsed × Spot) → children_at sections context table left walk s ≡ Ok y → RisesBelow walk.0.entries s.place
     → Stretches s y.0.entries y.1
-children_reach sections home table zero walk s y e h =
-    let w = children_end sections home table walk s y e in
+children_reach sections context table zero walk s y e h =
+    let w = children_end sections context table walk s y e in
     subst (λ (p : Parsed × Spot). Stretches s p.0.entries p.1) w.1 (record { onward = stays s; rises = h })
-children_reach sections home table (suc left) walk s y e h =
-    elim (children_steps sections home table left walk s y e) [
+children_reach sections context table (suc left) walk s y e h =
+    elim (children_steps sections context table left walk s y e) [
       | inl w ↦ subst (λ (p : Parsed × Spot). Stretches s p.0.entries p.1) w.1 (record { onward = stays s; rises = h })
       | inr w ↦
-          let f = child_further sections home table walk s w.read w.child in
-          let r = children_reach sections home table left w.read.0 w.read.1 y w.others (child_rises sections home table walk s w.read w.child h) in
+          let f = child_further sections context table walk s w.read w.child in
+          let r = children_reach sections context table left w.read.0 w.read.1 y w.others (child_rises sections context table walk s w.read w.child h) in
           record { onward = onward_then s w.read.1 y.1 f.onward r.onward; rises = r.rises }
     ]
 
-pub tree_reaches : (start : Spot) (sections : SectionBytes) (home : Home) (table : List Abbrev) (before : Parsed) (s : Spot) (y : Parsed × Spot) → tree_at start sections home table before s ≡ Ok y → RisesBelow before.entries s.place
+pub tree_reaches : (start : Spot) (sections : SectionBytes) (context : UnitContext) (table : List Abbrev) (before : Parsed) (s : Spot) (y : Parsed × Spot) → tree_at start sections context table before s ≡ Ok y → RisesBelow before.entries s.place
     → Reaches s y.0.entries y.1
-tree_reaches start sections home table before s y e h =
-    let w = tree_steps start sections home table before s y e in
-    let r = root_reaches start sections home table before s w.root w.first h in
-    let c = children_reach sections home table _ _ w.root.1 y w.others r.rises in
+tree_reaches start sections context table before s y e h =
+    let w = tree_steps start sections context table before s y e in
+    let r = root_reaches start sections context table before s w.root w.first h in
+    let c = children_reach sections context table _ _ w.root.1 y w.others r.rises in
     record { further = further_then s w.root.1 y.1 r.further c.onward; rises = c.rises }
 
 -- ---- units

@@ -19,7 +19,7 @@ use Rattle.dwarf_types.specs.declared.value.Value.TheVariants as values
 use Rattle.form_value.specs.Reading.{value_at}
 use Rattle.index_tables.specs.declared.bases.Bases.{Bases}
 use Rattle.index_tables.specs.Bases.{base_in, base_said, bases_in}
-use Rattle.unit_tree.specs.declared.attribute.Home.{Home}
+use Rattle.unit_tree.specs.declared.attribute.UnitContext.{UnitContext}
 use Rattle.unit_tree.specs.declared.meaning.Meaning.{Meaning}
 use Rattle.unit_tree.specs.declared.meaning.Meaning.TheVariants.{InUnit, InObject, LineTable, RangeList, LocationList, TextIndex, AddressIndex, RangeListIndex, LocationListIndex, Other}
 use Rattle.unit_tree.specs.declared.reference.Reference.{Reference}
@@ -138,109 +138,109 @@ list_looked section base (Some bases) n value h = inl (h.place, h.is)
 
 -- ---- a unit whose bases are not known
 
-abbrev pub unbased : Home → Home
-unbased home = record { unit = home.unit; place = home.place; version = home.version; bases = None }
+abbrev pub unbased : UnitContext → UnitContext
+unbased context = record { unit = context.unit; place = context.place; version = context.version; bases = None }
 
-record MeantAlike (sections : SectionBytes) (home : Home) (lines : Bool) (meaning : Meaning) (n : ℕ) (s : Spot) (form : ℕ) (with_bases : Value) : Type 0 where
+record MeantAlike (sections : SectionBytes) (context : UnitContext) (lines : Bool) (meaning : Meaning) (n : ℕ) (s : Spot) (form : ℕ) (with_bases : Value) : Type 0 where
   y : Value × Option Reference
-  reads : meant_at sections (unbased home) lines meaning n s ≡ Ok y
+  reads : meant_at sections (unbased context) lines meaning n s ≡ Ok y
   base : (none : ℕ) → base_in none form y.0 ≡ base_in none form with_bases
 
 -- an index stays as it is
-index_alike : (sections : SectionBytes) (home : Home) (lines : Bool) (meaning : Meaning) (n : ℕ) (s : Spot) (form : ℕ) (value : Value) → meant_at sections (unbased home) lines meaning n s ≡ Ok (values.Offset n, None)
-    → (form == DW_FORM_sec_offset) ≡ false → IsLooked value → MeantAlike sections home lines meaning n s form value
-index_alike sections home lines meaning n s form value reads not_so looked =
+index_alike : (sections : SectionBytes) (context : UnitContext) (lines : Bool) (meaning : Meaning) (n : ℕ) (s : Spot) (form : ℕ) (value : Value) → meant_at sections (unbased context) lines meaning n s ≡ Ok (values.Offset n, None)
+    → (form == DW_FORM_sec_offset) ≡ false → IsLooked value → MeantAlike sections context lines meaning n s form value
+index_alike sections context lines meaning n s form value reads not_so looked =
     record { y = (values.Offset n, None); reads = reads; base = λ none. no_base none form (values.Offset n) not_so (inl (n, refl)) ∙ sym (no_base none form value not_so looked) }
 
-meant_alike : (sections : SectionBytes) (home : Home) (lines : Bool) (meaning : Meaning) (n : ℕ) (s : Spot) (form : ℕ) (y : Value × Option Reference) → meant_at sections home lines meaning n s ≡ Ok y
-    → (is_index meaning ≡ true → (form == DW_FORM_sec_offset) ≡ false) → MeantAlike sections home lines meaning n s form y.0
+meant_alike : (sections : SectionBytes) (context : UnitContext) (lines : Bool) (meaning : Meaning) (n : ℕ) (s : Spot) (form : ℕ) (y : Value × Option Reference) → meant_at sections context lines meaning n s ≡ Ok y
+    → (is_index meaning ≡ true → (form == DW_FORM_sec_offset) ≡ false) → MeantAlike sections context lines meaning n s form y.0
 unfolding meant_at text_named address_named list_named
-meant_alike sections home lines InUnit n s form y e not_so = record { y = y; reads = e; base = λ none. refl }
-meant_alike sections home lines InObject n s form y e not_so = record { y = y; reads = e; base = λ none. refl }
-meant_alike sections home lines LineTable n s form y e not_so = record { y = y; reads = e; base = λ none. refl }
-meant_alike sections home lines RangeList n s form y e not_so = record { y = y; reads = e; base = λ none. refl }
-meant_alike sections home lines LocationList n s form y e not_so = record { y = y; reads = e; base = λ none. refl }
-meant_alike sections home lines TextIndex n s form y e not_so = index_alike sections home lines TextIndex n s form y.0 refl (not_so refl) (text_looked sections home.bases n y.0 (text_taken sections home.bases n s y e))
-meant_alike sections home lines AddressIndex n s form y e not_so = index_alike sections home lines AddressIndex n s form y.0 refl (not_so refl) (address_looked sections home.bases n y.0 (address_taken sections home.bases n s y e))
-meant_alike sections home lines RangeListIndex n s form y e not_so =
-    index_alike sections home lines RangeListIndex n s form y.0 refl (not_so refl) (list_looked sections.rnglists (λ bases. bases.ranges) home.bases n y.0 (list_taken sections.rnglists (λ bases. bases.ranges) home.bases n s y e))
-meant_alike sections home lines LocationListIndex n s form y e not_so =
-    index_alike sections home lines LocationListIndex n s form y.0 refl (not_so refl) (list_looked sections.loclists (λ bases. bases.locations) home.bases n y.0 (list_taken sections.loclists (λ bases. bases.locations) home.bases n s y e))
-meant_alike sections home lines Other n s form y e not_so = record { y = y; reads = e; base = λ none. refl }
+meant_alike sections context lines InUnit n s form y e not_so = record { y = y; reads = e; base = λ none. refl }
+meant_alike sections context lines InObject n s form y e not_so = record { y = y; reads = e; base = λ none. refl }
+meant_alike sections context lines LineTable n s form y e not_so = record { y = y; reads = e; base = λ none. refl }
+meant_alike sections context lines RangeList n s form y e not_so = record { y = y; reads = e; base = λ none. refl }
+meant_alike sections context lines LocationList n s form y e not_so = record { y = y; reads = e; base = λ none. refl }
+meant_alike sections context lines TextIndex n s form y e not_so = index_alike sections context lines TextIndex n s form y.0 refl (not_so refl) (text_looked sections context.bases n y.0 (text_taken sections context.bases n s y e))
+meant_alike sections context lines AddressIndex n s form y e not_so = index_alike sections context lines AddressIndex n s form y.0 refl (not_so refl) (address_looked sections context.bases n y.0 (address_taken sections context.bases n s y e))
+meant_alike sections context lines RangeListIndex n s form y e not_so =
+    index_alike sections context lines RangeListIndex n s form y.0 refl (not_so refl) (list_looked sections.rnglists (λ bases. bases.ranges) context.bases n y.0 (list_taken sections.rnglists (λ bases. bases.ranges) context.bases n s y e))
+meant_alike sections context lines LocationListIndex n s form y e not_so =
+    index_alike sections context lines LocationListIndex n s form y.0 refl (not_so refl) (list_looked sections.loclists (λ bases. bases.locations) context.bases n y.0 (list_taken sections.loclists (λ bases. bases.locations) context.bases n s y e))
+meant_alike sections context lines Other n s form y e not_so = record { y = y; reads = e; base = λ none. refl }
 
-record ValueAlike (sections : SectionBytes) (home : Home) (root : Bool) (field : Field) (before : List RawAttr) (value : Value) (s : Spot) (with_bases : Value) : Type 0 where
+record ValueAlike (sections : SectionBytes) (context : UnitContext) (root : Bool) (field : Field) (before : List RawAttr) (value : Value) (s : Spot) (with_bases : Value) : Type 0 where
   y : Value × Option Reference
-  reads : value_meant_at sections (unbased home) root field before value s ≡ Ok y
+  reads : value_meant_at sections (unbased context) root field before value s ≡ Ok y
   base : (none : ℕ) → base_in none field.form y.0 ≡ base_in none field.form with_bases
 
-value_alike : (sections : SectionBytes) (home : Home) (root : Bool) (field : Field) (before others : List RawAttr) (value : Value) (s : Spot) (y : Value × Option Reference) → value_meant_at sections home root field others value s ≡ Ok y
-    → has_attr DW_AT_stmt_list before ≡ has_attr DW_AT_stmt_list others → ValueAlike sections home root field before value s y.0
+value_alike : (sections : SectionBytes) (context : UnitContext) (root : Bool) (field : Field) (before others : List RawAttr) (value : Value) (s : Spot) (y : Value × Option Reference) → value_meant_at sections context root field others value s ≡ Ok y
+    → has_attr DW_AT_stmt_list before ≡ has_attr DW_AT_stmt_list others → ValueAlike sections context root field before value s y.0
 unfolding value_meant_at
-value_alike sections home root field before others (values.Offset n) s y e same =
-    let m = meant_alike sections home (names_lines root others) (meaning_of field.form field.name) n s field.form y e (no_offset field.form field.name) in
+value_alike sections context root field before others (values.Offset n) s y e same =
+    let m = meant_alike sections context (names_lines root others) (meaning_of field.form field.name) n s field.form y e (no_offset field.form field.name) in
     record {
       y = m.y;
-      reads = subst (λ (b : Bool). meant_at sections (unbased home) (root && not b) (meaning_of field.form field.name) n s ≡ Ok m.y) (sym same) m.reads;
+      reads = subst (λ (b : Bool). meant_at sections (unbased context) (root && not b) (meaning_of field.form field.name) n s ≡ Ok m.y) (sym same) m.reads;
       base = m.base;
     }
-value_alike sections home root field before others value s y e same =
+value_alike sections context root field before others value s y e same =
     record { y = (value, None); reads = refl; base = λ none. ap (λ (p : Value × Option Reference). base_in none field.form p.0) (ok_is (value, None) y e) }
 
-record AttrAlike (sections : SectionBytes) (home : Home) (root : Bool) (field : Field) (before : List RawAttr) (s : Spot) (y : (RawAttr × Option Reference) × Spot) : Type 0 where
+record AttrAlike (sections : SectionBytes) (context : UnitContext) (root : Bool) (field : Field) (before : List RawAttr) (s : Spot) (y : (RawAttr × Option Reference) × Spot) : Type 0 where
   attr : RawAttr
   reference : Option Reference
-  reads : attr_at sections (unbased home) root field before s ≡ Ok ((attr, reference), y.1)
+  reads : attr_at sections (unbased context) root field before s ≡ Ok ((attr, reference), y.1)
   alike : IsAlike attr y.0.0
 
-attr_reads : (sections : SectionBytes) (home : Home) (root : Bool) (field : Field) (before : List RawAttr) (s : Spot) (read : Value × Spot) (meant : Value × Option Reference) → value_at field home.version sections s ≡ Ok read
-    → value_meant_at sections home root field before read.0 s ≡ Ok meant → attr_at sections home root field before s ≡ Ok ((record { name = field.name; form = field.form; end = read.1.place; value = meant.0 }, meant.1), read.1)
+attr_reads : (sections : SectionBytes) (context : UnitContext) (root : Bool) (field : Field) (before : List RawAttr) (s : Spot) (read : Value × Spot) (meant : Value × Option Reference) → value_at field context.version sections s ≡ Ok read
+    → value_meant_at sections context root field before read.0 s ≡ Ok meant → attr_at sections context root field before s ≡ Ok ((record { name = field.name; form = field.form; end = read.1.place; value = meant.0 }, meant.1), read.1)
 unfolding attr_at
-attr_reads sections home root field before s read meant e f = rw (e, f) refl
+attr_reads sections context root field before s read meant e f = rw (e, f) refl
 
-attrs_read : (sections : SectionBytes) (home : Home) (root : Bool) (field : Field) (fields : List Field) (before : Described) (s : Spot) (attr : RawAttr) (reference : Option Reference) (next : Spot) (total : Result (Described × Spot) Fault)
-    → attr_at sections home root field before.0 s ≡ Ok ((attr, reference), next) → attrs_at sections home root fields (before.0 ++ attr ∷ [], before.1 ++ option_to_list reference) next ≡ total → attrs_at sections home root (field ∷ fields) before s ≡ total
+attrs_read : (sections : SectionBytes) (context : UnitContext) (root : Bool) (field : Field) (fields : List Field) (before : Described) (s : Spot) (attr : RawAttr) (reference : Option Reference) (next : Spot) (total : Result (Described × Spot) Fault)
+    → attr_at sections context root field before.0 s ≡ Ok ((attr, reference), next) → attrs_at sections context root fields (before.0 ++ attr ∷ [], before.1 ++ option_to_list reference) next ≡ total → attrs_at sections context root (field ∷ fields) before s ≡ total
 unfolding attrs_at
-attrs_read sections home root field fields before s attr reference next total e f = rw e f
+attrs_read sections context root field fields before s attr reference next total e f = rw e f
 
-attr_alike : (sections : SectionBytes) (home : Home) (root : Bool) (field : Field) (before others : List RawAttr) (s : Spot) (y : (RawAttr × Option Reference) × Spot) → attr_at sections home root field others s ≡ Ok y
-    → has_attr DW_AT_stmt_list before ≡ has_attr DW_AT_stmt_list others → AttrAlike sections home root field before s y
+attr_alike : (sections : SectionBytes) (context : UnitContext) (root : Bool) (field : Field) (before others : List RawAttr) (s : Spot) (y : (RawAttr × Option Reference) × Spot) → attr_at sections context root field others s ≡ Ok y
+    → has_attr DW_AT_stmt_list before ≡ has_attr DW_AT_stmt_list others → AttrAlike sections context root field before s y
 unfolding attr_at
-attr_alike sections home root field before others s y e same =
+attr_alike sections context root field before others s y e same =
     let made : Value × Spot → Value × Option Reference → Result ((RawAttr × Option Reference) × Spot) Fault = λ read meant. Ok ((record { name = field.name; form = field.form; end = read.1.place; value = meant.0 }, meant.1), read.1) in
-    let b = bind_ok (value_at field home.version sections s) (λ read. value_meant_at sections home root field others read.0 s >>= made read) y e in
-    let c = bind_ok (value_meant_at sections home root field others b.0.0 s) (made b.0) y b.2 in
-    let v = value_alike sections home root field before others b.0.0 s c.0 c.1 same in
-    subst (AttrAlike sections home root field before s) (ok_is _ y c.2)
+    let b = bind_ok (value_at field context.version sections s) (λ read. value_meant_at sections context root field others read.0 s >>= made read) y e in
+    let c = bind_ok (value_meant_at sections context root field others b.0.0 s) (made b.0) y b.2 in
+    let v = value_alike sections context root field before others b.0.0 s c.0 c.1 same in
+    subst (AttrAlike sections context root field before s) (ok_is _ y c.2)
     (record {
       attr = record { name = field.name; form = field.form; end = b.0.1.place; value = v.y.0 };
       reference = v.y.1;
-      reads = attr_reads sections (unbased home) root field before s b.0 v.y b.1 v.reads;
+      reads = attr_reads sections (unbased context) root field before s b.0 v.y b.1 v.reads;
       alike = record { name = refl; base = v.base };
     })
 
-record AttrsAlike (sections : SectionBytes) (home : Home) (root : Bool) (fields : List Field) (before : Described) (s : Spot) (y : Described × Spot) : Type 0 where
+record AttrsAlike (sections : SectionBytes) (context : UnitContext) (root : Bool) (fields : List Field) (before : Described) (s : Spot) (y : Described × Spot) : Type 0 where
   read : Described × Spot
-  reads : attrs_at sections (unbased home) root fields before s ≡ Ok read
+  reads : attrs_at sections (unbased context) root fields before s ≡ Ok read
   alike : AreAlike read.0.0 y.0.0
 
-attrs_alike : (sections : SectionBytes) (home : Home) (root : Bool) (fields : List Field) (before others : Described) (s : Spot) (y : Described × Spot) → attrs_at sections home root fields others s ≡ Ok y → AreAlike before.0 others.0
-    → AttrsAlike sections home root fields before s y
+attrs_alike : (sections : SectionBytes) (context : UnitContext) (root : Bool) (fields : List Field) (before others : Described) (s : Spot) (y : Described × Spot) → attrs_at sections context root fields others s ≡ Ok y → AreAlike before.0 others.0
+    → AttrsAlike sections context root fields before s y
 unfolding attrs_at
-attrs_alike sections home root [] before others s y e h = subst (AttrsAlike sections home root [] before s) (ok_is (others, s) y e) (record { read = (before, s); reads = refl; alike = h })
-attrs_alike sections home root (field ∷ fields) before others s y e h =
-    let b = bind_ok (attr_at sections home root field others.0 s) (λ attr. attrs_at sections home root fields (others.0 ++ attr.0.0 ∷ [], others.1 ++ option_to_list attr.0.1) attr.1) y e in
-    let a = attr_alike sections home root field before.0 others.0 s b.0 b.1 (alike_has DW_AT_stmt_list before.0 others.0 h) in
+attrs_alike sections context root [] before others s y e h = subst (AttrsAlike sections context root [] before s) (ok_is (others, s) y e) (record { read = (before, s); reads = refl; alike = h })
+attrs_alike sections context root (field ∷ fields) before others s y e h =
+    let b = bind_ok (attr_at sections context root field others.0 s) (λ attr. attrs_at sections context root fields (others.0 ++ attr.0.0 ∷ [], others.1 ++ option_to_list attr.0.1) attr.1) y e in
+    let a = attr_alike sections context root field before.0 others.0 s b.0 b.1 (alike_has DW_AT_stmt_list before.0 others.0 h) in
     let now : Described = (before.0 ++ a.attr ∷ [], before.1 ++ option_to_list a.reference) in
     let then_ : Described = (others.0 ++ b.0.0.0 ∷ [], others.1 ++ option_to_list b.0.0.1) in
-    let t = attrs_alike sections home root fields now then_ b.0.1 y b.2 (alike_push before.0 others.0 a.attr b.0.0.0 h a.alike) in
-    record { read = t.read; reads = attrs_read sections (unbased home) root field fields before s a.attr a.reference b.0.1 (Ok t.read) a.reads t.reads; alike = t.alike }
+    let t = attrs_alike sections context root fields now then_ b.0.1 y b.2 (alike_push before.0 others.0 a.attr b.0.0.0 h a.alike) in
+    record { read = t.read; reads = attrs_read sections (unbased context) root field fields before s a.attr a.reference b.0.1 (Ok t.read) a.reads t.reads; alike = t.alike }
 
 -- ---- roots
 
 -- a root's values, read with no index tried, say the bases of its attributes
-pub record RootBases (sections : SectionBytes) (home : Home) (declared : Abbrev) (at : Spot) (attrs : List RawAttr) : Type 0 where
+pub record RootBases (sections : SectionBytes) (context : UnitContext) (declared : Abbrev) (at : Spot) (attrs : List RawAttr) : Type 0 where
   pub read : Described × Spot
-  pub reads : attrs_at sections (unbased home) true declared.fields ([], []) at ≡ Ok read
+  pub reads : attrs_at sections (unbased context) true declared.fields ([], []) at ≡ Ok read
   pub same : bases_in read.0.0 ≡ bases_in attrs
 
 one_more : {X : Type 0} (xs : List X) (x : X) → slice_get (xs ++ x ∷ []) (length xs) ≡ Some x
@@ -255,10 +255,10 @@ last_is before x y e =
     let same : Some x ≡ Some y = sym (one_more before x) ∙ ap (λ (es : List RawEntry). slice_get es (length before)) e ∙ one_more before y in
     ap (λ (z : RawEntry). z.attrs) (some_is same)
 
-pub root_bases : (sections : SectionBytes) (home : Home) (place : ℕ) (declared : Abbrev) (before : Parsed) (at : Spot) (node : Node) (y : Parsed × Spot) → entry_at sections home None place declared before at ≡ Ok y
-    → y.0.entries ≡ before.entries ++ entry_of home.unit None node ∷ [] → RootBases sections home declared at node.attrs
-root_bases sections home place declared before at node y e entries =
-    let w = entry_steps sections home None place declared before at y e in
-    let a = attrs_alike sections home true declared.fields ([], []) ([], before.references) at w.read w.attrs tt in
-    let put : before.entries ++ record { parent = None; unit = home.unit; place = place; tag = declared.tag; attrs = w.read.0.0 } ∷ [] ≡ before.entries ++ entry_of home.unit None node ∷ [] = ap (λ (p : Parsed × Spot). p.0.entries) w.is ∙ entries in
+pub root_bases : (sections : SectionBytes) (context : UnitContext) (place : ℕ) (declared : Abbrev) (before : Parsed) (at : Spot) (node : Node) (y : Parsed × Spot) → entry_at sections context None place declared before at ≡ Ok y
+    → y.0.entries ≡ before.entries ++ entry_of context.unit None node ∷ [] → RootBases sections context declared at node.attrs
+root_bases sections context place declared before at node y e entries =
+    let w = entry_steps sections context None place declared before at y e in
+    let a = attrs_alike sections context true declared.fields ([], []) ([], before.references) at w.read w.attrs tt in
+    let put : before.entries ++ record { parent = None; unit = context.unit; place = place; tag = declared.tag; attrs = w.read.0.0 } ∷ [] ≡ before.entries ++ entry_of context.unit None node ∷ [] = ap (λ (p : Parsed × Spot). p.0.entries) w.is ∙ entries in
     record { read = a.read; reads = a.reads; same = alike_bases a.read.0.0 w.read.0.0 a.alike ∙ ap bases_in (last_is before.entries _ _ put) }

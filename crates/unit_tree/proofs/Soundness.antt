@@ -9,7 +9,7 @@ use Rattle.dwarf_types.specs.declared.entry.RawEntry.{RawEntry}
 use Rattle.dwarf_types.specs.declared.entry.InUnit.{InUnit}
 use Rattle.dwarf_types.specs.SectionBytes.{SectionBytes}
 use Rattle.dwarf_types.specs.Sound.{AreUnits, IsParent}
-use Rattle.unit_tree.specs.declared.attribute.Home.{Home}
+use Rattle.unit_tree.specs.declared.attribute.UnitContext.{UnitContext}
 use Rattle.unit_tree.specs.declared.entry.TheConstants.{MOST_ENTRIES}
 use Rattle.unit_tree.specs.Entry.{Parsed, entry_at, innermost, opened, Walk, child_at, children_at, tree_at}
 use Rattle.unit_tree.specs.Sound.{LiesInUnit, AreSound}
@@ -81,10 +81,10 @@ pushed_grows units first entries e h room unit parent =
       ];
     }
 
-entry_grows : (sections : SectionBytes) (home : Home) (parent : Option ℕ) (place : ℕ) (declared : Abbrev) (before : Parsed) (s : Spot) (y : Parsed × Spot) (units : List InUnit) (first : ℕ) → entry_at sections home parent place declared before s ≡ Ok y
-    → home.unit ≡ length units → length before.entries < MOST_ENTRIES → Grows units first before.entries → ParentFrom first (length before.entries) parent → Grows units first y.0.entries × (length y.0.entries ≡ length before.entries + 1)
-entry_grows sections home parent place declared before s y units first e is room h from =
-    let w = entry_steps sections home parent place declared before s y e in
+entry_grows : (sections : SectionBytes) (context : UnitContext) (parent : Option ℕ) (place : ℕ) (declared : Abbrev) (before : Parsed) (s : Spot) (y : Parsed × Spot) (units : List InUnit) (first : ℕ) → entry_at sections context parent place declared before s ≡ Ok y
+    → context.unit ≡ length units → length before.entries < MOST_ENTRIES → Grows units first before.entries → ParentFrom first (length before.entries) parent → Grows units first y.0.entries × (length y.0.entries ≡ length before.entries + 1)
+entry_grows sections context parent place declared before s y units first e is room h from =
+    let w = entry_steps sections context parent place declared before s y e in
     subst (λ (p : Parsed × Spot). Grows units first p.0.entries × (length p.0.entries ≡ length before.entries + 1)) w.is
     (pushed_grows units first before.entries _ h room is from, length-append before.entries _)
 
@@ -105,17 +105,17 @@ record Walks (units : List InUnit) (first : ℕ) (walk : Walk) : Type 0 where
   grows : Grows units first walk.0.entries
   open_lists : AreOpen first (length walk.0.entries) walk.1
 
-child_walks : (sections : SectionBytes) (home : Home) (table : List Abbrev) (walk : Walk) (s : Spot) (y : Walk × Spot) (units : List InUnit) (first : ℕ) → child_at sections home table walk s ≡ Ok y → home.unit ≡ length units → (length walk.1 == 0) ≡ false
+child_walks : (sections : SectionBytes) (context : UnitContext) (table : List Abbrev) (walk : Walk) (s : Spot) (y : Walk × Spot) (units : List InUnit) (first : ℕ) → child_at sections context table walk s ≡ Ok y → context.unit ≡ length units → (length walk.1 == 0) ≡ false
     → Walks units first walk → Walks units first y.0
-child_walks sections home table walk s y units first e is some h =
-    elim (child_steps sections home table walk s y e) [
+child_walks sections context table walk s y units first e is some h =
+    elim (child_steps sections context table walk s y e) [
       | inl w ↦ subst (λ (p : Walk × Spot). Walks units first p.0) w.is (record { grows = h.grows; open_lists = λ i p at. h.open_lists i p (front_at (length walk.1 - 1) walk.1 i p at) })
       | inr w ↦
-          let l = listed_steps sections home w.declared walk s w.code.1 y w.listed in
+          let l = listed_steps sections context w.declared walk s w.code.1 y w.listed in
           let p = inner_some walk.1 some in
           let within = h.open_lists (length walk.1 - 1) p.0 p.1 in
           let parent : ParentFrom first (length walk.0.entries) (innermost walk.1) = subst (ParentFrom first (length walk.0.entries)) (sym p.1) within in
-          let g = entry_grows sections home (innermost walk.1) s.place w.declared walk.0 w.code.1 l.read units first l.entry is (has_room walk.0 l.room) h.grows parent in
+          let g = entry_grows sections context (innermost walk.1) s.place w.declared walk.0 w.code.1 l.read units first l.entry is (has_room walk.0 l.room) h.grows parent in
           let behind = h.grows in
           subst (λ (q : Walk × Spot). Walks units first q.0) l.is (record {
             grows = g.0;
@@ -123,32 +123,32 @@ child_walks sections home table walk s y units first e is some h =
           })
     ]
 
-children_grow : (sections : SectionBytes) (home : Home) (table : List Abbrev) (left : ℕ) (walk : Walk) (s : Spot) (y : Parsed × Spot) (units : List InUnit) (first : ℕ) → children_at sections home table left walk s ≡ Ok y → home.unit ≡ length units
+children_grow : (sections : SectionBytes) (context : UnitContext) (table : List Abbrev) (left : ℕ) (walk : Walk) (s : Spot) (y : Parsed × Spot) (units : List InUnit) (first : ℕ) → children_at sections context table left walk s ≡ Ok y → context.unit ≡ length units
     → Walks units first walk → Grows units first y.0.entries × (length walk.0.entries ≤ length y.0.entries)
-children_grow sections home table zero walk s y units first e is h =
-    let w = children_end sections home table walk s y e in
+children_grow sections context table zero walk s y units first e is h =
+    let w = children_end sections context table walk s y e in
     subst (λ (p : Parsed × Spot). Grows units first p.0.entries × (length walk.0.entries ≤ length p.0.entries)) w.1 (h.grows, omega arith)
-children_grow sections home table (suc left) walk s y units first e is h =
-    elim (children_steps sections home table left walk s y e) [
+children_grow sections context table (suc left) walk s y units first e is h =
+    elim (children_steps sections context table left walk s y e) [
       | inl w ↦ subst (λ (p : Parsed × Spot). Grows units first p.0.entries × (length walk.0.entries ≤ length p.0.entries)) w.1 (h.grows, omega arith)
       | inr w ↦
-          let longer = child_longer sections home table walk s w.read w.child in
-          let r = children_grow sections home table left w.read.0 w.read.1 y units first w.others is (child_walks sections home table walk s w.read units first w.child is w.still_open h) in
+          let longer = child_longer sections context table walk s w.read w.child in
+          let r = children_grow sections context table left w.read.0 w.read.1 y units first w.others is (child_walks sections context table walk s w.read units first w.child is w.still_open h) in
           (r.0, omega (arith, r.1, longer))
     ]
   where
-    entry_longer : (sections : SectionBytes) (home : Home) (parent : Option ℕ) (place : ℕ) (declared : Abbrev) (before : Parsed) (s : Spot) (y : Parsed × Spot) → entry_at sections home parent place declared before s ≡ Ok y → length before.entries ≤ length y.0.entries
-    entry_longer sections home parent place declared before s y e =
-        let w = entry_steps sections home parent place declared before s y e in
-        subst (λ (p : Parsed × Spot). length before.entries ≤ length p.0.entries) w.is (let n = length-append before.entries (record { parent = parent; unit = home.unit; place = place; tag = declared.tag; attrs = w.read.0.0 } ∷ []) in omega (arith, n))
+    entry_longer : (sections : SectionBytes) (context : UnitContext) (parent : Option ℕ) (place : ℕ) (declared : Abbrev) (before : Parsed) (s : Spot) (y : Parsed × Spot) → entry_at sections context parent place declared before s ≡ Ok y → length before.entries ≤ length y.0.entries
+    entry_longer sections context parent place declared before s y e =
+        let w = entry_steps sections context parent place declared before s y e in
+        subst (λ (p : Parsed × Spot). length before.entries ≤ length p.0.entries) w.is (let n = length-append before.entries (record { parent = parent; unit = context.unit; place = place; tag = declared.tag; attrs = w.read.0.0 } ∷ []) in omega (arith, n))
 
-    child_longer : (sections : SectionBytes) (home : Home) (table : List Abbrev) (walk : Walk) (s : Spot) (y : Walk × Spot) → child_at sections home table walk s ≡ Ok y → length walk.0.entries ≤ length y.0.0.entries
-    child_longer sections home table walk s y e =
-        elim (child_steps sections home table walk s y e) [
+    child_longer : (sections : SectionBytes) (context : UnitContext) (table : List Abbrev) (walk : Walk) (s : Spot) (y : Walk × Spot) → child_at sections context table walk s ≡ Ok y → length walk.0.entries ≤ length y.0.0.entries
+    child_longer sections context table walk s y e =
+        elim (child_steps sections context table walk s y e) [
           | inl w ↦ subst (λ (p : Walk × Spot). length walk.0.entries ≤ length p.0.0.entries) w.is (omega arith)
           | inr w ↦
-              let l = listed_steps sections home w.declared walk s w.code.1 y w.listed in
-              subst (λ (p : Walk × Spot). length walk.0.entries ≤ length p.0.0.entries) l.is (entry_longer sections home (innermost walk.1) s.place w.declared walk.0 w.code.1 l.read l.entry)
+              let l = listed_steps sections context w.declared walk s w.code.1 y w.listed in
+              subst (λ (p : Walk × Spot). length walk.0.entries ≤ length p.0.0.entries) l.is (entry_longer sections context (innermost walk.1) s.place w.declared walk.0 w.code.1 l.read l.entry)
         ]
 
 -- ---- units
@@ -180,17 +180,17 @@ own_lies units first count k e u begins ends lt own =
 still_lies : (units : List InUnit) (k : ℕ) (e : RawEntry) (u : InUnit) → LiesInUnit units k e → LiesInUnit (units ++ u ∷ []) k e
 still_lies units k e u h = record { unit = h.unit; its_unit = kept_at units (u ∷ []) e.unit h.unit h.its_unit; lies = h.lies; parent = h.parent }
 
-tree_grows : (start : Spot) (sections : SectionBytes) (home : Home) (table : List Abbrev) (before : Parsed) (s : Spot) (y : Parsed × Spot) (units : List InUnit) → tree_at start sections home table before s ≡ Ok y → home.unit ≡ length units
+tree_grows : (start : Spot) (sections : SectionBytes) (context : UnitContext) (table : List Abbrev) (before : Parsed) (s : Spot) (y : Parsed × Spot) (units : List InUnit) → tree_at start sections context table before s ≡ Ok y → context.unit ≡ length units
     → Reads units before.entries → Grows units (length before.entries) y.0.entries × (length before.entries < length y.0.entries)
-tree_grows start sections home table before s y units e is h =
-    let w = tree_steps start sections home table before s y e in
-    let r = root_steps start sections home table before s w.root w.first in
-    let g = entry_grows sections home None s.place r.declared before r.code.1 r.read units (length before.entries) r.entry is (has_room before r.room) (record { few = h.few; behind = omega arith; each = λ k d at. inl (h.each k d at) }) refl in
+tree_grows start sections context table before s y units e is h =
+    let w = tree_steps start sections context table before s y e in
+    let r = root_steps start sections context table before s w.root w.first in
+    let g = entry_grows sections context None s.place r.declared before r.code.1 r.read units (length before.entries) r.entry is (has_room before r.room) (record { few = h.few; behind = omega arith; each = λ k d at. inl (h.each k d at) }) refl in
     let walks : Walks units (length before.entries) (r.read.0, opened r.declared.children (length before.entries) []) =
     record { grows = g.0; open_lists = opened_open r.declared.children (length before.entries) (length before.entries) (length r.read.0.entries) [] (omega arith) (omega (arith, g.1)) (λ i p at. absurd cc) } in
     let root : (Bool × Parsed) × Spot → Type 0 = λ p. Walks units (length before.entries) (p.0.1, opened p.0.0 (length before.entries) []) × (length before.entries < length p.0.1.entries) in
     let ready = subst root r.is (walks, omega (arith, g.1)) in
-    let c = children_grow sections home table _ _ w.root.1 y units (length before.entries) w.others is ready.0 in
+    let c = children_grow sections context table _ _ w.root.1 y units (length before.entries) w.others is ready.0 in
     (c.0, omega (arith, c.1, ready.1))
 
 unit_reads : (sections : SectionBytes) (units : List InUnit) (before : Parsed) (place : ℕ) (y : (InUnit × Parsed) × ℕ) → unit_at sections (length units) before place ≡ Ok y → Reads units before.entries → Reads (units ++ y.0.0 ∷ []) y.0.1.entries

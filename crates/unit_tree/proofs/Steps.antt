@@ -15,7 +15,7 @@ use Rattle.ds_base.proofs.Passing.{bind_ok, passed, ok_is, found_ok}
 use Rattle.abbrev_read.specs.Reading.{table_at}
 use Rattle.index_tables.specs.declared.bases.Bases.{Bases}
 use Rattle.index_tables.specs.Bases.{bases_in}
-use Rattle.unit_tree.specs.declared.attribute.Home.{Home}
+use Rattle.unit_tree.specs.declared.attribute.UnitContext.{UnitContext}
 use Rattle.unit_tree.specs.declared.entry.TheConstants.{MOST_OPEN}
 use Rattle.unit_tree.specs.declared.header.Header.{Header}
 use Rattle.unit_tree.specs.declared.header.TheConstants.{DWARF_4, DWARF_5, ADDRESS_SIZE}
@@ -23,23 +23,23 @@ use Rattle.unit_tree.specs.Attribute.{Described, attrs_at}
 use Rattle.unit_tree.specs.Entry.{Parsed, with_entry, entry_at, is_full, is_split, first_at, bases_at, root_at, innermost, closed, opened, Walk, listed_at, child_at, children_at, tree_at}
 use Rattle.unit_tree.specs.Header.{info_at, behind_length, is_bad_length, fields_4_at, fields_5_at, fields_at, header_at}
 use Rattle.unit_tree.specs.Entry.{declared_as}
-use Rattle.unit_tree.specs.Unit.{home_in, is_zero, zeros_at, unit_from, unit_at, units_at}
+use Rattle.unit_tree.specs.Unit.{context_in, is_zero, zeros_at, unit_from, unit_at, units_at}
 
 -- an entry
-pub record EntrySteps (sections : SectionBytes) (home : Home) (parent : Option ℕ) (place : ℕ) (declared : Abbrev) (before : Parsed) (s : Spot) (y : Parsed × Spot) : Type 0 where
+pub record EntrySteps (sections : SectionBytes) (context : UnitContext) (parent : Option ℕ) (place : ℕ) (declared : Abbrev) (before : Parsed) (s : Spot) (y : Parsed × Spot) : Type 0 where
   pub read : Described × Spot
-  pub attrs : attrs_at sections home (is_none parent) declared.fields ([], before.references) s ≡ Ok read
-  pub is : (with_entry home parent place declared before read.0, read.1) ≡ y
+  pub attrs : attrs_at sections context (is_none parent) declared.fields ([], before.references) s ≡ Ok read
+  pub is : (with_entry context parent place declared before read.0, read.1) ≡ y
 
-pub entry_steps : (sections : SectionBytes) (home : Home) (parent : Option ℕ) (place : ℕ) (declared : Abbrev) (before : Parsed) (s : Spot) (y : Parsed × Spot) → entry_at sections home parent place declared before s ≡ Ok y
-    → EntrySteps sections home parent place declared before s y
+pub entry_steps : (sections : SectionBytes) (context : UnitContext) (parent : Option ℕ) (place : ℕ) (declared : Abbrev) (before : Parsed) (s : Spot) (y : Parsed × Spot) → entry_at sections context parent place declared before s ≡ Ok y
+    → EntrySteps sections context parent place declared before s y
 unfolding entry_at
-entry_steps sections home parent place declared before s y e =
-    let b = bind_ok (attrs_at sections home (is_none parent) declared.fields ([], before.references) s) (λ read. Ok (with_entry home parent place declared before read.0, read.1)) y e in
+entry_steps sections context parent place declared before s y e =
+    let b = bind_ok (attrs_at sections context (is_none parent) declared.fields ([], before.references) s) (λ read. Ok (with_entry context parent place declared before read.0, read.1)) y e in
     record { read = b.0; attrs = b.1; is = ok_is _ y b.2 }
 
 -- a root
-pub record RootSteps (start : Spot) (sections : SectionBytes) (home : Home) (table : List Abbrev) (before : Parsed) (s : Spot) (y : (Bool × Parsed) × Spot) : Type 0 where
+pub record RootSteps (start : Spot) (sections : SectionBytes) (context : UnitContext) (table : List Abbrev) (before : Parsed) (s : Spot) (y : (Bool × Parsed) × Spot) : Type 0 where
   pub code : ℕ × Spot
   pub coded : uleb_at s ≡ Ok code
   pub some : (code.0 == 0) ≡ false
@@ -50,7 +50,7 @@ pub record RootSteps (start : Spot) (sections : SectionBytes) (home : Home) (tab
   pub room : is_full before ≡ false
   pub first : first_at start table before s ≡ Ok (declared, code.1)
   pub read : Parsed × Spot
-  pub entry : entry_at sections home None s.place declared before code.1 ≡ Ok read
+  pub entry : entry_at sections context None s.place declared before code.1 ≡ Ok read
   pub is : ((declared.children, read.0), read.1) ≡ y
 
 -- the declaration of a first entry
@@ -81,14 +81,14 @@ first_steps start table before s y e =
     let g = passed (is_full before) (fault_at s kinds.LimitEntries) (last c.0 a.0) y f.1 in
     record { code = a.0; coded = a.1; some = b.0; declared = c.0; found = found_ok (declared_as a.0.0 table) (fault_at s kinds.UnknownCode) c.0 c.1; unit = d.0; whole = f.0; room = g.0; is = ok_is _ y g.1 }
 
-pub root_steps : (start : Spot) (sections : SectionBytes) (home : Home) (table : List Abbrev) (before : Parsed) (s : Spot) (y : (Bool × Parsed) × Spot) → root_at start sections home table before s ≡ Ok y
-    → RootSteps start sections home table before s y
+pub root_steps : (start : Spot) (sections : SectionBytes) (context : UnitContext) (table : List Abbrev) (before : Parsed) (s : Spot) (y : (Bool × Parsed) × Spot) → root_at start sections context table before s ≡ Ok y
+    → RootSteps start sections context table before s y
 unfolding root_at
-root_steps start sections home table before s y e =
+root_steps start sections context table before s y e =
     let last : Abbrev × Spot → Parsed × Spot → Result ((Bool × Parsed) × Spot) Fault = λ first read. Ok ((first.0.children, read.0), read.1) in
-    let a = bind_ok (first_at start table before s) (λ first. entry_at sections home None s.place first.0 before first.1 >>= last first) y e in
+    let a = bind_ok (first_at start table before s) (λ first. entry_at sections context None s.place first.0 before first.1 >>= last first) y e in
     let f = first_steps start table before s a.0 a.1 in
-    let b = bind_ok (entry_at sections home None s.place a.0.0 before a.0.1) (last a.0) y a.2 in
+    let b = bind_ok (entry_at sections context None s.place a.0.0 before a.0.1) (last a.0) y a.2 in
     record {
       code = f.code;
       coded = f.coded;
@@ -100,39 +100,39 @@ root_steps start sections home table before s y e =
       room = f.room;
       first = a.1 ∙ ap Ok (sym f.is);
       read = b.0;
-      entry = subst (λ (p : Abbrev × Spot). entry_at sections home None s.place p.0 before p.1 ≡ Ok b.0) (sym f.is) b.1;
+      entry = subst (λ (p : Abbrev × Spot). entry_at sections context None s.place p.0 before p.1 ≡ Ok b.0) (sym f.is) b.1;
       is = subst (λ (p : Abbrev × Spot). ((p.0.children, b.0.0), b.0.1) ≡ y) (sym f.is) (ok_is _ y b.2);
     }
 
 -- the bases of a unit
-pub record BasesSteps (start : Spot) (sections : SectionBytes) (home : Home) (table : List Abbrev) (before : Parsed) (s : Spot) (y : Bases) : Type 0 where
+pub record BasesSteps (start : Spot) (sections : SectionBytes) (context : UnitContext) (table : List Abbrev) (before : Parsed) (s : Spot) (y : Bases) : Type 0 where
   pub first : Abbrev × Spot
   pub first_is : first_at start table before s ≡ Ok first
   pub read : Described × Spot
-  pub attrs : attrs_at sections home true first.0.fields ([], []) first.1 ≡ Ok read
+  pub attrs : attrs_at sections context true first.0.fields ([], []) first.1 ≡ Ok read
   pub is : bases_in read.0.0 ≡ y
 
-pub bases_steps : (start : Spot) (sections : SectionBytes) (home : Home) (table : List Abbrev) (before : Parsed) (s : Spot) (y : Bases) → bases_at start sections home table before s ≡ Ok y → BasesSteps start sections home table before s y
+pub bases_steps : (start : Spot) (sections : SectionBytes) (context : UnitContext) (table : List Abbrev) (before : Parsed) (s : Spot) (y : Bases) → bases_at start sections context table before s ≡ Ok y → BasesSteps start sections context table before s y
 unfolding bases_at
-bases_steps start sections home table before s y e =
+bases_steps start sections context table before s y e =
     let last : Described × Spot → Result Bases Fault = λ read. Ok (bases_in read.0.0) in
-    let a = bind_ok (first_at start table before s) (λ first. attrs_at sections home true first.0.fields ([], []) first.1 >>= last) y e in
-    let b = bind_ok (attrs_at sections home true a.0.0.fields ([], []) a.0.1) last y a.2 in
+    let a = bind_ok (first_at start table before s) (λ first. attrs_at sections context true first.0.fields ([], []) first.1 >>= last) y e in
+    let b = bind_ok (attrs_at sections context true a.0.0.fields ([], []) a.0.1) last y a.2 in
     record { first = a.0; first_is = a.1; read = b.0; attrs = b.1; is = ok_is _ y b.2 }
 
 -- an entry of an open list, behind its code
-pub record ListedSteps (sections : SectionBytes) (home : Home) (declared : Abbrev) (walk : Walk) (first s : Spot) (y : Walk × Spot) : Type 0 where
+pub record ListedSteps (sections : SectionBytes) (context : UnitContext) (declared : Abbrev) (walk : Walk) (first s : Spot) (y : Walk × Spot) : Type 0 where
   pub depth : (declared.children && not (nat_lt (length walk.1) MOST_OPEN)) ≡ false
   pub room : is_full walk.0 ≡ false
   pub read : Parsed × Spot
-  pub entry : entry_at sections home (innermost walk.1) first.place declared walk.0 s ≡ Ok read
+  pub entry : entry_at sections context (innermost walk.1) first.place declared walk.0 s ≡ Ok read
   pub is : ((read.0, opened declared.children (length walk.0.entries) walk.1), read.1) ≡ y
 
-pub listed_steps : (sections : SectionBytes) (home : Home) (declared : Abbrev) (walk : Walk) (first s : Spot) (y : Walk × Spot) → listed_at sections home declared walk first s ≡ Ok y → ListedSteps sections home declared walk first s y
+pub listed_steps : (sections : SectionBytes) (context : UnitContext) (declared : Abbrev) (walk : Walk) (first s : Spot) (y : Walk × Spot) → listed_at sections context declared walk first s ≡ Ok y → ListedSteps sections context declared walk first s y
 unfolding listed_at
-listed_steps sections home declared walk first s y e =
+listed_steps sections context declared walk first s y e =
     let last : Parsed × Spot → Result (Walk × Spot) Fault = λ read. Ok ((read.0, opened declared.children (length walk.0.entries) walk.1), read.1) in
-    let entry = entry_at sections home (innermost walk.1) first.place declared walk.0 s in
+    let entry = entry_at sections context (innermost walk.1) first.place declared walk.0 s in
     let a = passed (declared.children && not (nat_lt (length walk.1) MOST_OPEN)) (fault_at first kinds.LimitDepth) (refuse_if (is_full walk.0) (fault_at first kinds.LimitEntries) >>= λ u. entry >>= last) y e in
     let b = passed (is_full walk.0) (fault_at first kinds.LimitEntries) (entry >>= last) y a.1 in
     let c = bind_ok entry last y b.1 in
@@ -145,39 +145,39 @@ pub record ClosingSteps (walk : Walk) (s : Spot) (y : Walk × Spot) : Type 0 whe
   pub zero_is : code.0 ≡ 0
   pub is : ((walk.0, closed walk.1), code.1) ≡ y
 
-pub record OpeningSteps (sections : SectionBytes) (home : Home) (table : List Abbrev) (walk : Walk) (s : Spot) (y : Walk × Spot) : Type 0 where
+pub record OpeningSteps (sections : SectionBytes) (context : UnitContext) (table : List Abbrev) (walk : Walk) (s : Spot) (y : Walk × Spot) : Type 0 where
   pub code : ℕ × Spot
   pub coded : uleb_at s ≡ Ok code
   pub some : (code.0 == 0) ≡ false
   pub declared : Abbrev
   pub found : declared_as code.0 table ≡ Some declared
-  pub listed : listed_at sections home declared walk s code.1 ≡ Ok y
+  pub listed : listed_at sections context declared walk s code.1 ≡ Ok y
 
-abbrev after_code : SectionBytes → Home → List Abbrev → Walk → Spot → ℕ × Spot → Result (Walk × Spot) Fault
-after_code sections home table walk s code =
-    if code.0 == 0 then Ok ((walk.0, closed walk.1), code.1) else (or_fault (declared_as code.0 table) (fault_at s kinds.UnknownCode) >>= λ declared. listed_at sections home declared walk s code.1)
+abbrev after_code : SectionBytes → UnitContext → List Abbrev → Walk → Spot → ℕ × Spot → Result (Walk × Spot) Fault
+after_code sections context table walk s code =
+    if code.0 == 0 then Ok ((walk.0, closed walk.1), code.1) else (or_fault (declared_as code.0 table) (fault_at s kinds.UnknownCode) >>= λ declared. listed_at sections context declared walk s code.1)
 
-pub child_steps : (sections : SectionBytes) (home : Home) (table : List Abbrev) (walk : Walk) (s : Spot) (y : Walk × Spot) → child_at sections home table walk s ≡ Ok y
-    → ClosingSteps walk s y ⊎ OpeningSteps sections home table walk s y
+pub child_steps : (sections : SectionBytes) (context : UnitContext) (table : List Abbrev) (walk : Walk) (s : Spot) (y : Walk × Spot) → child_at sections context table walk s ≡ Ok y
+    → ClosingSteps walk s y ⊎ OpeningSteps sections context table walk s y
 unfolding child_at
-child_steps sections home table walk s y e =
-    let a = bind_ok (uleb_at s) (after_code sections home table walk s) y e in
+child_steps sections context table walk s y e =
+    let a = bind_ok (uleb_at s) (after_code sections context table walk s) y e in
     elim (cases_eq a.0.0 0) [
       | inl z ↦
-          let step : after_code sections home table walk s a.0 ≡ Ok ((walk.0, closed walk.1), a.0.1) = rw (eq-eqb a.0.0 0 z) refl in
+          let step : after_code sections context table walk s a.0 ≡ Ok ((walk.0, closed walk.1), a.0.1) = rw (eq-eqb a.0.0 0 z) refl in
           inl (record { code = a.0; coded = a.1; zero_is = z; is = ok_is ((walk.0, closed walk.1), a.0.1) y (sym step ∙ a.2) })
       | inr nz ↦
-          let step : after_code sections home table walk s a.0 ≡ (or_fault (declared_as a.0.0 table) (fault_at s kinds.UnknownCode) >>= λ declared. listed_at sections home declared walk s a.0.1) = rw (ne_eqb a.0.0 0 nz) refl in
-          let b = bind_ok (or_fault (declared_as a.0.0 table) (fault_at s kinds.UnknownCode)) (λ declared. listed_at sections home declared walk s a.0.1) y (sym step ∙ a.2) in
+          let step : after_code sections context table walk s a.0 ≡ (or_fault (declared_as a.0.0 table) (fault_at s kinds.UnknownCode) >>= λ declared. listed_at sections context declared walk s a.0.1) = rw (ne_eqb a.0.0 0 nz) refl in
+          let b = bind_ok (or_fault (declared_as a.0.0 table) (fault_at s kinds.UnknownCode)) (λ declared. listed_at sections context declared walk s a.0.1) y (sym step ∙ a.2) in
           inr (record { code = a.0; coded = a.1; some = ne_eqb a.0.0 0 nz; declared = b.0; found = found_ok (declared_as a.0.0 table) (fault_at s kinds.UnknownCode) b.0 b.1; listed = b.2 })
     ]
 
 -- no list is open, or one is and an entry of it is read
-pub record ChildrenSteps (sections : SectionBytes) (home : Home) (table : List Abbrev) (left : ℕ) (walk : Walk) (s : Spot) (y : Parsed × Spot) : Type 0 where
+pub record ChildrenSteps (sections : SectionBytes) (context : UnitContext) (table : List Abbrev) (left : ℕ) (walk : Walk) (s : Spot) (y : Parsed × Spot) : Type 0 where
   pub still_open : (length walk.1 == 0) ≡ false
   pub read : Walk × Spot
-  pub child : child_at sections home table walk s ≡ Ok read
-  pub others : children_at sections home table left read.0 read.1 ≡ Ok y
+  pub child : child_at sections context table walk s ≡ Ok read
+  pub others : children_at sections context table left read.0 read.1 ≡ Ok y
 
 end_is : (b : Bool) (x y : Parsed × Spot) (f : Fault) → (if b then Ok x else Err f) ≡ Ok y → (b ≡ true) × (x ≡ y)
 end_is true x y f e = (refl, cc)
@@ -188,32 +188,32 @@ either_is true c x y f next e = inl (refl, cc)
 either_is false true x y f next e = absurd cc
 either_is false false x y f next e = inr (refl, e)
 
-pub children_end : (sections : SectionBytes) (home : Home) (table : List Abbrev) (walk : Walk) (s : Spot) (y : Parsed × Spot) → children_at sections home table zero walk s ≡ Ok y → ((length walk.1 == 0) ≡ true) × ((walk.0, s) ≡ y)
+pub children_end : (sections : SectionBytes) (context : UnitContext) (table : List Abbrev) (walk : Walk) (s : Spot) (y : Parsed × Spot) → children_at sections context table zero walk s ≡ Ok y → ((length walk.1 == 0) ≡ true) × ((walk.0, s) ≡ y)
 unfolding children_at
-children_end sections home table walk s y e = end_is (length walk.1 == 0) (walk.0, s) y (fault_at s kinds.UnclosedSiblings) e
+children_end sections context table walk s y e = end_is (length walk.1 == 0) (walk.0, s) y (fault_at s kinds.UnclosedSiblings) e
 
-pub children_steps : (sections : SectionBytes) (home : Home) (table : List Abbrev) (left : ℕ) (walk : Walk) (s : Spot) (y : Parsed × Spot) → children_at sections home table (suc left) walk s ≡ Ok y
-    → (((length walk.1 == 0) ≡ true) × ((walk.0, s) ≡ y)) ⊎ ChildrenSteps sections home table left walk s y
+pub children_steps : (sections : SectionBytes) (context : UnitContext) (table : List Abbrev) (left : ℕ) (walk : Walk) (s : Spot) (y : Parsed × Spot) → children_at sections context table (suc left) walk s ≡ Ok y
+    → (((length walk.1 == 0) ≡ true) × ((walk.0, s) ≡ y)) ⊎ ChildrenSteps sections context table left walk s y
 unfolding children_at
-children_steps sections home table left walk s y e =
-    let next : Result (Parsed × Spot) Fault = child_at sections home table walk s >>= λ read. children_at sections home table left read.0 read.1 in
+children_steps sections context table left walk s y e =
+    let next : Result (Parsed × Spot) Fault = child_at sections context table walk s >>= λ read. children_at sections context table left read.0 read.1 in
     elim (either_is (length walk.1 == 0) (s.end - s.place == 0) (walk.0, s) y (fault_at s kinds.UnclosedSiblings) next e) [
       | inl ended ↦ inl ended
       | inr more ↦
-          let b = bind_ok (child_at sections home table walk s) (λ read. children_at sections home table left read.0 read.1) y more.1 in
+          let b = bind_ok (child_at sections context table walk s) (λ read. children_at sections context table left read.0 read.1) y more.1 in
           inr (record { still_open = more.0; read = b.0; child = b.1; others = b.2 })
     ]
 
 -- a tree
-pub record TreeSteps (start : Spot) (sections : SectionBytes) (home : Home) (table : List Abbrev) (before : Parsed) (s : Spot) (y : Parsed × Spot) : Type 0 where
+pub record TreeSteps (start : Spot) (sections : SectionBytes) (context : UnitContext) (table : List Abbrev) (before : Parsed) (s : Spot) (y : Parsed × Spot) : Type 0 where
   pub root : (Bool × Parsed) × Spot
-  pub first : root_at start sections home table before s ≡ Ok root
-  pub others : children_at sections home table (root.1.end - root.1.place) (root.0.1, opened root.0.0 (length before.entries) []) root.1 ≡ Ok y
+  pub first : root_at start sections context table before s ≡ Ok root
+  pub others : children_at sections context table (root.1.end - root.1.place) (root.0.1, opened root.0.0 (length before.entries) []) root.1 ≡ Ok y
 
-pub tree_steps : (start : Spot) (sections : SectionBytes) (home : Home) (table : List Abbrev) (before : Parsed) (s : Spot) (y : Parsed × Spot) → tree_at start sections home table before s ≡ Ok y → TreeSteps start sections home table before s y
+pub tree_steps : (start : Spot) (sections : SectionBytes) (context : UnitContext) (table : List Abbrev) (before : Parsed) (s : Spot) (y : Parsed × Spot) → tree_at start sections context table before s ≡ Ok y → TreeSteps start sections context table before s y
 unfolding tree_at
-tree_steps start sections home table before s y e =
-    let a = bind_ok (root_at start sections home table before s) (λ root. children_at sections home table (root.1.end - root.1.place) (root.0.1, opened root.0.0 (length before.entries) []) root.1) y e in
+tree_steps start sections context table before s y e =
+    let a = bind_ok (root_at start sections context table before s) (λ root. children_at sections context table (root.1.end - root.1.place) (root.0.1, opened root.0.0 (length before.entries) []) root.1) y e in
     record { root = a.0; first = a.1; others = a.2 }
 
 -- a header
@@ -315,9 +315,9 @@ pub record UnitSteps (sections : SectionBytes) (number : ℕ) (before : Parsed) 
   pub table : List Abbrev
   pub table_is : table_at sections.abbrev_ header.0.table ≡ Ok table
   pub bases : Bases
-  pub bases_are : bases_at (info_at sections place) sections (home_in number place header.0.version None) table before header.1 ≡ Ok bases
+  pub bases_are : bases_at (info_at sections place) sections (context_in number place header.0.version None) table before header.1 ≡ Ok bases
   pub tree : Parsed × Spot
-  pub tree_is : tree_at (info_at sections place) sections (home_in number place header.0.version (Some bases)) table before header.1 ≡ Ok tree
+  pub tree_is : tree_at (info_at sections place) sections (context_in number place header.0.version (Some bases)) table before header.1 ≡ Ok tree
   pub others : List ℕ × Spot
   pub others_is : bytes_at (tree.1.end - tree.1.place) tree.1 ≡ Ok others
   pub zeros : not (list_all is_zero others.0) ≡ false
@@ -326,16 +326,16 @@ pub record UnitSteps (sections : SectionBytes) (number : ℕ) (before : Parsed) 
 pub unit_steps : (sections : SectionBytes) (number : ℕ) (before : Parsed) (place : ℕ) (y : (InUnit × Parsed) × ℕ) → unit_at sections number before place ≡ Ok y → UnitSteps sections number before place y
 unfolding unit_at zeros_at
 unit_steps sections number before place y e =
-    let home : Header × Spot → Option Bases → Home = λ header bases. home_in number place header.0.version bases in
+    let context : Header × Spot → Option Bases → UnitContext = λ header bases. context_in number place header.0.version bases in
     let start : Spot = info_at sections place in
     let last : Header × Spot → Parsed × Spot → Result ((InUnit × Parsed) × ℕ) Fault = λ header tree. Ok ((unit_from header.0.version (length before.entries) tree.0.entries, tree.0), header.0.end) in
     let zeros : Parsed × Spot → Result (Unit {0}) Fault = λ tree. bytes_at (tree.1.end - tree.1.place) tree.1 >>= λ others. refuse_if (not (list_all is_zero others.0)) (fault_at start kinds.BadUnit) in
-    let tree : Header × Spot → List Abbrev → Bases → Result ((InUnit × Parsed) × ℕ) Fault = λ header table bases. tree_at start sections (home header (Some bases)) table before header.1 >>= λ tree. zeros tree >>= λ u. last header tree in
-    let bases : Header × Spot → List Abbrev → Result ((InUnit × Parsed) × ℕ) Fault = λ header table. bases_at start sections (home header None) table before header.1 >>= tree header table in
+    let tree : Header × Spot → List Abbrev → Bases → Result ((InUnit × Parsed) × ℕ) Fault = λ header table bases. tree_at start sections (context header (Some bases)) table before header.1 >>= λ tree. zeros tree >>= λ u. last header tree in
+    let bases : Header × Spot → List Abbrev → Result ((InUnit × Parsed) × ℕ) Fault = λ header table. bases_at start sections (context header None) table before header.1 >>= tree header table in
     let a = bind_ok (header_at sections place) (λ header. table_at sections.abbrev_ header.0.table >>= λ table. bases header table) y e in
     let b = bind_ok (table_at sections.abbrev_ a.0.0.table) (λ table. bases a.0 table) y a.2 in
-    let g = bind_ok (bases_at start sections (home a.0 None) b.0 before a.0.1) (tree a.0 b.0) y b.2 in
-    let c = bind_ok (tree_at start sections (home a.0 (Some g.0)) b.0 before a.0.1) (λ tree. zeros tree >>= λ u. last a.0 tree) y g.2 in
+    let g = bind_ok (bases_at start sections (context a.0 None) b.0 before a.0.1) (tree a.0 b.0) y b.2 in
+    let c = bind_ok (tree_at start sections (context a.0 (Some g.0)) b.0 before a.0.1) (λ tree. zeros tree >>= λ u. last a.0 tree) y g.2 in
     let d = bind_ok (zeros c.0) (λ u. last a.0 c.0) y c.2 in
     let f = bind_ok (bytes_at (c.0.1.end - c.0.1.place) c.0.1) (λ others. refuse_if (not (list_all is_zero others.0)) (fault_at start kinds.BadUnit)) d.0 d.1 in
     record { header = a.0; header_is = a.1; table = b.0; table_is = b.1; bases = g.0; bases_are = g.1; tree = c.0; tree_is = c.1; others = f.0; others_is = f.1; zeros = refused_not (not (list_all is_zero f.0.0)) (fault_at start kinds.BadUnit) d.0 f.2; is = ok_is _ y d.2 }

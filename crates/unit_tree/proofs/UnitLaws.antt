@@ -23,7 +23,7 @@ use Rattle.dwarf_types.proofs.Readers.{IsBytes, IsBytes-drop, IsBytes-take, IsBy
 use Rattle.abbrev_read.proofs.TableLaws.{table_spelled}
 use Rattle.index_tables.specs.declared.bases.Bases.{Bases}
 use Rattle.index_tables.specs.Bases.{bases_in}
-use Rattle.unit_tree.specs.declared.attribute.Home.{Home}
+use Rattle.unit_tree.specs.declared.attribute.UnitContext.{UnitContext}
 use Rattle.unit_tree.specs.declared.entry.TheConstants.{MOST_ENTRIES}
 use Rattle.unit_tree.specs.declared.header.Header.{Header}
 use Rattle.ds_base.specs.declared.dwarf.TheConstants.{LENGTH_RESERVED}
@@ -35,7 +35,7 @@ use Rattle.unit_tree.specs.Header.{info_at, behind_length}
 use Rattle.unit_tree.specs.Reference.{leads, resolved}
 use Rattle.unit_tree.specs.Spelling.{Origin, origin_in, SpellsFields, SpellsHeader, Node, Forest, size, entry_of, preorder, UnitTree, unit_entries, entries_of, in_unit, in_units, raw_units, InTurnFrom, SpellsNode, SpellsBelow, SpellsTrees, IsShallow, NodeLeads, TreesLead, SpellsTree, AreZeros, SpellsBody, SpellsUnit, SpellsUnits, IsSoundUnit, AreSoundUnits, IsSpelled}
 use Rattle.unit_tree.specs.Spelling.Forest.{no_more}
-use Rattle.unit_tree.specs.Unit.{home_in, is_zero, unit_from, unit_at, units_at, units_of, nothing}
+use Rattle.unit_tree.specs.Unit.{context_in, is_zero, unit_from, unit_at, units_at, units_of, nothing}
 use Rattle.unit_tree.proofs.AttrLaws.{Lead, AreLow, lead_front, origin_of}
 use Rattle.unit_tree.proofs.RootBases.{RootBases, root_bases, unbased}
 use Rattle.unit_tree.proofs.Placed.{Passed, passed_then, stands_on, number_taken}
@@ -46,51 +46,51 @@ use Rattle.unit_tree.proofs.TreeLaws.{node_of, node_taken, OpenThere, open_entri
 
 -- ---- the tree of a unit
 
-record TreeTaken (all : List RawEntry) (start : Spot) (sections : SectionBytes) (home : Home) (table : List Abbrev) (before : Parsed) (s : Spot) (y : Parsed × Spot) : Type 0 where
+record TreeTaken (all : List RawEntry) (start : Spot) (sections : SectionBytes) (context : UnitContext) (table : List Abbrev) (before : Parsed) (s : Spot) (y : Parsed × Spot) : Type 0 where
   root : Node
   behind : Spot
   first : first_at start table before s ≡ Ok (root.declared, behind)
-  bases : RootBases sections home root.declared behind root.attrs
+  bases : RootBases sections context root.declared behind root.attrs
   kids : Forest
   bytes : List ℕ
-  spells : InTurnFrom (SpellsNode sections (origin_of home) table true root) (SpellsBelow root.declared.children (λ p b. SpellsTrees sections (origin_of home) table kids p b) kids) s.place bytes
+  spells : InTurnFrom (SpellsNode sections (origin_of context) table true root) (SpellsBelow root.declared.children (λ p b. SpellsTrees sections (origin_of context) table kids p b) kids) s.place bytes
   shallow : IsShallow 1 kids
-  root_leads : NodeLeads all home.unit root
-  kids_lead : TreesLead all home.unit kids
+  root_leads : NodeLeads all context.unit root
+  kids_lead : TreesLead all context.unit kids
   is_unit : root.declared.tag ≡ DW_TAG_compile_unit
   whole : is_split root.declared ≡ false
-  entries : y.0.entries ≡ before.entries ++ (entry_of home.unit None root ∷ preorder home.unit (Some (length before.entries)) (length before.entries + 1) kids)
+  entries : y.0.entries ≡ before.entries ++ (entry_of context.unit None root ∷ preorder context.unit (Some (length before.entries)) (length before.entries + 1) kids)
   references : List Reference
   grown : y.0.references ≡ before.references ++ references
   passed : Passed bytes s y.1
   few : length y.0.entries ≤ MOST_ENTRIES
 
 -- what is below a root
-record BelowRoot (all : List RawEntry) (sections : SectionBytes) (home : Home) (table : List Abbrev) (children : Bool) (number place : ℕ) (bytes : List ℕ) (entries : List RawEntry) : Type 0 where
+record BelowRoot (all : List RawEntry) (sections : SectionBytes) (context : UnitContext) (table : List Abbrev) (children : Bool) (number place : ℕ) (bytes : List ℕ) (entries : List RawEntry) : Type 0 where
   kids : Forest
-  spells : SpellsBelow children (λ p b. SpellsTrees sections (origin_of home) table kids p b) kids place bytes
+  spells : SpellsBelow children (λ p b. SpellsTrees sections (origin_of context) table kids p b) kids place bytes
   shallow : IsShallow 1 kids
-  leads_on : TreesLead all home.unit kids
-  entries_are : entries ≡ preorder home.unit (Some number) (number + 1) kids
+  leads_on : TreesLead all context.unit kids
+  entries_are : entries ≡ preorder context.unit (Some number) (number + 1) kids
 
-one_list : (all : List RawEntry) (sections : SectionBytes) (home : Home) (table : List Abbrev) (number place : ℕ) (bytes : List ℕ) (forests : List Forest) → OpenThere all sections home table (number ∷ []) forests place bytes
-    → BelowRoot all sections home table true number place bytes (open_entries home.unit (number + 1) (number ∷ []) forests)
-one_list all sections home table number place bytes [] there = absurd there
-one_list all sections home table number place bytes (kids ∷ []) there =
+one_list : (all : List RawEntry) (sections : SectionBytes) (context : UnitContext) (table : List Abbrev) (number place : ℕ) (bytes : List ℕ) (forests : List Forest) → OpenThere all sections context table (number ∷ []) forests place bytes
+    → BelowRoot all sections context table true number place bytes (open_entries context.unit (number + 1) (number ∷ []) forests)
+one_list all sections context table number place bytes [] there = absurd there
+one_list all sections context table number place bytes (kids ∷ []) there =
     let k = there.first in
     let is : there.front ≡ bytes = sym (there.is ∙ ap (λ (b : List ℕ). there.front ++ b) there.second ∙ append-nil there.front) in
-    record { kids = kids; spells = subst (SpellsTrees sections (origin_of home) table kids place) is k.spells; shallow = k.shallow; leads_on = k.leads_on; entries_are = append-nil (preorder home.unit (Some number) (number + 1) kids) }
-one_list all sections home table number place bytes (kids ∷ others ∷ forests) there = absurd there.second
+    record { kids = kids; spells = subst (SpellsTrees sections (origin_of context) table kids place) is k.spells; shallow = k.shallow; leads_on = k.leads_on; entries_are = append-nil (preorder context.unit (Some number) (number + 1) kids) }
+one_list all sections context table number place bytes (kids ∷ others ∷ forests) there = absurd there.second
 
-no_list : (all : List RawEntry) (sections : SectionBytes) (home : Home) (table : List Abbrev) (number place : ℕ) (bytes : List ℕ) (forests : List Forest) → OpenThere all sections home table [] forests place bytes
-    → BelowRoot all sections home table false number place bytes []
-no_list all sections home table number place bytes [] there = record { kids = no_more; spells = there; shallow = tt; leads_on = tt; entries_are = refl }
-no_list all sections home table number place bytes (trees ∷ forests) there = absurd there
+no_list : (all : List RawEntry) (sections : SectionBytes) (context : UnitContext) (table : List Abbrev) (number place : ℕ) (bytes : List ℕ) (forests : List Forest) → OpenThere all sections context table [] forests place bytes
+    → BelowRoot all sections context table false number place bytes []
+no_list all sections context table number place bytes [] there = record { kids = no_more; spells = there; shallow = tt; leads_on = tt; entries_are = refl }
+no_list all sections context table number place bytes (trees ∷ forests) there = absurd there
 
-root_taken : (all : List RawEntry) → AreLow all → (start : Spot) (sections : SectionBytes) (home : Home) (table : List Abbrev) (before : Parsed) (s : Spot) (z : (Bool × Parsed) × Spot) (y : Parsed × Spot) → Stands s
-    → RootSteps start sections home table before s z → children_at sections home table (z.1.end - z.1.place) (z.0.1, opened z.0.0 (length before.entries) []) z.1 ≡ Ok y → Lead all y.0.references
-    → TreeTaken all start sections home table before s y
-root_taken all low start sections home table before s z y stands root others h = go root.declared.children refl
+root_taken : (all : List RawEntry) → AreLow all → (start : Spot) (sections : SectionBytes) (context : UnitContext) (table : List Abbrev) (before : Parsed) (s : Spot) (z : (Bool × Parsed) × Spot) (y : Parsed × Spot) → Stands s
+    → RootSteps start sections context table before s z → children_at sections context table (z.1.end - z.1.place) (z.0.1, opened z.0.0 (length before.entries) []) z.1 ≡ Ok y → Lead all y.0.references
+    → TreeTaken all start sections context table before s y
+root_taken all low start sections context table before s z y stands root others h = go root.declared.children refl
   where
     number : ℕ
     number = length before.entries
@@ -101,26 +101,26 @@ root_taken all low start sections home table before s z y stands root others h =
     read : Parsed × Spot
     read = root.read
 
-    run : children_at sections home table (read.1.end - read.1.place) (read.0, opened declared.children number []) read.1 ≡ Ok y
-    run = subst (λ (x : (Bool × Parsed) × Spot). children_at sections home table (x.1.end - x.1.place) (x.0.1, opened x.0.0 number []) x.1 ≡ Ok y) (sym root.is) others
+    run : children_at sections context table (read.1.end - read.1.place) (read.0, opened declared.children number []) read.1 ≡ Ok y
+    run = subst (λ (x : (Bool × Parsed) × Spot). children_at sections context table (x.1.end - x.1.place) (x.0.1, opened x.0.0 number []) x.1 ≡ Ok y) (sym root.is) others
 
     stands_next : Stands read.1
-    stands_next = stands_on root.code.1 read.1 (stands_on s root.code.1 stands (uleb_onward s root.code root.coded)) (entry_onward sections home None s.place declared before root.code.1 read root.entry)
+    stands_next = stands_on root.code.1 read.1 (stands_on s root.code.1 stands (uleb_onward s root.code root.coded)) (entry_onward sections context None s.place declared before root.code.1 read root.entry)
 
-    joined : (stack : List ℕ) (r : ChildrenTaken all sections home table stack read.0 read.1 y)
-        → ((place : ℕ) → OpenThere all sections home table stack r.forests place r.bytes → BelowRoot all sections home table declared.children number place r.bytes (open_entries home.unit (number + 1) stack r.forests))
-        → TreeTaken all start sections home table before s y
+    joined : (stack : List ℕ) (r : ChildrenTaken all sections context table stack read.0 read.1 y)
+        → ((place : ℕ) → OpenThere all sections context table stack r.forests place r.bytes → BelowRoot all sections context table declared.children number place r.bytes (open_entries context.unit (number + 1) stack r.forests))
+        → TreeTaken all start sections context table before s y
     joined stack r below =
-        let nd = node_taken all low sections home table None declared before s root.code read stands root.coded root.some root.found root.entry (lead_front all read.0.references r.references (subst (Lead all) r.grown h)) in
+        let nd = node_taken all low sections context table None declared before s root.code read stands root.coded root.some root.found root.entry (lead_front all read.0.references r.references (subst (Lead all) r.grown h)) in
         let q = nd.passed in
-        let first : RawEntry = entry_of home.unit None (node_of declared s.place nd.attrs) in
+        let first : RawEntry = entry_of context.unit None (node_of declared s.place nd.attrs) in
         let len : length read.0.entries ≡ number + 1 = ap length nd.entries ∙ omega (arith, length-append before.entries (first ∷ [])) in
-        let b = below (s.place + length nd.bytes) (subst (λ (n : ℕ). OpenThere all sections home table stack r.forests n r.bytes) q.place r.there) in
+        let b = below (s.place + length nd.bytes) (subst (λ (n : ℕ). OpenThere all sections context table stack r.forests n r.bytes) q.place r.there) in
         record {
           root = node_of declared s.place nd.attrs;
           behind = root.code.1;
           first = root.first;
-          bases = root_bases sections home s.place declared before root.code.1 (node_of declared s.place nd.attrs) read root.entry nd.entries;
+          bases = root_bases sections context s.place declared before root.code.1 (node_of declared s.place nd.attrs) read root.entry nd.entries;
           kids = b.kids;
           bytes = nd.bytes ++ r.bytes;
           spells = record { front = nd.bytes; back = r.bytes; is = refl; first = nd.spells; second = b.spells };
@@ -130,9 +130,9 @@ root_taken all low start sections home table before s z y stands root others h =
           is_unit = eqb-true _ _ (not-false (declared.tag == DW_TAG_compile_unit) root.unit);
           whole = root.whole;
           entries = r.entries
-              ∙ ap (λ (n : ℕ). read.0.entries ++ open_entries home.unit n stack r.forests) len
-              ∙ ap (λ (es : List RawEntry). es ++ open_entries home.unit (number + 1) stack r.forests) nd.entries
-              ∙ append_assoc before.entries (first ∷ []) (open_entries home.unit (number + 1) stack r.forests)
+              ∙ ap (λ (n : ℕ). read.0.entries ++ open_entries context.unit n stack r.forests) len
+              ∙ ap (λ (es : List RawEntry). es ++ open_entries context.unit (number + 1) stack r.forests) nd.entries
+              ∙ append_assoc before.entries (first ∷ []) (open_entries context.unit (number + 1) stack r.forests)
               ∙ ap (λ (es : List RawEntry). before.entries ++ first ∷ es) b.entries_are;
           references = nd.references ++ r.references;
           grown = r.grown ∙ ap (λ (rs : List Reference). rs ++ r.references) nd.grown ∙ append_assoc before.references nd.references r.references;
@@ -140,22 +140,22 @@ root_taken all low start sections home table before s z y stands root others h =
           few = r.few (omega (arith, len, has_room before root.room));
         }
 
-    still : (c : Bool) → declared.children ≡ c → children_at sections home table (read.1.end - read.1.place) (read.0, opened c number []) read.1 ≡ Ok y
-    still c has = subst (λ (b : Bool). children_at sections home table (read.1.end - read.1.place) (read.0, opened b number []) read.1 ≡ Ok y) has run
+    still : (c : Bool) → declared.children ≡ c → children_at sections context table (read.1.end - read.1.place) (read.0, opened c number []) read.1 ≡ Ok y
+    still c has = subst (λ (b : Bool). children_at sections context table (read.1.end - read.1.place) (read.0, opened b number []) read.1 ≡ Ok y) has run
 
-    go : (b : Bool) → declared.children ≡ b → TreeTaken all start sections home table before s y
+    go : (b : Bool) → declared.children ≡ b → TreeTaken all start sections context table before s y
     go true has =
-        let r = children_taken all low sections home table (read.1.end - read.1.place) (number ∷ []) read.0 read.1 y stands_next (still true has) h in
-        joined (number ∷ []) r (λ place there. subst (λ (c : Bool). BelowRoot all sections home table c number place r.bytes (open_entries home.unit (number + 1) (number ∷ []) r.forests)) (sym has) (one_list all sections home table number place r.bytes r.forests there))
+        let r = children_taken all low sections context table (read.1.end - read.1.place) (number ∷ []) read.0 read.1 y stands_next (still true has) h in
+        joined (number ∷ []) r (λ place there. subst (λ (c : Bool). BelowRoot all sections context table c number place r.bytes (open_entries context.unit (number + 1) (number ∷ []) r.forests)) (sym has) (one_list all sections context table number place r.bytes r.forests there))
     go false has =
-        let r = children_taken all low sections home table (read.1.end - read.1.place) [] read.0 read.1 y stands_next (still false has) h in
-        joined [] r (λ place there. subst (λ (c : Bool). BelowRoot all sections home table c number place r.bytes (open_entries home.unit (number + 1) [] r.forests)) (sym has) (no_list all sections home table number place r.bytes r.forests there))
+        let r = children_taken all low sections context table (read.1.end - read.1.place) [] read.0 read.1 y stands_next (still false has) h in
+        joined [] r (λ place there. subst (λ (c : Bool). BelowRoot all sections context table c number place r.bytes (open_entries context.unit (number + 1) [] r.forests)) (sym has) (no_list all sections context table number place r.bytes r.forests there))
 
-tree_taken : (all : List RawEntry) → AreLow all → (start : Spot) (sections : SectionBytes) (home : Home) (table : List Abbrev) (before : Parsed) (s : Spot) (y : Parsed × Spot) → Stands s → tree_at start sections home table before s ≡ Ok y → Lead all y.0.references
-    → TreeTaken all start sections home table before s y
-tree_taken all low start sections home table before s y stands e h =
-    let w = tree_steps start sections home table before s y e in
-    root_taken all low start sections home table before s w.root y stands (root_steps start sections home table before s w.root w.first) w.others h
+tree_taken : (all : List RawEntry) → AreLow all → (start : Spot) (sections : SectionBytes) (context : UnitContext) (table : List Abbrev) (before : Parsed) (s : Spot) (y : Parsed × Spot) → Stands s → tree_at start sections context table before s ≡ Ok y → Lead all y.0.references
+    → TreeTaken all start sections context table before s y
+tree_taken all low start sections context table before s y stands e h =
+    let w = tree_steps start sections context table before s y e in
+    root_taken all low start sections context table before s w.root y stands (root_steps start sections context table before s w.root w.first) w.others h
 
 -- ---- a unit
 
@@ -331,12 +331,12 @@ body_spells sections o t place header tree_bytes zeros header_is spells empty =
     record { front = header; back = tree_bytes ++ zeros; is = refl; first = header_is; second = record { front = tree_bytes; back = zeros; is = refl; first = spells; second = empty } }
 
 -- the bases with which a unit is read are those in its root
-bases_same : (start : Spot) (sections : SectionBytes) (home : Home) (table : List Abbrev) (before : Parsed) (s : Spot) (bases : Bases) (root : Node) (behind : Spot) → bases_at start sections (unbased home) table before s ≡ Ok bases
-    → first_at start table before s ≡ Ok (root.declared, behind) → RootBases sections home root.declared behind root.attrs → bases ≡ bases_in root.attrs
-bases_same start sections home table before s bases root behind e first known =
-    let w = bases_steps start sections (unbased home) table before s bases e in
+bases_same : (start : Spot) (sections : SectionBytes) (context : UnitContext) (table : List Abbrev) (before : Parsed) (s : Spot) (bases : Bases) (root : Node) (behind : Spot) → bases_at start sections (unbased context) table before s ≡ Ok bases
+    → first_at start table before s ≡ Ok (root.declared, behind) → RootBases sections context root.declared behind root.attrs → bases ≡ bases_in root.attrs
+bases_same start sections context table before s bases root behind e first known =
+    let w = bases_steps start sections (unbased context) table before s bases e in
     let there : (root.declared, behind) ≡ w.first = ok_is (root.declared, behind) w.first (sym first ∙ w.first_is) in
-    let again : attrs_at sections (unbased home) true root.declared.fields ([], []) behind ≡ Ok w.read = subst (λ (p : Abbrev × Spot). attrs_at sections (unbased home) true p.0.fields ([], []) p.1 ≡ Ok w.read) (sym there) w.attrs in
+    let again : attrs_at sections (unbased context) true root.declared.fields ([], []) behind ≡ Ok w.read = subst (λ (p : Abbrev × Spot). attrs_at sections (unbased context) true p.0.fields ([], []) p.1 ≡ Ok w.read) (sym there) w.attrs in
     let read : known.read ≡ w.read = ok_is known.read w.read (sym known.reads ∙ again) in
     sym w.is ∙ ap (λ (r : Described × Spot). bases_in r.0.0) (sym read) ∙ known.same
 
@@ -348,19 +348,19 @@ unit_taken all low sections number before place y info abbrev_bytes le e h =
     let p = hd.passed in
     let s : Spot = behind_length sections place hd.len in
     let version : ℕ = w.header.0.version in
-    let home : Home = home_in number place version (Some w.bases) in
+    let context : UnitContext = context_in number place version (Some w.bases) in
     subst (λ (x : (InUnit × Parsed) × ℕ). Lead all x.0.1.references → UnitTaken all sections number before place x) w.is
     (λ k.
-    let tk = tree_taken all low (info_at sections place) sections home w.table before w.header.1 w.tree p.stands w.tree_is k in
+    let tk = tree_taken all low (info_at sections place) sections context w.table before w.header.1 w.tree p.stands w.tree_is k in
     let tp = tk.passed in
     let t : UnitTree = record { version = version; offset = w.header.0.table; table = w.table; root = tk.root; kids = tk.kids } in
     let tail : w.others.0 ≡ rest w.tree.1 = all_left w.tree.1 w.others w.others_is in
     let front : List ℕ = hd.header in
     let body : body_at sections place hd.len ≡ front ++ (tk.bytes ++ w.others.0) = sym (body_left sections place hd.len) ∙ p.parts ∙ ap (λ (xs : List ℕ). front ++ xs) (tp.parts ∙ ap (λ (xs : List ℕ). tk.bytes ++ xs) (sym tail)) in
     let len : length (body_at sections place hd.len) ≡ hd.len = length_body sections place hd.len hd.inside in
-    let same : w.bases ≡ bases_in tk.root.attrs = bases_same (info_at sections place) sections home w.table before w.header.1 w.bases tk.root tk.behind w.bases_are tk.first tk.bases in
-    let read : SpellsBody sections (origin_of home) t (place + 4) (front ++ (tk.bytes ++ w.others.0)) =
-    body_spells sections (origin_of home) t (place + 4) front tk.bytes w.others.0 hd.header_is (subst (λ (n : ℕ). SpellsTree sections (origin_of home) t n tk.bytes) p.place tk.spells) (not-false (list_all is_zero w.others.0) w.zeros) in
+    let same : w.bases ≡ bases_in tk.root.attrs = bases_same (info_at sections place) sections context w.table before w.header.1 w.bases tk.root tk.behind w.bases_are tk.first tk.bases in
+    let read : SpellsBody sections (origin_of context) t (place + 4) (front ++ (tk.bytes ++ w.others.0)) =
+    body_spells sections (origin_of context) t (place + 4) front tk.bytes w.others.0 hd.header_is (subst (λ (n : ℕ). SpellsTree sections (origin_of context) t n tk.bytes) p.place tk.spells) (not-false (list_all is_zero w.others.0) w.zeros) in
     let known : SpellsBody sections (origin_in place t) t (place + 4) (front ++ (tk.bytes ++ w.others.0)) = subst (λ (b : Bases). SpellsBody sections (record { place = place; version = version; bases = Some b }) t (place + 4) (front ++ (tk.bytes ++ w.others.0))) same read in
     let spells : SpellsBody sections (origin_in place t) t (place + 4) (body_at sections place hd.len) = subst (SpellsBody sections (origin_in place t) t (place + 4)) (sym body) known in
     let four = length_number 4 hd.len hd.count hd.counts in

@@ -19,7 +19,7 @@ use Rattle.abbrev_read.specs.Reading.{table_at}
 use Rattle.abbrev_read.proofs.TableLaws.{table_read}
 use Rattle.index_tables.specs.declared.bases.Bases.{Bases}
 use Rattle.index_tables.specs.Bases.{bases_in}
-use Rattle.unit_tree.specs.declared.attribute.Home.{Home}
+use Rattle.unit_tree.specs.declared.attribute.UnitContext.{UnitContext}
 use Rattle.unit_tree.specs.declared.entry.TheConstants.{MOST_ENTRIES}
 use Rattle.unit_tree.specs.declared.header.Header.{Header}
 use Rattle.ds_base.specs.declared.dwarf.TheConstants.{LENGTH_RESERVED}
@@ -31,7 +31,7 @@ use Rattle.unit_tree.specs.Header.{info_at, behind_length, is_bad_length, fields
 use Rattle.unit_tree.specs.Reference.{leads, resolved}
 use Rattle.unit_tree.specs.Spelling.{Origin, origin_in, SpellsFields, SpellsHeader, Node, Forest, size, entry_of, preorder, UnitTree, unit_entries, entries_of, in_unit, in_units, raw_units, SpellsNode, SpellsBelow, SpellsTrees, SpellsTree, AreZeros, SpellsUnit, SpellsUnits, IsSoundUnit, AreSoundUnits, SpellsObject}
 use Rattle.unit_tree.specs.Spelling.Forest.{no_more, tree}
-use Rattle.unit_tree.specs.Unit.{home_in, zeros_at, unit_from, unit_at, units_at, units_of, nothing}
+use Rattle.unit_tree.specs.Unit.{context_in, zeros_at, unit_from, unit_at, units_at, units_of, nothing}
 use Rattle.unit_tree.proofs.AttrLaws.{Lead, AreLow, both_true, origin_of}
 use Rattle.unit_tree.proofs.ChildLoop.{ends}
 use Rattle.unit_tree.proofs.Placed.{Passed, passed_then, number_goes}
@@ -108,11 +108,11 @@ turns_fit sections o table (tree node kids others) at bytes w =
 
 -- ---- the tree of a unit
 
-record TreeGoes (all : List RawEntry) (start : Spot) (sections : SectionBytes) (home : Home) (t : UnitTree) (before : Parsed) (s : Spot) (bytes more : List ℕ) : Type 0 where
+record TreeGoes (all : List RawEntry) (start : Spot) (sections : SectionBytes) (context : UnitContext) (t : UnitTree) (before : Parsed) (s : Spot) (bytes more : List ℕ) : Type 0 where
   references : List Reference
   next : Spot
-  bases : bases_at start sections (unbased home) t.table before s ≡ Ok (bases_in t.root.attrs)
-  reads : tree_at start sections home t.table before s ≡ Ok (parsed (before.entries ++ unit_entries home.unit (length before.entries) t) references, next)
+  bases : bases_at start sections (unbased context) t.table before s ≡ Ok (bases_in t.root.attrs)
+  reads : tree_at start sections context t.table before s ≡ Ok (parsed (before.entries ++ unit_entries context.unit (length before.entries) t) references, next)
   lead : Lead all references
   passed : Passed bytes s next
   left : rest next ≡ more
@@ -123,30 +123,30 @@ unfolding first_at
 first_reads start table declared before s code coded some found unit whole room =
     rw (coded, some, found, eq-eqb declared.tag DW_TAG_compile_unit unit, whole, room) refl
 
-root_reads : (start : Spot) (sections : SectionBytes) (home : Home) (table : List Abbrev) (declared : Abbrev) (before : Parsed) (s behind : Spot) (read : Parsed × Spot) → first_at start table before s ≡ Ok (declared, behind)
-    → entry_at sections home None s.place declared before behind ≡ Ok read → root_at start sections home table before s ≡ Ok ((declared.children, read.0), read.1)
+root_reads : (start : Spot) (sections : SectionBytes) (context : UnitContext) (table : List Abbrev) (declared : Abbrev) (before : Parsed) (s behind : Spot) (read : Parsed × Spot) → first_at start table before s ≡ Ok (declared, behind)
+    → entry_at sections context None s.place declared before behind ≡ Ok read → root_at start sections context table before s ≡ Ok ((declared.children, read.0), read.1)
 unfolding root_at
-root_reads start sections home table declared before s behind read first entry = rw (first, entry) refl
+root_reads start sections context table declared before s behind read first entry = rw (first, entry) refl
 
-bases_read : (start : Spot) (sections : SectionBytes) (home : Home) (table : List Abbrev) (declared : Abbrev) (before : Parsed) (s behind : Spot) (attrs : List RawAttr) → first_at start table before s ≡ Ok (declared, behind)
-    → RootBases sections home declared behind attrs → bases_at start sections (unbased home) table before s ≡ Ok (bases_in attrs)
+bases_read : (start : Spot) (sections : SectionBytes) (context : UnitContext) (table : List Abbrev) (declared : Abbrev) (before : Parsed) (s behind : Spot) (attrs : List RawAttr) → first_at start table before s ≡ Ok (declared, behind)
+    → RootBases sections context declared behind attrs → bases_at start sections (unbased context) table before s ≡ Ok (bases_in attrs)
 unfolding bases_at
-bases_read start sections home table declared before s behind attrs first known = rw (first, known.reads) (ap (λ (b : Bases). Ok b) known.same)
+bases_read start sections context table declared before s behind attrs first known = rw (first, known.reads) (ap (λ (b : Bases). Ok b) known.same)
 
-tree_reads : (start : Spot) (sections : SectionBytes) (home : Home) (table : List Abbrev) (before : Parsed) (s : Spot) (root : (Bool × Parsed) × Spot) → root_at start sections home table before s ≡ Ok root
-    → tree_at start sections home table before s ≡ children_at sections home table (root.1.end - root.1.place) (root.0.1, opened root.0.0 (length before.entries) []) root.1
+tree_reads : (start : Spot) (sections : SectionBytes) (context : UnitContext) (table : List Abbrev) (before : Parsed) (s : Spot) (root : (Bool × Parsed) × Spot) → root_at start sections context table before s ≡ Ok root
+    → tree_at start sections context table before s ≡ children_at sections context table (root.1.end - root.1.place) (root.0.1, opened root.0.0 (length before.entries) []) root.1
 unfolding tree_at
-tree_reads start sections home table before s root first = rw first refl
+tree_reads start sections context table before s root first = rw first refl
 
-unit_tree_goes : (all : List RawEntry) → AreLow all → (start : Spot) (sections : SectionBytes) (home : Home) (t : UnitTree) (before : Parsed) (s : Spot) (bytes more : List ℕ) → Stands s → SpellsTree sections (origin_of home) t s.place bytes → IsSoundUnit all home.unit t
-    → t.root.declared.tag ≡ DW_TAG_compile_unit → is_split t.root.declared ≡ false → Lead all before.references → length before.entries + 1 + size t.kids ≤ MOST_ENTRIES → rest s ≡ bytes ++ more → TreeGoes all start sections home t before s bytes more
-unit_tree_goes all low start sections home t before s bytes more stands spells sound unit whole lead room parts = go t.root.declared.children refl
+unit_tree_goes : (all : List RawEntry) → AreLow all → (start : Spot) (sections : SectionBytes) (context : UnitContext) (t : UnitTree) (before : Parsed) (s : Spot) (bytes more : List ℕ) → Stands s → SpellsTree sections (origin_of context) t s.place bytes → IsSoundUnit all context.unit t
+    → t.root.declared.tag ≡ DW_TAG_compile_unit → is_split t.root.declared ≡ false → Lead all before.references → length before.entries + 1 + size t.kids ≤ MOST_ENTRIES → rest s ≡ bytes ++ more → TreeGoes all start sections context t before s bytes more
+unit_tree_goes all low start sections context t before s bytes more stands spells sound unit whole lead room parts = go t.root.declared.children refl
   where
     number : ℕ
     number = length before.entries
 
     first : RawEntry
-    first = entry_of home.unit None t.root
+    first = entry_of context.unit None t.root
 
     a : List ℕ
     a = spells.front
@@ -157,8 +157,8 @@ unit_tree_goes all low start sections home t before s bytes more stands spells s
     whole_is : rest s ≡ a ++ (k ++ more)
     whole_is = parts ∙ ap (λ (b : List ℕ). b ++ more) spells.is ∙ append_assoc a k more
 
-    g : NodeGoes all sections home t.table None t.root before s a (k ++ more)
-    g = node_goes all low sections home t.table None t.root before s a (k ++ more) stands spells.first sound.root_leads lead whole_is
+    g : NodeGoes all sections context t.table None t.root before s a (k ++ more)
+    g = node_goes all low sections context t.table None t.root before s a (k ++ more) stands spells.first sound.root_leads lead whole_is
 
     q : Passed a s g.next
     q = g.passed
@@ -172,47 +172,47 @@ unit_tree_goes all low start sections home t before s bytes more stands spells s
     head : first_at start t.table before s ≡ Ok (t.root.declared, g.code.1)
     head = first_reads start t.table t.root.declared before s g.code g.coded g.some g.found unit whole (room_for before (omega (arith, room)))
 
-    root : root_at start sections home t.table before s ≡ Ok ((t.root.declared.children, one), g.next)
-    root = root_reads start sections home t.table t.root.declared before s g.code.1 (one, g.next) head g.reads
+    root : root_at start sections context t.table before s ≡ Ok ((t.root.declared.children, one), g.next)
+    root = root_reads start sections context t.table t.root.declared before s g.code.1 (one, g.next) head g.reads
 
-    bases_are : bases_at start sections (unbased home) t.table before s ≡ Ok (bases_in t.root.attrs)
-    bases_are = bases_read start sections home t.table t.root.declared before s g.code.1 t.root.attrs head (root_bases sections home s.place t.root.declared before g.code.1 t.root (one, g.next) g.reads refl)
+    bases_are : bases_at start sections (unbased context) t.table before s ≡ Ok (bases_in t.root.attrs)
+    bases_are = bases_read start sections context t.table t.root.declared before s g.code.1 t.root.attrs head (root_bases sections context s.place t.root.declared before g.code.1 t.root (one, g.next) g.reads refl)
 
-    reads : (c : Bool) → t.root.declared.children ≡ c → tree_at start sections home t.table before s ≡ children_at sections home t.table (g.next.end - g.next.place) (one, opened c number []) g.next
+    reads : (c : Bool) → t.root.declared.children ≡ c → tree_at start sections context t.table before s ≡ children_at sections context t.table (g.next.end - g.next.place) (one, opened c number []) g.next
     reads c has =
-        tree_reads start sections home t.table before s ((t.root.declared.children, one), g.next) root
-        ∙ ap (λ (v : Bool). children_at sections home t.table (g.next.end - g.next.place) (one, opened v number []) g.next) has
+        tree_reads start sections context t.table before s ((t.root.declared.children, one), g.next) root
+        ∙ ap (λ (v : Bool). children_at sections context t.table (g.next.end - g.next.place) (one, opened v number []) g.next) has
 
-    go : (b : Bool) → t.root.declared.children ≡ b → TreeGoes all start sections home t before s bytes more
+    go : (b : Bool) → t.root.declared.children ≡ b → TreeGoes all start sections context t before s bytes more
     go true has =
-        let below = below_list t.root.declared.children (λ x y. SpellsTrees sections (origin_of home) t.table t.kids x y) t.kids (s.place + length a) k has spells.second in
-        let here = subst (λ (n : ℕ). SpellsTrees sections (origin_of home) t.table t.kids n k) (sym q.place) below in
-        let there : TreesThere all sections home t.table 1 t.kids g.next.place k = record { spells = here; shallow = sound.shallow; leads_on = sound.kids_lead } in
-        let gk = trees_go all low sections home t.table t.kids number [] one g.next k more q.stands there g.lead (omega (arith, len_one, room)) g.left in
+        let below = below_list t.root.declared.children (λ x y. SpellsTrees sections (origin_of context) t.table t.kids x y) t.kids (s.place + length a) k has spells.second in
+        let here = subst (λ (n : ℕ). SpellsTrees sections (origin_of context) t.table t.kids n k) (sym q.place) below in
+        let there : TreesThere all sections context t.table 1 t.kids g.next.place k = record { spells = here; shallow = sound.shallow; leads_on = sound.kids_lead } in
+        let gk = trees_go all low sections context t.table t.kids number [] one g.next k more q.stands there g.lead (omega (arith, len_one, room)) g.left in
         let fuel : ℕ = g.next.end - g.next.place in
-        let enough : turns t.kids ≤ fuel = omega (arith, turns_fit sections (origin_of home) t.table t.kids g.next.place k here, length_rest g.next q.stands, ap length g.left, length-append k more) in
+        let enough : turns t.kids ≤ fuel = omega (arith, turns_fit sections (origin_of context) t.table t.kids g.next.place k here, length_rest g.next q.stands, ap length g.left, length-append k more) in
         let count : fuel ≡ turns t.kids + (fuel - turns t.kids) = omega (arith, enough) in
-        let two : Parsed = parsed (one.entries ++ preorder home.unit (Some number) (length one.entries) t.kids) gk.references in
+        let two : Parsed = parsed (one.entries ++ preorder context.unit (Some number) (length one.entries) t.kids) gk.references in
         record {
           references = gk.references;
           next = gk.next;
           bases = bases_are;
           reads = reads true has
-              ∙ ap (λ (n : ℕ). children_at sections home t.table n (one, back (number ∷ [])) g.next) count
+              ∙ ap (λ (n : ℕ). children_at sections context t.table n (one, back (number ∷ [])) g.next) count
               ∙ gk.reads (fuel - turns t.kids)
-              ∙ ends sections home t.table (fuel - turns t.kids) (two, []) gk.next refl
-              ∙ ap (λ (es : List RawEntry). Ok (parsed es gk.references, gk.next)) (ap (λ (n : ℕ). one.entries ++ preorder home.unit (Some number) n t.kids) len_one ∙ append_assoc before.entries (first ∷ []) (preorder home.unit (Some number) (number + 1) t.kids));
+              ∙ ends sections context t.table (fuel - turns t.kids) (two, []) gk.next refl
+              ∙ ap (λ (es : List RawEntry). Ok (parsed es gk.references, gk.next)) (ap (λ (n : ℕ). one.entries ++ preorder context.unit (Some number) n t.kids) len_one ∙ append_assoc before.entries (first ∷ []) (preorder context.unit (Some number) (number + 1) t.kids));
           lead = gk.lead;
           passed = subst (λ (b : List ℕ). Passed b s gk.next) (sym spells.is) (passed_then a k s g.next gk.next q gk.passed);
           left = gk.left;
         }
     go false has =
-        let none = below_none t.root.declared.children (λ x y. SpellsTrees sections (origin_of home) t.table t.kids x y) t.kids (s.place + length a) k has spells.second in
+        let none = below_none t.root.declared.children (λ x y. SpellsTrees sections (origin_of context) t.table t.kids x y) t.kids (s.place + length a) k has spells.second in
         record {
           references = g.references;
           next = g.next;
           bases = bases_are;
-          reads = reads false has ∙ ends sections home t.table (g.next.end - g.next.place) (one, []) g.next refl ∙ ap (λ (f : Forest). Ok (parsed (before.entries ++ first ∷ preorder home.unit (Some number) (number + 1) f) g.references, g.next)) (sym none.0);
+          reads = reads false has ∙ ends sections context t.table (g.next.end - g.next.place) (one, []) g.next refl ∙ ap (λ (f : Forest). Ok (parsed (before.entries ++ first ∷ preorder context.unit (Some number) (number + 1) f) g.references, g.next)) (sym none.0);
           lead = g.lead;
           passed = subst (λ (b : List ℕ). Passed b s g.next) (sym (spells.is ∙ ap (λ (b : List ℕ). a ++ b) none.1 ∙ append-nil a)) q;
           left = g.left ∙ ap (λ (b : List ℕ). b ++ more) none.1;
@@ -333,8 +333,8 @@ record UnitGoes (all : List RawEntry) (sections : SectionBytes) (number : ℕ) (
   lead : Lead all references
 
 unit_reads : (sections : SectionBytes) (number : ℕ) (before : Parsed) (place : ℕ) (header : Header × Spot) (table : List Abbrev) (bases : Bases) (read : Parsed × Spot) → header_at sections place ≡ Ok header → table_at sections.abbrev_ header.0.table ≡ Ok table
-    → bases_at (info_at sections place) sections (home_in number place header.0.version None) table before header.1 ≡ Ok bases
-    → tree_at (info_at sections place) sections (home_in number place header.0.version (Some bases)) table before header.1 ≡ Ok read → zeros_at (info_at sections place) read.1 ≡ Ok tt
+    → bases_at (info_at sections place) sections (context_in number place header.0.version None) table before header.1 ≡ Ok bases
+    → tree_at (info_at sections place) sections (context_in number place header.0.version (Some bases)) table before header.1 ≡ Ok read → zeros_at (info_at sections place) read.1 ≡ Ok tt
     → unit_at sections number before place ≡ Ok ((unit_from header.0.version (length before.entries) read.0.entries, read.0), header.0.end)
 unfolding unit_at
 unit_reads sections number before place header table bases read a b c d e = rw (a, b, c, d, e) refl
@@ -350,8 +350,8 @@ unit_goes all low sections number t before place bytes more info abbrev_bytes le
     let before_end = hd.stands in
     let in_order = before_end.place in
     let at : place + 4 + length v.front ≡ hd.next.place = omega (arith, hd.end, len, length_rest hd.next hd.stands, ap length hd.left, in_order.before_end) in
-    let home : Home = home_in number place t.version (Some (bases_in t.root.attrs)) in
-    let tg = unit_tree_goes all low (info_at sections place) sections home t before hd.next b.front b.back hd.stands (subst (λ (n : ℕ). SpellsTree sections (origin_in place t) t n b.front) at b.first) sound w.is_unit w.whole lead room hd.left in
+    let context : UnitContext = context_in number place t.version (Some (bases_in t.root.attrs)) in
+    let tg = unit_tree_goes all low (info_at sections place) sections context t before hd.next b.front b.back hd.stands (subst (λ (n : ℕ). SpellsTree sections (origin_in place t) t n b.front) at b.first) sound w.is_unit w.whole lead room hd.left in
     let tp = tg.passed in
     let entries : List RawEntry = before.entries ++ unit_entries number (length before.entries) t in
     let table = table_read sections.abbrev_ t.offset t.table w.inside abbrev_bytes w.table in

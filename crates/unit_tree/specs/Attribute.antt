@@ -16,7 +16,7 @@ use Rattle.form_value.specs.Reading.{text_of, value_at}
 use Rattle.index_tables.specs.declared.bases.Bases.{Bases}
 use Rattle.index_tables.specs.Tables.{text_place, address_place, list_place}
 use Rattle.unit_tree.specs.declared.header.TheConstants.{DWARF_5}
-use Rattle.unit_tree.specs.declared.attribute.Home.{Home}
+use Rattle.unit_tree.specs.declared.attribute.UnitContext.{UnitContext}
 use Rattle.unit_tree.specs.declared.meaning.Meaning.{Meaning}
 use Rattle.unit_tree.specs.declared.meaning.Meaning.TheVariants.{InUnit, InObject, LineTable, RangeList, LocationList, TextIndex, AddressIndex, RangeListIndex, LocationListIndex, Other}
 use Rattle.unit_tree.specs.declared.reference.Reference.{Reference}
@@ -78,28 +78,28 @@ list_named section (Some base) n s = do
   offset_in section place s
 
 -- what a number means, which stands here
-unfoldable pub meant_at : SectionBytes → Home → Bool → Meaning → ℕ → Spot → Result (Value × Option Reference) Fault
-meant_at sections home lines InUnit n s = Ok (reference_to (home.place + n) (Some home.unit) s)
-meant_at sections home lines InObject n s = Ok (reference_to n None s)
-meant_at sections home lines LineTable n s = if lines then offset_in sections.line n s else Ok (values.Offset n, None)
-meant_at sections home lines RangeList n s = offset_in (ranges_of home.version sections) n s
-meant_at sections home lines LocationList n s = offset_in (locations_of home.version sections) n s
-meant_at sections home lines TextIndex n s = text_named sections home.bases n s
-meant_at sections home lines AddressIndex n s = address_named sections home.bases n s
-meant_at sections home lines RangeListIndex n s = list_named sections.rnglists (option_map (λ bases. bases.ranges) home.bases) n s
-meant_at sections home lines LocationListIndex n s = list_named sections.loclists (option_map (λ bases. bases.locations) home.bases) n s
-meant_at sections home lines Other n s = Ok (values.Offset n, None)
+unfoldable pub meant_at : SectionBytes → UnitContext → Bool → Meaning → ℕ → Spot → Result (Value × Option Reference) Fault
+meant_at sections context lines InUnit n s = Ok (reference_to (context.place + n) (Some context.unit) s)
+meant_at sections context lines InObject n s = Ok (reference_to n None s)
+meant_at sections context lines LineTable n s = if lines then offset_in sections.line n s else Ok (values.Offset n, None)
+meant_at sections context lines RangeList n s = offset_in (ranges_of context.version sections) n s
+meant_at sections context lines LocationList n s = offset_in (locations_of context.version sections) n s
+meant_at sections context lines TextIndex n s = text_named sections context.bases n s
+meant_at sections context lines AddressIndex n s = address_named sections context.bases n s
+meant_at sections context lines RangeListIndex n s = list_named sections.rnglists (option_map (λ bases. bases.ranges) context.bases) n s
+meant_at sections context lines LocationListIndex n s = list_named sections.loclists (option_map (λ bases. bases.locations) context.bases) n s
+meant_at sections context lines Other n s = Ok (values.Offset n, None)
 
 -- what a value means, which stands here as an attribute behind others of a root or another entry
-unfoldable pub value_meant_at : SectionBytes → Home → Bool → Field → List RawAttr → Value → Spot → Result (Value × Option Reference) Fault
-value_meant_at sections home root field before value s =
-    option_map_or (λ n. meant_at sections home (names_lines root before) (meaning_of field.form field.name) n s) (number_in value) (Ok (value, None))
+unfoldable pub value_meant_at : SectionBytes → UnitContext → Bool → Field → List RawAttr → Value → Spot → Result (Value × Option Reference) Fault
+value_meant_at sections context root field before value s =
+    option_map_or (λ n. meant_at sections context (names_lines root before) (meaning_of field.form field.name) n s) (number_in value) (Ok (value, None))
 
 -- the next attribute, behind others, and the reference that it is
-unfoldable pub attr_at : SectionBytes → Home → Bool → Field → List RawAttr → Spot → Result ((RawAttr × Option Reference) × Spot) Fault
-attr_at sections home root field before s = do
-  read ← value_at field home.version sections s
-  meant ← value_meant_at sections home root field before read.0 s
+unfoldable pub attr_at : SectionBytes → UnitContext → Bool → Field → List RawAttr → Spot → Result ((RawAttr × Option Reference) × Spot) Fault
+attr_at sections context root field before s = do
+  read ← value_at field context.version sections s
+  meant ← value_meant_at sections context root field before read.0 s
   Ok ((record { name = field.name; form = field.form; end = read.1.place; value = meant.0 }, meant.1), read.1)
 
 -- attributes and references that were read
@@ -107,8 +107,8 @@ abbrev pub Described : Type 0
 Described = List RawAttr × List Reference
 
 -- the attributes of some fields, behind those before
-unfoldable pub attrs_at : SectionBytes → Home → Bool → List Field → Described → Spot → Result (Described × Spot) Fault
-attrs_at sections home root [] before s = Ok (before, s)
-attrs_at sections home root (field ∷ fields) before s = do
-  attr ← attr_at sections home root field before.0 s
-  attrs_at sections home root fields (before.0 ++ attr.0.0 ∷ [], before.1 ++ option_to_list attr.0.1) attr.1
+unfoldable pub attrs_at : SectionBytes → UnitContext → Bool → List Field → Described → Spot → Result (Described × Spot) Fault
+attrs_at sections context root [] before s = Ok (before, s)
+attrs_at sections context root (field ∷ fields) before s = do
+  attr ← attr_at sections context root field before.0 s
+  attrs_at sections context root fields (before.0 ++ attr.0.0 ∷ [], before.1 ++ option_to_list attr.0.1) attr.1

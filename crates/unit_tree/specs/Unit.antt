@@ -17,7 +17,7 @@ use Rattle.dwarf_types.specs.declared.value.Value.TheVariants as values
 use Rattle.abbrev_read.specs.Reading.{table_at}
 use Rattle.dwarf_types.specs.Forms.{is_flag}
 use Rattle.index_tables.specs.declared.bases.Bases.{Bases}
-use Rattle.unit_tree.specs.declared.attribute.Home.{Home}
+use Rattle.unit_tree.specs.declared.attribute.UnitContext.{UnitContext}
 use Rattle.unit_tree.specs.Header.{info_at, header_at}
 use Rattle.unit_tree.specs.Entry.{Parsed, bases_at, tree_at}
 use Rattle.unit_tree.specs.Reference.{resolved}
@@ -46,16 +46,16 @@ zeros_at start s = do
   refuse_if (not (list_all is_zero others.0)) (fault_at start kinds.BadUnit)
 
 -- a unit of a number that begins at a place, of a version, and the bases of its tables where these are known
-abbrev pub home_in : ℕ → ℕ → ℕ → Option Bases → Home
-home_in number place version bases = record { unit = number; place = place; version = version; bases = bases }
+abbrev pub context_in : ℕ → ℕ → ℕ → Option Bases → UnitContext
+context_in number place version bases = record { unit = number; place = place; version = version; bases = bases }
 
 -- The unit of a number that begins at a place, with its entries behind those before, and the place behind it. Its root tells the bases of its tables, and is then read with them.
 unfoldable pub unit_at : SectionBytes → ℕ → Parsed → ℕ → Result ((InUnit × Parsed) × ℕ) Fault
 unit_at sections number before place = do
   header ← header_at sections place
   table ← table_at sections.abbrev_ header.0.table
-  bases ← bases_at (info_at sections place) sections (home_in number place header.0.version None) table before header.1
-  tree ← tree_at (info_at sections place) sections (home_in number place header.0.version (Some bases)) table before header.1
+  bases ← bases_at (info_at sections place) sections (context_in number place header.0.version None) table before header.1
+  tree ← tree_at (info_at sections place) sections (context_in number place header.0.version (Some bases)) table before header.1
   _ ← zeros_at (info_at sections place) tree.1
   Ok ((unit_from header.0.version (length before.entries) tree.0.entries, tree.0), header.0.end)
 

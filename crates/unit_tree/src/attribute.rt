@@ -22,7 +22,7 @@ use index_tables::{Bases, has_address, list_at, text_at};
 
 /// The unit whose entries are read.
 #[derive(Clone, Copy, Debug, PartialEq, Eq)]
-pub(crate) struct Home {
+pub(crate) struct UnitContext {
     /// The unit's number in the object, counted from 0.
     pub(crate) unit: u32,
     /// The place of its first byte in `__debug_info`.
@@ -38,18 +38,18 @@ pub(crate) struct Home {
 pub(crate) fn read_attrs<'a>(
     cursor: &mut Cursor<'a>,
     sections: &Sections<'a>,
-    home: Home,
+    context: UnitContext,
     root: bool,
     fields: &[Field],
     built: &mut Builder,
     references: &mut List<Reference>,
 ) -> Result<(), ReadError>
     requires { IsSmall cursor.old }
-    ensures read { ReadsUnlessFull (λ _. (built.new.attrs, references.new)) result cursor.new (attrs_at (bytes_in sections.now) home root fields.now (built.old.attrs, references.old) cursor.old) }
+    ensures read { ReadsUnlessFull (λ _. (built.new.attrs, references.new)) result cursor.new (attrs_at (bytes_in sections.now) context root fields.now (built.old.attrs, references.old) cursor.old) }
     ensures entries { built.new.entries ≡ built.old.entries }
 {
     for field in fields {
-        let (end, value, reference) = read_attr(cursor, sections, home, root, field, built)?;
+        let (end, value, reference) = read_attr(cursor, sections, context, root, field, built)?;
         built.push(field.name, field.form, end, value)?;
         keep(references, reference)?;
     }
@@ -72,18 +72,18 @@ fn keep(references: &mut List<Reference>, reference: Option<Reference>) -> Resul
 fn read_attr<'a>(
     cursor: &mut Cursor<'a>,
     sections: &Sections<'a>,
-    home: Home,
+    context: UnitContext,
     root: bool,
     field: &Field,
     before: &Builder,
 ) -> Result<(u32, RawValue<'a>, Option<Reference>), Fault>
     requires { IsSmall cursor.old }
-    ensures read { Reads (λ read. (record { name = field.now.name; form = field.now.form; end = read.0; value = value_read field.now.form read.1 }, read.2)) result cursor.new (attr_at (bytes_in sections.now) home root field.now before.now.attrs cursor.old) }
+    ensures read { Reads (λ read. (record { name = field.now.name; form = field.now.form; end = read.0; value = value_read field.now.form read.1 }, read.2)) result cursor.new (attr_at (bytes_in sections.now) context root field.now before.now.attrs cursor.old) }
     ensures known { IfOk result (λ _. field.now.form < 256) }
 {
     let first = cursor.fork();
-    let value = read_value(cursor, field, home.version, sections)?;
-    let (value, reference) = understand(&first, sections, home, root, field, before, value)?;
+    let value = read_value(cursor, field, context.version, sections)?;
+    let (value, reference) = understand(&first, sections, context, root, field, before, value)?;
     let end = cursor.place() as u32;
     Ok((end, value, reference))
 }
@@ -93,21 +93,21 @@ fn read_attr<'a>(
 fn understand<'a>(
     first: &Cursor,
     sections: &Sections<'a>,
-    home: Home,
+    context: UnitContext,
     root: bool,
     field: &Field,
     before: &Builder,
     value: RawValue<'a>,
 ) -> Result<(RawValue<'a>, Option<Reference>), Fault>
     requires { IsSmall first.now }
-    ensures { Finds (λ meant. (value_read field.now.form meant.0, meant.1)) result (value_meant_at (bytes_in sections.now) home root field.now before.now.attrs (value_read field.now.form value.entry) first.now) }
+    ensures { Finds (λ meant. (value_read field.now.form meant.0, meant.1)) result (value_meant_at (bytes_in sections.now) context root field.now before.now.attrs (value_read field.now.form value.entry) first.now) }
 {
     match number_of(field.form, &value) {
         None => Ok((value, None)),
-        Some(n) => means(
+        Some(n) => value_of_number(
             first,
             sections,
-            home,
+            context,
             may_name_lines(root, before),
             field,
             n,
@@ -134,21 +134,21 @@ fn number_of(form: u16, value: &RawValue) -> Option<u64>
 
 /// The value that the number of a field means, which stands at the cursor, and the reference that it is.
 #[tactic(auto, unfolding(crate::specs::Attribute::meant_at))]
-fn means<'a>(
+fn value_of_number<'a>(
     first: &Cursor,
     sections: &Sections<'a>,
-    home: Home,
+    context: UnitContext,
     lines: bool,
     field: &Field,
     n: u64,
 ) -> Result<(RawValue<'a>, Option<Reference>), Fault>
     requires { IsSmall first.now }
-    ensures { Finds (λ meant. (value_read field.now.form meant.0, meant.1)) result (meant_at (bytes_in sections.now) home lines (meaning_of field.now.form field.now.name) n first.now) }
+    ensures { Finds (λ meant. (value_read field.now.form meant.0, meant.1)) result (meant_at (bytes_in sections.now) context lines (meaning_of field.now.form field.now.name) n first.now) }
 {
     match meaning_of_value(field.form, field.name) {
         Meaning::InUnit => {
-            let place = u64::from(home.place).saturating_add(n);
-            let reference = refer(first, place, Some(home.unit));
+            let place = u64::from(context.place).saturating_add(n);
+            let reference = refer(first, place, Some(context.unit));
             return Ok((RawValue::Ref(reference.target), Some(reference)));
         }
         Meaning::InObject => {
@@ -156,16 +156,16 @@ fn means<'a>(
             return Ok((RawValue::Ref(reference.target), Some(reference)));
         }
         Meaning::LineTable if lines => try_offset(first, sections.line, n)?,
-        Meaning::RangeList => try_offset(first, range_lists(sections, home.version), n)?,
-        Meaning::LocationList => try_offset(first, location_lists(sections, home.version), n)?,
-        Meaning::TextIndex => return find_text(first, sections, home.bases, field, n),
-        Meaning::AddressIndex => return find_address(first, sections, home.bases, field, n),
+        Meaning::RangeList => try_offset(first, range_lists(sections, context.version), n)?,
+        Meaning::LocationList => try_offset(first, location_lists(sections, context.version), n)?,
+        Meaning::TextIndex => return find_text(first, sections, context.bases, field, n),
+        Meaning::AddressIndex => return find_address(first, sections, context.bases, field, n),
         Meaning::RangeListIndex => {
-            let base = home.bases.map(|bases| bases.ranges);
+            let base = context.bases.map(|bases| bases.ranges);
             return find_list(first, sections.rnglists, base, field, n);
         }
         Meaning::LocationListIndex => {
-            let base = home.bases.map(|bases| bases.locations);
+            let base = context.bases.map(|bases| bases.locations);
             return find_list(first, sections.loclists, base, field, n);
         }
         _ => {}

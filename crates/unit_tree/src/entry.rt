@@ -9,7 +9,7 @@ ghost use Rattle.unit_tree.specs.Entry.{is_dwo_name, entry_at, first_at, bases_a
 ghost use Rattle.index_tables.specs.Bases.{bases_in};
 ghost use Rattle.unit_tree.specs.Bounds.{AreNumbers, IsReady, NumbersNext, parsed_seen};
 
-use crate::attribute::{Home, read_attrs};
+use crate::attribute::{UnitContext, read_attrs};
 use crate::reference::Reference;
 use crate::table::Table;
 use ds_base::dwarf::{DW_AT_GNU_dwo_name, DW_AT_dwo_name, DW_TAG_compile_unit};
@@ -41,20 +41,20 @@ pub(crate) fn read_tree<'a>(
     start: &Cursor,
     cursor: &mut Cursor<'a>,
     sections: &Sections<'a>,
-    home: Home,
+    context: UnitContext,
     table: &Table,
     parsed: &mut Parsed,
 ) -> Result<u32, ReadError>
     requires ready { IsReady parsed.old }
     requires small { IsSmall cursor.old }
-    ensures read { ReadsUnlessFull (λ _. parsed_seen parsed.new) result cursor.new (tree_at start.now (bytes_in sections.now) home table.now (parsed_seen parsed.old) cursor.old) }
+    ensures read { ReadsUnlessFull (λ _. parsed_seen parsed.new) result cursor.new (tree_at start.now (bytes_in sections.now) context table.now (parsed_seen parsed.old) cursor.old) }
     ensures number { IfOk result (λ number. number ≡ length parsed.old.built.entries) }
     ensures ready { OnOk result (IsReady parsed.new) }
 {
-    let (number, children) = read_root(start, cursor, sections, home, table, parsed)?;
+    let (number, children) = read_root(start, cursor, sections, context, table, parsed)?;
     let mut lists = List::new(alloc);
     open_list(&mut lists, children, number)?;
-    read_children(cursor, sections, home, table, parsed, &mut lists)?;
+    read_children(cursor, sections, context, table, parsed, &mut lists)?;
     Ok(number)
 }
 
@@ -65,13 +65,13 @@ fn read_root<'a>(
     start: &Cursor,
     cursor: &mut Cursor<'a>,
     sections: &Sections<'a>,
-    home: Home,
+    context: UnitContext,
     table: &Table,
     parsed: &mut Parsed,
 ) -> Result<(u32, bool), ReadError>
     requires ready { IsReady parsed.old }
     requires small { IsSmall cursor.old }
-    ensures read { ReadsUnlessFull (λ root. (root.1, parsed_seen parsed.new)) result cursor.new (root_at start.now (bytes_in sections.now) home table.now (parsed_seen parsed.old) cursor.old) }
+    ensures read { ReadsUnlessFull (λ root. (root.1, parsed_seen parsed.new)) result cursor.new (root_at start.now (bytes_in sections.now) context table.now (parsed_seen parsed.old) cursor.old) }
     ensures number { IfOk result (λ root. root.0 ≡ length parsed.old.built.entries) }
     ensures below { IfOk result (λ root. root.0 < MOST_ENTRIES) }
     ensures ready { OnOk result (IsReady parsed.new) }
@@ -80,7 +80,7 @@ fn read_root<'a>(
     let place = cursor.place() as u32;
     let declared = read_first(start, cursor, table, parsed)?;
     let number = parsed.built.len() as u32;
-    read_entry(cursor, sections, home, None, place, declared, parsed)?;
+    read_entry(cursor, sections, context, None, place, declared, parsed)?;
     Ok((number, declared.children))
 }
 
@@ -123,12 +123,12 @@ pub(crate) fn find_bases<'a>(
     start: &Cursor,
     cursor: &Cursor<'a>,
     sections: &Sections<'a>,
-    home: Home,
+    context: UnitContext,
     table: &Table,
     parsed: &Parsed,
 ) -> Result<Bases, ReadError>
     requires small { IsSmall cursor.now }
-    ensures { Gives (λ bases. bases) result (bases_at start.now (bytes_in sections.now) home table.now (parsed_seen parsed.now) cursor.now) }
+    ensures { Gives (λ bases. bases) result (bases_at start.now (bytes_in sections.now) context table.now (parsed_seen parsed.now) cursor.now) }
 {
     let mut cursor = cursor.fork();
     let declared = read_first(start, &mut cursor, table, parsed)?;
@@ -139,7 +139,7 @@ pub(crate) fn find_bases<'a>(
     read_attrs(
         &mut cursor,
         sections,
-        home,
+        context,
         true,
         fields,
         &mut built,
@@ -165,7 +165,7 @@ fn bases_so_far(built: Builder) -> Result<Bases, NoMemory>
 fn read_children<'a>(
     cursor: &mut Cursor<'a>,
     sections: &Sections<'a>,
-    home: Home,
+    context: UnitContext,
     table: &Table,
     parsed: &mut Parsed,
     lists: &mut List<u32>,
@@ -173,7 +173,7 @@ fn read_children<'a>(
     requires ready { IsReady parsed.old }
     requires numbers { AreNumbers lists.old }
     requires small { IsSmall cursor.old }
-    ensures read { ReadsUnlessFull (λ _. parsed_seen parsed.new) result cursor.new (children_at (bytes_in sections.now) home table.now (cursor.old.end - cursor.old.place) (parsed_seen parsed.old, lists.old) cursor.old) }
+    ensures read { ReadsUnlessFull (λ _. parsed_seen parsed.new) result cursor.new (children_at (bytes_in sections.now) context table.now (cursor.old.end - cursor.old.place) (parsed_seen parsed.old, lists.old) cursor.old) }
     ensures ready { OnOk result (IsReady parsed.new) }
 {
     let left = cursor.left();
@@ -184,7 +184,7 @@ fn read_children<'a>(
         if cursor.left() == 0 {
             return Err(ReadError::Faulty(cursor.fault(Kind::UnclosedSiblings)));
         }
-        read_child(cursor, sections, home, table, parsed, lists)?;
+        read_child(cursor, sections, context, table, parsed, lists)?;
     }
     if !are_closed(lists) {
         return Err(ReadError::Faulty(cursor.fault(Kind::UnclosedSiblings)));
@@ -204,7 +204,7 @@ fn are_closed(lists: &List<u32>) -> bool
 fn read_child<'a>(
     cursor: &mut Cursor<'a>,
     sections: &Sections<'a>,
-    home: Home,
+    context: UnitContext,
     table: &Table,
     parsed: &mut Parsed,
     lists: &mut List<u32>,
@@ -212,7 +212,7 @@ fn read_child<'a>(
     requires ready { IsReady parsed.old }
     requires numbers { AreNumbers lists.old }
     requires small { IsSmall cursor.old }
-    ensures read { ReadsUnlessFull (λ _. (parsed_seen parsed.new, lists.new)) result cursor.new (child_at (bytes_in sections.now) home table.now (parsed_seen parsed.old, lists.old) cursor.old) }
+    ensures read { ReadsUnlessFull (λ _. (parsed_seen parsed.new, lists.new)) result cursor.new (child_at (bytes_in sections.now) context table.now (parsed_seen parsed.old, lists.old) cursor.old) }
     ensures ready { OnOk result (IsReady parsed.new) }
     ensures numbers { OnOk result (AreNumbers lists.new) }
 {
@@ -225,7 +225,7 @@ fn read_child<'a>(
     let Some(declared) = table.find(code) else {
         return Err(ReadError::Faulty(first.fault(Kind::UnknownCode)));
     };
-    read_listed(cursor, sections, home, &first, declared, parsed, lists)
+    read_listed(cursor, sections, context, &first, declared, parsed, lists)
 }
 
 /// Reads what is behind the code of an entry of the innermost list that begins at `first`.
@@ -233,7 +233,7 @@ fn read_child<'a>(
 fn read_listed<'a>(
     cursor: &mut Cursor<'a>,
     sections: &Sections<'a>,
-    home: Home,
+    context: UnitContext,
     first: &Cursor,
     declared: &Abbrev,
     parsed: &mut Parsed,
@@ -243,7 +243,7 @@ fn read_listed<'a>(
     requires numbers { AreNumbers lists.old }
     requires first { IsSmall first.now }
     requires small { IsSmall cursor.old }
-    ensures read { ReadsUnlessFull (λ _. (parsed_seen parsed.new, lists.new)) result cursor.new (listed_at (bytes_in sections.now) home declared.now (parsed_seen parsed.old, lists.old) first.now cursor.old) }
+    ensures read { ReadsUnlessFull (λ _. (parsed_seen parsed.new, lists.new)) result cursor.new (listed_at (bytes_in sections.now) context declared.now (parsed_seen parsed.old, lists.old) first.now cursor.old) }
     ensures ready { OnOk result (IsReady parsed.new) }
     ensures numbers { OnOk result (AreNumbers lists.new) }
 {
@@ -253,7 +253,7 @@ fn read_listed<'a>(
     let number = next_number(first, parsed)?;
     let parent = innermost_of(lists);
     let place = first.place() as u32;
-    read_entry(cursor, sections, home, parent, place, declared, parsed)?;
+    read_entry(cursor, sections, context, parent, place, declared, parsed)?;
     open_list(lists, declared.children, number)?;
     Ok(())
 }
@@ -263,7 +263,7 @@ fn read_listed<'a>(
 fn read_entry<'a>(
     cursor: &mut Cursor<'a>,
     sections: &Sections<'a>,
-    home: Home,
+    context: UnitContext,
     parent: Option<u32>,
     place: u32,
     declared: &Abbrev,
@@ -273,7 +273,7 @@ fn read_entry<'a>(
     requires room { length parsed.old.built.entries < MOST_ENTRIES }
     requires parent { IfSome parent (λ p. p < MOST_ENTRIES) }
     requires small { IsSmall cursor.old }
-    ensures read { ReadsUnlessFull (λ _. parsed_seen parsed.new) result cursor.new (entry_at (bytes_in sections.now) home parent place declared.now (parsed_seen parsed.old) cursor.old) }
+    ensures read { ReadsUnlessFull (λ _. parsed_seen parsed.new) result cursor.new (entry_at (bytes_in sections.now) context parent place declared.now (parsed_seen parsed.old) cursor.old) }
     ensures ready { OnOk result (IsReady parsed.new) }
 {
     let root = parent.is_none();
@@ -281,13 +281,13 @@ fn read_entry<'a>(
     read_attrs(
         cursor,
         sections,
-        home,
+        context,
         root,
         fields,
         &mut parsed.built,
         &mut parsed.references,
     )?;
-    parsed.built.close(parent, home.unit, place, declared.tag)?;
+    parsed.built.close(parent, context.unit, place, declared.tag)?;
     Ok(())
 }
 

@@ -13,7 +13,7 @@ ghost use Rattle.unit_tree.specs.Sound.{AreSound};
 ghost use Rattle.unit_tree.specs.Table.{AreRead};
 ghost use Rattle.unit_tree.specs.Unit.{short_in, language_of, unit_from, is_zero, zeros_at, unit_at, units_at, units_of, nothing};
 
-use crate::attribute::Home;
+use crate::attribute::UnitContext;
 use crate::entry::{Parsed, find_bases, read_tree};
 use crate::header::{info_cursor, read_header};
 use crate::reference::try_references;
@@ -110,20 +110,20 @@ fn read_unit(
     add_table(alloc, tables, sections.abbrev, header.table)?;
     let table = kept_table(tables, header.table);
     let start = info_cursor(sections, place);
-    let unknown = Home {
+    let unknown = UnitContext {
         unit: number,
         place: place as u32,
         version: header.version,
         bases: None,
     };
     let bases = find_bases(alloc, &start, &cursor, sections, unknown, table, parsed)?;
-    let home = Home {
+    let context = UnitContext {
         unit: number,
         place: place as u32,
         version: header.version,
         bases: Some(bases),
     };
-    let first = read_tree(alloc, &start, &mut cursor, sections, home, table, parsed)?;
+    let first = read_tree(alloc, &start, &mut cursor, sections, context, table, parsed)?;
     read_zeros(&start, &mut cursor)?;
     Ok((unit_of(header.version, first, &parsed.built), header.end))
 }

@@ -8,4 +8,4 @@ abbrev pub invariant-loop-field : goal.invariant-loop-field
 invariant-loop-field l =
     IsSmall l.cursor
     × (l.built.entries ≡ l.fn.built.entries)
-    × (attrs_at (bytes_in l.sections) l.home l.root (drop l.field-index l.fields) (l.built.attrs, l.references) l.cursor ≡ attrs_at (bytes_in l.sections) l.home l.root l.fields (l.fn.built.attrs, l.fn.references) l.fn.cursor)
+    × (attrs_at (bytes_in l.sections) l.context l.root (drop l.field-index l.fields) (l.built.attrs, l.references) l.cursor ≡ attrs_at (bytes_in l.sections) l.context l.root l.fields (l.fn.built.attrs, l.fn.references) l.fn.cursor)

@@ -10,4 +10,4 @@ invariant-loop l =
     IsSmall l.cursor
     × IsReady l.parsed
     × AreNumbers l.lists
-    × (children_at (bytes_in l.sections) l.home l.table (l.left - l.counter) (parsed_seen l.parsed, l.lists) l.cursor ≡ children_at (bytes_in l.sections) l.home l.table (l.fn.cursor.end - l.fn.cursor.place) (parsed_seen l.fn.parsed, l.fn.lists) l.fn.cursor)
+    × (children_at (bytes_in l.sections) l.context l.table (l.left - l.counter) (parsed_seen l.parsed, l.lists) l.cursor ≡ children_at (bytes_in l.sections) l.context l.table (l.fn.cursor.end - l.fn.cursor.place) (parsed_seen l.fn.parsed, l.fn.lists) l.fn.cursor)
