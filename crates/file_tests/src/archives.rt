@@ -41,7 +41,7 @@ fn assert_refused(
 
 /// One member with a long name: its name field, date, uid, gid and mode, its size and the mark, and 36 bytes.
 #[rattlefmt::skip]
-const LONG: &[u8; 104] = b"!<arch>\n\
+const LONG_NAME: &[u8; 104] = b"!<arch>\n\
     #1/4            0           0     0     100644  36        `\n\
     x.o\x000123456789abcdef0123456789ABCDEF";
 
@@ -63,7 +63,7 @@ const FAULTY: &[u8; 200] = b"!<arch>\n\
 #[rattlefmt::skip]
 fn the_first_member_of_a_name_is_found(rt: HostRuntime) {
     let alloc = rt.alloc();
-    let long: &[u8] = LONG;
+    let long: &[u8] = LONG_NAME;
     assert_found(&rt, alloc, "a long name", long, b"x.o", Ok(&long[72..]));
     assert_refused(&rt, alloc, "no such name", long, b"y.o", Kind::NoMember, 0);
     assert_refused(&rt, alloc, "a name with its zero", long, b"x.o\0", Kind::NoMember, 0);

@@ -47,7 +47,7 @@ pub(crate) enum Understood {
 
 /// An attribute as it was read, understood. Its entry is of the unit of this number. The operations of an expression are
 /// put into `room`.
-pub(crate) fn understand(
+pub(crate) fn understand_value(
     values: &InfoValues,
     unit: u32,
     attr: &RawAttrRef<'_>,

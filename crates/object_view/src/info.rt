@@ -10,7 +10,7 @@ ghost use Rattle.object_view.specs.Changes.{making, understood_as};
 ghost use Rattle.object_view.specs.Infos.{FitsInfo, IsReadyInfo, info_value};
 ghost use Rattle.object_view.specs.Ready.{AllRawAttrs};
 
-use crate::attributes::{InfoValues, Understood, understand};
+use crate::attributes::{InfoValues, Understood, understand_value};
 use crate::expressions::ExprRoom;
 use ds_base::{NoMemory, ReadError};
 use dwarf_types::{NewValue, Ops, RawEntries};
@@ -90,7 +90,7 @@ fn understood_at(
     if entry.is_plain(j) {
         return Ok(Understood::Same);
     }
-    understand(values, entry.unit(), &entry.attr(j), room)
+    understand_value(values, entry.unit(), &entry.attr(j), room)
 }
 
 /// Another value for an attribute, where the operations of an expression are those of `ops`.

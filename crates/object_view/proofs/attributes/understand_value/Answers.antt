@@ -5,7 +5,7 @@ use Rattle.dwarf_types.specs.Seen.{raw_attr_seen, value_seen}
 use Rattle.expr_resolve.specs.Context.{context_in}
 use Rattle.object_view.specs.Ready.{IsReadValue, IsReady, context_among}
 use Rattle.object_view.proofs.Contexts.{index_there, info_ready}
-use Rattle.object_view.proofs.attributes.understand.Goals as goal
+use Rattle.object_view.proofs.attributes.understand_value.Goals as goal
 
 pub field_address-at-requires-clause-ready : goal.field_address-at-requires-clause-ready
 field_address-at-requires-clause-ready c = rw c.info_context-context.ensures (info_ready c.args.values.now.expressions c.requires.ready.opened c.requires.ready.types c.args.unit)
