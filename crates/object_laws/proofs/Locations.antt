@@ -137,8 +137,8 @@ expression_holds version s y h e =
     subst (λ (x : (ℕ × List ℕ) × Spot). AreBytes x.0.1 × Holds x.1) (ok_is ((len.0.1.place, bytes.0.0), bytes.0.1) y bytes.2)
     (bytes_are len.0.0 len.0.1 bytes.0 holds bytes.1, bytes_hold len.0.0 len.0.1 bytes.0 holds bytes.1)
 
-location_holds : (version : ℕ) (first : Spot) (span : RawSpan) (s : Spot) (y : RawLocation × Spot) → Holds s → location_at version first span s ≡ Ok y → IsItem y.0 × Holds y.1
-location_holds version first span s y h e =
+location_holds : (version place : ℕ) (span : RawSpan) (s : Spot) (y : RawLocation × Spot) → Holds s → location_at version place span s ≡ Ok y → IsItem y.0 × Holds y.1
+location_holds version place span s y h e =
     let p = bind_ok (expression_at version s) _ y e in
     subst (λ (x : RawLocation × Spot). IsItem x.0 × Holds x.1) (ok_is _ y p.2) (expression_holds version s p.0 h p.1)
 
@@ -149,18 +149,18 @@ if_given false x h = h
 abbrev Gives : Says RawLocation × Spot → Type 0
 Gives y = IfSome (given y.0) IsItem × Holds y.1
 
-said_holds : (version : ℕ) (first : Spot) (item : Item) (s : Spot) (y : Says RawLocation × Spot) → Holds s → said_at (location_at version) first item s ≡ Ok y → Gives y
-said_holds version first items.End s y h e = subst Gives (ok_is (ends, s) y e) (tt, h)
-said_holds version first (items.Base selected) s y h e = subst Gives (ok_is (selects selected, s) y e) (tt, h)
-said_holds version first (items.Span span) s y h e =
-    let p = bind_ok (location_at version first span s) _ y e in
-    let here = location_holds version first span s p.0 h p.1 in
+said_holds : (version place : ℕ) (item : Item) (s : Spot) (y : Says RawLocation × Spot) → Holds s → said_at (location_at version) place item s ≡ Ok y → Gives y
+said_holds version place items.End s y h e = subst Gives (ok_is (ends, s) y e) (tt, h)
+said_holds version place (items.Base selected) s y h e = subst Gives (ok_is (selects selected, s) y e) (tt, h)
+said_holds version place (items.Span span) s y h e =
+    let p = bind_ok (location_at version place span s) _ y e in
+    let here = location_holds version place span s p.0 h p.1 in
     subst Gives (ok_is (spans span p.0.0, p.0.1) y p.2) (if_given (is_empty span) p.0.0 here.0, here.1)
 
 whole_holds : (version : ℕ) (c : Context) (base : Addr) (s : Spot) (y : Says RawLocation × Spot) → Holds s → whole_at c (location_at version) base s ≡ Ok y → Gives y
 whole_holds version c base s y h e =
     let item = bind_ok (item_at c base s) _ y e in
-    said_holds version s item.0.0 item.0.1 y (item_holds c base s item.0 h item.1) item.2
+    said_holds version s.place item.0.0 item.0.1 y (item_holds c base s item.0 h item.1) item.2
 
 pub locations_are : (sections : SectionBytes) (relocs : Relocs) (image : Image) (place version : ℕ) (base : Addr) (addresses : Relocs) (addr_base : ℕ) (xs : List RawLocation) → AreBytes (location_bytes sections version)
     → locations_of sections relocs image place version base addresses addr_base ≡ Ok xs → All IsItem xs
