@@ -6,12 +6,13 @@ use Rattle.dwarf_types.specs.declared.graph.Graph.{Graph}
 use Rattle.macho_read.specs.declared.image.Image.{Image}
 use Rattle.dsym_write.specs.Plist.{plist_bytes}
 use Rattle.link_graph.specs.Graph.{graph_in}
+use Rattle.type_pool.specs.declared.closed.ClosedPool.{ClosedPool}
 use Rattle.link_graph.specs.Merged.{linked_names}
 use Rattle.link_core.specs.declared.graph.Shaped.{Shaped}
 use Rattle.link_core.specs.declared.bundle.Linked.{Linked}
 use Rattle.link_core.specs.declared.refusal.Refusal.{Refusal}
 use Rattle.link_core.specs.declared.refusal.Refusal.TheVariants as refusals
-use Rattle.link_core.specs.Linked.{Bundles, MarkLive, Source, analyses_from, bundle, counts_of, fault, first_limit, graph_of, limit, no_memory}
+use Rattle.link_core.specs.Linked.{Bundles, IsClosed, MarkLive, Source, analyses_from, bundle, counts_of, fault, first_limit, graph_of, limit, no_memory}
 use Rattle.link_core.specs.Passes.{DraftsUnits, Images, IsShaped, Links, Reads, Shapes}
 use Rattle.link_core.proofs.Graphs.{limit_is}
 
@@ -37,15 +38,16 @@ module _ (odr : Bool) (program : Image) (name : List ℕ) (seen : List Analysis)
         → record { objects = objects; entries = entries; live = marked; pooled = shaped.pooled; names = shaped.names; nodes = nodes; bytes = bytes } ≡ counts_of seen live (linked_names odr seen live) graph image
     counts_are graph image objects entries marked nodes bytes o e l n b = rw (o, e, l, h.pooled, h.names, n, b) refl
 
-    pub links_made : (image plist : List ℕ) (objects entries marked nodes bytes : ℕ) → Images program (graph_of odr seen live) (Ok image) → plist ≡ plist_bytes name → objects ≡ length seen
-        → entries ≡ sum_by (λ object. length object.entries) seen → marked ≡ sum_by (λ row. length (filter (λ b. b) row)) live → nodes ≡ sum_by (λ unit. length unit.nodes) (graph_of odr seen live).units → bytes ≡ length image
+    pub links_made : (image plist : List ℕ) (closed : ClosedPool) (objects entries marked nodes bytes : ℕ) → Images program (graph_of odr seen live) (Ok image) → plist ≡ plist_bytes name → objects ≡ length seen
+        → entries ≡ sum_by (λ object. length object.entries) seen → marked ≡ sum_by (λ row. length (filter (λ b. b) row)) live → nodes ≡ sum_by (λ unit. length unit.nodes) (graph_of odr seen live).units → bytes ≡ length image → IsClosed (linked_names odr seen live) closed
         → Links odr program name seen live (Ok (record {
           image = image;
           plist = plist;
           counts = record { objects = objects; entries = entries; live = marked; pooled = shaped.pooled; names = shaped.names; nodes = nodes; bytes = bytes };
+          closed = closed;
         }))
-    links_made image plist objects entries marked nodes bytes d text o e l n b =
-        (limit_is odr seen live h.few_names program ∙ d.0, d.1, text, counts_are (graph_of odr seen live) image objects entries marked nodes bytes o e l n b)
+    links_made image plist closed objects entries marked nodes bytes d text o e l n b it_closed =
+        (limit_is odr seen live h.few_names program ∙ d.0, d.1, text, counts_are (graph_of odr seen live) image objects entries marked nodes bytes o e l n b, it_closed)
 
 module _ (odr : Bool) (program : Image) (name : List ℕ) (sources : List Source) where
   pub bundle_refused : (r : Refusal) → Reads program.cpu sources (Err r) → Bundles odr program name sources (Err r)
@@ -54,7 +56,7 @@ module _ (odr : Bool) (program : Image) (name : List ℕ) (sources : List Source
   bundle_refused refusals.NoMemory h = no_memory
 
   pub bundle_made : (seen : List Analysis) (marks : List (List Bool)) (r : Result Linked Refusal) → analyses_from program.cpu 1 sources ≡ Ok seen → MarkLive seen marks → Links odr program name seen marks r → Bundles odr program name sources r
-  bundle_made seen marks (Ok linked) e live h = bundle seen marks linked e live h.0 h.1 h.2 h.3
+  bundle_made seen marks (Ok linked) e live h = bundle seen marks linked e live h.0 h.1 h.2 h.3 h.4
   bundle_made seen marks (Err (refusals.Faulty file why)) e live h = absurd h
   bundle_made seen marks (Err (refusals.Limit which n)) e live h = limit seen marks (refusals.Limit which n) e live h
   bundle_made seen marks (Err refusals.NoMemory) e live h = no_memory

@@ -19,6 +19,7 @@ use Rattle.link_graph.specs.Merged.{linked_names, object_units, pool_origin, poo
 use Rattle.link_graph.specs.Pool.{pool_names, preorder}
 use Rattle.odr_names.specs.Making.{AreLiveRows}
 use Rattle.type_names.specs.Names.{Named}
+use Rattle.type_pool.specs.declared.closed.ClosedPool.{ClosedPool}
 use Rattle.layout.specs.Laid.{long_unit}
 use Rattle.layout.proofs.DraftRuns.{Drafted, long_here, one_drafted}
 use Rattle.unit_draft.specs.declared.unit.Draft.{Draft}
@@ -27,7 +28,7 @@ use Rattle.link_core.specs.declared.graph.Shaped.{Shaped}
 use Rattle.link_core.specs.declared.refusal.LimitKind.TheVariants as limits
 use Rattle.link_core.specs.declared.refusal.Refusal.{Refusal}
 use Rattle.link_core.specs.declared.refusal.Refusal.TheVariants as refusals
-use Rattle.link_core.specs.Linked.{AreLive, MarkLive, first_limit, graph_of, limit_of}
+use Rattle.link_core.specs.Linked.{AreLive, IsClosed, MarkLive, first_limit, graph_of, limit_of}
 use Rattle.link_core.specs.Passes.{DraftsBy, DraftsUnit, DraftsUnits, HasPool, IsShaped, Shapes}
 use Rattle.link_core.proofs.Turns.{given_as, given_more}
 
@@ -104,14 +105,16 @@ module _ (odr : Bool) (seen : List Analysis) (live : List (List Bool)) (names : 
     units = ap (λ (s : Shape). s.units) is ∙ ap (λ (ns : List Named). pool_units (pool_version (object_units odr seen live)) ns ++ object_units odr seen live) (sym named);
   }
 
-  pub shape_whole : (pooled paths : ℕ) → length names < 2 ^ 25 → length shape.units < 2 ^ 32 - 1 → pooled ≡ length names → paths ≡ length (pool_names names) → Shapes odr seen live (Ok (record { shape = shape; pooled = pooled; names = paths }))
-  shape_whole pooled paths few_names few a b = record {
+  pub shape_whole : (pooled paths : ℕ) (closed : ClosedPool) → length names < 2 ^ 25 → length shape.units < 2 ^ 32 - 1 → pooled ≡ length names → paths ≡ length (pool_names names) → IsClosed names closed
+      → Shapes odr seen live (Ok (record { shape = shape; pooled = pooled; names = paths; closed = closed }))
+  shape_whole pooled paths closed few_names few a b it_closed = record {
     is_shape = it;
     graph = same_graph;
     few = few;
     few_names = omega (arith, few_names, ap length named);
     pooled = a ∙ ap length named;
     names = b ∙ ap (λ (ns : List Named). length (pool_names ns)) named;
+    closed = subst (λ (ns : List Named). IsClosed ns closed) named it_closed;
   }
 
 -- as they are lent

@@ -13,6 +13,8 @@ use Rattle.stab_map.specs.declared.object.MapObject.{MapObject}
 use Rattle.ar_read.specs.Archive.{member_of}
 use Rattle.object_view.specs.Analysis.{analysis_of}
 use Rattle.type_names.specs.Names.{Named}
+use Rattle.type_pool.specs.declared.closed.ClosedPool.{ClosedPool}
+use Rattle.name_bids.specs.Tables.{IsTable}
 use Rattle.link_graph.specs.Graph.{graph_in}
 use Rattle.link_graph.specs.Merged.{linked_names, shape_of}
 use Rattle.link_graph.specs.Pool.{pool_names}
@@ -121,11 +123,16 @@ counts_of seen marks names graph image =
       bytes = length image;
     }
 
+-- the closed table in which the names that are merged were bid for
+pub record IsClosed (names : List Named) (closed : ClosedPool) : Type 0 where
+  pub table : IsTable names closed.state
+  pub book : closed.names ≡ length names
+
 -- What linking a program of a name with its objects answers, where entries of one name are merged or not: the bundle, by the marks of the live entries; or the first fault of the first object that has one; or else the first limit that is reached. Want of memory says nothing.
 pub data Bundles (odr : Bool) (program : Image) (name : List ℕ) (sources : List Source) : Result Linked Refusal → Type 0 where
   bundle : (seen : List Analysis) (marks : List (List Bool)) (linked : Linked) → analyses_from program.cpu 1 sources ≡ Ok seen → MarkLive seen marks
       → limit_of odr program seen marks ≡ None → linked.image ≡ image_file program (graph_of odr seen marks) → linked.plist ≡ plist_bytes name
-      → linked.counts ≡ counts_of seen marks (linked_names odr seen marks) (graph_of odr seen marks) linked.image → Bundles odr program name sources (Ok linked)
+      → linked.counts ≡ counts_of seen marks (linked_names odr seen marks) (graph_of odr seen marks) linked.image → IsClosed (linked_names odr seen marks) linked.closed → Bundles odr program name sources (Ok linked)
   fault : (file : ℕ) (fault : Fault) → analyses_from program.cpu 1 sources ≡ Err (refusals.Faulty file fault) → Bundles odr program name sources (Err (refusals.Faulty file fault))
   limit : (seen : List Analysis) (marks : List (List Bool)) (refusal : Refusal) → analyses_from program.cpu 1 sources ≡ Ok seen → MarkLive seen marks
       → limit_of odr program seen marks ≡ Some refusal → Bundles odr program name sources (Err refusal)

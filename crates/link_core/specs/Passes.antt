@@ -30,7 +30,7 @@ use Rattle.stab_map.specs.declared.object.MapObject.{MapObject}
 use Rattle.link_core.specs.declared.graph.Shaped.{Shaped}
 use Rattle.link_core.specs.declared.objects.ReadObject.{ReadObject}
 use Rattle.link_core.specs.declared.reading.ReadObjects.{ReadObjects}
-use Rattle.link_core.specs.Linked.{AreLive, MarkLive, Source, analyses_from, analysis_from, counts_of, first_limit, graph_of, limit_of}
+use Rattle.link_core.specs.Linked.{AreLive, IsClosed, MarkLive, Source, analyses_from, analysis_from, counts_of, first_limit, graph_of, limit_of}
 
 -- ---- objects
 
@@ -97,6 +97,7 @@ pub record IsShaped (odr : Bool) (seen : List Analysis) (live : List (List Bool)
   pub few_names : length (linked_names odr seen live) < 2 ^ 25
   pub pooled : it.pooled ≡ length (linked_names odr seen live)
   pub names : it.names ≡ length (pool_names (linked_names odr seen live))
+  pub closed : IsClosed (linked_names odr seen live) it.closed
 
 -- the names of the entries that are merged, or that there are too many
 abbrev pub Names : Bool → List Analysis → List (List Bool) → Result (List Named) Refusal → Type 0
@@ -176,7 +177,7 @@ Images program graph (Err refusals.NoMemory) = Unit {0}
 abbrev pub Links : Bool → Image → List ℕ → List Analysis → List (List Bool) → Result Linked Refusal → Type 0
 Links odr program name seen marks (Ok linked) =
     (limit_of odr program seen marks ≡ None) × (linked.image ≡ image_file program (graph_of odr seen marks)) × (linked.plist ≡ plist_bytes name)
-    × (linked.counts ≡ counts_of seen marks (linked_names odr seen marks) (graph_of odr seen marks) linked.image)
+    × (linked.counts ≡ counts_of seen marks (linked_names odr seen marks) (graph_of odr seen marks) linked.image) × IsClosed (linked_names odr seen marks) linked.closed
 Links odr program name seen marks (Err (refusals.Faulty file fault)) = ⊥
 Links odr program name seen marks (Err (refusals.Limit which n)) = limit_of odr program seen marks ≡ Some (refusals.Limit which n)
 Links odr program name seen marks (Err refusals.NoMemory) = Unit {0}

@@ -1,6 +1,7 @@
 //! A bundle, and what a link counts.
 
 use ds_base::Bytes;
+use type_pool::ClosedPool;
 
 /// How a link is to be made.
 #[derive(Clone, Copy, Debug, PartialEq, Eq)]
@@ -38,4 +39,6 @@ pub struct Linked {
     /// The text of Info.plist.
     pub plist: Bytes,
     pub counts: Counts,
+    /// The closed table in which names that are merged were bid for.
+    pub closed: ClosedPool,
 }

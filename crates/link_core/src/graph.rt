@@ -1,6 +1,6 @@
 //! The linked graph: its names, its shape, and its frames.
 
-ghost use Rattle.std.specs.Prelude.{◌≡◌, ◌<◌, ◌^◌, List as Listed, length, IfOk};
+ghost use Rattle.std.specs.Prelude.{◌≡◌, ◌<◌, ◌≤◌, ◌^◌, List as Listed, length, IfOk};
 ghost use Rattle.std.specs.List.{All, flat_map};
 ghost use Rattle.dwarf_types.specs.Sound.{IsSound};
 ghost use Rattle.link_graph.specs.Pool.{pool_names};
@@ -11,10 +11,14 @@ ghost use Rattle.link_core.specs.Passes.{HasPool, Names, Shapes};
 use crate::refusal::{LimitKind, Refusal};
 use ds_base::limits::SECTION_BYTES;
 use ds_base::{BitRow, List, NoMemory};
+use ds_files::Gate;
 use dwarf_types::{Analysis, OutFrames, Shape};
 use link_graph::build;
-use odr_names::{BookError, MOST_POOLED, PathBook, book, count, winners_plain};
+use name_bids::shared_winners;
+use odr_names::{BookError, MOST_POOLED, PathBook, book, count};
 use std::alloc::Global;
+use std::thread::Threads;
+use type_pool::ClosedPool;
 
 /// The shape of a linked graph, and what is counted of the names that are merged in it.
 #[derive(Drop)]
@@ -24,23 +28,30 @@ pub(crate) struct Shaped {
     pub pooled: u64,
     /// Their names, each once.
     pub names: u64,
+    /// The closed table in which they were bid for.
+    pub closed: ClosedPool,
 }
 
 /// The shape of the graph of the live entries of all objects, where those of one name are merged or not; or that too many
-/// entries are merged, or that it has too many units.
-pub(crate) fn shape_of(
+/// entries are merged, or that it has too many units. So many threads bid for the names.
+pub(crate) fn shape_of<R: Threads + Sync, G: Gate + Sync>(
+    rt: &R,
     alloc: Global,
+    workers: u32,
+    gate: &G,
     odr: bool,
     seen: &[Analysis],
     live: &[BitRow],
 ) -> Result<Shaped, Refusal>
+    requires workers { (1 ≤ workers) × (workers ≤ 64) }
     requires sound { All IsSound seen.now }
     requires live { MarkLive seen.now live.now }
     requires few { length seen.now < 2 ^ 16 }
     ensures { Shapes odr seen.now live.now result }
 {
     let names = names_of(alloc, odr, seen, live)?;
-    let winners = winners_plain(alloc, &names)?;
+    let bids = shared_winners(rt, alloc, workers, gate, &names)?;
+    let (winners, closed) = bids;
     let shape = build(alloc, seen, live, &names, &winners)?;
     if shape.units.len() as u64 >= SECTION_BYTES {
         return Err(Refusal::Limit {
@@ -54,6 +65,7 @@ pub(crate) fn shape_of(
         shape,
         pooled: u64::from(pooled),
         names,
+        closed,
     })
 }
 

@@ -12,7 +12,7 @@ ghost use Rattle.link_core.specs.Passes.{Links};
 use crate::bundle::{Counts, Linked, Options};
 use crate::counts::{count_entries, count_live, count_nodes};
 use crate::drafting::drafts_of;
-use crate::graph::{frames_of, shape_of};
+use crate::graph::{Shaped, frames_of, shape_of};
 use crate::image::image_of;
 use crate::reading::{ReadObjects, read_objects};
 use crate::refusal::Refusal;
@@ -30,9 +30,10 @@ use std::thread::Threads;
 /// `source` tells for each object the number of its file among `files`; an object without one has no entries. Faults
 /// come in the order of the objects, which are numbered from 1, and behind them the limits: of merged entries, of
 /// units, of a unit's bytes, of a section's, of the image's. `options` tells whether types of one name are merged, and how
-/// many threads read the objects, and then clone and draft the units of the output. Each passes `gate` once for an object
-/// before it reads it, and once for a unit before it clones it and before it drafts it. Nothing that is answered depends
-/// on the number of threads.
+/// many threads read the objects, bid for the names that are merged, and clone and draft the units of the output. Each
+/// passes `gate` once for an object before it reads it and before it bids for its names, and once for a unit before it
+/// clones it and before it drafts it. Nothing that is written depends on the number of threads: the closed table alone
+/// may have a name at another cell.
 pub fn link_objects<R: Threads + Sync, G: Gate + Sync>(
     rt: &R,
     alloc: Global,
@@ -97,9 +98,23 @@ fn link_marked<R: Threads + Sync, G: Gate + Sync>(
     let objects = seen.len() as u64;
     let entries = count_entries(seen.as_slice());
     let live = count_live(seen.as_slice(), marks);
-    let shaped = shape_of(alloc, options.odr, seen.as_slice(), marks)?;
+    let shaped = shape_of(
+        rt,
+        alloc,
+        options.workers,
+        gate,
+        options.odr,
+        seen.as_slice(),
+        marks,
+    )?;
+    let Shaped {
+        shape,
+        pooled,
+        names,
+        closed,
+    } = shaped;
     let frames = frames_of(alloc, seen.as_slice())?;
-    let drafts = drafts_of(rt, alloc, options.workers, gate, seen, &shaped.shape)?;
+    let drafts = drafts_of(rt, alloc, options.workers, gate, seen, &shape)?;
     let nodes = count_nodes(drafts.as_slice());
     let image = image_of(alloc, program, drafts, &frames)?;
     let plist = plist_text(alloc, name)?;
@@ -107,8 +122,8 @@ fn link_marked<R: Threads + Sync, G: Gate + Sync>(
         objects,
         entries,
         live,
-        pooled: shaped.pooled,
-        names: shaped.names,
+        pooled,
+        names,
         nodes,
         bytes: image.len() as u64,
     };
@@ -116,5 +131,6 @@ fn link_marked<R: Threads + Sync, G: Gate + Sync>(
         image,
         plist,
         counts,
+        closed,
     })
 }

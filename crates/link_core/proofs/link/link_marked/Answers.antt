@@ -61,5 +61,5 @@ returns g c =
     let are = subst (λ (g : Graph). AreDrafts g c.in_ok-drafts.drafts) shaped.graph c.in_ok-drafts.ensures in
     let frames = frames_are c.args.options.now.odr c.args.seen c.as_slice-4.result.now c.args.marks.now c.in_ok-frames.frames c.in_ok-shaped.shaped shaped c.as_slice-4.ensures c.in_ok-frames.ensures in
     let nodes = c.count_nodes-nodes.ensures ∙ ap (sum_by (λ (draft : Draft). length draft.places)) c.as_slice-5.ensures ∙ nodes_drafted graph c.in_ok-drafts.drafts are in
-    links_made c.args.options.now.odr c.args.program.now c.args.name.now c.args.seen c.args.marks.now c.in_ok-shaped.shaped shaped c.in_ok-image.image c.in_ok-plist.plist _ _ _ _ _ (c.in_ok-image.ensures graph are frames) c.in_ok-plist.ensures
-    c.len-objects.ensures (c.count_entries-entries.ensures ∙ ap (sum_by (λ (object : Analysis). length object.entries)) c.as_slice.ensures) c.count_live-live.ensures nodes c.len.ensures
+    links_made c.args.options.now.odr c.args.program.now c.args.name.now c.args.seen c.args.marks.now c.in_ok-shaped.shaped shaped c.in_ok-image.image c.in_ok-plist.plist c.in_ok-shaped.shaped.closed _ _ _ _ _ (c.in_ok-image.ensures graph are frames) c.in_ok-plist.ensures
+    c.len-objects.ensures (c.count_entries-entries.ensures ∙ ap (sum_by (λ (object : Analysis). length object.entries)) c.as_slice.ensures) c.count_live-live.ensures nodes c.len.ensures shaped.closed
