@@ -151,6 +151,7 @@ fn workers_change_nothing_that_is_told(rt: HostRuntime) -> Result<(), NoMemory> 
 fn two_workers_share_each_phase(rt: HostRuntime) {
     let alloc = rt.alloc();
     shares_phase(&rt, alloc, 0);
+    shares_phase(&rt, alloc, 1);
     shares_phase(&rt, alloc, 2);
     shares_phase(&rt, alloc, 3);
 }
