@@ -10,4 +10,6 @@ mod objects;
 #[cfg(test)]
 mod tests;
 #[cfg(test)]
+mod tests_names;
+#[cfg(test)]
 mod tests_workers;
