@@ -1,5 +1,5 @@
-//! Tables over the calls that choose entries, name them and make the linked graph: `liveness`, `odr_names`, `link_graph`,
-//! `clone_units`.
+//! Tables over the calls that choose entries, name them and make the linked graph: `liveness`, `odr_names`, `name_bids`,
+//! `link_graph`, `clone_units`.
 //!
 //! Layer: output graph. There is nothing here but tests.
 #![tactic(auto)]
@@ -12,6 +12,8 @@ mod names;
 mod pool;
 #[cfg(test)]
 mod rows;
+#[cfg(test)]
+mod shared;
 #[cfg(test)]
 mod sound;
 #[cfg(test)]
