@@ -1,6 +1,6 @@
 -- Which names are bid for as tasks are drawn.
-use Rattle.std.proofs.Common.{◌≡◌, ℕ, ◌+◌, ◌-◌, ◌<◌, ◌≤◌, ◌⊎◌, inl, inr, ⊎_elim, true, List, [], ◌∷◌, ◌++◌, length, append-nil, append_assoc, sym, refl, ap, ◌∙◌, subst, arith}
-use Rattle.std.specs.Prelude.{None, Some, is_some}
+use Rattle.std.proofs.Common.{◌≡◌, ℕ, ◌+◌, ◌<◌, ◌≤◌, ◌⊎◌, inl, inr, ⊎_elim, List, [], ◌∷◌, ◌++◌, length, append-nil, append_assoc, sym, refl, ap, ◌∙◌, subst, arith}
+use Rattle.std.specs.Prelude.{None, Some}
 use Rattle.std.proofs.lemmas.Bool.{cases_eq, cases_lt}
 use Rattle.odr_names.specs.Stretches.{AreOfObjects, IsFirstOf, object_at}
 use Rattle.type_names.specs.Names.{Named}
@@ -8,7 +8,7 @@ use Rattle.type_pool.specs.declared.view.View.{View}
 use Rattle.work_share.specs.declared.view.TaskView.{TaskView}
 use Rattle.work_share.specs.Counter.{drew, stopped}
 use Rattle.work_share.specs.Fair.{Keeps}
-use Rattle.work_share.specs.Numbers.{above, times}
+use Rattle.work_share.specs.Numbers.{above}
 use Rattle.work_share.proofs.Totals.{times-append, times_here, times_other}
 use Rattle.name_bids.specs.Bids.{HasBid, IsOfObject, IsOfTasks}
 use Rattle.name_bids.proofs.Bids.{bid_as, bid_none, bid_then}

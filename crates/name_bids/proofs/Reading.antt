@@ -1,17 +1,16 @@
 -- The winners of a book, read from its closed table.
-use Rattle.std.proofs.Common.{◌≡◌, ◌≢◌, ℕ, ◌+◌, ◌<◌, ◌≤◌, ◌⊎◌, inl, inr, ⊎_elim, List, [], ◌∷◌, ◌++◌, length, map, Option, Some, None, slice_get, get_or, set, sym, refl, ap, ◌∙◌, subst, arith}
+use Rattle.std.proofs.Common.{◌≡◌, ℕ, ◌+◌, ◌<◌, ◌⊎◌, inl, inr, ⊎_elim, List, [], ◌∷◌, ◌++◌, length, map, Option, Some, None, slice_get, get_or, sym, refl, ap, ◌∙◌, subst, arith}
 use Rattle.std.specs.List.{All, Contains}
 use Rattle.std.specs.Option.{option_map}
-use Rattle.std.proofs.lemmas.Bool.{cases_eq, cases_lt}
-use Rattle.std.proofs.lemmas.List.{get_or_default, get_or-set_other, get_or-set_same, get_or_past, length-map, length-set, length_push}
+use Rattle.std.proofs.lemmas.Bool.{cases_lt}
+use Rattle.std.proofs.lemmas.List.{get_or_default, length-map, length_push}
 use Rattle.std.proofs.lemmas.List.Elements.{Contains-append_left, Contains-push, Contains-push_cases}
 use Rattle.std.proofs.lemmas.Option.{get_or_from_slice_get, none-some, same_Some, slice_get-get_or, slice_get-map, slice_get_cases, slice_get_within}
-use Rattle.odr_names.specs.Book.{SamePath, bid_at, path_at}
+use Rattle.odr_names.specs.Book.{SamePath}
 use Rattle.odr_names.specs.Winners.{ArePut, AreWholePaths, AreWinners, IsWinner}
 use Rattle.odr_names.proofs.BookPaths.{get_before, get_last}
 use Rattle.pool_core.specs.declared.state.PoolState.{PoolState}
 use Rattle.type_names.specs.Names.{Named}
-use Rattle.type_pool.specs.Standing.{IsIn}
 use Rattle.name_bids.specs.Reading.{AreCells, AreCellsTo, AreCrowdedTo, AreInside, AreLeastTo, HasLeast, IsCellOf, winner_at}
 use Rattle.name_bids.specs.Tables.{IsAt, IsLeftOver, IsTable}
 use Rattle.name_bids.proofs.Tables.{at_one_cell_of, cell_inside, known_in, one_cell}
@@ -43,52 +42,6 @@ are_inside names state cells table are = λ x cell at. (
 
 pub inside_of : (least winners : List ℕ) (cells : List (Option ℕ)) → length winners ≡ length least → AreInside least cells → AreInside winners cells
 inside_of least winners cells len inside = λ x cell at. omega (arith, len, inside x cell at)
-
--- ---- the least bid of each cell
-
-module _ (names : List Named) (least : List ℕ) (cells : List (Option ℕ)) where
-  pub least_begun : (winners : List ℕ) → length winners ≡ length least → AreLeastTo names least cells winners 0
-  least_begun winners len = record { len = len; each = λ x cell below at bid. absurd (omega (arith, below)) }
-
-  pub least_none : (winners : List ℕ) (n : ℕ) → slice_get cells n ≡ Some None → AreLeastTo names least cells winners n → AreLeastTo names least cells winners (n + 1)
-  least_none winners n none so_far = record {
-    len = so_far.len;
-    each = λ x cell below at bid. elim (cases_lt x n) [
-      | inl before ↦ so_far.each x cell before at bid
-      | inr last ↦ absurd (none-some cell (same_Some None (Some cell) (sym none ∙ ap (slice_get cells) (let e : n ≡ x = omega (arith, last, below) in e) ∙ at)))
-    ];
-  }
-
-  pub least_other : (winners : List ℕ) (n cell : ℕ) → slice_get cells n ≡ Some (Some cell) → (get_or least cell 0 ≡ bid_at names n → ⊥) → AreLeastTo names least cells winners n → AreLeastTo names least cells winners (n + 1)
-  least_other winners n own at_own other so_far = record {
-    len = so_far.len;
-    each = λ x cell below at bid. elim (cases_lt x n) [
-      | inl before ↦ so_far.each x cell before at bid
-      | inr last ↦ absurd (
-          let e : x ≡ n = omega (arith, last, below) in
-          let same : cell ≡ own = same_Some cell own (same_Some (Some cell) (Some own) (sym at ∙ ap (slice_get cells) e ∙ at_own)) in
-          other (ap (λ (c : ℕ). get_or least c 0) (sym same) ∙ bid ∙ ap (bid_at names) e))
-    ];
-  }
-
-  pub least_more : (winners : List ℕ) (n cell : ℕ) → n < length names → cell < length least → slice_get cells n ≡ Some (Some cell) → get_or least cell 0 ≡ bid_at names n → AreLeastTo names least cells winners n
-      → AreLeastTo names least cells (set winners cell n) (n + 1)
-  least_more winners n own within inside at_own own_bid so_far = record {
-    len = length-set winners own n ∙ so_far.len;
-    each = λ x cell below at bid. elim (cases_eq cell own) [
-      | inl same ↦ (
-          let read : get_or (set winners own n) cell 0 ≡ n = ap (λ (c : ℕ). get_or (set winners own n) c 0) same ∙ get_or-set_same winners own n 0 (omega (arith, inside, so_far.len)) in
-          subst (HasLeast names least cells cell) (sym read) (subst (λ (c : ℕ). HasLeast names least cells c n) (sym same) record { within = within; at = at_own; bid = own_bid }))
-      | inr other ↦ (
-          let before : x < n = elim (cases_lt x n) [
-            | inl lt ↦ lt
-            | inr last ↦ absurd (
-                let e : x ≡ n = omega (arith, last, below) in
-                other (same_Some cell own (same_Some (Some cell) (Some own) (sym at ∙ ap (slice_get cells) e ∙ at_own))))
-          ] in
-          subst (HasLeast names least cells cell) (sym (get_or-set_other winners own cell n 0 other)) (so_far.each x cell before at bid))
-    ];
-  }
 
 -- ---- crowded names
 

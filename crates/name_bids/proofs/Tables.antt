@@ -1,5 +1,5 @@
 -- The closed table, from what the seat that closed it knew.
-use Rattle.std.proofs.Common.{◌≡◌, ℕ, zero, suc, Bool, true, false, cond, ◌&&◌, ◌==◌, eqb, ◌+◌, ◌<◌, ◌≤◌, ◌⊎◌, inl, inr, ⊎_elim, List, [], ◌∷◌, length, get_or, sym, refl, ap, ◌∙◌, subst, arith, eqb-true}
+use Rattle.std.proofs.Common.{◌≡◌, ℕ, zero, suc, Bool, true, false, cond, ◌&&◌, eqb, ◌+◌, ◌<◌, ◌≤◌, ◌⊎◌, inl, inr, ⊎_elim, List, [], ◌∷◌, length, get_or, sym, refl, ap, ◌∙◌, subst, arith, eqb-true}
 use Rattle.std.proofs.lemmas.Bool.{cases_lt}
 use Rattle.std.proofs.lemmas.List.{get_or_past}
 use Rattle.odr_names.specs.Book.{SamePath, bid_at, path_at}
@@ -10,9 +10,9 @@ use Rattle.type_names.specs.Names.{Named}
 use Rattle.type_names.specs.Start.{start_of}
 use Rattle.type_pool.specs.declared.view.View.{View}
 use Rattle.type_pool.specs.Ends.{Closes}
-use Rattle.type_pool.specs.Keeping.{is_word_of, no_bid}
+use Rattle.type_pool.specs.Keeping.{no_bid}
 use Rattle.type_pool.specs.Pairs.{Has, times}
-use Rattle.type_pool.specs.Standing.{EqualNamesShareACell, IsIn, StandsAt, probes}
+use Rattle.type_pool.specs.Standing.{EqualNamesShareACell, IsIn, probes}
 use Rattle.type_pool.proofs.Places.{equal_names_share, others_on, stands_on}
 use Rattle.type_pool.proofs.Words.{is_word}
 use Rattle.name_bids.specs.Bids.{HasBid, IsNotedAt, IsNotedCrowded, first_cell}

@@ -1,5 +1,5 @@
 -- The closed table of a book: where each name stands, and the least bid of each path.
-use Rattle.std.specs.Prelude.{◌≡◌, ℕ, ◌*◌, ◌^◌, ◌<◌, ◌⊎◌, List, length, max, min, slice_get, slice_index, Option, None, Some}
+use Rattle.std.specs.Prelude.{◌≡◌, ℕ, ◌*◌, ◌^◌, ◌<◌, ◌⊎◌, List, length, max, min, slice_index}
 use Rattle.odr_names.specs.Book.{SamePath, bid_at}
 use Rattle.odr_names.specs.Winners.{IsWinner}
 use Rattle.pool_core.specs.declared.state.PoolState.{PoolState}

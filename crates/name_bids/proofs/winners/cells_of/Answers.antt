@@ -1,5 +1,4 @@
-use Rattle.std.proofs.Common.{◌≡◌, ℕ, [], length, arith, refl}
-use Rattle.std.proofs.lemmas.Option.{none-some}
+use Rattle.std.proofs.Common.{arith}
 use Rattle.name_bids.proofs.Reading.{cells_begun, cells_done, cells_more}
 use Rattle.name_bids.proofs.winners.cells_of.Goals as goal
 

@@ -1,6 +1,6 @@
-use Rattle.std.proofs.Common.{◌≡◌, List, length, map}
+use Rattle.std.proofs.Common.{◌≡◌, length, map}
 use Rattle.odr_names.specs.Winners.{ArePut}
-use Rattle.name_bids.specs.Reading.{AreCells, AreCrowdedTo, AreInside, AreLeastTo, winner_at}
+use Rattle.name_bids.specs.Reading.{AreCrowdedTo, AreInside, AreLeastTo, winner_at}
 use Rattle.name_bids.proofs.Reading.{all_win, are_inside, crowded_inside, crowded_whole, inside_of}
 use Rattle.name_bids.proofs.winners.winners_in.Goals as goal
 
