@@ -83,7 +83,7 @@ module _ (seen : List Analysis) (shape : Shape) (is : IsShape seen shape) where
 
 -- no unit from this one on needs an object before a number
 abbrev pub Waits : Shape → ℕ → ℕ → Type 0
-Waits shape u gone = (v : ℕ) → u ≤ v → v < length shape.units → gone ≤ first_needed (object_of shape v)
+Waits shape u dropped = (v : ℕ) → u ≤ v → v < length shape.units → dropped ≤ first_needed (object_of shape v)
 
 pub waits_first : (shape : Shape) → Waits shape 0 0
 waits_first shape v le lt = omega arith

@@ -49,18 +49,18 @@ pub(crate) fn first_needed(shape: &Shape, unit: u32) -> usize
     }
 }
 
-/// Lets the analyses from `gone` up to `object` go: units stand in the order of their objects.
-pub(crate) fn let_go(alloc: Global, left: &mut [Analysis], gone: usize, object: usize)
-    requires { gone ≤ object }
-    ensures { (all : Listed Seen) → AreLeft gone all left.old → AreLeft object all left.new }
+/// Drops the analyses from `dropped` up to `object`: units stand in the order of their objects.
+pub(crate) fn drop_analyses(alloc: Global, left: &mut [Analysis], dropped: usize, object: usize)
+    requires { dropped ≤ object }
+    ensures { (all : Listed Seen) → AreLeft dropped all left.old → AreLeft object all left.new }
 {
-    for i in gone..object {
-        empty(alloc, left, i);
+    for i in dropped..object {
+        drop_analysis(alloc, left, i);
     }
 }
 
 /// Puts an analysis without entries in the place of another.
-fn empty(alloc: Global, left: &mut [Analysis], i: usize)
+fn drop_analysis(alloc: Global, left: &mut [Analysis], i: usize)
     ensures { (all : Listed Seen) → AreLeft i all left.old → AreLeft (i + 1) all left.new }
 {
     if i < left.len() {

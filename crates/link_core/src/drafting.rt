@@ -8,7 +8,7 @@ ghost use Rattle.dwarf_types.specs.Sound.{IsSound};
 ghost use Rattle.link_graph.specs.Graph.{IsShape, graph_in};
 ghost use Rattle.link_core.specs.Passes.{DraftsBy, DraftsUnit, DraftsUnits, MayDraft};
 
-use crate::batches::{batch_end, first_needed, let_go};
+use crate::batches::{batch_end, first_needed, drop_analyses};
 use crate::refusal::{LimitKind, Refusal};
 use crate::results::{in_turn, put_behind};
 use clone_units::clone_unit;
@@ -74,13 +74,13 @@ pub(crate) fn drafts_of<R: Threads + Sync, G: Gate + Sync>(
     ensures { DraftsUnits (graph_in seen shape.now) result }
 {
     let mut left = seen;
-    let mut gone = 0;
+    let mut dropped = 0;
     let mut outs = Vec::new(alloc);
     let mut first = 0;
     while (first as usize) < shape.units.len() {
         let needed = first_needed(shape, first);
-        let_go(alloc, left.as_mut_slice(), gone, needed);
-        gone = needed;
+        drop_analyses(alloc, left.as_mut_slice(), dropped, needed);
+        dropped = needed;
         let end = batch_end(shape, first, workers);
         let more = batch(rt, alloc, workers, gate, left.as_slice(), shape, first, end)?;
         put_behind(&mut outs, more)?;

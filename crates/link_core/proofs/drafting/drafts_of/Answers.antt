@@ -8,8 +8,8 @@ use Rattle.link_core.proofs.drafting.drafts_of.Goals as goal
 pub batch-requires-clause-may : goal.batch-requires-clause-may
 batch-requires-clause-may g c κs within =
     let seen = c.args.seen in
-    let left : AreLeft c.first_needed-needed.result seen c.let_go.new.left = c.let_go.ensures seen (subst (AreLeft c.loop-first.gone seen) (sym c.as_mut_slice.ensures.value) c.loop-first.invariant.2) in
-    let still = subst (AreLeft c.first_needed-needed.result seen) (sym (lent_all c.let_go.new.left c.loop-first.left (omega (arith, c.let_go.auto.left, ap length c.as_mut_slice.ensures.value)))) left in
+    let left : AreLeft c.first_needed-needed.result seen c.drop_analyses.new.left = c.drop_analyses.ensures seen (subst (AreLeft c.loop-first.dropped seen) (sym c.as_mut_slice.ensures.value) c.loop-first.invariant.2) in
+    let still = subst (AreLeft c.first_needed-needed.result seen) (sym (lent_all c.drop_analyses.new.left c.loop-first.left (omega (arith, c.drop_analyses.auto.left, ap length c.as_mut_slice.ensures.value)))) left in
     let lent = subst (AreLeft c.first_needed-needed.result seen) (sym c.as_slice.ensures) still in
     let from = subst (λ n. AreLeft n seen c.as_slice.result.now) c.first_needed-needed.ensures lent in
     λ u le lt. may_draft seen c.args.shape.now c.requires.is_shape c.loop-first.first u c.as_slice.result.now c.requires.few c.requires.sound le (omega (arith, lt, c.batch_end-end.ensures.1)) from
@@ -18,8 +18,8 @@ pub loop-first-preserved : goal.loop-first-preserved
 loop-first-preserved g c =
     let seen = c.args.seen in
     let shape = c.args.shape.now in
-    let left : AreLeft c.first_needed-needed.result seen c.let_go.new.left = c.let_go.ensures seen (subst (AreLeft c.loop-first.gone seen) (sym c.as_mut_slice.ensures.value) c.loop-first.invariant.2) in
-    let still = subst (AreLeft c.first_needed-needed.result seen) (sym (lent_all c.let_go.new.left c.loop-first.left (omega (arith, c.let_go.auto.left, ap length c.as_mut_slice.ensures.value)))) left in
+    let left : AreLeft c.first_needed-needed.result seen c.drop_analyses.new.left = c.drop_analyses.ensures seen (subst (AreLeft c.loop-first.dropped seen) (sym c.as_mut_slice.ensures.value) c.loop-first.invariant.2) in
+    let still = subst (AreLeft c.first_needed-needed.result seen) (sym (lent_all c.drop_analyses.new.left c.loop-first.left (omega (arith, c.drop_analyses.auto.left, ap length c.as_mut_slice.ensures.value)))) left in
     let lent = subst (AreLeft c.first_needed-needed.result seen) (sym c.as_slice.ensures) still in
     let from = subst (λ n. AreLeft n seen c.as_slice.result.now) c.first_needed-needed.ensures lent in
     let le : c.loop-first.first ≤ c.batch_end-end.result = omega (arith, c.batch_end-end.ensures.0) in (

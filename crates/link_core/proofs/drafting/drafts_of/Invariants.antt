@@ -10,7 +10,7 @@ use Rattle.link_core.proofs.drafting.drafts_of.Given as goal
 abbrev pub invariant-loop-first : goal.invariant-loop-first
 invariant-loop-first g l =
     let shape : Shape = record { units = l.shape.units; plain = l.shape.plain; images = l.shape.images } in
-    (l.first ≤ length l.shape.units) × GivesAll (DraftsUnit (graph_in l.fn.seen shape)) l.first l.outs.items × AreLeft l.gone l.fn.seen l.left × Waits shape l.first l.gone
+    (l.first ≤ length l.shape.units) × GivesAll (DraftsUnit (graph_in l.fn.seen shape)) l.first l.outs.items × AreLeft l.dropped l.fn.seen l.left × Waits shape l.first l.dropped
 
 abbrev pub decreases-loop-first : goal.decreases-loop-first
 decreases-loop-first g l = length l.shape.units - l.first
