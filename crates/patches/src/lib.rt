@@ -16,6 +16,3 @@ mod outside;
 pub use buffer::Buffer;
 pub use hole::{Outer, OuterPatch, Own, OwnPatch};
 pub use outside::{Outside, Placed};
-
-#[cfg(test)]
-mod tests;

@@ -33,6 +33,3 @@ pub use generator::generated;
 pub use program::Generated;
 pub use sections::is_within_limits;
 pub use spec::ObjectSpec;
-
-#[cfg(test)]
-mod tests;

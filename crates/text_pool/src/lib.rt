@@ -15,6 +15,3 @@ pub use names::{Names, texts_by_first_use_in_each_part_are_those_of_all};
 pub use pool::{
     TextError, TextPool, add, emit_texts, new_pool, offset_of, pool_of_uses_is_each_once, pool_size,
 };
-
-#[cfg(test)]
-mod tests;

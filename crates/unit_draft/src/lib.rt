@@ -22,6 +22,3 @@ mod whole;
 
 pub use error::DraftError;
 pub use unit::{Draft, draft_unit, emit_draft, emit_lines};
-
-#[cfg(test)]
-mod tests;

@@ -1,8 +1,17 @@
-//! Tables over the calls that check, measure and write a graph: `graph_check`, `layout`, `emit_info`, `dsym_write`, and
-//! below them the writers of each section.
+//! Tables over the calls that make drafts of units, check, measure and write a graph (`patches`, `text_pool`,
+//! `unit_draft`, `graph_check`, `layout`, `emit_info`, `dsym_write`, and below them the writers of each section), and over
+//! the samples of `sample_objects`.
 //!
 //! Layer: writers. There is nothing here but tests.
 #![tactic(auto)]
 
 #[cfg(test)]
+mod drafts;
+#[cfg(test)]
+mod holes;
+#[cfg(test)]
 mod images;
+#[cfg(test)]
+mod samples;
+#[cfg(test)]
+mod texts;

@@ -4,9 +4,9 @@ ghost use Rattle.std.specs.Prelude.{ℕ, ◌≡◌, ◌<◌, ◌^◌, [], length
 ghost use Rattle.std.specs.List.{All};
 ghost use Rattle.patches.specs.Filling.{Filling, filled};
 
-use crate::{Buffer, Outer, Outside, Own, Placed};
 use ds_base::List;
 use dwarf_types::Target;
+use patches::{Buffer, Outer, Outside, Own, Placed};
 use std::process::Abort;
 use std::test::Fail;
 

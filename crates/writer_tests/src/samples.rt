@@ -2,12 +2,12 @@
 
 ghost use Rattle.macho_read.specs.Sound.{IsSound};
 
-use crate::{Generated, ObjectSpec, generated, is_within_limits, object};
 use ds_base::dwarf::{DW_AT_stmt_list, DW_TAG_compile_unit};
 use ds_base::macho::{CPU_TYPE_ARM64, CPU_TYPE_X86_64, MH_OBJECT};
 use ds_base::{Bytes, List};
 use dwarf_types::{FileName, Node, OutAttr, OutLines, OutUnit, OutValue, Row, Sequence};
 use macho_read::{Symbols, read_image};
+use sample_objects::{Generated, ObjectSpec, generated, is_within_limits, object};
 use stab_map::{MapEntry, MapObject, debug_map};
 use std::alloc::Global;
 use std::process::Abort;

@@ -1,7 +1,7 @@
 //! Texts by number.
 
-use crate::Names;
 use std::test::Fail;
+use text_pool::Names;
 
 #[test]
 fn a_text_has_the_number_of_its_first_use(rt: HostRuntime) -> Result<(), Fail> {

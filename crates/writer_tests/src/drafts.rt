@@ -3,7 +3,6 @@
 ghost use Rattle.std.specs.Prelude.{◌≡◌, Ok, length};
 ghost use Rattle.unit_draft.specs.Drafted.{Drafts};
 
-use crate::{Draft, draft_unit, emit_draft};
 use ds_base::dwarf::{
     DW_AT_abstract_origin, DW_AT_frame_base, DW_AT_high_pc, DW_AT_language, DW_AT_location,
     DW_AT_low_pc, DW_AT_name, DW_AT_ranges, DW_AT_type, DW_FORM_data2, DW_FORM_data4,
@@ -17,6 +16,7 @@ use dwarf_types::{
 use patches::{Outside, Placed};
 use std::alloc::Global;
 use std::process::Abort;
+use unit_draft::{Draft, draft_unit, emit_draft};
 
 // ---- drafts
 
