@@ -8,7 +8,7 @@ ghost use Rattle.dwarf_types.specs.Sound.{IsSound};
 ghost use Rattle.link_graph.specs.Graph.{IsShape, graph_in};
 ghost use Rattle.link_core.specs.Passes.{DraftsBy, DraftsUnit, DraftsUnits, MayDraft};
 
-use crate::batches::{batch_end, first_needed, drop_analyses};
+use crate::batches::{batch_end, drop_analyses, first_needed};
 use crate::refusal::{LimitKind, Refusal};
 use crate::results::{in_turn, put_behind};
 use clone_units::clone_unit;

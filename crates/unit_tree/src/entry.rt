@@ -287,7 +287,9 @@ fn read_entry<'a>(
         &mut parsed.built,
         &mut parsed.references,
     )?;
-    parsed.built.close(parent, context.unit, place, declared.tag)?;
+    parsed
+        .built
+        .close(parent, context.unit, place, declared.tag)?;
     Ok(())
 }
 
