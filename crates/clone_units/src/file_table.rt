@@ -6,7 +6,8 @@ ghost use Rattle.clone_units.specs.Sourced.{dirs_seen, file_seen, files_seen};
 ghost use Rattle.indexmap.specs.IndexSet.{insert_key};
 ghost use Rattle.link_graph.specs.PoolFiles.{directories, file_written, first_directory, first_file, number_of_directory, table_of};
 
-use crate::source_files::{DWARF_5, FileRef};
+use crate::source_files::FileRef;
+use ds_base::dwarf::DWARF_5;
 use ds_base::{Bytes, List, NoMemory};
 use dwarf_types::{FileName, OutLines};
 use indexmap::IndexSet;

@@ -12,13 +12,10 @@ ghost use Rattle.link_graph.specs.PoolFiles.{directory_in, directory_of_unit, fi
 
 use crate::entry_sources::source_of;
 use ds_base::NoMemory;
-use ds_base::dwarf::{DW_AT_comp_dir, DW_AT_decl_file};
+use ds_base::dwarf::{DW_AT_comp_dir, DW_AT_decl_file, DWARF_5};
 use dwarf_types::{Analysis, AttrRef, EntryRef, FileName, InUnit, Origin, OutLines, ValueRef};
 use indexmap::IndexSet;
 use std::alloc::Global;
-
-/// The version of DWARF in whose line tables directories and files are counted from 0.
-pub(crate) const DWARF_5: u16 = 5;
 
 /// A source file, by the names of its directory and of itself where they stand.
 #[derive(Clone, Copy, PartialEq, Eq, Hash)]

@@ -5,7 +5,8 @@ ghost use Rattle.std.specs.Prelude.{◌≡◌, ◌++◌, Some, IsSome, map, slic
 ghost use Rattle.std.specs.Option.{option_and_then};
 ghost use Rattle.clone_units.specs.Sourced.{files_seen, numbers_before, numbers_in, numbers_listed, numbers_of_all, numbers_of_unit};
 
-use crate::source_files::{DWARF_5, FileRef, listed_file, number_of};
+use crate::source_files::{FileRef, listed_file, number_of};
+use ds_base::dwarf::DWARF_5;
 use ds_base::{List, NoMemory};
 use dwarf_types::{Analysis, InUnit, OutLines};
 use indexmap::IndexSet;

@@ -984,6 +984,11 @@ pub const DW_UT_split_compile: u8 = 0x05;
 
 pub const DW_UT_split_type: u8 = 0x06;
 
+// The versions of units that are read and written (DWARF 4, section 7.5.1.1; DWARF 5, section 7.5.1).
+pub const DWARF_4: u16 = 4;
+
+pub const DWARF_5: u16 = 5;
+
 // DWARF 5, section 7.2.2: lengths.
 /// "The values 0xfffffff0 through 0xffffffff are reserved" for lengths.
 pub const LENGTH_RESERVED: u32 = 0xffff_fff0;

@@ -7,6 +7,7 @@ ghost use Rattle.expr_walk.specs.Reading.{bytes_up_to, block_at, base_block_at, 
 ghost use Rattle.expr_walk.specs.Steps.{behind};
 
 use crate::expression::read_inner;
+use ds_base::dwarf::DWARF_5;
 use ds_base::{Cursor, Fault, Kind, Part, ReadError};
 use dwarf_types::{Addr, Base, InnerOpRef, Named, Operands, Ops, Place, operands_after};
 
@@ -112,7 +113,7 @@ fn is_outside(version: u16, operands: Operands) -> bool
     ensures { result ≡ is_outside version operands }
 {
     match operands {
-        Operands::Index => version != 5,
+        Operands::Index => version != DWARF_5,
         _ => false,
     }
 }

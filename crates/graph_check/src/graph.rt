@@ -6,7 +6,7 @@ ghost use Rattle.std.specs.List.{All};
 ghost use Rattle.dwarf_types.specs.Well.{IsWell, IsWellUnit};
 ghost use Rattle.dwarf_types.specs.WellValues.{IsTarget};
 
-use crate::lines::{DWARF_4, DWARF_5, are_frames, are_lines};
+use crate::lines::{are_frames, are_lines};
 use crate::nodes::are_nodes;
 use crate::roots::is_root;
 use crate::spans::are_spans;

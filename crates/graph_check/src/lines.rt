@@ -9,12 +9,8 @@ ghost use Rattle.dwarf_types.specs.WellLines.{HaveDigests, IsDigest, IsFile, IsF
 use crate::numbers::is_number;
 use crate::texts::{are_bytes, are_text_bytes};
 use ds_base::Bytes;
+use ds_base::dwarf::{DWARF_4, DWARF_5};
 use dwarf_types::{FileName, FrameRef, OutFrames, OutLines, Row, Sequence};
-
-/// The versions of DWARF that units and their line tables have.
-pub(crate) const DWARF_4: u16 = 4;
-
-pub(crate) const DWARF_5: u16 = 5;
 
 /// Whether this is the line table of a unit of a version, or there is none.
 pub(crate) fn are_lines(version: u16, lines: &Option<OutLines>) -> bool

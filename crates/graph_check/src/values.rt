@@ -8,7 +8,6 @@ ghost use Rattle.dwarf_types.specs.Spelled.{AreBytes};
 ghost use Rattle.dwarf_types.specs.WellValues.{FitsBlock, IsLocation, IsTarget, IsValue, MayStand, has_locations};
 
 use crate::expressions::{is_short, is_whole};
-use crate::lines::{DWARF_4, DWARF_5};
 use crate::numbers::{fits_block, fits_form, is_number};
 use crate::spans::{are_spans, is_span};
 use crate::texts::{are_bytes, are_text_bytes};
@@ -16,7 +15,7 @@ use ds_base::Bytes;
 use ds_base::dwarf::{
     DW_AT_data_member_location, DW_AT_frame_base, DW_AT_location, DW_AT_ranges, DW_AT_return_addr,
     DW_AT_segment, DW_AT_static_link, DW_AT_string_length, DW_AT_use_location,
-    DW_AT_vtable_elem_location,
+    DW_AT_vtable_elem_location, DWARF_4, DWARF_5,
 };
 use dwarf_types::{ExprPart, Graph, Node, OutLocation, OutValue, Target};
 

@@ -6,7 +6,7 @@ ghost use Rattle.index_tables.specs.Tables.{LiesIn, LooksUp};
 ghost use Rattle.index_tables.specs.Tables;
 
 use byteorder::{ByteOrder, LittleEndian};
-use ds_base::dwarf::{ADDRESS_SIZE, LENGTH_RESERVED};
+use ds_base::dwarf::{ADDRESS_SIZE, DWARF_5, LENGTH_RESERVED};
 use ds_base::{Kind, bytes_from};
 use dwarf_types::Sections;
 
@@ -120,7 +120,7 @@ fn is_described(section: &[u8], base: u64) -> bool
     length >= 4
         && length < u64::from(LENGTH_RESERVED)
         && base - 4 + length <= end
-        && stored_u16(section, base - 4) == 5
+        && stored_u16(section, base - 4) == DWARF_5
 }
 
 /// The length in the header before a base.

@@ -23,4 +23,3 @@ pub use layout::{
     texts, unit_start,
 };
 pub use sizes::LISTS_HEADER_LEN;
-pub use starts::LISTS_VERSION;

@@ -6,8 +6,9 @@ ghost use Rattle.dwarf_types.specs.Lists.{lists_header_len};
 
 use crate::address_sets::append_aranges;
 use crate::sizes::LISTS_HEADER_LEN;
-use crate::starts::{LISTS_VERSION, Starts, behind, first_starts};
+use crate::starts::{Starts, behind, first_starts};
 use crate::text::places_in;
+use ds_base::dwarf::DWARF_5;
 use ds_base::{Bytes, List, NoMemory};
 use patches::Placed;
 use std::alloc::Global;
@@ -123,7 +124,7 @@ fn list_place(version: u16, others: u128, five: u128) -> u32
     requires five { lists_header_len + five < 2 ^ 32 }
     ensures { result ≡ next_list version others five }
 {
-    if version == LISTS_VERSION {
+    if version == DWARF_5 {
         LISTS_HEADER_LEN + five as u32
     } else {
         others as u32

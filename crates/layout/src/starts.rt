@@ -3,10 +3,8 @@
 ghost use Rattle.std.specs.Prelude.{◌≡◌, ◌+◌, ◌<◌, ◌^◌, ◌-◌, fold, length};
 ghost use Rattle.layout.specs.Pass.{AreBelow, HasParts, behind_draft, in_five, in_others, line_len, no_starts};
 
+use ds_base::dwarf::DWARF_5;
 use unit_draft::Draft;
-
-/// The version whose lists stand in sections of their own (DWARF 5, sections 7.28 and 7.29).
-pub const LISTS_VERSION: u16 = 5;
 
 /// Where the parts of a unit stand, each in its section. The lengths of all that memory holds have 128 bits.
 #[derive(Clone, Copy)]
@@ -69,22 +67,14 @@ fn lines_len(draft: &Draft) -> usize
 fn five_len(version: u16, lists: usize) -> u128
     ensures { result ≡ in_five version 0 lists }
 {
-    if version == LISTS_VERSION {
-        lists as u128
-    } else {
-        0
-    }
+    if version == DWARF_5 { lists as u128 } else { 0 }
 }
 
 /// How much of them stands in one of the other sections of lists.
 fn other_len(version: u16, lists: usize) -> u128
     ensures { result ≡ in_others version 0 lists }
 {
-    if version == LISTS_VERSION {
-        0
-    } else {
-        lists as u128
-    }
+    if version == DWARF_5 { 0 } else { lists as u128 }
 }
 
 /// Where the parts of all drafts end.

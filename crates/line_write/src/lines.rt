@@ -9,21 +9,12 @@ ghost use Rattle.patches.specs.Filling.{Filling, filled};
 use crate::names::append_entries;
 use crate::sequences::append_sequences;
 use crate::tables::append_tables;
-use ds_base::dwarf::{LINE_BASE, LINE_RANGE, OPCODE_BASE};
+use ds_base::dwarf::{ADDRESS_SIZE, DWARF_4, DWARF_5, LINE_BASE, LINE_RANGE, OPCODE_BASE};
 use ds_base::{Bytes, NoMemory};
 use dwarf_types::OutLines;
 use patches::Buffer;
 use std::alloc::Global;
 use text_pool::Names;
-
-/// The version whose tables name their texts by places.
-const DWARF_5: u16 = 5;
-
-/// The version of all other tables.
-const DWARF_4: u16 = 4;
-
-/// How many bytes an address has.
-const ADDRESS_SIZE: u8 = 8;
 
 /// How many operands each standard operation has, from `DW_LNS_copy` on.
 const STANDARD_OPCODE_LENGTHS: [u8; 12] = [0, 1, 1, 1, 1, 0, 0, 0, 1, 0, 0, 1];

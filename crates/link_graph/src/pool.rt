@@ -15,15 +15,11 @@ ghost use Rattle.link_graph.specs.Passes.{with_version};
 ghost use Rattle.link_graph.specs.Pool.{node_above, node_of_path, pool_names};
 ghost use Rattle.link_graph.specs.PoolOrder.{AreApart, AreChildrenTo, AreInOrder, AreNodes, AreNodesFrom, IsFamily, IsLinkedUp, IsPreorder, IsRunOf, key_of, name_at};
 
+use ds_base::dwarf::{DWARF_4, DWARF_5};
 use ds_base::{List, NoMemory};
 use dwarf_types::{Origin, ShapeUnit};
 use odr_names::{PathBook, above, count, number, occurrence};
 use std::alloc::Global;
-
-/// The versions of DWARF that a unit may have.
-const DWARF_4: u16 = 4;
-
-const DWARF_5: u16 = 5;
 
 /// The nodes of merged entries.
 #[derive(Drop)]

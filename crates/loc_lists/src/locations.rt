@@ -10,6 +10,7 @@ ghost use Rattle.reloc_table.specs.Sound.{IsSound};
 ghost use Rattle.loc_lists.specs.Reading.{expression_at, len_at, location_at, location_bytes, location_form, location_part, locations_of};
 ghost use Rattle.loc_lists.specs.Sound.{IsSoundLocation};
 
+use ds_base::dwarf::DWARF_5;
 use ds_base::{Bytes, Cursor, Fault, List, Part, ReadError};
 use dwarf_types::{Addr, RawLocation, RawSpan, Sections};
 use list_items::{Behind, ListContext, ListForm, read_list};
@@ -116,7 +117,7 @@ fn read_len(cursor: &mut Cursor, version: u16) -> Result<u64, Fault>
     ensures read { Moves (λ len. len) result cursor.old cursor.new (len_at (version == 5) cursor.old) }
     ensures small { OnOk result (IsSmall cursor.new) }
 {
-    if version == 5 {
+    if version == DWARF_5 {
         return cursor.uleb();
     }
     let len = cursor.u16()?;
@@ -127,7 +128,7 @@ fn read_len(cursor: &mut Cursor, version: u16) -> Result<u64, Fault>
 fn bytes_of<'a>(sections: &Sections<'a>, version: u16) -> &'a [u8]
     ensures { result.now ≡ location_bytes (bytes_in sections.now) version }
 {
-    if version == 5 {
+    if version == DWARF_5 {
         sections.loclists
     } else {
         sections.loc
@@ -138,7 +139,7 @@ fn bytes_of<'a>(sections: &Sections<'a>, version: u16) -> &'a [u8]
 fn part_of(version: u16) -> Part
     ensures { result ≡ location_part version }
 {
-    if version == 5 {
+    if version == DWARF_5 {
         Part::Loclists
     } else {
         Part::Loc
@@ -149,7 +150,7 @@ fn part_of(version: u16) -> Part
 fn form_of(version: u16) -> ListForm
     ensures { result ≡ location_form version }
 {
-    if version == 5 {
+    if version == DWARF_5 {
         ListForm::LocationEntries
     } else {
         ListForm::Words

@@ -48,7 +48,7 @@ use Rattle.moved_parts.specs.Places.{place_of}
 use Rattle.moved_parts.specs.Spans.{span_moved, spans_moved}
 use Rattle.object_view.specs.declared.locations.TheConstants.{EXPRESSION_LIMIT}
 use Rattle.object_view.specs.declared.open.DebugRelocs.{DebugRelocs}
-use Rattle.object_view.specs.declared.units.TheConstants.{DWARF_5}
+use Rattle.ds_base.specs.declared.dwarf.TheConstants.{DWARF_5}
 use Rattle.object_view.specs.declared.units.UnitContext.{UnitContext}
 use Rattle.object_view.specs.Opened.{Opened}
 use Rattle.object_view.specs.Units.{base_types, places_of, unit_context}

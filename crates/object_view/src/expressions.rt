@@ -8,9 +8,10 @@ ghost use Rattle.object_view.specs.Opened.{opened_seen};
 ghost use Rattle.object_view.specs.Ready.{context_among, info_seen, locations_seen};
 
 use crate::open::{DebugRelocs, OpenObject};
-use crate::units::{DWARF_5, UnitContext};
+use crate::units::UnitContext;
 use addr_map::AddrMap;
 use ds_base::Part;
+use ds_base::dwarf::DWARF_5;
 use dwarf_types::Ops;
 use expr_resolve::{BaseType, ExprContext};
 use reloc_table::Relocs;

@@ -12,9 +12,8 @@ ghost use Rattle.object_view.specs.Opened.{opened_seen};
 ghost use Rattle.object_view.specs.Ready.{IsFirstList, IsLinesInside, IsMarkedAt, IsOpen};
 
 use crate::open::OpenObject;
-use crate::units::DWARF_5;
 use addr_map::AddrMap;
-use ds_base::dwarf::{DW_AT_comp_dir, DW_AT_stmt_list, DW_FORM_sec_offset};
+use ds_base::dwarf::{DW_AT_comp_dir, DW_AT_stmt_list, DW_FORM_sec_offset, DWARF_5};
 use ds_base::{Bytes, List, NoMemory, ReadError};
 use dwarf_types::{
     AttrRef, Entries, EntryRef, FileName, InUnit, NewValue, OutLines, RawLines, ValueRef,

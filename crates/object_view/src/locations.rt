@@ -12,7 +12,7 @@ ghost use Rattle.loc_lists.specs.Reading.{location_bytes};
 use crate::expressions::{ExprRoom, Expressions, locations_context};
 use crate::ranges::base_of_unit;
 use crate::steps::{Changed, Step};
-use crate::units::DWARF_5;
+use ds_base::dwarf::DWARF_5;
 use ds_base::{Fault, Kind, NoMemory, ReadError};
 use dwarf_types::{Addr, AttrRef, LocationList, OpsRef, RawLocation, Span, ValueRef};
 use expr_resolve::{ExprContext, read_expression};

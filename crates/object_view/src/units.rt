@@ -11,9 +11,6 @@ use index_tables::bases_of;
 use std::alloc::Global;
 use unit_tree::header_size;
 
-/// The version of units whose values may be indices, and whose lists and line tables have forms of their own.
-pub(crate) const DWARF_5: u16 = 5;
-
 /// What the values of a unit are understood by.
 #[derive(Clone, Copy, Debug, PartialEq, Eq)]
 pub(crate) struct UnitContext {

@@ -9,6 +9,7 @@ ghost use Rattle.macho_read.specs.Sound.{IsSound as IsSoundImage};
 ghost use Rattle.reloc_table.specs.Sound.{IsSound};
 ghost use Rattle.range_lists.specs.Reading.{range_at, range_bytes, range_form, range_part, ranges_of};
 
+use ds_base::dwarf::DWARF_5;
 use ds_base::{Cursor, List, Part, ReadError};
 use dwarf_types::{Addr, RawSpan, Sections};
 use list_items::{Behind, ListContext, ListForm, read_list};
@@ -88,7 +89,7 @@ pub fn read_ranges(
 fn bytes_of<'a>(sections: &Sections<'a>, version: u16) -> &'a [u8]
     ensures { result.now ≡ range_bytes (bytes_in sections.now) version }
 {
-    if version == 5 {
+    if version == DWARF_5 {
         sections.rnglists
     } else {
         sections.ranges
@@ -99,7 +100,7 @@ fn bytes_of<'a>(sections: &Sections<'a>, version: u16) -> &'a [u8]
 fn part_of(version: u16) -> Part
     ensures { result ≡ range_part version }
 {
-    if version == 5 {
+    if version == DWARF_5 {
         Part::Rnglists
     } else {
         Part::Ranges
@@ -110,7 +111,7 @@ fn part_of(version: u16) -> Part
 fn form_of(version: u16) -> ListForm
     ensures { result ≡ range_form version }
 {
-    if version == 5 {
+    if version == DWARF_5 {
         ListForm::RangeEntries
     } else {
         ListForm::Words

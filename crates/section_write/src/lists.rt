@@ -7,12 +7,10 @@ ghost use Rattle.dwarf_types.specs.Lists.{behind_header, lists_header};
 ghost use Rattle.section_write.specs.Copied.{part_in};
 
 use crate::parts::{DraftPart, emit_parts};
+use ds_base::dwarf::{ADDRESS_SIZE, DWARF_5};
 use ds_base::{emit_u8, emit_u16, emit_u32};
-use layout::{LISTS_HEADER_LEN, LISTS_VERSION};
+use layout::LISTS_HEADER_LEN;
 use unit_draft::Draft;
-
-/// How many bytes an address has.
-const ADDRESS_SIZE: u8 = 8;
 
 /// Writes the lists of drafts behind their header, where there are any. The section has so many bytes.
 pub(crate) fn emit_lists(
@@ -43,7 +41,7 @@ fn emit_header(lists: u32, room: &mut [u8], at: usize) -> usize
     ensures { Adds room.old at (lists_header lists) room.new result }
 {
     let at = emit_u32(room, at, 8 + lists);
-    let at = emit_u16(room, at, LISTS_VERSION);
+    let at = emit_u16(room, at, DWARF_5);
     let at = emit_u8(room, at, ADDRESS_SIZE);
     let at = emit_u8(room, at, 0);
     emit_u32(room, at, 0)

@@ -7,8 +7,8 @@ ghost use Rattle.ds_base.specs.Texts.{section_of};
 ghost use Rattle.layout.specs.Pass.{in_five, in_others};
 ghost use Rattle.section_write.specs.Copied.{part_in};
 
+use ds_base::dwarf::DWARF_5;
 use ds_base::emit_bytes;
-use layout::LISTS_VERSION;
 use text_pool::{TextPool, emit_texts, pool_size};
 use unit_draft::Draft;
 
@@ -56,14 +56,14 @@ fn part_of(part: DraftPart, draft: &Draft) -> &[u8]
 fn five_lists(version: u16, lists: &[u8]) -> &[u8]
     ensures { result.now ≡ in_five version [] lists.now }
 {
-    if version == LISTS_VERSION { lists } else { &[] }
+    if version == DWARF_5 { lists } else { &[] }
 }
 
 /// What of them stands in one of the other sections of lists.
 fn other_lists(version: u16, lists: &[u8]) -> &[u8]
     ensures { result.now ≡ in_others version [] lists.now }
 {
-    if version == LISTS_VERSION { &[] } else { lists }
+    if version == DWARF_5 { &[] } else { lists }
 }
 
 /// Writes texts.

@@ -9,13 +9,10 @@ ghost use Rattle.unit_draft.specs.Based.{AppendsBased};
 
 use crate::drafting::Scratch;
 use crate::expression::write_expression;
-use ds_base::dwarf::{DW_LLE_start_end, DW_RLE_end_of_list, DW_RLE_start_end};
+use ds_base::dwarf::{DW_LLE_start_end, DW_RLE_end_of_list, DW_RLE_start_end, DWARF_5};
 use ds_base::{Bytes, NoMemory};
 use dwarf_types::{OutLocation, Span};
 use patches::Buffer;
-
-/// The version in which each item of a list has its kind. Every other is written as version 4.
-pub(crate) const DWARF_5: u16 = 5;
 
 // ---- range lists
 

@@ -14,15 +14,11 @@ use crate::depths::depths_in;
 use crate::drafting::Drafting;
 use crate::entries::{append_entries, end_of};
 use crate::error::DraftError;
-use crate::lists::DWARF_5;
-use ds_base::dwarf::DW_UT_compile;
+use ds_base::dwarf::{ADDRESS_SIZE, DW_UT_compile, DWARF_5};
 use ds_base::{List, NoMemory};
 use dwarf_types::OutUnit;
 use patches::{Buffer, Outer, Own};
 use std::alloc::Global;
-
-/// How many bytes an address has.
-const ADDRESS_SIZE: u8 = 8;
 
 /// A unit whose own places are not filled in yet.
 #[derive(Drop)]

@@ -25,7 +25,7 @@ use Rattle.index_tables.specs.declared.bases.Bases.{Bases}
 use Rattle.index_tables.specs.Bases.{bases_in}
 use Rattle.index_tables.specs.Tables.{address_place}
 use Rattle.unit_tree.specs.Entry.{Parsed}
-use Rattle.unit_tree.specs.declared.header.TheConstants.{DWARF_4, DWARF_5}
+use Rattle.ds_base.specs.declared.dwarf.TheConstants.{DWARF_4, DWARF_5}
 use Rattle.unit_tree.specs.declared.meaning.Meaning.{Meaning}
 use Rattle.unit_tree.specs.declared.meaning.Meaning.TheVariants.{InUnit, InObject, LineTable, RangeList, LocationList, TextIndex, AddressIndex, RangeListIndex, LocationListIndex, Other}
 use Rattle.unit_tree.specs.Attribute.{has_attr, locations_of, names_lines, ranges_of}

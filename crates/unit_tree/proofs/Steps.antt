@@ -18,7 +18,7 @@ use Rattle.index_tables.specs.Bases.{bases_in}
 use Rattle.unit_tree.specs.declared.attribute.UnitContext.{UnitContext}
 use Rattle.unit_tree.specs.declared.entry.TheConstants.{MOST_OPEN}
 use Rattle.unit_tree.specs.declared.header.Header.{Header}
-use Rattle.unit_tree.specs.declared.header.TheConstants.{DWARF_4, DWARF_5, ADDRESS_SIZE}
+use Rattle.ds_base.specs.declared.dwarf.TheConstants.{DWARF_4, DWARF_5, ADDRESS_SIZE}
 use Rattle.unit_tree.specs.Attribute.{Described, attrs_at}
 use Rattle.unit_tree.specs.Entry.{Parsed, with_entry, entry_at, is_full, is_split, first_at, bases_at, root_at, innermost, closed, opened, Walk, listed_at, child_at, children_at, tree_at}
 use Rattle.unit_tree.specs.Header.{info_at, behind_length, is_bad_length, fields_4_at, fields_5_at, fields_at, header_at}

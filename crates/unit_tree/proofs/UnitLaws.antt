@@ -27,7 +27,7 @@ use Rattle.unit_tree.specs.declared.attribute.UnitContext.{UnitContext}
 use Rattle.unit_tree.specs.declared.entry.TheConstants.{MOST_ENTRIES}
 use Rattle.unit_tree.specs.declared.header.Header.{Header}
 use Rattle.ds_base.specs.declared.dwarf.TheConstants.{LENGTH_RESERVED}
-use Rattle.unit_tree.specs.declared.header.TheConstants.{ADDRESS_SIZE}
+use Rattle.ds_base.specs.declared.dwarf.TheConstants.{ADDRESS_SIZE}
 use Rattle.unit_tree.specs.declared.reference.Reference.{Reference}
 use Rattle.unit_tree.specs.Attribute.{Described, attrs_at}
 use Rattle.unit_tree.specs.Entry.{Parsed, is_split, opened, first_at, bases_at, tree_at, children_at}

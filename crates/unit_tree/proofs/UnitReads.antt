@@ -23,7 +23,7 @@ use Rattle.unit_tree.specs.declared.attribute.UnitContext.{UnitContext}
 use Rattle.unit_tree.specs.declared.entry.TheConstants.{MOST_ENTRIES}
 use Rattle.unit_tree.specs.declared.header.Header.{Header}
 use Rattle.ds_base.specs.declared.dwarf.TheConstants.{LENGTH_RESERVED}
-use Rattle.unit_tree.specs.declared.header.TheConstants.{DWARF_4, DWARF_5, ADDRESS_SIZE}
+use Rattle.ds_base.specs.declared.dwarf.TheConstants.{DWARF_4, DWARF_5, ADDRESS_SIZE}
 use Rattle.unit_tree.specs.declared.reference.Reference.{Reference}
 use Rattle.unit_tree.specs.Entry.{Parsed, is_split, is_full, entry_at, first_at, bases_at, root_at, tree_at, children_at, opened}
 use Rattle.unit_tree.specs.Entry.{declared_as}

@@ -15,7 +15,7 @@ use Rattle.dwarf_types.specs.declared.value.Value.TheVariants as values
 use Rattle.form_value.specs.Reading.{text_of, value_at}
 use Rattle.index_tables.specs.declared.bases.Bases.{Bases}
 use Rattle.index_tables.specs.Tables.{text_place, address_place, list_place}
-use Rattle.unit_tree.specs.declared.header.TheConstants.{DWARF_5}
+use Rattle.ds_base.specs.declared.dwarf.TheConstants.{DWARF_5}
 use Rattle.unit_tree.specs.declared.attribute.UnitContext.{UnitContext}
 use Rattle.unit_tree.specs.declared.meaning.Meaning.{Meaning}
 use Rattle.unit_tree.specs.declared.meaning.Meaning.TheVariants.{InUnit, InObject, LineTable, RangeList, LocationList, TextIndex, AddressIndex, RangeListIndex, LocationListIndex, Other}

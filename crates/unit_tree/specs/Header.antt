@@ -8,7 +8,7 @@ use Rattle.ds_base.specs.Spot.{Spot, fault_at}
 use Rattle.ds_base.specs.Reading.{◌>>=◌, refuse_if, number_at}
 use Rattle.dwarf_types.specs.SectionBytes.{SectionBytes}
 use Rattle.unit_tree.specs.declared.header.Header.{Header}
-use Rattle.unit_tree.specs.declared.header.TheConstants.{DWARF_4, DWARF_5, ADDRESS_SIZE}
+use Rattle.ds_base.specs.declared.dwarf.TheConstants.{DWARF_4, DWARF_5, ADDRESS_SIZE}
 
 -- so many bytes stand before the first entry of a unit of a version
 abbrev pub header_size : ℕ → ℕ

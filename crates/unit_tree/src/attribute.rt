@@ -11,10 +11,9 @@ ghost use Rattle.dwarf_types.specs.declared.value.Value.TheVariants.{Ref};
 ghost use Rattle.unit_tree.specs.Meaning.{meaning_of};
 ghost use Rattle.unit_tree.specs.Attribute.{number_in, names_lines, offset_in, reference_to, ranges_of, locations_of, text_named, address_named, list_named, meant_at, value_meant_at, attr_at, attrs_at};
 
-use crate::header::DWARF_5;
 use crate::meaning::{Meaning, meaning_of_value};
 use crate::reference::Reference;
-use ds_base::dwarf::DW_AT_stmt_list;
+use ds_base::dwarf::{DW_AT_stmt_list, DWARF_5};
 use ds_base::{Cursor, Fault, Kind, List, NoMemory, ReadError};
 use dwarf_types::{Builder, Field, RawValue, Sections};
 use form_value::{read_value, text_in};

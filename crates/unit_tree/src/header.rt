@@ -5,17 +5,12 @@ ghost use Rattle.ds_base.specs.Reading.{Finds};
 ghost use Rattle.dwarf_types.specs.SectionBytes.{bytes_in};
 ghost use Rattle.unit_tree.specs.Header.{header_size as size_of_header, info_at, fields_4_at, fields_5_at, fields_at, header_at};
 
-use ds_base::dwarf::{DW_UT_compile, LENGTH_RESERVED, UNIT_5_HEADER_SIZE, UNIT_HEADER_SIZE};
+use ds_base::dwarf::{
+    ADDRESS_SIZE, DW_UT_compile, DWARF_4, DWARF_5, LENGTH_RESERVED, UNIT_5_HEADER_SIZE,
+    UNIT_HEADER_SIZE,
+};
 use ds_base::{Cursor, Fault, Kind, Part};
 use dwarf_types::Sections;
-
-/// The versions of the units that are read.
-pub(crate) const DWARF_4: u16 = 4;
-
-pub(crate) const DWARF_5: u16 = 5;
-
-/// The size in bytes of an address of the object's CPU.
-const ADDRESS_SIZE: u8 = 8;
 
 /// What a unit's header says (DWARF 4, section 7.5.1.1; DWARF 5, section 7.5.1).
 #[derive(Clone, Copy, Debug, PartialEq, Eq)]
