@@ -12,3 +12,4 @@ pub mod Cleaning
 pub mod HeadTests
 pub mod TextRows
 pub mod Pooling
+mod Parentheses

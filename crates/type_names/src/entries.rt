@@ -14,6 +14,7 @@ use ds_base::dwarf::{
     DW_TAG_template_value_parameter, DW_TAG_typedef, DW_TAG_union_type,
 };
 use dwarf_types::{EntryRef, InnerOpRef, InnerOpsRef, OpRef, OpsRef, ValueRef};
+use memchr::memchr;
 
 /// The value of the entry's first attribute of a name.
 pub(crate) fn value_of<'a>(entry: &EntryRef<'a>, name: u16) -> Option<ValueRef<'a>>
@@ -118,7 +119,14 @@ fn real_name(name: &[u8]) -> Option<&[u8]>
 pub(crate) fn is_made_up(name: &[u8]) -> bool
     ensures { result ≡ is_made_up name.now }
 {
-    holds(b"(anonymous ", name) || holds(b"(lambda at ", name)
+    has_parenthesis(name) && (holds(b"(anonymous ", name) || holds(b"(lambda at ", name))
+}
+
+/// Whether a text has an opening parenthesis.
+fn has_parenthesis(text: &[u8]) -> bool
+    ensures { result ≡ list_any (λ b. b == 40) text.now }
+{
+    memchr(b'(', text).is_some()
 }
 
 /// Whether a text holds a part, which is not empty.
