@@ -35,8 +35,8 @@ pub(crate) fn add_object(
     ensures plain { IfOk result (λ rows. rows.plain ≡ plain_in (marked seen.now live.now)) }
 {
     let mut rows = Rows {
-        plain: List::new(alloc),
-        images: List::new(alloc),
+        plain: List::with_capacity(alloc, seen.entries.len())?,
+        images: List::with_capacity(alloc, seen.entries.len())?,
     };
     for u in 0..seen.units.len() {
         add_unit(alloc, object, seen, live, u, units, &mut rows)?;
