@@ -24,7 +24,7 @@ use crate::texts::map_text;
 use ds_base::{Bytes, NoMemory};
 use ds_files::{Files, Gate, Sink};
 use indexmap::IndexMap;
-use link_core::{Linked, Options, Refusal, Status, last_part, link_objects};
+use link_core::{Linked, Options, Refusal, Status, last_part, link_files};
 use std::alloc::Global;
 use std::thread::Threads;
 
@@ -213,13 +213,13 @@ fn bundle<R: Threads + Sync, G: Gate + Sync>(
     let objects = program.objects.as_slice();
     let source = numbers_of(alloc, objects, &held)?;
     let contents = contents_of(alloc, held)?;
-    link_objects(
+    link_files(
         rt,
         alloc,
         &program.image,
         last_part(plan.exe.as_str()),
         objects,
-        contents.as_slice(),
+        contents,
         source.as_slice(),
         &Options {
             odr: plan.odr,

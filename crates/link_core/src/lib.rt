@@ -23,7 +23,7 @@ mod results;
 mod status;
 
 pub use bundle::{Counts, Linked, Options};
-pub use link::link_objects;
+pub use link::{link_files, link_objects};
 pub use message::{line, status_text};
 pub use names::{image_name, last_part, plist_name};
 pub use refusal::{LimitKind, Refusal};

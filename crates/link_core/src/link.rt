@@ -7,7 +7,7 @@ ghost use Rattle.macho_read.specs.Kind.{kind_of};
 ghost use Rattle.macho_read.specs.Sound.{IsSound as IsSoundImage};
 ghost use Rattle.dwarf_types.specs.Sound.{IsSound};
 ghost use Rattle.link_core.specs.Linked.{Bundles, MarkLive, sources_of};
-ghost use Rattle.link_core.specs.Passes.{Links};
+ghost use Rattle.link_core.specs.Passes.{Links, Reads};
 
 use crate::bundle::{Counts, Linked, Options};
 use crate::counts::{count_entries, count_live, count_nodes};
@@ -74,6 +74,80 @@ pub fn link_objects<R: Threads + Sync, G: Gate + Sync>(
         name,
         seen,
         marks.as_slice(),
+    )
+}
+
+/// Links the objects of a program to its bundle, as [`link_objects`] does, and lets their files go once all are read.
+pub fn link_files<R: Threads + Sync, G: Gate + Sync>(
+    rt: &R,
+    alloc: Global,
+    program: &Image,
+    name: &str,
+    objects: &[MapObject],
+    files: List<Bytes>,
+    source: &[Option<u32>],
+    options: &Options,
+    gate: &G,
+) -> Result<Linked, Refusal>
+    requires sound { IsSoundImage program.now }
+    requires kind { kind_of program.now roles.Program ≡ Ok tt }
+    requires few { length objects.now < 2 ^ 16 }
+    requires each { length source.now ≡ length objects.now }
+    requires held { All (λ k. IfSome k (λ n. n < length files)) source.now }
+    requires small { All (λ file. length file < 2 ^ 32) files }
+    requires workers { (1 ≤ options.now.workers) × (options.now.workers ≤ 64) }
+    ensures { Bundles options.now.odr program.now name.now (sources_of objects.now files source.now) result }
+{
+    let read = read_files(
+        rt,
+        alloc,
+        options.workers,
+        gate,
+        program.cpu,
+        objects,
+        files,
+        source,
+    )?;
+    let ReadObjects { seen, marks } = read;
+    link_marked(
+        rt,
+        alloc,
+        options,
+        gate,
+        program,
+        name,
+        seen,
+        marks.as_slice(),
+    )
+}
+
+/// The analyses of the objects in files, which are let go.
+fn read_files<R: Threads + Sync, G: Gate + Sync>(
+    rt: &R,
+    alloc: Global,
+    workers: u32,
+    gate: &G,
+    cpu: u32,
+    objects: &[MapObject],
+    files: List<Bytes>,
+    source: &[Option<u32>],
+) -> Result<ReadObjects, Refusal>
+    requires workers { (1 ≤ workers) × (workers ≤ 64) }
+    requires few { length objects.now < 2 ^ 16 }
+    requires each { length source.now ≡ length objects.now }
+    requires held { All (λ k. IfSome k (λ n. n < length files)) source.now }
+    requires small { All (λ file. length file < 2 ^ 32) files }
+    ensures { Reads cpu (sources_of objects.now files source.now) result }
+{
+    read_objects(
+        rt,
+        alloc,
+        workers,
+        gate,
+        cpu,
+        objects,
+        files.as_slice(),
+        source,
     )
 }
 

@@ -11,14 +11,14 @@ returns-in_err-source g c = wants_memory (plan_seen c.args.plan.now) c.args.prog
 pub returns-in_err-contents : goal.returns-in_err-contents
 returns-in_err-contents g c = wants_memory (plan_seen c.args.plan.now) c.args.program.now _ _ c.from_residual-in_err-contents.ensures.1
 
-pub link_objects-requires-clause-held : goal.link_objects-requires-clause-held
-link_objects-requires-clause-held g c κs within =
-    numbers_held c.args.held _ _ _ (c.as_slice.ensures ∙ c.in_ok-contents.ensures) (c.as_slice-2.ensures ∙ c.in_ok-source.ensures)
+pub link_files-requires-clause-held : goal.link_files-requires-clause-held
+link_files-requires-clause-held g c κs within =
+    numbers_held c.args.held _ _ _ c.in_ok-contents.ensures (c.as_slice.ensures ∙ c.in_ok-source.ensures)
 
-pub link_objects-requires-clause-small : goal.link_objects-requires-clause-small
-link_objects-requires-clause-small g c κs within = contents_small c.args.held _ (c.as_slice.ensures ∙ c.in_ok-contents.ensures) c.requires.small
+pub link_files-requires-clause-small : goal.link_files-requires-clause-small
+link_files-requires-clause-small g c κs within = contents_small c.args.held _ c.in_ok-contents.ensures c.requires.small
 
 pub returns : goal.returns
 returns g c =
-    makes_as (plan_seen c.args.plan.now) c.args.program.now _ _ _ c.link_objects.result (c.last_part.ensures ∙ ap last_part c.as_str.ensures.value)
-    (sources_held c.args.held _ _ _ (c.as_slice.ensures ∙ c.in_ok-contents.ensures) (c.as_slice-2.ensures ∙ c.in_ok-source.ensures) _ c.as_slice-objects.ensures) c.link_objects.ensures
+    makes_as (plan_seen c.args.plan.now) c.args.program.now _ _ _ c.link_files.result (c.last_part.ensures ∙ ap last_part c.as_str.ensures.value)
+    (sources_held c.args.held _ _ _ c.in_ok-contents.ensures (c.as_slice.ensures ∙ c.in_ok-source.ensures) _ c.as_slice-objects.ensures) c.link_files.ensures
