@@ -7,4 +7,5 @@ pub mod Siblings
 pub mod Closed
 pub mod EnteringRows
 pub mod MakingBooks
+pub mod JoinedRows
 pub mod Stretches

@@ -6,3 +6,4 @@ pub mod Ranking
 pub mod Twins
 pub mod Entering
 pub mod Making
+pub mod Joining

@@ -1,16 +1,11 @@
--- A book made object by object.
-use Rattle.std.specs.Prelude.{◌≡◌, ◌↔◌, ℕ, ◌^◌, ◌<◌, ◌≤◌, Bool, true, false, List, [], length, map, take, slice_get, slice_index_or, Some, if◌then◌else◌}
+-- What a book is made of.
+use Rattle.std.specs.Prelude.{◌≡◌, ◌↔◌, ℕ, ◌^◌, ◌≤◌, Bool, true, false, List, [], length, slice_get, slice_index_or, Some, if◌then◌else◌}
 use Rattle.dwarf_types.specs.declared.analysis.Analysis.{Analysis}
 use Rattle.dwarf_types.specs.declared.entry.Entry.{Entry}
 use Rattle.dwarf_types.specs.Live.{IsLive}
-use Rattle.odr_names.specs.declared.path_book.Row.{Row}
-use Rattle.odr_names.specs.Book.{AreRows, objects_of, row_name}
+use Rattle.odr_names.specs.Book.{objects_of}
 use Rattle.odr_names.specs.Entering.{AreLiveParents}
-use Rattle.type_names.specs.declared.pooled.TypeNames.{TypeNames}
 use Rattle.type_names.specs.Heads.{Object, entries_of}
-use Rattle.type_names.specs.Names.{names}
-use Rattle.type_names.specs.Objects.{object_of}
-use Rattle.type_names.specs.Pooled.{AreNames}
 use Rattle.type_names.specs.Tree.{ParentsStandBefore}
 
 -- one mark for each entry, and exactly the live ones are marked
@@ -34,17 +29,3 @@ pub record IsFit (o : Object) : Type 0 where
   pub few : length (entries_of o) ≤ 2 ^ 24
   pub parents : ParentsStandBefore (entries_of o)
   pub live_parents : AreLiveParents o
-
-abbrev pub AreFit : List Object → Type 0
-AreFit objects = (i : ℕ) (o : Object) → slice_get objects i ≡ Some o → IsFit o
-
--- of the first i objects it is told which entries are pooled
-pub record AreToldTo (seen : List Analysis) (live : List (List Bool)) (told : List TypeNames) (i : ℕ) : Type 0 where
-  pub len : length told ≡ i
-  pub each : (j : ℕ) (a : Analysis) (row : List Bool) (t : TypeNames) → slice_get seen j ≡ Some a → slice_get live j ≡ Some row → slice_get told j ≡ Some t → AreNames (object_of a row) t
-
--- the names of the first i objects are entered
-pub record IsBookTo (objects : List Object) (rows : List Row) (i : ℕ) : Type 0 where
-  pub few : length rows < 2 ^ 25
-  pub are_rows : AreRows objects rows
-  pub names : map (row_name objects) rows ≡ names (take i objects)

@@ -146,7 +146,7 @@ pub(crate) fn enter_entries(
         → OnOk result (AreEntered objects object (object_of seen.now live.now) rows.old.items rows.new.items) }
     ensures pooled { result ≡ Err errors.Pooled → 2 ^ 25 ≤ length rows.old.items + length (names_in object (object_of seen.now live.now)) }
 {
-    let mut numbers = Vec::new(alloc);
+    let mut numbers = Vec::with_capacity(alloc, seen.entries.len())?;
     for i in 0..seen.entries.len() {
         let number = enter_entry(seen, live, names, object, counts, &numbers, rows, i as u32)?;
         numbers.push(number)?;

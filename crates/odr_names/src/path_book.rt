@@ -7,6 +7,7 @@ ghost use Rattle.std.specs.Option.{ForSome, option_map, option_map_or};
 ghost use Rattle.dwarf_types.specs.Sound.{IsSound};
 ghost use Rattle.odr_names.specs.declared.book_error.BookError.TheVariants as errors;
 ghost use Rattle.odr_names.specs.Book.{AreRows, AreTold, IsBook, IsRowOf, SamePath, bid_at, objects_in, objects_of, path_at, path_in, row_bid, row_piece};
+ghost use Rattle.odr_names.specs.Joining.{AreAllNames};
 ghost use Rattle.odr_names.specs.Making.{AreLiveRows, merged};
 ghost use Rattle.odr_names.specs.Stretches.{AreOfObjects, IsFirstOf};
 ghost use Rattle.odr_names.specs.Pieces.{piece_seen};
@@ -16,8 +17,10 @@ ghost use Rattle.type_names.specs.Paths.{Piece};
 ghost use Rattle.type_names.specs.Start.{path_hash, start_of};
 
 use crate::book_error::BookError;
+use crate::enter::MOST_POOLED;
 use crate::entry_place::Occurrence;
-use crate::objects::{objects_told, rows_of};
+use crate::joining::{joined, rows_in};
+use crate::one_object::{ObjectNames, object_names};
 use crate::piece::{PieceRef, parts_at, piece_equal};
 use ds_base::BitRow;
 use dwarf_types::Analysis;
@@ -105,8 +108,51 @@ fn merged_book<'a>(
     ensures made { IfOk result (λ book. (book ≡ names (objects_of seen.now live.now)) × (length book < 2 ^ 25)) }
     ensures pooled { result ≡ Err errors.Pooled → 2 ^ 25 ≤ length (names (objects_of seen.now live.now)) }
 {
-    let objects = objects_told(alloc, seen, live)?;
-    let rows = rows_of(alloc, &objects)?;
+    let own = all_names(alloc, seen, live)?;
+    joined_book(alloc, seen, live, own)
+}
+
+/// The names of each object.
+fn all_names(
+    alloc: Global,
+    seen: &[Analysis],
+    live: &[BitRow],
+) -> Result<Vec<ObjectNames>, BookError>
+    requires few { length seen.now < 2 ^ 16 }
+    requires sound { All IsSound seen.now }
+    requires live { AreLiveRows seen.now live.now }
+    ensures made { IfOk result (λ own. AreAllNames (objects_of seen.now live.now) own.items) }
+    ensures pooled { result ≡ Err errors.Pooled → 2 ^ 25 ≤ length (names (objects_of seen.now live.now)) }
+{
+    let mut own = Vec::with_capacity(alloc, seen.len())?;
+    for i in 0..seen.len() {
+        own.push(object_names(alloc, &seen[i], &live[i], i as u32 + 1)?)?;
+    }
+    Ok(own)
+}
+
+/// The book of the names of these objects, where the names of each are made.
+///
+/// `own` are those of each object, in the order of the objects ([`object_names`]); their rows are joined, and the
+/// parent of a row is counted from the first row of all. Objects with 2^25 names or more together have no book
+/// ([`BookError::Pooled`]).
+pub fn joined_book<'a>(
+    alloc: Global,
+    seen: &'a [Analysis],
+    live: &'a [BitRow],
+    own: Vec<ObjectNames>,
+) -> Result<PathBook<'a>, BookError>
+    requires few { length seen.now < 2 ^ 16 }
+    requires live { length live.now ≡ length seen.now }
+    requires own { AreAllNames (objects_of seen.now live.now) own.items }
+    ensures made { IfOk result (λ book. (book ≡ names (objects_of seen.now live.now)) × (length book < 2 ^ 25)) }
+    ensures pooled { result ≡ Err errors.Pooled → 2 ^ 25 ≤ length (names (objects_of seen.now live.now)) }
+{
+    let total = rows_in(&own);
+    if total >= MOST_POOLED {
+        return Err(BookError::Pooled);
+    }
+    let (objects, rows) = joined(alloc, seen, live, own, total)?;
     Ok(PathBook { objects, rows })
 }
 
@@ -243,6 +289,9 @@ fn rows_equal(objects: &Objects, rows: &[Row], a: u32, b: u32) -> bool
         let Some(y) = right else {
             return false;
         };
+        if x == y {
+            return true;
+        }
         let first = row_at(rows, x);
         let second = row_at(rows, y);
         if !may_be_equal(objects, first, second) {

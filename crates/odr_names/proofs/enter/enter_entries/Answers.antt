@@ -9,7 +9,7 @@ use Rattle.odr_names.proofs.EnteringRows.{all_entered, begun, bounded_above, ent
 use Rattle.odr_names.proofs.enter.enter_entries.Goals as goal
 
 pub loop-i-init : goal.loop-i-init
-loop-i-init c = rw c.new-numbers.ensures.items (begun c.args.object (object_of c.args.seen.now c.args.live.now) c.args.rows.now.items c.requires.rows)
+loop-i-init c = rw c.in_ok-numbers.ensures.items (begun c.args.object (object_of c.args.seen.now c.args.live.now) c.args.rows.now.items c.requires.rows)
 
 pub enter_entry-requires-clause-numbers : goal.enter_entry-requires-clause-numbers
 enter_entry-requires-clause-numbers c =
@@ -32,5 +32,5 @@ pub returns-in_err-number-clause-pooled : goal.returns-in_err-number-clause-pool
 returns-in_err-number-clause-pooled c = λ same. (
     let o : Object = object_of c.args.seen.now c.args.live.now in
     let e = entry_at (entries_of o) c.loop-i.i (omega arith) in
-    let p = err_from_is_err_and c.from_residual.result c.from_residual.ensures.1 in
-    limit_reached c.args.object o c.args.rows.now.items c.loop-i.rows.items c.enter_entry.new.rows.items c.loop-i.numbers.items c.loop-i.i e.0 None c.in_err-number.field-0.0 c.from_residual.result e.1 (p.1 ∙ ap (λ (x : BookError). Err x) p.2) same (c.in_err-number.ensures e.0 e.1) c.loop-i.invariant)
+    let p = err_from_is_err_and c.from_residual-in_err-number.result c.from_residual-in_err-number.ensures.1 in
+    limit_reached c.args.object o c.args.rows.now.items c.loop-i.rows.items c.enter_entry.new.rows.items c.loop-i.numbers.items c.loop-i.i e.0 None c.in_err-number.field-0.0 c.from_residual-in_err-number.result e.1 (p.1 ∙ ap (λ (x : BookError). Err x) p.2) same (c.in_err-number.ensures e.0 e.1) c.loop-i.invariant)

@@ -1,4 +1,4 @@
-use Rattle.std.proofs.Common.{◌≡◌, Some, arith, slice_get, get_or, length, refl, subst}
+use Rattle.std.proofs.Common.{◌≡◌, arith, length, subst}
 use Rattle.std.proofs.lemmas.Option.{slice_get-get_or}
 use Rattle.odr_names.specs.Ranking.{AreRanksOf}
 use Rattle.odr_names.proofs.Winning.{ranks_more}

@@ -1,0 +1,48 @@
+//! The names of one object: what is told of them, and their rows.
+
+ghost use Rattle.std.specs.Prelude.{◌≡◌, ◌<◌, ◌≤◌, ◌^◌, length, Err, IfOk};
+ghost use Rattle.dwarf_types.specs.Sound.{IsSound};
+ghost use Rattle.odr_names.specs.declared.book_error.BookError.TheVariants as errors;
+ghost use Rattle.odr_names.specs.Joining.{AreNamesOf};
+ghost use Rattle.odr_names.specs.Making.{IsLiveRow};
+ghost use Rattle.type_names.specs.Names.{names_in};
+ghost use Rattle.type_names.specs.Objects.{object_of};
+
+use crate::book_error::BookError;
+use crate::enter::enter_entries;
+use crate::ordinals::twins_of;
+use crate::path_book::Row;
+use ds_base::BitRow;
+use dwarf_types::Analysis;
+use std::alloc::Global;
+use type_names::{TypeNames, type_names};
+
+/// What is told of the names of an object, and its rows. Their parents are counted from the first of them.
+#[derive(Drop)]
+pub struct ObjectNames {
+    pub(crate) names: TypeNames,
+    pub(crate) rows: Vec<Row>,
+}
+
+/// The names of an object, which is counted from 1.
+///
+/// `live` marks the live entries. An object with 2^25 names or more has none ([`BookError::Pooled`]). Source: this
+/// project's profile (docs/PROFILE.md, "Names and the pool").
+pub fn object_names(
+    alloc: Global,
+    seen: &Analysis,
+    live: &BitRow,
+    object: u32,
+) -> Result<ObjectNames, BookError>
+    requires sound { IsSound seen.now }
+    requires live { IsLiveRow seen.now.entries live.now }
+    requires counted { (1 ≤ object) × (object < 2 ^ 16) }
+    ensures made { IfOk result (λ own. AreNamesOf object (object_of seen.now live.now) own) }
+    ensures pooled { result ≡ Err errors.Pooled → 2 ^ 25 ≤ length (names_in object (object_of seen.now live.now)) }
+{
+    let names = type_names(alloc, seen, live)?;
+    let counts = twins_of(alloc, seen, live, &names, object)?;
+    let mut rows = Vec::new(alloc);
+    enter_entries(alloc, seen, live, &names, object, &counts, &mut rows)?;
+    Ok(ObjectNames { names, rows })
+}
