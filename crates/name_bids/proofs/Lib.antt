@@ -3,3 +3,5 @@ pub mod Claiming
 pub mod Tables
 pub mod Workers
 pub mod Reading
+pub mod MadeNames
+pub mod FoundCells

@@ -1,15 +1,20 @@
-//! Names bid for by several threads over one table, and the winner of each path.
+//! Names made and bid for by several threads, and the winner of each path.
 //!
-//! Layer: names. [`bid_objects`] is what one worker does over a shared table of `type_pool` and a counter of `work_share`:
-//! it claims one object after the other, and bids for each of its names at the cell of its path. [`shared_winners`] does
-//! that by several workers (`sharing`), closes the table, bids crowded names by themselves, and reads the winner of each
-//! path from the least bids (`winners`). What is bid stands in `specs/Bids.antt`, what the closed table says in
-//! `specs/Tables.antt`. The answer is that of `odr_names`' `winners_plain`, whatever the number of workers.
+//! Layer: names. [`shared_book`] makes the book of a link: several workers make the names of its objects, and one joins
+//! them (`making`). [`bid_objects`] is what one worker does over a shared table of `type_pool` and a counter of
+//! `work_share`: it claims one object after the other, and bids for each of its names at the cell of its path.
+//! [`shared_winners`] does that by several workers (`sharing`), closes the table, finds the cell of each name by
+//! several workers (`finding`), bids crowded names by themselves, and reads the winner of each path from the least bids
+//! (`winners`). What is bid stands in `specs/Bids.antt`, what the closed table says in `specs/Tables.antt`. The answer
+//! is that of `odr_names`' `winners_plain`, whatever the number of workers.
 #![tactic(auto)]
 
 mod bidding;
+mod finding;
+mod making;
 mod sharing;
 mod winners;
 
 pub use bidding::{BID, bid_objects};
+pub use making::shared_book;
 pub use winners::shared_winners;

@@ -2,22 +2,23 @@
 
 ghost use Rattle.std.specs.Prelude.{◌≡◌, ◌+◌, ◌<◌, ◌≤◌, length, map, slice_index_or, None, IfOk, OnOk};
 ghost use Rattle.std.specs.List.{All};
-ghost use Rattle.name_bids.specs.Reading.{AreCells, AreCrowdedTo, AreInside, AreLeastTo, IsCellOf, winner_at};
+ghost use Rattle.name_bids.specs.Reading.{AreCrowdedTo, AreInside, AreLeastTo, winner_at};
 ghost use Rattle.name_bids.specs.Tables.{IsTable};
 ghost use Rattle.odr_names.specs.Winners.{AreWinners};
 
+use crate::finding::cells_of;
 use crate::sharing::bid_names;
 use ds_base::NoMemory;
 use ds_files::Gate;
 use odr_names::{PathBook, count, number, put_winners};
 use std::alloc::Global;
 use std::thread::Threads;
-use type_pool::{ClosedPool, find};
+use type_pool::ClosedPool;
 
 /// Of each name the one that wins its path, by at most `workers` threads, with the closed table in which they were bid for.
 ///
-/// Each worker passes the gate once for each object that it claims. A worker for which no thread can be started does its
-/// work in the caller's.
+/// Each worker passes the gate once for each object that it claims, and then, by an open gate, finds the cells of names. A
+/// worker for which no thread can be started does its work in the caller's.
 pub fn shared_winners<R: Threads + Sync, G: Gate + Sync>(
     rt: &R,
     alloc: Global,
@@ -31,49 +32,29 @@ pub fn shared_winners<R: Threads + Sync, G: Gate + Sync>(
     ensures book { IfOk result (λ r. r.1.names ≡ length names.now) }
 {
     let closed = bid_names(rt, alloc, workers, gate, names)?;
-    let winners = winners_in(alloc, &closed, names)?;
+    let winners = winners_in(rt, alloc, workers, &closed, names)?;
     Ok((winners, closed))
 }
 
 /// The winners, by the closed table. Crowded names stand in none of its cells, and are bid for by themselves.
-fn winners_in(alloc: Global, closed: &ClosedPool, names: &PathBook) -> Result<Vec<u32>, NoMemory>
+fn winners_in<R: Threads + Sync>(
+    rt: &R,
+    alloc: Global,
+    workers: u32,
+    closed: &ClosedPool,
+    names: &PathBook,
+) -> Result<Vec<u32>, NoMemory>
+    requires workers { (1 ≤ workers) × (workers ≤ 64) }
     requires table { IsTable names.now closed.now.state }
     requires book { closed.now.names ≡ length names.now }
     ensures { IfOk result (λ winners. AreWinners names.now winners.items) }
 {
-    let cells = cells_of(alloc, closed, names)?;
+    let cells = cells_of(rt, alloc, workers, closed, names)?;
     let least = least_names(alloc, closed, names, &cells)?;
     let mut winners = winners_at_cells(alloc, &cells, &least)?;
     let crowded = crowded_names(alloc, names, &cells)?;
     put_winners(alloc, names, &crowded, &mut winners)?;
     Ok(winners)
-}
-
-/// Of each name the cell at which it stands.
-fn cells_of(
-    alloc: Global,
-    closed: &ClosedPool,
-    names: &PathBook,
-) -> Result<Vec<Option<u32>>, NoMemory>
-    requires book { closed.now.names ≡ length names.now }
-    ensures { IfOk result (λ cells. AreCells names.now closed.now.state.cells cells.items) }
-{
-    let mut cells = Vec::with_capacity(alloc, count(names) as usize)?;
-    for x in 0..count(names) {
-        cells.push(cell_of(closed, names, x))?;
-    }
-    Ok(cells)
-}
-
-/// The cell at which a name stands.
-fn cell_of(closed: &ClosedPool, names: &PathBook, x: u32) -> Option<u32>
-    requires book { (closed.now.names ≡ length names.now) × (x < length names.now) }
-    ensures { IsCellOf names.now closed.now.state.cells x result }
-{
-    match find(closed, names, x) {
-        Some(found) => Some(found.cell),
-        None => None,
-    }
 }
 
 /// Of each cell the name that bid its least word.
