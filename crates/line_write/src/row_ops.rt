@@ -10,7 +10,7 @@ use appending::{append_sleb, append_uleb};
 use ds_base::dwarf::{
     DW_LNE_set_discriminator, DW_LNS_advance_line, DW_LNS_advance_pc, DW_LNS_copy,
     DW_LNS_extended_op, DW_LNS_negate_stmt, DW_LNS_set_basic_block, DW_LNS_set_column,
-    DW_LNS_set_epilogue_begin, DW_LNS_set_file, DW_LNS_set_isa, DW_LNS_set_prologue_end,
+    DW_LNS_set_epilogue_begin, DW_LNS_set_file, DW_LNS_set_isa, DW_LNS_set_prologue_end, LINE_BASE,
     LINE_RANGE, OPCODE_BASE,
 };
 use ds_base::{Bytes, NoMemory, uleb_len};
@@ -18,6 +18,9 @@ use dwarf_types::Row;
 
 /// The greatest step of the address that a special operation makes: 13 and 14 times the step are a byte.
 const SPECIAL_STEP: u64 = 17;
+
+/// How many lines back a special operation goes at most: the other number of `line_base`, a signed byte.
+const LINES_BACK: u64 = 256 - LINE_BASE as u64;
 
 /// Puts last what appends a row, by the registers before it.
 pub(crate) fn append_row(out: &mut Bytes, before: &Row, row: &Row) -> Result<(), NoMemory>
@@ -119,7 +122,7 @@ fn special_of(before: &Row, row: &Row) -> Option<u8>
 {
     let step = row.address.saturating_sub(before.address);
     // A special operation counts the steps of the line from the least one.
-    let line = u64::from(row.line) + 5;
+    let line = u64::from(row.line) + LINES_BACK;
     let line_before = u64::from(before.line);
     if line < line_before || line >= line_before + u64::from(LINE_RANGE) || step > SPECIAL_STEP {
         return None;
