@@ -1,5 +1,5 @@
 -- Places behind drafts: they only grow, and 128 bits hold them.
-use Rattle.std.proofs.Common.{◌≡◌, ℕ, ◌+◌, ◌*◌, ◌^◌, ◌<◌, ◌≤◌, ◌==◌, Bool, true, false, List, [], ◌∷◌, fold, if◌then◌else◌, arith, ap, subst, sym}
+use Rattle.std.proofs.Common.{◌≡◌, ℕ, ◌+◌, ◌*◌, ◌^◌, ◌<◌, ◌≤◌, ◌==◌, Bool, true, false, List, [], ◌∷◌, fold, if◌then◌else◌, arith, subst, sym}
 use Rattle.unit_draft.specs.declared.unit.Draft.{Draft}
 use Rattle.layout.specs.declared.starts.Starts.{Starts}
 use Rattle.layout.specs.Pass.{AreBelow, HasParts, behind_draft}

@@ -7,7 +7,6 @@ use Rattle.ds_base.specs.Leb.{uleb}
 use Rattle.dwarf_types.specs.declared.graph.OutUnit.{OutUnit}
 use Rattle.dwarf_types.specs.declared.lines.FileName.{FileName}
 use Rattle.dwarf_types.specs.declared.lines.OutLines.{OutLines}
-use Rattle.dwarf_types.specs.LineProgram.{line_range, opcode_base}
 use Rattle.dwarf_types.specs.LineTable.{digest_bytes, directories_bytes, directory_entry, directory_format, entries_bytes, fields_bytes, file_entry, file_format, files_bytes, have_digests, line_table_bytes, lines_bytes, names_bytes, program_bytes, standard_opcode_lengths, tables_bytes, version_bytes}
 
 same_all : {X : Type 0} (f g : X → List ℕ) → ((x : X) → length (f x) ≡ length (g x)) → (xs : List X) → length (flat_map f xs) ≡ length (flat_map g xs)

@@ -13,7 +13,7 @@ use Rattle.dwarf_types.specs.declared.graph.OutUnit.{OutUnit}
 use Rattle.dwarf_types.specs.Aranges.{aranges_bytes}
 use Rattle.dwarf_types.specs.Abbreviations.{same_flag}
 use Rattle.dwarf_types.specs.Entries.{node_place, unit_len}
-use Rattle.dwarf_types.specs.Layout.{line_texts_of, line_texts_of_unit, lines_place, lists_start, locations_before, numbered_units, ranges_before, table_place, texts_of, texts_of_node, unit_locations_len, unit_ranges_len, unit_start}
+use Rattle.dwarf_types.specs.Layout.{line_texts_of, line_texts_of_unit, lines_place, lists_start, locations_before, numbered_units, ranges_before, table_place, texts_of, texts_of_node, unit_start}
 use Rattle.patches.specs.declared.outside.Placed.{Placed}
 use Rattle.unit_draft.specs.declared.unit.Draft.{Draft}
 use Rattle.unit_draft.specs.Drafted.{IsDraft, node_places}
@@ -23,7 +23,7 @@ use Rattle.layout.specs.declared.placing.PartPlaces.{PartPlaces}
 use Rattle.layout.specs.declared.placing.Placing.{Placing}
 use Rattle.layout.specs.declared.starts.Starts.{Starts}
 use Rattle.layout.specs.Laid.{AreDrafts, long_unit, part_places}
-use Rattle.layout.specs.Pass.{behind_draft, behind_unit, in_five, in_others, no_starts, none_placed, nothing, parts_of, place_in, starts_of, with_draft}
+use Rattle.layout.specs.Pass.{behind_draft, behind_unit, in_five, in_others, no_starts, none_placed, nothing, parts_of, starts_of, with_draft}
 use Rattle.layout.proofs.GraphParts.{by_all, starts_more}
 use Rattle.layout.proofs.SectionLengths.{unit_locations_size, unit_ranges_size}
 
@@ -118,6 +118,23 @@ texts_are = names_are (λ d. d.names) (λ (unit : OutUnit). flat_map texts_of_no
 pub line_texts_are : (graph : Graph) (drafts : List Draft) → AreDrafts graph drafts → fold with_text [] (flat_map (λ d. d.line_names) drafts) ≡ line_texts_of graph
 line_texts_are = names_are (λ d. d.line_names) line_texts_of_unit (λ u unit d is. is.line_names)
 
+-- where the texts of drafts stand is where those of their units do
+module _ (names : Draft → List (List ℕ)) (uses : OutUnit → List (List ℕ)) (same : (u : ℕ) (unit : OutUnit) (d : Draft) → IsDraft u unit d → names d ≡ once bytes_eq (uses unit)) (place : List ℕ → ℕ) where
+  places_from_drafts : (n : ℕ) (us : List OutUnit) (ds : List Draft) → From n us ds → map (λ d. map place (names d)) ds ≡ map (λ m. map place (once bytes_eq (uses m.1))) (enumerate_from n us)
+  places_from_drafts n [] [] f = refl
+  places_from_drafts n [] (d ∷ ds) f = absurd f
+  places_from_drafts n (u ∷ us) [] f = absurd f
+  places_from_drafts n (u ∷ us) (d ∷ ds) f =
+      ap (λ (ts : List (List ℕ)). map place ts ∷ map (λ d. map place (names d)) ds) (same n u d f.0)
+      ∙ ap (λ (rest : List (List ℕ)). map place (once bytes_eq (uses u)) ∷ rest) (places_from_drafts (n + 1) us ds f.1)
+
+pub text_places_are : (graph : Graph) (drafts : List Draft) → AreDrafts graph drafts → (place : List ℕ → ℕ) → map (λ d. map place d.names) drafts ≡ map (λ m. map place (once bytes_eq (flat_map texts_of_node m.1.nodes))) (numbered_units graph)
+text_places_are graph drafts are place =
+    places_from_drafts (λ d. d.names) (λ (unit : OutUnit). flat_map texts_of_node unit.nodes) (λ u unit d is. is.names) place 0 graph.units drafts (from_graph graph drafts are)
+
+pub line_text_places_are : (graph : Graph) (drafts : List Draft) → AreDrafts graph drafts → (place : List ℕ → ℕ) → map (λ d. map place d.line_names) drafts ≡ map (λ m. map place (once bytes_eq (line_texts_of_unit m.1))) (numbered_units graph)
+line_text_places_are graph drafts are place = places_from_drafts (λ d. d.line_names) line_texts_of_unit (λ u unit d is. is.line_names) place 0 graph.units drafts (from_graph graph drafts are)
+
 -- ---- no unit is too long
 
 short_from : (n : ℕ) (us : List OutUnit) (ds : List Draft) → From n us ds → find (λ m. nat_le (2 ^ 28) (unit_len m.0 m.1)) (enumerate_from n us) ≡ None
@@ -156,11 +173,9 @@ module _ (graph : Graph) where
   ends_are drafts are = ends_from 0 [] graph.units drafts no_starts refl refl (from_graph graph drafts are) refl
 
   -- what is known of drafts that follow the first ones
-  record Follow (p : Placing) (n : ℕ) (us : List OutUnit) (texts line_texts : List (List ℕ)) (new : Placing) : Type 0 where
+  record Follow (p : Placing) (n : ℕ) (us : List OutUnit) (new : Placing) : Type 0 where
     units : new.units ≡ p.units ++ map (λ m. placed graph m.0 m.1) (enumerate_from n us)
     parts : new.parts ≡ p.parts ++ map (λ m. part_places graph m.0 m.1) (enumerate_from n us)
-    text_places : new.text_places ≡ p.text_places ++ map (λ m. map (place_in texts) (once bytes_eq (flat_map texts_of_node m.1.nodes))) (enumerate_from n us)
-    line_text_places : new.line_text_places ≡ p.line_text_places ++ map (λ m. map (place_in line_texts) (once bytes_eq (line_texts_of_unit m.1))) (enumerate_from n us)
     aranges : new.aranges ≡ p.aranges ++ flat_map (λ m. aranges_bytes (unit_start graph m.0) m.1.ranges) (enumerate_from n us)
     at : new.at ≡ starts_of graph (n + length us)
 
@@ -168,23 +183,21 @@ module _ (graph : Graph) where
   one_more : {X : Type 0} (xs ys more all : List X) (x y : X) → ys ≡ (xs ++ x ∷ []) ++ more → x ≡ y → all ≡ y ∷ more → ys ≡ xs ++ all
   one_more {X} xs ys more all x y is same whole = is ∙ append_assoc xs (x ∷ []) more ∙ ap (λ (z : X). xs ++ z ∷ more) same ∙ ap (λ (zs : List X). xs ++ zs) (sym whole)
 
-  follow_from : (n : ℕ) (front us : List OutUnit) (ds : List Draft) (p : Placing) (texts line_texts : List (List ℕ)) → graph.units ≡ front ++ us → length front ≡ n → From n us ds → p.at ≡ starts_of graph n
-      → Follow p n us texts line_texts (fold (with_draft texts line_texts) p ds)
-  follow_from n front [] [] p texts line_texts parts len f same =
+  follow_from : (n : ℕ) (front us : List OutUnit) (ds : List Draft) (p : Placing) → graph.units ≡ front ++ us → length front ≡ n → From n us ds → p.at ≡ starts_of graph n
+      → Follow p n us (fold with_draft p ds)
+  follow_from n front [] [] p parts len f same =
       let end : n ≡ n + 0 = omega arith in
       record {
         units = sym (append-nil p.units);
         parts = sym (append-nil p.parts);
-        text_places = sym (append-nil p.text_places);
-        line_text_places = sym (append-nil p.line_text_places);
         aranges = sym (append-nil p.aranges);
         at = same ∙ ap (starts_of graph) end;
       }
-  follow_from n front [] (d ∷ ds) p texts line_texts parts len f same = absurd f
-  follow_from n front (u ∷ us) [] p texts line_texts parts len f same = absurd f
-  follow_from n front (u ∷ us) (d ∷ ds) p texts line_texts parts len f same =
-      let next = with_draft texts line_texts p d in
-      let h = follow_from (n + 1) (front ++ u ∷ []) us ds next texts line_texts (next_front front us u parts) (omega (arith, len, length-append front (u ∷ []))) f.1 (next_starts n front us u d p.at parts len f.0 same) in
+  follow_from n front [] (d ∷ ds) p parts len f same = absurd f
+  follow_from n front (u ∷ us) [] p parts len f same = absurd f
+  follow_from n front (u ∷ us) (d ∷ ds) p parts len f same =
+      let next = with_draft p d in
+      let h = follow_from (n + 1) (front ++ u ∷ []) us ds next (next_front front us u parts) (omega (arith, len, length-append front (u ∷ []))) f.1 (next_starts n front us u d p.at parts len f.0 same) in
       let info : p.at.info ≡ unit_start graph n = ap (λ (s : Starts). s.info) same in
       let unit : placed_by p.at.info d.places d.len ≡ placed_by (unit_start graph n) (node_places n u) (unit_len n u) =
       ap (λ (s : ℕ). placed_by s d.places d.len) info ∙ ap (λ (ns : List ℕ). placed_by (unit_start graph n) ns d.len) f.0.places ∙ ap (placed_by (unit_start graph n) (node_places n u)) f.0.len in
@@ -193,8 +206,6 @@ module _ (graph : Graph) where
       record {
         units = one_more _ _ _ _ _ _ h.units unit refl;
         parts = one_more _ _ _ _ _ _ h.parts part refl;
-        text_places = one_more _ _ _ _ _ _ h.text_places (ap (map (place_in texts)) f.0.names) refl;
-        line_text_places = one_more _ _ _ _ _ _ h.line_text_places (ap (map (place_in line_texts)) f.0.line_names) refl;
         aranges = h.aranges ∙ append_assoc p.aranges (aranges_bytes p.at.info d.code) _
             ∙ ap (λ (s : ℕ). p.aranges ++ (aranges_bytes s d.code ++ flat_map (λ m. aranges_bytes (unit_start graph m.0) m.1.ranges) (enumerate_from (n + 1) us))) info
             ∙ ap (λ (spans : List Span). p.aranges ++ (aranges_bytes (unit_start graph n) spans ++ flat_map (λ m. aranges_bytes (unit_start graph m.0) m.1.ranges) (enumerate_from (n + 1) us))) f.0.code;
@@ -202,39 +213,35 @@ module _ (graph : Graph) where
       }
 
   -- all drafts
-  pub record AllPlaced (texts line_texts : List (List ℕ)) (new : Placing) : Type 0 where
+  pub record AllPlaced (new : Placing) : Type 0 where
     pub units : new.units ≡ map (λ m. placed graph m.0 m.1) (numbered_units graph)
     pub parts : new.parts ≡ map (λ m. part_places graph m.0 m.1) (numbered_units graph)
-    pub text_places : new.text_places ≡ map (λ m. map (place_in texts) (once bytes_eq (flat_map texts_of_node m.1.nodes))) (numbered_units graph)
-    pub line_text_places : new.line_text_places ≡ map (λ m. map (place_in line_texts) (once bytes_eq (line_texts_of_unit m.1))) (numbered_units graph)
     pub aranges : new.aranges ≡ flat_map (λ m. aranges_bytes (unit_start graph m.0) m.1.ranges) (numbered_units graph)
     pub at : new.at ≡ starts_of graph (length graph.units)
 
-  pub placed_all : (drafts : List Draft) (texts line_texts : List (List ℕ)) → AreDrafts graph drafts → AllPlaced texts line_texts (fold (with_draft texts line_texts) none_placed drafts)
-  placed_all drafts texts line_texts are =
-      let h = follow_from 0 [] graph.units drafts none_placed texts line_texts refl refl (from_graph graph drafts are) refl in
+  pub placed_all : (drafts : List Draft) → AreDrafts graph drafts → AllPlaced (fold with_draft none_placed drafts)
+  placed_all drafts are =
+      let h = follow_from 0 [] graph.units drafts none_placed refl refl (from_graph graph drafts are) refl in
       let end : 0 + length graph.units ≡ length graph.units = omega arith in
-      record { units = h.units; parts = h.parts; text_places = h.text_places; line_text_places = h.line_text_places; aranges = h.aranges; at = h.at ∙ ap (starts_of graph) end }
+      record { units = h.units; parts = h.parts; aranges = h.aranges; at = h.at ∙ ap (starts_of graph) end }
 
 -- ---- whatever the graph
 
 -- the places behind all drafts
-pub at_end : (texts line_texts : List (List ℕ)) (drafts : List Draft) (p : Placing) → (fold (with_draft texts line_texts) p drafts).at ≡ fold behind_draft p.at drafts
-at_end texts line_texts [] p = refl
-at_end texts line_texts (d ∷ drafts) p = at_end texts line_texts drafts (with_draft texts line_texts p d)
+pub at_end : (drafts : List Draft) (p : Placing) → (fold with_draft p drafts).at ≡ fold behind_draft p.at drafts
+at_end [] p = refl
+at_end (d ∷ drafts) p = at_end drafts (with_draft p d)
 
--- each draft has its places in all lists
-pub record AsMany (p : Placing) : Type 0 where
-  pub parts : length p.parts ≡ length p.units
-  pub text_places : length p.text_places ≡ length p.units
-  pub line_text_places : length p.line_text_places ≡ length p.units
+-- each draft has its places in all lists, and there are no more
+pub record AsMany (count : ℕ) (p : Placing) : Type 0 where
+  pub units : length p.units ≡ count
+  pub parts : length p.parts ≡ count
 
-pub as_many : (texts line_texts : List (List ℕ)) (drafts : List Draft) (p : Placing) → AsMany p → AsMany (fold (with_draft texts line_texts) p drafts)
-as_many texts line_texts [] p h = h
-as_many texts line_texts (d ∷ drafts) p h =
-    let next = with_draft texts line_texts p d in
+pub as_many : (drafts : List Draft) (count : ℕ) (p : Placing) → AsMany count p → AsMany (count + length drafts) (fold with_draft p drafts)
+as_many [] count p h = record { units = omega (arith, h.units); parts = omega (arith, h.parts) }
+as_many (d ∷ drafts) count p h =
+    let next = with_draft p d in
     let units : length next.units ≡ length p.units + 1 = length-append p.units _ in
-    let more : length next.parts ≡ length p.parts + 1 = length-append p.parts _ in
-    let others : length next.text_places ≡ length p.text_places + 1 = length-append p.text_places _ in
-    let lines : length next.line_text_places ≡ length p.line_text_places + 1 = length-append p.line_text_places _ in
-    as_many texts line_texts drafts next (record { parts = omega (arith, units, more, h.parts); text_places = omega (arith, units, others, h.text_places); line_text_places = omega (arith, units, lines, h.line_text_places) })
+    let parts : length next.parts ≡ length p.parts + 1 = length-append p.parts _ in
+    let rest = as_many drafts (count + 1) next (record { units = omega (arith, units, h.units); parts = omega (arith, parts, h.parts) }) in
+    record { units = omega (arith, rest.units); parts = omega (arith, rest.parts) }

@@ -11,7 +11,7 @@ use Rattle.dwarf_types.specs.declared.graph.OutUnit.{OutUnit}
 use Rattle.dwarf_types.specs.declared.graph.OutValue.{OutValue}
 use Rattle.dwarf_types.specs.declared.graph.OutValue.TheVariants as values
 use Rattle.dwarf_types.specs.Abbreviations.{table_bytes}
-use Rattle.dwarf_types.specs.Encode.{abbrev_section, all_locations, all_ranges, info_section, line_section, loc_section, loclists_section, over_units, over_values, ranges_section, rnglists_section, unit_locations, unit_ranges}
+use Rattle.dwarf_types.specs.Encode.{abbrev_section, all_locations, all_ranges, info_section, line_section, loclists_section, over_units, over_values, rnglists_section, unit_locations, unit_ranges}
 use Rattle.dwarf_types.specs.Entries.{node_locations_len, node_ranges_len, unit_bytes, unit_len}
 use Rattle.dwarf_types.specs.Layout.{before_unit, line_text_place, lists_place, numbered_units, places_of, stands_in, table_place, unit_locations_len, unit_ranges_len}
 use Rattle.dwarf_types.specs.LineTable.{lines_bytes}

@@ -10,7 +10,7 @@ use Rattle.dwarf_types.specs.declared.graph.Graph.{Graph}
 use Rattle.dwarf_types.specs.declared.graph.OutUnit.{OutUnit}
 use Rattle.dwarf_types.specs.Encode.{abbrev_section, info_section, str_section, line_section, line_str_section, ranges_section, rnglists_section, loc_section, loclists_section, aranges_section, frame_section}
 use Rattle.dwarf_types.specs.Entries.{unit_len}
-use Rattle.dwarf_types.specs.Layout.{line_text_place, line_texts_of, line_texts_of_unit, lines_place, lists_place, numbered_units, table_place, text_place, texts_of, texts_of_node}
+use Rattle.dwarf_types.specs.Layout.{line_text_place, line_texts_of_unit, lines_place, lists_place, numbered_units, table_place, text_place, texts_of_node}
 use Rattle.patches.specs.declared.outside.Placed.{Placed}
 use Rattle.unit_draft.specs.declared.unit.Draft.{Draft}
 use Rattle.unit_draft.specs.Drafted.{IsDraft}
@@ -83,11 +83,11 @@ pub record Laid : Type 0 where
   -- where each unit and its nodes stand, and its other parts
   pub units : List Placed
   pub parts : List PartPlaces
-  -- the texts of the string section, and where those of each unit stand
-  pub texts : List (List ℕ)
+  -- the bytes of the string section, and where the texts of each unit stand
+  pub texts : List ℕ
   pub text_places : List (List ℕ)
   -- the same of the texts of line tables
-  pub line_texts : List (List ℕ)
+  pub line_texts : List ℕ
   pub line_text_places : List (List ℕ)
   -- the two sections that don't come from drafts
   pub aranges : List ℕ
@@ -99,9 +99,9 @@ abbrev pub laid : Graph → List Draft → Laid
 laid graph drafts = record {
   units = map (λ n. placed graph n.0 n.1) (numbered_units graph);
   parts = map (λ n. part_places graph n.0 n.1) (numbered_units graph);
-  texts = texts_of graph;
+  texts = str_section graph;
   text_places = map (λ n. text_places graph n.1) (numbered_units graph);
-  line_texts = line_texts_of graph;
+  line_texts = line_str_section graph;
   line_text_places = map (λ n. line_text_places graph n.1) (numbered_units graph);
   aranges = aranges_section graph;
   frames = frame_section graph;

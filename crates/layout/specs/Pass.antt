@@ -1,10 +1,10 @@
 -- Stations between the code and the definitions: draft by draft, and text by text.
-use Rattle.std.specs.Prelude.{◌≡◌, ℕ, ◌+◌, ◌^◌, ◌<◌, ◌==◌, Bool, true, false, List, [], ◌∷◌, ◌++◌, length, map, if◌then◌else◌, Option, Some, None, Result, Ok, Err, nat_le, ◌-◌}
-use Rattle.std.specs.List.{find}
+use Rattle.std.specs.Prelude.{◌≡◌, ℕ, ◌+◌, ◌^◌, ◌<◌, ◌==◌, Bool, true, false, List, [], ◌∷◌, ◌++◌, length, map, fold, if◌then◌else◌, Option, Some, None, Result, Ok, Err, nat_le, ◌-◌}
+use Rattle.std.specs.List.{find, flat_map}
 use Rattle.std.specs.Option.{unwrap_or}
 use Rattle.ds_base.specs.declared.fault.Part.{Part}
 use Rattle.ds_base.specs.declared.fault.Part.TheVariants as parts
-use Rattle.ds_base.specs.Texts.{place_of}
+use Rattle.ds_base.specs.Texts.{place_of, section_of, with_text}
 use Rattle.dwarf_types.specs.declared.graph.Graph.{Graph}
 use Rattle.dwarf_types.specs.declared.graph.OutUnit.{OutUnit}
 use Rattle.dwarf_types.specs.Abbreviations.{table_bytes}
@@ -21,6 +21,7 @@ use Rattle.layout.specs.declared.placing.PartPlaces.{PartPlaces}
 use Rattle.layout.specs.declared.placing.Placing.{Placing}
 use Rattle.layout.specs.declared.sizes.Sizes.{Sizes}
 use Rattle.layout.specs.declared.starts.Starts.{Starts}
+use Rattle.layout.specs.declared.text.Texts.{Texts}
 use Rattle.layout.specs.declared.text.TextsOf.{TextsOf}
 use Rattle.layout.specs.declared.text.TextsOf.TheVariants as owners
 use Rattle.layout.specs.Laid.{AreDrafts, long_unit, size_in}
@@ -118,25 +119,33 @@ abbrev pub names_in : TextsOf → Draft → List (List ℕ)
 names_in owners.Entries d = d.names
 names_in owners.Lines d = d.line_names
 
+-- those of drafts, by first use
+abbrev pub texts_by : TextsOf → List Draft → List (List ℕ)
+texts_by of drafts = fold with_text [] (flat_map (names_in of) drafts)
+
 -- where a text stands among others, or 0
 abbrev pub place_in : List (List ℕ) → List ℕ → ℕ
 place_in texts t = unwrap_or (place_of texts t) 0
 
+-- the texts of drafts as a section, and where those of each draft stand in it
+abbrev pub texts_for : TextsOf → List Draft → Texts
+texts_for of drafts = record {
+  section = section_of (texts_by of drafts);
+  places = map (λ draft. map (place_in (texts_by of drafts)) (names_in of draft)) drafts;
+}
+
 -- ---- drafts that have their places
 
--- the texts of entries, and those of line tables
-abbrev pub with_draft : List (List ℕ) → List (List ℕ) → Placing → Draft → Placing
-with_draft texts line_texts p d = record {
+abbrev pub with_draft : Placing → Draft → Placing
+with_draft p d = record {
   units = p.units ++ record { start = p.at.info; nodes = d.places; len = d.len } ∷ [];
   parts = p.parts ++ parts_of d.version p.at ∷ [];
-  text_places = p.text_places ++ map (place_in texts) d.names ∷ [];
-  line_text_places = p.line_text_places ++ map (place_in line_texts) d.line_names ∷ [];
   aranges = p.aranges ++ aranges_bytes p.at.info d.code;
   at = behind_draft p.at d;
 }
 
 abbrev pub none_placed : Placing
-none_placed = record { units = []; parts = []; text_places = []; line_text_places = []; aranges = []; at = no_starts }
+none_placed = record { units = []; parts = []; aranges = []; at = no_starts }
 
 -- ---- limits
 

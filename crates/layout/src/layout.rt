@@ -1,14 +1,12 @@
 //! The layout of a graph, and what writers ask of it.
 
-ghost use Rattle.std.specs.Prelude.{◌≡◌, ◌-◌, ◌^◌, ◌<◌, [], fold, length, Some, None, Ok, slice_get};
-ghost use Rattle.std.specs.List.{flat_map};
+ghost use Rattle.std.specs.Prelude.{◌≡◌, ◌-◌, ◌^◌, ◌<◌, fold, length, Some, None, Ok, slice_get};
 ghost use Rattle.std.specs.Option.{option_map};
 ghost use Rattle.dwarf_types.specs.declared.graph.Graph.{Graph as Program};
 ghost use Rattle.dwarf_types.specs.declared.graph.OutUnit.{OutUnit as Clone};
-ghost use Rattle.ds_base.specs.Texts.{section_of, with_text};
 ghost use Rattle.layout.specs.Laid.{AreDrafts, Measures, size_in};
 ghost use Rattle.layout.specs.declared.text.TextsOf.TheVariants as owners;
-ghost use Rattle.layout.specs.Pass.{AreBelow, behind_draft, long_front, names_in, no_starts, sized};
+ghost use Rattle.layout.specs.Pass.{AreBelow, behind_draft, long_front, no_starts, sized, texts_for};
 ghost use Rattle.unit_draft.specs.declared.unit.Draft.{Draft as ADraft};
 ghost use Rattle.unit_draft.specs.Outside.{IsOutside};
 
@@ -17,28 +15,26 @@ use crate::error::LayoutError;
 use crate::placing::{PartPlaces, Placing, place_all};
 use crate::sizes::{Sizes, first_long, last_long, next_long, size_of, size_of_lists};
 use crate::starts::{Starts, ends_of};
-use crate::text::{TextsOf, texts_in};
+use crate::text::{Texts, TextsOf, texts_in};
 use ds_base::{Bytes, List, Part};
 use dwarf_types::{Graph, OutFrames};
 use frame_write::append_frames;
 use patches::{Outside, Placed};
 use std::alloc::Global;
 use std::marker::Model;
-use text_pool::{TextError, TextPool, pool_size};
+use text_pool::TextError;
 use unit_draft::Draft;
 
 /// The layout of a graph, with the drafts of its units.
 ///
-/// A contract sees where everything stands, the texts of the two sections of texts, the size of each section, and the
+/// A contract sees where everything stands, the bytes of the two sections of texts, the size of each section, and the
 /// drafts.
 #[derive(Drop)]
 pub struct Layout {
     units: List<Placed>,
     parts: List<PartPlaces>,
-    texts: TextPool,
-    text_places: List<List<u32>>,
-    line_texts: TextPool,
-    line_text_places: List<List<u32>>,
+    texts: Texts,
+    line_texts: Texts,
     aranges: Bytes,
     frames: Bytes,
     sizes: Sizes,
@@ -51,9 +47,9 @@ impl Model for Layout {
 
     ghost Value = { Laid };
 
-    ghost view = { λ a. record { units = a.units; parts = a.parts; texts = a.texts; text_places = a.text_places; line_texts = a.line_texts; line_text_places = a.line_text_places; aranges = a.aranges; frames = a.frames; sizes = a.sizes; drafts = a.drafts } };
+    ghost view = { λ a. record { units = a.units; parts = a.parts; texts = a.texts.section; text_places = a.texts.places; line_texts = a.line_texts.section; line_text_places = a.line_texts.places; aranges = a.aranges; frames = a.frames; sizes = a.sizes; drafts = a.drafts } };
 
-    ghost invariant = { λ a. (a.sizes.info < 2 ^ 32) × (length a.parts ≡ length a.units) × (length a.text_places ≡ length a.units) × (length a.line_text_places ≡ length a.units) };
+    ghost invariant = { λ a. (a.sizes.info < 2 ^ 32) × (length a.parts ≡ length a.units) × (length a.texts.places ≡ length a.units) × (length a.line_texts.places ≡ length a.units) };
 }
 
 /// Measures a graph: drafts its units, and gives the drafts their places.
@@ -85,7 +81,7 @@ pub fn place_drafts(
         Err(TextError::NoMemory) => return Err(LayoutError::NoMemory),
     };
     let ends = ends_of(drafts.as_slice());
-    if let Some(part) = first_long(&ends, pool_size(&texts)) {
+    if let Some(part) = first_long(&ends, texts.section.len() as u64) {
         return Err(LayoutError::Section { part });
     }
     place_behind(alloc, drafts, frames, texts, ends)
@@ -97,13 +93,13 @@ fn place_behind(
     alloc: Global,
     drafts: List<Draft>,
     frames: &OutFrames,
-    texts: TextPool,
+    texts: Texts,
     ends: Starts,
 ) -> Result<Layout, LayoutError>
-    requires texts { texts ≡ fold with_text [] (flat_map (names_in owners.Entries) drafts) }
+    requires texts { texts ≡ texts_for owners.Entries drafts }
     requires ends { ends ≡ fold behind_draft no_starts drafts }
     requires room { AreBelow (2 ^ 127) ends }
-    requires front { long_front ends (length (section_of texts)) ≡ None }
+    requires front { long_front ends (length texts.section) ≡ None }
     ensures { (graph : Program) → AreDrafts graph drafts → graph.frames ≡ frames.now → Measures graph result }
 {
     let line_texts = match texts_in(alloc, drafts.as_slice(), TextsOf::Lines) {
@@ -113,23 +109,21 @@ fn place_behind(
         }),
         Err(TextError::NoMemory) => return Err(LayoutError::NoMemory),
     };
-    if let Some(part) = next_long(&ends, pool_size(&line_texts)) {
+    if let Some(part) = next_long(&ends, line_texts.section.len() as u64) {
         return Err(LayoutError::Section { part });
     }
-    let placing = place_all(alloc, &texts, &line_texts, drafts.as_slice())?;
+    let placing = place_all(alloc, drafts.as_slice())?;
     let mut described = Bytes::new(alloc);
     append_frames(alloc, &mut described, frames)?;
     if let Some(part) = last_long(placing.aranges.len(), described.len()) {
         return Err(LayoutError::Section { part });
     }
-    let sizes = sizes_from(&placing, &texts, &line_texts, &described);
+    let sizes = sizes_from(&placing, &texts.section, &line_texts.section, &described);
     Ok(Layout {
         units: placing.units,
         parts: placing.parts,
         texts,
-        text_places: placing.text_places,
         line_texts,
-        line_text_places: placing.line_text_places,
         aranges: placing.aranges,
         frames: described,
         sizes,
@@ -138,16 +132,16 @@ fn place_behind(
 }
 
 /// The sizes of the sections, of which none is too long.
-fn sizes_from(placing: &Placing, texts: &TextPool, line_texts: &TextPool, frames: &Bytes) -> Sizes
+fn sizes_from(placing: &Placing, texts: &Bytes, line_texts: &Bytes, frames: &Bytes) -> Sizes
     requires small { AreBelow (2 ^ 32) placing.now.at }
-    ensures { result ≡ sized placing.now.at (length (section_of texts.now)) (length (section_of line_texts.now)) (length placing.now.aranges) (length frames.now) }
+    ensures { result ≡ sized placing.now.at (length texts.now) (length line_texts.now) (length placing.now.aranges) (length frames.now) }
 {
     Sizes {
         tables: placing.at.tables as u64,
         info: placing.at.info as u64,
-        texts: pool_size(texts),
+        texts: texts.len() as u64,
         line: placing.at.line as u64,
-        line_texts: pool_size(line_texts),
+        line_texts: line_texts.len() as u64,
         ranges: placing.at.ranges as u64,
         rnglists: size_of_lists(placing.at.rnglists) as u64,
         loc: placing.at.loc as u64,
@@ -176,8 +170,8 @@ pub fn outside_of(layout: &Layout, unit: u32) -> Outside<'_>
         lines: parts.lines,
         ranges: parts.ranges,
         locations: parts.locations,
-        texts: layout.text_places.as_slice()[unit as usize].as_slice(),
-        line_texts: layout.line_text_places.as_slice()[unit as usize].as_slice(),
+        texts: layout.texts.places.as_slice()[unit as usize].as_slice(),
+        line_texts: layout.line_texts.places.as_slice()[unit as usize].as_slice(),
         units: layout.units.as_slice(),
         end: layout.sizes.info as u32,
     }
@@ -190,18 +184,18 @@ pub fn drafts(layout: &Layout) -> &[Draft]
     layout.drafts.as_slice()
 }
 
-/// The texts of the string section.
-pub fn texts(layout: &Layout) -> &TextPool
+/// The bytes of `__debug_str`.
+pub fn texts(layout: &Layout) -> &[u8]
     ensures { result.now ≡ layout.now.texts }
 {
-    &layout.texts
+    layout.texts.section.as_slice()
 }
 
-/// The texts of the section of line tables' texts.
-pub fn line_texts(layout: &Layout) -> &TextPool
+/// The bytes of `__debug_line_str`.
+pub fn line_texts(layout: &Layout) -> &[u8]
     ensures { result.now ≡ layout.now.line_texts }
 {
-    &layout.line_texts
+    layout.line_texts.section.as_slice()
 }
 
 /// The bytes of `__debug_aranges`.

@@ -7,12 +7,10 @@ ghost use Rattle.dwarf_types.specs.Lists.{lists_header_len};
 use crate::address_sets::append_aranges;
 use crate::sizes::LISTS_HEADER_LEN;
 use crate::starts::{Starts, behind, first_starts};
-use crate::text::places_in;
 use ds_base::dwarf::DWARF_5;
 use ds_base::{Bytes, List, NoMemory};
 use patches::Placed;
 use std::alloc::Global;
-use text_pool::TextPool;
 use unit_draft::Draft;
 
 /// Where the parts of a unit stand, but for its entries; each place counts bytes from the start of its section.
@@ -33,60 +31,39 @@ pub(crate) struct PartPlaces {
 pub(crate) struct Placing {
     pub(crate) units: List<Placed>,
     pub(crate) parts: List<PartPlaces>,
-    /// Where the texts of each draft stand.
-    pub(crate) text_places: List<List<u32>>,
-    /// Where the texts of each draft's line table stand.
-    pub(crate) line_text_places: List<List<u32>>,
     /// `__debug_aranges`.
     pub(crate) aranges: Bytes,
     /// Where the parts of the next draft stand.
     pub(crate) at: Starts,
 }
 
-/// Gives drafts their places, whose texts, and those of whose line tables, stand in two pools.
-pub(crate) fn place_all(
-    alloc: Global,
-    texts: &TextPool,
-    line_texts: &TextPool,
-    drafts: &[Draft],
-) -> Result<Placing, NoMemory>
+/// Gives drafts their places.
+pub(crate) fn place_all(alloc: Global, drafts: &[Draft]) -> Result<Placing, NoMemory>
     requires small { AreBelow (2 ^ 32) (fold behind_draft no_starts drafts.now) }
-    ensures { IfOk result (λ placing. placing ≡ fold (with_draft texts.now line_texts.now) none_placed drafts.now) }
+    ensures { IfOk result (λ placing. placing ≡ fold with_draft none_placed drafts.now) }
 {
     let mut placing = Placing {
-        units: List::new(alloc),
-        parts: List::new(alloc),
-        text_places: List::new(alloc),
-        line_text_places: List::new(alloc),
+        units: List::with_capacity(alloc, drafts.len())?,
+        parts: List::with_capacity(alloc, drafts.len())?,
         aranges: Bytes::new(alloc),
         at: first_starts(),
     };
     for draft in drafts {
-        place_draft(alloc, &mut placing, texts, line_texts, draft)?;
+        place_draft(alloc, &mut placing, draft)?;
     }
     Ok(placing)
 }
 
 /// Gives a draft its places, behind the first ones.
-fn place_draft(
-    alloc: Global,
-    placing: &mut Placing,
-    texts: &TextPool,
-    line_texts: &TextPool,
-    draft: &Draft,
-) -> Result<(), NoMemory>
+fn place_draft(alloc: Global, placing: &mut Placing, draft: &Draft) -> Result<(), NoMemory>
     requires small { AreBelow (2 ^ 32) placing.old.at }
-    ensures { OnOk result (placing.new ≡ with_draft texts.now line_texts.now placing.old draft.now) }
+    ensures { OnOk result (placing.new ≡ with_draft placing.old draft.now) }
 {
     let at = placing.at;
     let unit = placed_at(alloc, at, draft)?;
-    let text_places = places_in(alloc, texts, &draft.names)?;
-    let line_text_places = places_in(alloc, line_texts, &draft.line_names)?;
     append_aranges(&mut placing.aranges, at.info as u32, draft.code.as_slice())?;
     placing.units.push(unit)?;
     placing.parts.push(parts_at(draft.version, at))?;
-    placing.text_places.push(text_places)?;
-    placing.line_text_places.push(line_text_places)?;
     placing.at = behind(at, draft);
     Ok(())
 }

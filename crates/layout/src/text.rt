@@ -1,14 +1,13 @@
 //! The texts of drafts.
 
-ghost use Rattle.std.specs.Prelude.{◌≡◌, ◌-◌, ◌^◌, ◌<◌, ◌≤◌, [], Err, Some, IfOk, OnOk, fold, length, map, slice_get};
-ghost use Rattle.std.specs.List.{flat_map};
+ghost use Rattle.std.specs.Prelude.{◌≡◌, ℕ, ◌-◌, ◌^◌, ◌<◌, ◌≤◌, List as Listed, Err, Some, IfOk, OnOk, fold, length, map, slice_get};
 ghost use Rattle.ds_base.specs.Texts.{section_of, with_text};
-ghost use Rattle.layout.specs.Pass.{names_in, place_in};
+ghost use Rattle.layout.specs.Pass.{names_in, place_in, texts_by, texts_for};
 ghost use Rattle.text_pool.specs.declared.pool.TextError.TheVariants as errors;
 
-use ds_base::{List, NoMemory};
+use ds_base::{Bytes, List};
 use std::alloc::Global;
-use text_pool::{Names, TextError, TextPool, add, new_pool, offset_of};
+use text_pool::{Names, TextError, TextPool, add, new_pool, section_bytes};
 use unit_draft::Draft;
 
 /// Whose texts they are. Each have a section.
@@ -20,16 +19,28 @@ pub(crate) enum TextsOf {
     Lines,
 }
 
-/// The texts of drafts by first use, each once.
-pub(crate) fn texts_in(alloc: Global, drafts: &[Draft], of: TextsOf) -> Result<TextPool, TextError>
-    ensures ok { IfOk result (λ pool. pool ≡ fold with_text [] (flat_map (names_in of) drafts.now)) }
-    ensures long { result ≡ Err errors.Long → 2 ^ 32 - 1 ≤ length (section_of (fold with_text [] (flat_map (names_in of) drafts.now))) }
+/// The texts of drafts as a section.
+#[derive(Drop)]
+pub(crate) struct Texts {
+    /// The bytes of the section: each text once, by first use, with a zero byte behind it.
+    pub(crate) section: Bytes,
+    /// Where the texts of each draft stand in it.
+    pub(crate) places: List<List<u32>>,
+}
+
+/// The texts of drafts, and where they stand.
+pub(crate) fn texts_in(alloc: Global, drafts: &[Draft], of: TextsOf) -> Result<Texts, TextError>
+    ensures ok { IfOk result (λ texts. texts ≡ texts_for of drafts.now) }
+    ensures long { result ≡ Err errors.Long → 2 ^ 32 - 1 ≤ length (section_of (texts_by of drafts.now)) }
 {
     let mut pool = new_pool(alloc);
+    let mut places = List::with_capacity(alloc, drafts.len())?;
     for draft in drafts {
-        add_names(&mut pool, names_of(draft, of))?;
+        let theirs = add_names(alloc, &mut pool, names_of(draft, of))?;
+        places.push(theirs)?;
     }
-    Ok(pool)
+    let section = section_bytes(alloc, &pool)?;
+    Ok(Texts { section, places })
 }
 
 /// The texts of a draft.
@@ -42,15 +53,22 @@ fn names_of(draft: &Draft, of: TextsOf) -> &Names
     }
 }
 
-/// Adds the texts of a draft.
-fn add_names(pool: &mut TextPool, names: &Names) -> Result<(), TextError>
+/// Adds the texts of a draft, and tells where each stands, whatever is added later.
+fn add_names<'a>(
+    alloc: Global,
+    pool: &mut TextPool<'a>,
+    names: &'a Names,
+) -> Result<List<u32>, TextError>
     ensures ok { OnOk result (pool.new ≡ fold with_text pool.old names.now) }
+    ensures places { IfOk result (λ places. (later : Listed (Listed ℕ)) → places ≡ map (place_in (fold with_text pool.new later)) names.now) }
     ensures long { result ≡ Err errors.Long → 2 ^ 32 - 1 ≤ length (section_of (fold with_text pool.old names.now)) }
 {
+    let mut places = List::with_capacity(alloc, names.len())?;
     for i in 0..names.len() {
-        add(pool, name_at(names, i))?;
+        let place = add(pool, name_at(names, i))?;
+        places.push(place)?;
     }
-    Ok(())
+    Ok(places)
 }
 
 /// The text of a number.
@@ -62,26 +80,4 @@ fn name_at(names: &Names, i: usize) -> &[u8]
         Some(text) => text,
         None => unreachable!(),
     }
-}
-
-/// Where each text of a draft stands in the section of a pool; 0 where it does not stand there.
-pub(crate) fn places_in(
-    alloc: Global,
-    pool: &TextPool,
-    names: &Names,
-) -> Result<List<u32>, NoMemory>
-    ensures { IfOk result (λ places. places ≡ map (place_in pool.now) names.now) }
-{
-    let mut places = List::with_capacity(alloc, names.len())?;
-    for i in 0..names.len() {
-        places.push(place_of_text(pool, name_at(names, i)))?;
-    }
-    Ok(places)
-}
-
-/// Where a text stands in the section of a pool; 0 where it does not stand there.
-fn place_of_text(pool: &TextPool, text: &[u8]) -> u32
-    ensures { result ≡ place_in pool.now text.now }
-{
-    offset_of(pool, text).unwrap_or(0)
 }

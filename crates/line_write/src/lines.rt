@@ -14,7 +14,7 @@ use ds_base::{Bytes, NoMemory};
 use dwarf_types::OutLines;
 use patches::Buffer;
 use std::alloc::Global;
-use text_pool::Names;
+use text_pool::Naming;
 
 /// How many operands each standard operation has, from `DW_LNS_copy` on.
 const STANDARD_OPCODE_LENGTHS: [u8; 12] = [0, 1, 1, 1, 1, 0, 0, 0, 1, 0, 0, 1];
@@ -24,12 +24,12 @@ const STANDARD_OPCODE_LENGTHS: [u8; 12] = [0, 1, 1, 1, 1, 0, 0, 0, 1, 0, 0, 1];
 /// In version 5 the place of a text is a hole with the text's number among `names`, which grow by the directories and
 /// then the files. In version 4 nothing is written of a file's digest. A length that has no place in four bytes is
 /// written by its lowest four.
-pub fn append_lines(
+pub fn append_lines<'a>(
     alloc: Global,
     out: &mut Buffer,
-    names: &mut Names,
+    names: &mut Naming<'a>,
     version: u16,
-    lines: &OutLines,
+    lines: &'a OutLines,
 ) -> Result<(), NoMemory>
     ensures table { OnOk result (AppendsNamed out.old out.new names.old names.new (λ text. line_table_bytes version text lines.now) (texts_in version lines.now)) }
 
@@ -93,11 +93,11 @@ fn append_version(out: &mut Buffer, version: u16) -> Result<(), NoMemory>
 }
 
 /// Puts last the fields of the header that its length counts.
-fn append_fields(
+fn append_fields<'a>(
     out: &mut Buffer,
-    names: &mut Names,
+    names: &mut Naming<'a>,
     version: u16,
-    lines: &OutLines,
+    lines: &'a OutLines,
 ) -> Result<(), NoMemory>
     ensures { OnOk result (AppendsNamed out.old out.new names.old names.new (λ text. fields_bytes version text lines.now) (texts_in version lines.now)) }
 {
@@ -109,11 +109,11 @@ fn append_fields(
 }
 
 /// Puts the directories and files last.
-fn append_names(
+fn append_names<'a>(
     out: &mut Buffer,
-    names: &mut Names,
+    names: &mut Naming<'a>,
     version: u16,
-    lines: &OutLines,
+    lines: &'a OutLines,
 ) -> Result<(), NoMemory>
     ensures { OnOk result (AppendsNamed out.old out.new names.old names.new (λ text. names_bytes version text lines.now) (texts_in version lines.now)) }
 {

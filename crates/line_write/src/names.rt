@@ -16,13 +16,13 @@ use ds_base::dwarf::{
 use ds_base::{Bytes, NoMemory};
 use dwarf_types::{FileName, OutLines};
 use patches::{Buffer, Outer};
-use text_pool::Names;
+use text_pool::Naming;
 
 /// Puts the directories and the files last, and their texts among those with numbers.
-pub(crate) fn append_entries(
+pub(crate) fn append_entries<'a>(
     out: &mut Buffer,
-    names: &mut Names,
-    lines: &OutLines,
+    names: &mut Naming<'a>,
+    lines: &'a OutLines,
 ) -> Result<(), NoMemory>
     ensures { OnOk result (AppendsNamed out.old out.new names.old names.new (λ text. entries_bytes text lines.now) (lines.now.dirs ++ map (λ file. file.name) lines.now.files)) }
 {
@@ -34,7 +34,11 @@ pub(crate) fn append_entries(
 // ---- directories
 
 /// Puts last directory_entry_format, directories_count and the directories.
-fn append_directories(out: &mut Buffer, names: &mut Names, dirs: &[Bytes]) -> Result<(), NoMemory>
+fn append_directories<'a>(
+    out: &mut Buffer,
+    names: &mut Naming<'a>,
+    dirs: &'a [Bytes],
+) -> Result<(), NoMemory>
     ensures { OnOk result (AppendsNamed out.old out.new names.old names.new (λ text. directories_bytes text dirs.now) dirs.now) }
 {
     append_directory_format(out)?;
@@ -53,10 +57,10 @@ fn append_directory_format(out: &mut Buffer) -> Result<(), NoMemory>
 }
 
 /// Puts the directories last.
-fn append_each_directory(
+fn append_each_directory<'a>(
     out: &mut Buffer,
-    names: &mut Names,
-    dirs: &[Bytes],
+    names: &mut Naming<'a>,
+    dirs: &'a [Bytes],
 ) -> Result<(), NoMemory>
     ensures { OnOk result (AppendsNamed out.old out.new names.old names.new (λ text. flat_map (directory_entry text) dirs.now) dirs.now) }
 {
@@ -69,7 +73,11 @@ fn append_each_directory(
 // ---- files
 
 /// Puts last file_name_entry_format, file_names_count and the files.
-fn append_files(out: &mut Buffer, names: &mut Names, files: &[FileName]) -> Result<(), NoMemory>
+fn append_files<'a>(
+    out: &mut Buffer,
+    names: &mut Naming<'a>,
+    files: &'a [FileName],
+) -> Result<(), NoMemory>
     ensures { OnOk result (AppendsNamed out.old out.new names.old names.new (λ text. files_bytes text files.now) (map (λ file. file.name) files.now)) }
 {
     let digests = are_with_digests(files);
@@ -129,11 +137,11 @@ fn append_digest_format(out: &mut Buffer, digests: bool) -> Result<(), NoMemory>
 }
 
 /// Puts the files last.
-fn append_each_file(
+fn append_each_file<'a>(
     out: &mut Buffer,
-    names: &mut Names,
+    names: &mut Naming<'a>,
     digests: bool,
-    files: &[FileName],
+    files: &'a [FileName],
 ) -> Result<(), NoMemory>
     ensures { OnOk result (AppendsNamed out.old out.new names.old names.new (λ text. flat_map (file_entry text digests) files.now) (map (λ file. file.name) files.now)) }
 {
@@ -144,11 +152,11 @@ fn append_each_file(
 }
 
 /// Puts a file last.
-fn append_file(
+fn append_file<'a>(
     out: &mut Buffer,
-    names: &mut Names,
+    names: &mut Naming<'a>,
     digests: bool,
-    file: &FileName,
+    file: &'a FileName,
 ) -> Result<(), NoMemory>
     ensures { OnOk result (AppendsNamed out.old out.new names.old names.new (λ text. file_entry text digests file.now) (file.now.name ∷ [])) }
 {
@@ -193,7 +201,11 @@ fn append_format(out: &mut Buffer, content: u16, form: u16) -> Result<(), NoMemo
 }
 
 /// Puts the place of a text last.
-fn append_place(out: &mut Buffer, names: &mut Names, text: &Bytes) -> Result<(), NoMemory>
+fn append_place<'a>(
+    out: &mut Buffer,
+    names: &mut Naming<'a>,
+    text: &'a Bytes,
+) -> Result<(), NoMemory>
     ensures { OnOk result (AppendsNamed out.old out.new names.old names.new (λ place. little_bytes 4 (place text.now)) (text.now ∷ [])) }
 {
     let number = names.number_of(text.as_slice())?;

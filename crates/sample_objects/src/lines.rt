@@ -17,7 +17,7 @@ use line_write::append_lines;
 use patches::Buffer;
 use reloc_table::Reloc;
 use std::alloc::Global;
-use text_pool::Names;
+use text_pool::Naming;
 
 /// The version of a table in which a sequence is measured; sequences are written alike in all.
 const MEASURED_VERSION: u16 = 4;
@@ -74,7 +74,7 @@ fn size_of(alloc: Global, sequence: &Sequence) -> Result<u64, NoMemory>
 {
     let table = table_of(alloc, sequence)?;
     let mut bytes = Buffer::new(alloc);
-    let mut names = Names::new(alloc);
+    let mut names = Naming::new(alloc);
     append_lines(alloc, &mut bytes, &mut names, MEASURED_VERSION, &table)?;
     let size = bytes.len() as u64;
     Ok(size - EMPTY_TABLE_SIZE)

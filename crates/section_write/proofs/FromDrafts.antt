@@ -3,7 +3,6 @@ use Rattle.std.proofs.Common.{◌≡◌, ◌==◌, ℕ, ◌+◌, ◌<◌, ◌^�
 use mathlib.Core.Path.{fun_ext}
 use Rattle.std.specs.List.{enumerate_from, flat_map}
 use Rattle.std.specs.Option.{option_map_or}
-use Rattle.ds_base.specs.Texts.{section_of}
 use Rattle.dwarf_types.specs.declared.graph.Graph.{Graph}
 use Rattle.dwarf_types.specs.declared.graph.OutUnit.{OutUnit}
 use Rattle.dwarf_types.specs.Abbreviations.{same_flag, table_bytes}
@@ -97,11 +96,11 @@ module _ (graph : Graph) (layout : Laid) (measured : Measures graph (Ok layout))
   pub frames_are : layout.frames ≡ frame_section graph
   frames_are = ap (λ (l : Laid). l.frames) measured.0
 
-  pub texts_are : section_of layout.texts ≡ str_section graph
-  texts_are = ap (λ (l : Laid). section_of l.texts) measured.0
+  pub texts_are : layout.texts ≡ str_section graph
+  texts_are = ap (λ (l : Laid). l.texts) measured.0
 
-  pub line_texts_are : section_of layout.line_texts ≡ line_str_section graph
-  line_texts_are = ap (λ (l : Laid). section_of l.line_texts) measured.0
+  pub line_texts_are : layout.line_texts ≡ line_str_section graph
+  line_texts_are = ap (λ (l : Laid). l.line_texts) measured.0
 
   -- the sizes that are told of the sections with a header
   pub rnglists_size : layout.sizes.rnglists ≡ length (behind_header (flat_map (part_in kinds.Rnglists) layout.drafts))

@@ -3,13 +3,11 @@
 ghost use Rattle.std.specs.Prelude.{◌≡◌, ◌+◌, ◌≤◌, [], length};
 ghost use Rattle.std.specs.List.{flat_map};
 ghost use Rattle.ds_base.specs.Room.{Adds};
-ghost use Rattle.ds_base.specs.Texts.{section_of};
 ghost use Rattle.layout.specs.Pass.{in_five, in_others};
 ghost use Rattle.section_write.specs.Copied.{part_in};
 
 use ds_base::dwarf::DWARF_5;
 use ds_base::emit_bytes;
-use text_pool::{TextPool, emit_texts, pool_size};
 use unit_draft::Draft;
 
 /// A part of a draft, which has a section.
@@ -64,14 +62,4 @@ fn other_lists(version: u16, lists: &[u8]) -> &[u8]
     ensures { result.now ≡ in_others version [] lists.now }
 {
     if version == DWARF_5 { &[] } else { lists }
-}
-
-/// Writes texts.
-pub(crate) fn add_texts(pool: &TextPool, room: &mut [u8], at: usize) -> usize
-    requires fits { at + length (section_of pool.now) ≤ length room.old }
-    ensures { Adds room.old at (section_of pool.now) room.new result }
-{
-    let end = at + pool_size(pool) as usize;
-    emit_texts(pool, &mut room[at..end]);
-    end
 }

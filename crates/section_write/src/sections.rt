@@ -10,7 +10,7 @@ ghost use Rattle.section_write.specs.Runs.{back_bytes, front_bytes, lists_bytes}
 
 use crate::lines::emit_tables;
 use crate::lists::emit_lists;
-use crate::parts::{DraftPart, add_texts, emit_parts};
+use crate::parts::{DraftPart, emit_parts};
 use ds_base::{Part, emit_bytes};
 use emit_info::emit_units;
 use layout::{Layout, aranges, drafts, frames, line_texts, section_size, texts};
@@ -35,9 +35,9 @@ fn emit_front(layout: &Layout, room: &mut [u8]) -> usize
 {
     let at = emit_parts(DraftPart::Table, drafts(layout), room, 0);
     let at = emit_units(layout, room, at);
-    let at = add_texts(texts(layout), room, at);
+    let at = emit_bytes(room, at, texts(layout));
     let at = emit_tables(layout, room, at);
-    add_texts(line_texts(layout), room, at)
+    emit_bytes(room, at, line_texts(layout))
 }
 
 /// Writes the sections of lists.

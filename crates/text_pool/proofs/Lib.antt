@@ -1,5 +1,6 @@
+pub mod Ends
 pub mod FirstUses
-pub mod KeptLemmas
-pub mod Naming
+pub mod Keeping
+pub mod Keys
 pub mod Places
 pub mod Uses

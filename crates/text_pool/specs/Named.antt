@@ -1,16 +1,18 @@
--- Texts by their numbers: the first has number 0, the next 1, and so on.
-use Rattle.std.specs.Prelude.{◌≡◌, ℕ, suc, List, [], ◌∷◌, Option, Some, None, if◌then◌else◌}
-use Rattle.std.specs.Option.{option_map}
-use Rattle.std.specs.Str.{bytes_eq}
-use Rattle.std.specs.declared.vec.Vec.{Vec}
-use Rattle.indexmap.specs.IndexMap.{IndexMap, get_by}
-use Rattle.text_pool.specs.Kept.{texts_of}
+-- Texts that stand one behind the other, by their ends.
+use Rattle.std.specs.Prelude.{◌≡◌, ℕ, zero, suc, ◌-◌, ◌≤◌, List, [], ◌∷◌, take, drop}
 
--- the number of a text among others, if it is one of them
-abbrev pub number_in : List (List ℕ) → List ℕ → Option ℕ
-number_in [] t = None
-number_in (text ∷ texts) t = if bytes_eq text t then Some 0 else option_map (λ n. suc n) (number_in texts t)
+-- the texts that end at these places, the first of which begins at a place
+abbrev pub texts_from : ℕ → List ℕ → List ℕ → List (List ℕ)
+texts_from start [] bytes = []
+texts_from start (end ∷ ends) bytes = take (end - start) (drop start bytes) ∷ texts_from end ends bytes
 
--- a look-up finds the number of each text
-abbrev pub AreNamed : {A S : Type 0} → IndexMap (Vec ℕ A) ℕ S → Type 0
-AreNamed numbers = (t : List ℕ) → get_by (λ k. bytes_eq t k.items) numbers ≡ number_in (texts_of numbers) t
+-- each end stands at or behind the one before, and the last is that of all bytes
+abbrev pub AreEnds : ℕ → List ℕ → ℕ → Type 0
+AreEnds start [] len = start ≡ len
+AreEnds start (end ∷ ends) len = (start ≤ end) × AreEnds end ends len
+
+-- where the text of a number begins
+abbrev pub start_of : ℕ → List ℕ → ℕ → ℕ
+start_of start ends zero = start
+start_of start [] (suc number) = start
+start_of start (end ∷ ends) (suc number) = start_of end ends number

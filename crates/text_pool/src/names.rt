@@ -1,76 +1,97 @@
 //! Texts by their numbers, for a part of the output that is written before the section has its places.
 
-ghost use Rattle.std.specs.Prelude.{◌≡◌, [], List as Listed, Some, ℕ, fold, IfOk, OnOk, length, option_map, slice_get};
+ghost use Rattle.std.specs.Prelude.{◌≡◌, [], ◌∷◌, ◌++◌, List as Listed, ℕ, ◌≤◌, fold, IfOk, OnOk, length, option_map, slice_get};
 ghost use Rattle.std.specs.List.{flat_map};
 ghost use Rattle.std.specs.Str.{bytes_eq};
 ghost use Rattle.ds_base.specs.FirstUse.{once};
 ghost use Rattle.ds_base.specs.Texts.{with_text};
+ghost use Rattle.text_pool.specs.Named.{start_of};
 
-use ds_base::NoMemory;
-use indexmap::IndexMap;
+use ds_base::{NoMemory, cut};
 use std::alloc::Global;
 use std::marker::Model;
 
-/// Texts in the order of their first uses, each once.
+/// Texts in order.
 ///
-/// A contract sees the list of the texts. The number of a text is its place in the list, from 0.
+/// A contract sees the list of the texts. The number of a text is its place in the list, from 0. They take two blocks of
+/// memory, however many they are.
 #[derive(Drop)]
 pub struct Names {
-    numbers: IndexMap<Vec<u8>, usize>,
+    // the texts, one behind the other
+    bytes: Vec<u8>,
+    // where each ends
+    ends: Vec<usize>,
 }
 
 impl Model for Names {
-    ghost use Rattle.std.specs.Prelude.{List, ℕ};
-    ghost use Rattle.text_pool.specs.Kept.{texts_of};
-    ghost use Rattle.text_pool.specs.Named.{AreNamed};
+    ghost use Rattle.std.specs.Prelude.{List, ℕ, length};
+    ghost use Rattle.text_pool.specs.Named.{AreEnds, texts_from};
 
     ghost Value = { List (List ℕ) };
 
-    ghost view = { λ a. texts_of a.numbers };
+    ghost view = { λ a. texts_from 0 a.ends.items a.bytes.items };
 
-    ghost invariant = { λ a. AreNamed a.numbers };
+    ghost invariant = { λ a. AreEnds 0 a.ends.items (length a.bytes.items) };
 }
 
 impl Names {
-    /// No texts. It asks the allocator for nothing, and keeps it for `number_of`.
-    pub fn new(alloc: Global) -> Names
-        ensures { result ≡ [] }
+    /// No texts, with memory for the ends of `count`.
+    pub(crate) fn with_capacity(alloc: Global, count: usize) -> Result<Names, NoMemory>
+        ensures { IfOk result (λ names. names ≡ []) }
     {
-        Names {
-            numbers: IndexMap::new(alloc),
-        }
+        Ok(Names {
+            bytes: Vec::new(alloc),
+            ends: Vec::with_capacity(alloc, count)?,
+        })
     }
 
-    /// The number of a text, which is put last where it is new.
-    ///
-    /// The text is looked up by its hash, so the time is linear in its length.
-    pub fn number_of(&mut self, text: &[u8]) -> Result<usize, NoMemory>
-        ensures grown { OnOk result (self.new ≡ with_text self.old text.now) }
-        ensures number { IfOk result (λ i. slice_get self.new i ≡ Some text.now) }
+    /// Puts a text last.
+    pub(crate) fn push(&mut self, text: &[u8]) -> Result<(), NoMemory>
+        ensures { OnOk result (self.new ≡ self.old ++ text.now ∷ []) }
     {
-        if let Some(number) = self.numbers.get(text) {
-            return Ok(*number);
-        }
-        let number = self.numbers.len();
-        let key = Vec::from_slice(*self.numbers.allocator(), text)?;
-        self.numbers.insert(key, number)?;
-        Ok(number)
+        self.ends.reserve(1)?;
+        self.bytes.extend_from_slice(text)?;
+        self.ends.push_reserved(self.bytes.as_slice().len());
+        Ok(())
+    }
+
+    /// Gives back what memory it holds behind its last byte.
+    pub(crate) fn shrink_to_fit(&mut self)
+        ensures { self.new ≡ self.old }
+    {
+        self.bytes.shrink_to_fit();
     }
 
     /// How many texts there are.
     pub fn len(&self) -> usize
         ensures { result ≡ length self.now }
     {
-        self.numbers.len()
+        self.ends.as_slice().len()
     }
 
     /// The text of a number, or `None` behind the last.
     pub fn get(&self, number: usize) -> Option<&[u8]>
         ensures { option_map (λ text. text.now) result ≡ slice_get self.now number }
     {
-        let (text, _) = self.numbers.get_index(number)?;
-        Some(text.as_slice())
+        let end = end_of(self.ends.as_slice(), number)?;
+        let start = start_of(self.ends.as_slice(), number);
+        Some(cut(self.bytes.as_slice(), start, end - start))
     }
+}
+
+/// Where the text of a number ends, or `None` behind the last.
+fn end_of(ends: &[usize], number: usize) -> Option<usize>
+    ensures { result ≡ slice_get ends.now number }
+{
+    ends.get(number).copied()
+}
+
+/// Where a text begins, by the ends of all: where the one before it ends.
+fn start_of(ends: &[usize], number: usize) -> usize
+    requires { number ≤ length ends.now }
+    ensures { result ≡ start_of 0 ends.now number }
+{
+    if number == 0 { 0 } else { ends[number - 1] }
 }
 
 /// The law of texts that are told part by part: those of each part by first use, added in the order of the parts,

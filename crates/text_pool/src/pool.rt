@@ -1,14 +1,14 @@
 //! A pool of texts: those of `__debug_str`, and where each begins.
 
-ghost use Rattle.std.specs.Prelude.{◌≡◌, ◌↔◌, ℕ, ◌+◌, ◌-◌, ◌^◌, ◌<◌, ◌≤◌, List, [], length, fold, Err, OnOk, OnErr};
+ghost use Rattle.std.specs.Prelude.{◌≡◌, ◌↔◌, ℕ, ◌+◌, ◌-◌, ◌^◌, ◌<◌, ◌≤◌, List, [], length, fold, Some, Err, IfOk, IfErr, OnOk, OnErr};
 ghost use Rattle.std.specs.Str.{bytes_eq};
 ghost use Rattle.ds_base.specs.FirstUse.{once};
-ghost use Rattle.ds_base.specs.Room.{put};
-ghost use Rattle.ds_base.specs.Texts.{ended, section_of, place_of, with_text};
+ghost use Rattle.ds_base.specs.Texts.{section_of, place_of, with_text};
 ghost use Rattle.text_pool.specs.declared.pool.TextError.TheVariants as errors;
 
-use ds_base::{put_bytes, put_u8};
-use indexmap::IndexMap;
+use crate::key::TextKey;
+use ds_base::{Bytes, NoMemory};
+use indexmap::IndexSet;
 use std::alloc::{AllocError, AllocFailed, Global};
 use std::marker::Model;
 
@@ -32,6 +32,17 @@ impl From<AllocError> for TextError {
     }
 }
 
+impl From<NoMemory> for TextError {
+    ghost use Rattle.std.specs.Prelude.{◌≡◌};
+    ghost use Rattle.text_pool.specs.declared.pool.TextError.TheVariants as errors;
+
+    ghost from_gives = { λ _ error. error ≡ errors.NoMemory };
+
+    fn from(_error: NoMemory) -> TextError {
+        TextError::NoMemory
+    }
+}
+
 impl<T: Drop> From<AllocFailed<T>> for TextError {
     ghost use Rattle.std.specs.Prelude.{◌≡◌};
     ghost use Rattle.text_pool.specs.declared.pool.TextError.TheVariants as errors;
@@ -43,71 +54,92 @@ impl<T: Drop> From<AllocFailed<T>> for TextError {
     }
 }
 
-/// The texts of a string section, in the order of their first uses, each once.
+/// The texts of a string section, in the order of their first uses, each once. It copies none of them.
 ///
 /// A contract sees the list of the texts, without their closing zero bytes.
 #[derive(Drop)]
-pub struct TextPool {
-    // each text and its place, in the order of the section
-    places: IndexMap<Vec<u8>, u32>,
+pub struct TextPool<'a> {
+    // the texts, in the order of the section
+    texts: IndexSet<TextKey<'a>>,
+    // where each begins
+    places: Vec<u32>,
     // the section's size in bytes
     size: u32,
 }
 
-impl Model for TextPool {
+impl<'a> Model for TextPool<'a> {
     ghost use Rattle.std.specs.Prelude.{List, ℕ};
     ghost use Rattle.text_pool.specs.Kept.{texts_of, IsKept};
 
     ghost Value = { List (List ℕ) };
 
-    ghost view = { λ a. texts_of a.places };
+    ghost view = { λ a. texts_of a.texts.keys };
 
-    ghost invariant = { λ a. IsKept a.places a.size };
+    ghost invariant = { λ a. IsKept (texts_of a.texts.keys) a.places.items a.size };
 }
 
 /// The pool of no texts. It asks the allocator for nothing, and keeps it for [`add`].
-pub fn new_pool(alloc: Global) -> TextPool
+pub fn new_pool<'a>(alloc: Global) -> TextPool<'a>
     ensures { result ≡ [] }
 {
     TextPool {
-        places: IndexMap::new(alloc),
+        texts: IndexSet::new(alloc),
+        places: Vec::new(alloc),
         size: 0,
     }
 }
 
-/// Puts a text last, unless the pool has it.
+/// Puts a text last, unless the pool has it, and answers where it begins, in bytes from the section's start.
 ///
-/// The text is looked up by its hash, so the time is linear in its length and, but for the growth of the table,
-/// does not depend on how many texts there are.
-pub fn add(pool: &mut TextPool, text: &[u8]) -> Result<(), TextError>
+/// This is the value of an attribute of form `DW_FORM_strp` (DWARF 4, section 7.5.4), and stays it, whatever is added
+/// later. The text is looked up once, by its hash, so the time is linear in its length and, but for the growth of the
+/// table, does not depend on how many texts there are.
+pub fn add<'a>(pool: &mut TextPool<'a>, text: &'a [u8]) -> Result<u32, TextError>
     ensures ok { OnOk result (pool.new ≡ with_text pool.old text.now) }
+    ensures place { IfOk result (λ place. place_of pool.new text.now ≡ Some place) }
 
     // a text that the pool has is never too long
     ensures long { (result ≡ Err errors.Long) ↔ (2 ^ 32 - 1 ≤ length (section_of (with_text pool.old text.now))) }
     ensures unchanged { OnErr result (pool.new ≡ pool.old) }
 {
-    if pool.places.contains_key(text) {
-        return Ok(());
+    let size = u64::from(pool.size) + text.len() as u64 + 1;
+    if size >= u64::from(u32::MAX) {
+        return match offset_of(pool, text) {
+            Some(place) => Ok(place),
+            None => Err(TextError::Long),
+        };
+    }
+    add_short(pool, text, size as u32)
+}
+
+/// The same of a text with which the section would have this size, where it is new.
+fn add_short<'a>(pool: &mut TextPool<'a>, text: &'a [u8], size: u32) -> Result<u32, TextError>
+    requires size { size ≡ length (section_of pool.old) + length text.now + 1 }
+    requires small { size < 2 ^ 32 - 1 }
+    ensures ok { OnOk result (pool.new ≡ with_text pool.old text.now) }
+    ensures place { IfOk result (λ place. place_of pool.new text.now ≡ Some place) }
+    ensures err { OnErr result (pool.new ≡ pool.old) }
+    ensures no_memory { IfErr result (λ error. error ≡ errors.NoMemory) }
+{
+    pool.places.reserve(1)?;
+    let (number, is_new) = pool.texts.insert_full(TextKey { text })?;
+    if !is_new {
+        return Ok(pool.places[number]);
     }
     let place = pool.size;
-    let size = u64::from(place) + text.len() as u64 + 1;
-    if size >= u64::from(u32::MAX) {
-        return Err(TextError::Long);
-    }
-    let key = Vec::from_slice(*pool.places.allocator(), text)?;
-    pool.places.insert(key, place)?;
-    pool.size = size as u32;
-    Ok(())
+    pool.places.push_reserved(place);
+    pool.size = size;
+    Ok(place)
 }
 
 /// Where a text begins, in bytes from the section's start, or `None` where it was not added.
 ///
-/// This is the value of an attribute of form `DW_FORM_strp` (DWARF 4, section 7.5.4). The text is looked up by its
-/// hash, so the time is linear in its length.
-pub fn offset_of(pool: &TextPool, text: &[u8]) -> Option<u32>
+/// The text is looked up by its hash, so the time is linear in its length.
+pub fn offset_of<'a>(pool: &TextPool<'a>, text: &'a [u8]) -> Option<u32>
     ensures { result ≡ place_of pool.now text.now }
 {
-    pool.places.get(text).copied()
+    let number = pool.texts.get_index_of(&TextKey { text })?;
+    Some(pool.places[number])
 }
 
 /// The section's size in bytes, with the zero byte behind each text.
@@ -118,25 +150,16 @@ pub fn pool_size(pool: &TextPool) -> u64
     u64::from(pool.size)
 }
 
-/// Writes the section into a room of its size: each text with a zero byte behind it (DWARF 4, section 7.5.4).
-pub fn emit_texts(pool: &TextPool, room: &mut [u8])
-    requires fits { length room.old ≡ length (section_of pool.now) }
-    ensures { room.new ≡ section_of pool.now }
+/// The bytes of the section: each text with a zero byte behind it (DWARF 4, section 7.5.4).
+pub fn section_bytes(alloc: Global, pool: &TextPool) -> Result<Bytes, NoMemory>
+    ensures { IfOk result (λ bytes. bytes ≡ section_of pool.now) }
 {
-    let mut at = 0;
-    for text in pool.places.keys() {
-        put_text(room, at, text);
-        at += text.len() + 1;
+    let mut bytes = Bytes::from_vec(Vec::with_capacity(alloc, pool.size as usize)?);
+    for key in pool.texts.as_slice() {
+        bytes.extend(key.text)?;
+        bytes.push(0)?;
     }
-}
-
-// Writes a text and the zero byte that ends it.
-fn put_text(room: &mut [u8], at: usize, text: &[u8])
-    requires fits { at + length text.now + 1 ≤ length room.old }
-    ensures { room.new ≡ put room.old at (ended text.now) }
-{
-    put_bytes(room, at, text);
-    put_u8(room, at + text.len(), 0);
+    Ok(bytes)
 }
 
 /// The law of a pool's list: adding the text of each use in turn leaves each text once, in the order of the

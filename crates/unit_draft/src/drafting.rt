@@ -6,15 +6,15 @@ ghost use Rattle.patches.specs.Filling.{Filling, filled};
 use ds_base::Bytes;
 use patches::Buffer;
 use std::alloc::Global;
-use text_pool::Names;
+use text_pool::Naming;
 
 /// What there is of a unit's parts so far.
 #[derive(Drop)]
-pub(crate) struct Drafting {
+pub(crate) struct Drafting<'a> {
     pub(crate) info: Buffer,
     pub(crate) locations: Buffer,
     pub(crate) ranges: Bytes,
-    pub(crate) names: Names,
+    pub(crate) names: Naming<'a>,
     pub(crate) scratch: Scratch,
 }
 
@@ -27,9 +27,9 @@ pub(crate) struct Scratch {
     pub(crate) inner: Buffer,
 }
 
-impl Drafting {
+impl<'a> Drafting<'a> {
     /// Nothing so far. It asks the allocator for nothing.
-    pub(crate) fn new(alloc: Global) -> Drafting
+    pub(crate) fn new(alloc: Global) -> Drafting<'a>
         ensures info { (f : Filling) → filled result.info f ≡ [] }
         ensures locations { (f : Filling) → filled result.locations f ≡ [] }
         ensures ranges { result.ranges ≡ [] }
@@ -39,7 +39,7 @@ impl Drafting {
             info: Buffer::new(alloc),
             locations: Buffer::new(alloc),
             ranges: Bytes::new(alloc),
-            names: Names::new(alloc),
+            names: Naming::new(alloc),
             scratch: Scratch {
                 expression: Buffer::new(alloc),
                 inner: Buffer::new(alloc),

@@ -22,12 +22,12 @@ use patches::Buffer;
 pub(crate) const UNIT_LIMIT: usize = 1 << 28;
 
 /// Appends the entries of nodes, which have these codes and depths, and tells where each stands.
-pub(crate) fn append_entries(
-    drafting: &mut Drafting,
+pub(crate) fn append_entries<'a>(
+    drafting: &mut Drafting<'a>,
     places: &mut List<u32>,
     number: u32,
     version: u16,
-    nodes: &[Node],
+    nodes: &'a [Node],
     codes: &[u32],
     depths: &[u32],
 ) -> Result<(), DraftError>
@@ -59,11 +59,11 @@ pub(crate) fn end_of(info: &Buffer) -> Result<u32, DraftError>
 }
 
 /// Appends the entry of a node, behind which lists of siblings end.
-fn append_entry(
-    drafting: &mut Drafting,
+fn append_entry<'a>(
+    drafting: &mut Drafting<'a>,
     number: u32,
     version: u16,
-    node: &Node,
+    node: &'a Node,
     code: u32,
     ended: u32,
 ) -> Result<(), NoMemory>

@@ -15,7 +15,7 @@ use dwarf_types::{OutUnit, Span};
 use line_write::append_lines;
 use patches::Buffer;
 use std::alloc::Global;
-use text_pool::Names;
+use text_pool::{Names, Naming};
 
 /// A unit's line table in `__debug_line`.
 #[derive(Drop)]
@@ -31,18 +31,19 @@ pub(crate) fn lines_of(alloc: Global, unit: &OutUnit) -> Result<DraftedLines, No
     ensures { IfOk result (AreLines unit.now) }
 {
     let mut table = Buffer::new(alloc);
-    let mut names = Names::new(alloc);
-    append_lines_of(alloc, &mut table, &mut names, unit)?;
+    let mut naming = Naming::new(alloc);
+    append_lines_of(alloc, &mut table, &mut naming, unit)?;
     // The table names nothing that the unit tells, so this gives back memory alone.
     table.settle(0, &[]);
+    let names = naming.kept(alloc)?;
     Ok(DraftedLines { table, names })
 }
 
-fn append_lines_of(
+fn append_lines_of<'a>(
     alloc: Global,
     out: &mut Buffer,
-    names: &mut Names,
-    unit: &OutUnit,
+    names: &mut Naming<'a>,
+    unit: &'a OutUnit,
 ) -> Result<(), NoMemory>
     ensures table { OnOk result (AppendsNamed out.old out.new names.old names.new (λ text. lines_bytes text unit.now) (line_texts_of_unit unit.now)) }
     ensures size { OnOk result ((f : Filling) → length (filled out.new f) ≡ length (filled out.old f) + lines_len unit.now) }

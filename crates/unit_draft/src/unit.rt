@@ -64,15 +64,17 @@ pub fn draft_unit(alloc: Global, unit: &OutUnit, number: u32) -> Result<Draft, D
     }
     let table = table(alloc, unit, number)?;
     let whole = append_unit(alloc, unit, number, codes_of(&table))?;
+    let names = whole.drafting.names.kept(alloc)?;
     let lines = lines_of(alloc, unit)?;
     let table = abbreviations_of(alloc, &table)?;
     let code = copy_of(alloc, unit.ranges.as_slice())?;
-    Ok(settled_draft(whole, unit.version, lines, table, code))
+    Ok(settled_draft(whole, names, unit.version, lines, table, code))
 }
 
-/// The draft of a whole unit, whose own places are filled in.
+/// The draft of a whole unit with these texts, whose own places are filled in.
 fn settled_draft(
     whole: Whole,
+    names: Names,
     version: u16,
     lines: DraftedLines,
     table: Bytes,
@@ -80,7 +82,8 @@ fn settled_draft(
 ) -> Draft
     requires small { All (λ place. place < 2 ^ 28) whole.places }
     requires short { whole.len < 2 ^ 28 }
-    ensures settled { Settles whole result }
+    requires names { names ≡ whole.drafting.names }
+    ensures settled { Settles whole.entry result }
     ensures version { result.version ≡ version }
     ensures lines { result.lines ≡ lines.table }
     ensures line_names { result.line_names ≡ lines.names }
@@ -103,7 +106,7 @@ fn settled_draft(
         lines: lines.table,
         line_names: lines.names,
         table,
-        names: drafting.names,
+        names,
         places,
         code,
         len,

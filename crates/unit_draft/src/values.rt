@@ -13,11 +13,11 @@ use dwarf_types::{ExprPart, OutAttr, OutLocation, OutValue, Span, Target};
 use patches::{Outer, Own};
 
 /// Appends the values of an entry of the unit of a number and a version.
-pub(crate) fn append_values(
-    drafting: &mut Drafting,
+pub(crate) fn append_values<'a>(
+    drafting: &mut Drafting<'a>,
     number: u32,
     version: u16,
-    attrs: &[OutAttr],
+    attrs: &'a [OutAttr],
 ) -> Result<(), NoMemory>
     ensures { OnOk result (AppendsValues number version drafting.old drafting.new attrs.now) }
 {
@@ -27,11 +27,11 @@ pub(crate) fn append_values(
     Ok(())
 }
 
-fn append_value(
-    drafting: &mut Drafting,
+fn append_value<'a>(
+    drafting: &mut Drafting<'a>,
     number: u32,
     version: u16,
-    value: &OutValue,
+    value: &'a OutValue,
 ) -> Result<(), NoMemory>
     ensures { OnOk result (AppendsValue number version drafting.old drafting.new value.now) }
 {
@@ -53,11 +53,11 @@ fn append_value(
     }
 }
 
-fn append_text(
-    drafting: &mut Drafting,
+fn append_text<'a>(
+    drafting: &mut Drafting<'a>,
     number: u32,
     version: u16,
-    text: &Bytes,
+    text: &'a Bytes,
 ) -> Result<(), NoMemory>
     ensures { OnOk result (AppendsValue number version drafting.old drafting.new (out_values.Text text.now)) }
 {

@@ -22,8 +22,8 @@ use std::alloc::Global;
 
 /// A unit whose own places are not filled in yet.
 #[derive(Drop)]
-pub(crate) struct Whole {
-    pub(crate) drafting: Drafting,
+pub(crate) struct Whole<'a> {
+    pub(crate) drafting: Drafting<'a>,
     /// The place of each node, counted from the header.
     pub(crate) places: List<u32>,
     /// The size of the unit in bytes.
@@ -31,12 +31,12 @@ pub(crate) struct Whole {
 }
 
 /// Drafts the unit of a number, whose nodes have these codes.
-pub(crate) fn append_unit(
+pub(crate) fn append_unit<'a>(
     alloc: Global,
-    unit: &OutUnit,
+    unit: &'a OutUnit,
     number: u32,
     codes: &[u32],
-) -> Result<Whole, DraftError>
+) -> Result<Whole<'a>, DraftError>
     requires few { length unit.now.nodes < 2 ^ 28 }
     requires codes { codes.now ≡ (unit_table number unit.now.nodes).codes }
     ensures whole { IfOk result (IsWhole number unit.now) }

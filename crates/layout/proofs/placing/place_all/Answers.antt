@@ -19,5 +19,5 @@ loop-draft-preserved c =
     let cut = drop_one drafts i d c.loop-draft-test.true c.draft-item.is in
     record {
       ends = fold_more behind_draft drafts i d c.loop-draft.placing.at c.place_draft.new.placing.at _ cut (ap (λ (p : Placing). p.at) c.in_ok-place_draft.ensures) c.loop-draft.invariant.ends;
-      rest = fold_more (with_draft c.args.texts.now c.args.line_texts.now) drafts i d c.loop-draft.placing c.place_draft.new.placing _ cut c.in_ok-place_draft.ensures c.loop-draft.invariant.rest;
+      rest = fold_more with_draft drafts i d c.loop-draft.placing c.place_draft.new.placing _ cut c.in_ok-place_draft.ensures c.loop-draft.invariant.rest;
     }

@@ -1,7 +1,7 @@
 use Rattle.std.proofs.Common.{arith}
 use Rattle.ds_base.proofs.Walking.{drop_one}
 use Rattle.layout.specs.Pass.{behind_draft}
-use Rattle.layout.proofs.Behind.{below_next, below_wide}
+use Rattle.layout.proofs.Behind.{below_next}
 use Rattle.layout.proofs.Folds.{fold_more}
 use Rattle.layout.proofs.starts.ends_of.Goals as goal
 

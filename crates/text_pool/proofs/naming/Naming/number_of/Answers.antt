@@ -1,0 +1,17 @@
+use Rattle.std.proofs.Common.{List, ℕ, ap, ◌∙◌}
+use Rattle.ds_base.specs.Texts.{with_text}
+use Rattle.text_pool.specs.declared.key.TextKey.{TextKey}
+use Rattle.text_pool.specs.Kept.{texts_of}
+use Rattle.text_pool.proofs.Keys.{text_found, texts_of-insert}
+use Rattle.text_pool.proofs.naming.Naming.number_of.Goals as goal
+
+pub returns-clause-grown : goal.returns-clause-grown
+returns-clause-grown c =
+    let key : TextKey = record { text = c.args.text } in
+    ap texts_of c.in_ok-number.ensures.keys ∙ texts_of-insert c.self.inside.texts.keys key ∙ ap (λ (texts : List (List ℕ)). with_text texts c.args.text.now) c.self.view_is
+
+pub returns-clause-number : goal.returns-clause-number
+returns-clause-number c =
+    let key : TextKey = record { text = c.args.text } in
+    let stored = c.in_ok-number.ensures.stored in
+    text_found c.insert_full.new.self.keys key stored.0 c.in_ok-number.number stored.1 stored.2
