@@ -14,8 +14,8 @@ use ds_base::{BitRow, List, NoMemory};
 use ds_files::Gate;
 use dwarf_types::{Analysis, OutFrames, Shape};
 use link_graph::build;
-use name_bids::shared_winners;
-use odr_names::{BookError, MOST_POOLED, PathBook, book, count};
+use name_bids::{shared_book, shared_winners};
+use odr_names::{BookError, MOST_POOLED, PathBook, count};
 use std::alloc::Global;
 use std::thread::Threads;
 use type_pool::ClosedPool;
@@ -33,7 +33,7 @@ pub(crate) struct Shaped {
 }
 
 /// The shape of the graph of the live entries of all objects, where those of one name are merged or not; or that too many
-/// entries are merged, or that it has too many units. So many threads bid for the names.
+/// entries are merged, or that it has too many units. So many threads make the names and bid for them.
 pub(crate) fn shape_of<R: Threads + Sync, G: Gate + Sync>(
     rt: &R,
     alloc: Global,
@@ -49,7 +49,7 @@ pub(crate) fn shape_of<R: Threads + Sync, G: Gate + Sync>(
     requires few { length seen.now < 2 ^ 16 }
     ensures { Shapes odr seen.now live.now result }
 {
-    let names = names_of(alloc, odr, seen, live)?;
+    let names = names_of(rt, alloc, workers, odr, seen, live)?;
     let bids = shared_winners(rt, alloc, workers, gate, &names)?;
     let (winners, closed) = bids;
     let shape = build(alloc, seen, live, &names, &winners)?;
@@ -69,19 +69,22 @@ pub(crate) fn shape_of<R: Threads + Sync, G: Gate + Sync>(
     })
 }
 
-/// The names of the entries that are merged, or that there are too many.
-fn names_of<'a>(
+/// The names of the entries that are merged, made by so many threads; or that there are too many.
+fn names_of<'a, R: Threads + Sync>(
+    rt: &R,
     alloc: Global,
+    workers: u32,
     odr: bool,
     seen: &'a [Analysis],
     live: &'a [BitRow],
 ) -> Result<PathBook<'a>, Refusal>
+    requires workers { (1 ≤ workers) × (workers ≤ 64) }
     requires sound { All IsSound seen.now }
     requires live { MarkLive seen.now live.now }
     requires few { length seen.now < 2 ^ 16 }
     ensures { Names odr seen.now live.now result }
 {
-    match book(alloc, seen, live, odr) {
+    match shared_book(rt, alloc, workers, seen, live, odr) {
         Ok(names) => Ok(names),
         Err(BookError::Pooled) => Err(Refusal::Limit {
             which: LimitKind::Pooled,

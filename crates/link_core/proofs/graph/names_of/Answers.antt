@@ -1,5 +1,5 @@
 use Rattle.link_core.proofs.Graphs.{live_rows}
 use Rattle.link_core.proofs.graph.names_of.Goals as goal
 
-pub book-requires-clause-live : goal.book-requires-clause-live
-book-requires-clause-live c = live_rows c.args.seen.now c.args.live.now c.requires.live
+pub shared_book-requires-clause-live : goal.shared_book-requires-clause-live
+shared_book-requires-clause-live g c κs within = live_rows c.args.seen.now c.args.live.now c.requires.live
