@@ -6,7 +6,7 @@ use Rattle.std.specs.Option.{option_map_or}
 use Rattle.dwarf_types.specs.declared.graph.Graph.{Graph}
 use Rattle.dwarf_types.specs.declared.graph.OutUnit.{OutUnit}
 use Rattle.dwarf_types.specs.Abbreviations.{same_flag, table_bytes}
-use Rattle.dwarf_types.specs.Encode.{abbrev_section, all_locations, all_ranges, aranges_section, frame_section, line_str_section, loc_section, loclists_section, ranges_section, rnglists_section, str_section, unit_locations, unit_ranges}
+use Rattle.dwarf_types.specs.Encode.{abbrev_section, aranges_section, frame_section, line_str_section, loc_section, loclists_section, ranges_section, rnglists_section, str_section, unit_locations, unit_ranges}
 use Rattle.dwarf_types.specs.Entries.{node_place}
 use Rattle.dwarf_types.specs.Layout.{numbered_units, places_of, stands_in}
 use Rattle.dwarf_types.specs.Lists.{behind_header}

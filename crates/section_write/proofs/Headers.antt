@@ -1,5 +1,5 @@
 -- Lists behind the header of their section.
-use Rattle.std.proofs.Common.{◌≡◌, ◌≢◌, ◌==◌, ℕ, ◌+◌, ◌-◌, Bool, true, false, List, [], ◌++◌, length, if◌then◌else◌, refl, ap, ◌∙◌, arith, length-append}
+use Rattle.std.proofs.Common.{◌≡◌, ◌≢◌, ◌==◌, ℕ, ◌+◌, Bool, true, false, List, [], ◌++◌, length, if◌then◌else◌, refl, arith, length-append}
 use Rattle.dwarf_types.specs.Lists.{behind_header, lists_header}
 
 abbrev behind : Bool → List ℕ → List ℕ

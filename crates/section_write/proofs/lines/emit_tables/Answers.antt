@@ -1,9 +1,8 @@
-use Rattle.std.proofs.Common.{◌≡◌, ◌≤◌, ◌<◌, ◌+◌, ◌^◌, ◌∙◌, Some, ap, get_or, length, refl, slice_get, sym, arith}
+use Rattle.std.proofs.Common.{◌≡◌, ◌≤◌, ◌<◌, ◌+◌, ◌∙◌, Some, ap, get_or, length, refl, slice_get, sym, arith}
 use Rattle.std.proofs.lemmas.Option.{get_or_from_slice_get, slice_get_read}
 use Rattle.ds_base.proofs.Adding.{adds_same}
 use Rattle.dwarf_types.specs.declared.graph.OutUnit.{OutUnit}
 use Rattle.dwarf_types.specs.Encode.{over_units}
-use Rattle.unit_draft.specs.declared.unit.Draft.{Draft}
 use Rattle.layout.specs.Pass.{line_len, nothing}
 use Rattle.emit_info.proofs.Drafts.{within_graph}
 use Rattle.emit_info.proofs.UnitByUnit.{all_adds, next_fits, unit_adds, unit_is, unit_of, unit_of_is, units_few}

@@ -1,6 +1,5 @@
-use Rattle.std.proofs.Common.{◌≡◌, ◌∙◌, ap, length, arith}
+use Rattle.std.proofs.Common.{◌∙◌, ap, length, arith}
 use Rattle.ds_base.proofs.Adding.{item_fits}
-use Rattle.unit_draft.specs.declared.unit.Draft.{Draft}
 use Rattle.section_write.specs.Copied.{part_in}
 use Rattle.section_write.proofs.parts.emit_parts.Goals as goal
 

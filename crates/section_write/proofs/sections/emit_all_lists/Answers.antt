@@ -1,4 +1,4 @@
-use Rattle.std.proofs.Common.{◌≡◌, ◌<◌, ◌^◌, ◌∙◌, ap, length, sym, arith}
+use Rattle.std.proofs.Common.{◌∙◌, ap, length, sym, arith}
 use Rattle.std.specs.List.{flat_map}
 use Rattle.ds_base.proofs.Adding.{adds_more, adds_same}
 use Rattle.dwarf_types.specs.Lists.{behind_header}
