@@ -99,7 +99,7 @@ fn row_of(
 {
     let entry = seen.entries.entry(k as usize);
     let parts = parts_at(seen, live, names, object, k);
-    let ordinal = ordinal_at(seen, live, names, object, counts, k);
+    let ordinal = ordinal_at(seen, live, object, counts, &parts, k);
     let piece = PieceRef { parts, ordinal };
     Row {
         object,

@@ -1,13 +1,13 @@
 //! Ordinals of pieces: how many earlier siblings have the same parts.
 
-ghost use Rattle.std.specs.Prelude.{◌≡◌, ◌==◌, ◌||◌, ◌&&◌, not, ◌≤◌, ◌<◌, ◌^◌, ◌↔◌, ℕ, true, false, length, slice_get, slice_index_or, Some, None, IfOk, IsTrue, if◌then◌else◌};
+ghost use Rattle.std.specs.Prelude.{◌≡◌, ◌==◌, ◌||◌, ◌&&◌, not, ◌≤◌, ◌<◌, ◌^◌, ◌↔◌, ℕ, true, false, length, slice_get, slice_index_or, Some, None, IfOk, IsTrue, is_some, if◌then◌else◌};
 ghost use Rattle.std.specs.Option.{option_and_then};
 ghost use Rattle.dwarf_types.specs.declared.entry.Entry.{Entry as AnEntry};
 ghost use Rattle.odr_names.specs.Pieces.{IsSpelled, parts_seen};
 ghost use Rattle.odr_names.specs.Ranking.{AreInOrder};
 ghost use Rattle.odr_names.specs.Twins.{AreCounted, AreNoTwins, AreSiblings, AreTwins, is_inside, parts_hash, twins_before};
 ghost use Rattle.odr_names.specs.declared.winners.Ranked.{Ranked as RankedAs};
-ghost use Rattle.type_names.specs.Entries.{is_named_type};
+ghost use Rattle.type_names.specs.Entries.{is_named_type, linkage_of, name_of};
 ghost use Rattle.type_names.specs.Heads.{is_in_head, is_pooled};
 ghost use Rattle.type_names.specs.Objects.{object_of};
 ghost use Rattle.type_names.specs.Paths.{is_overloaded, ordinal_of, parts_of};
@@ -17,11 +17,11 @@ ghost use Rattle.type_names.specs.Tree.{ParentsStandBefore, parent_of};
 use crate::hash::hash_piece;
 use crate::piece::{PartsRef, PieceRef, parts_at, parts_equal};
 use crate::winners::{Ranked, sort_ranks};
-use ds_base::dwarf::DW_TAG_namespace;
+use ds_base::dwarf::{DW_TAG_namespace, DW_TAG_subprogram};
 use ds_base::{BitRow, NoMemory};
 use dwarf_types::{Analysis, Entries, EntryRef};
 use std::alloc::Global;
-use type_names::{TypeNames, is_named_type, is_overloaded};
+use type_names::{TypeNames, is_type};
 
 /// Of each entry below one that stands in the subtree of a head, how many earlier siblings have the same parts.
 ///
@@ -191,34 +191,41 @@ fn are_twins(seen: &Analysis, live: &BitRow, names: &TypeNames, object: u32, a: 
         )
 }
 
-/// The ordinal of the piece of a pooled entry.
+/// The ordinal of the piece of a pooled entry with these parts.
 pub(crate) fn ordinal_at(
     seen: &Analysis,
     live: &BitRow,
-    names: &TypeNames,
     object: u32,
     counts: &[u32],
+    parts: &PartsRef,
     k: u32,
 ) -> u32
     requires place { k < length seen.now.entries }
     requires parents { ParentsStandBefore seen.now.entries }
-    requires names { AreNames (object_of seen.now live.now) names.now }
     requires pooled { is_pooled (object_of seen.now live.now) k ≡ true }
     requires len { length counts.now ≡ length seen.now.entries }
     requires counts { (j : ℕ) → j < length seen.now.entries → is_inside (object_of seen.now live.now) j ≡ true
         → slice_index_or counts.now j 0 ≡ twins_before object (object_of seen.now live.now) j }
+    requires parts { (e : AnEntry) → slice_get seen.now.entries k ≡ Some e → parts_seen parts.now ≡ parts_of object (object_of seen.now live.now) k e }
     ensures { (e : AnEntry) → slice_get seen.now.entries k ≡ Some e → result ≡ ordinal_of object (object_of seen.now live.now) k e }
 {
     let entry = seen.entries.entry(k as usize);
-    if is_told_by_parts(&entry, names.spelled.get(k).is_some()) {
+    let named = parts.name.is_some();
+    let linked = parts.linkage.is_some();
+    let spelled = parts.spelled.is_some();
+    if is_told_by_parts(&entry, named, linked, spelled) {
         return 0;
     }
     counts[k as usize]
 }
 
 /// Whether an entry with these parts is one wherever it stands: it is a namespace, a type with a name, or a derived head.
-fn is_told_by_parts(entry: &EntryRef, spelled: bool) -> bool
+/// It is told whether it has a name, a linkage name, and a spelling.
+fn is_told_by_parts(entry: &EntryRef, named: bool, linked: bool, spelled: bool) -> bool
+    requires named { named ≡ is_some (name_of entry.now) }
+    requires linked { linked ≡ is_some (linkage_of entry.now) }
     ensures { result ≡ (entry.now.tag == DW_TAG_namespace || (is_named_type entry.now || (not (is_overloaded entry.now) && spelled))) }
 {
-    entry.tag() == DW_TAG_namespace || is_named_type(entry) || (!is_overloaded(entry) && spelled)
+    let overloaded = entry.tag() == DW_TAG_subprogram && !linked;
+    entry.tag() == DW_TAG_namespace || (is_type(entry.tag()) && named) || (!overloaded && spelled)
 }

@@ -1,18 +1,18 @@
 //! Pieces of paths, which borrow their texts from the analyses.
 
-ghost use Rattle.std.specs.Prelude.{◌≡◌, ◌<◌, ◌↔◌, ℕ, IsTrue, IsSome, length, slice_get, Some, if◌then◌else◌};
+ghost use Rattle.std.specs.Prelude.{◌≡◌, ◌<◌, ◌↔◌, ℕ, IsTrue, IsSome, is_some, length, slice_get, Some, if◌then◌else◌};
 ghost use Rattle.std.specs.Option.{option_map};
 ghost use Rattle.dwarf_types.specs.declared.entry.Entry.{Entry as AnEntry};
 ghost use Rattle.odr_names.specs.Pieces.{IsSpelled, own_seen, parts_seen, piece_seen};
-ghost use Rattle.type_names.specs.Entries.{Text};
+ghost use Rattle.type_names.specs.Entries.{Text, linkage_of};
 ghost use Rattle.type_names.specs.Objects.{object_of};
 ghost use Rattle.type_names.specs.Paths.{is_overloaded, parts_of, piece_text, private_of, tag_of};
 ghost use Rattle.type_names.specs.Pooled.{AreNames};
 
 use ds_base::BitRow;
-use ds_base::dwarf::{DW_TAG_class_type, DW_TAG_structure_type};
+use ds_base::dwarf::{DW_TAG_class_type, DW_TAG_structure_type, DW_TAG_subprogram};
 use dwarf_types::{Analysis, EntryRef};
-use type_names::{TypeNames, is_overloaded, linkage_of, name_of};
+use type_names::{TypeNames, linkage_of, name_of};
 
 /// The object and the entry of a piece that nothing else tells apart.
 #[derive(Clone, Copy, Debug, PartialEq, Eq)]
@@ -53,13 +53,14 @@ pub(crate) fn parts_at<'a>(
     ensures { (e : AnEntry) → slice_get seen.now.entries k ≡ Some e → parts_seen result ≡ parts_of object (object_of seen.now live.now) k e }
 {
     let entry = seen.entries.entry(k as usize);
+    let linkage = linkage_of(&entry);
     let spelled = names.spelled.get(k);
     PartsRef {
         tag: tag_of(&entry),
         name: name_of(&entry),
-        linkage: linkage_of(&entry),
+        linkage,
         spelled,
-        private: private_of(&entry, spelled.is_some(), object, k),
+        private: private_of(&entry, linkage.is_some(), spelled.is_some(), object, k),
     }
 }
 
@@ -74,11 +75,13 @@ fn tag_of(entry: &EntryRef) -> u16
     }
 }
 
-/// The object and the entry of a subprogram that only its parameters tell apart, where these can't be spelled.
-fn private_of(entry: &EntryRef, spelled: bool, object: u32, k: u32) -> Option<Private>
+/// The object and the entry of a subprogram that only its parameters tell apart, where these can't be spelled. `linked`
+/// tells whether it has a linkage name.
+fn private_of(entry: &EntryRef, linked: bool, spelled: bool, object: u32, k: u32) -> Option<Private>
+    requires linked { linked ≡ is_some (linkage_of entry.now) }
     ensures { option_map own_seen result ≡ private_of object k entry.now spelled }
 {
-    if is_overloaded(entry) && !spelled {
+    if entry.tag() == DW_TAG_subprogram && !linked && !spelled {
         Some(Private { object, entry: k })
     } else {
         None
