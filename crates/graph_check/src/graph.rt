@@ -11,6 +11,7 @@ use crate::nodes::are_nodes;
 use crate::roots::is_root;
 use crate::spans::are_spans;
 use crate::tree::{are_in_preorder, name_no_lines};
+use ds_base::dwarf::{DWARF_4, DWARF_5};
 use dwarf_types::{Graph, OutUnit};
 
 /// Whether a graph is well. One that is not accepted may be well all the same.
