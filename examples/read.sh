@@ -9,7 +9,7 @@ for tool in llvm-nm llvm-dwarfdump llvm-symbolizer; do
 done
 work=$(mktemp -d)
 trap 'rm -rf "$work"' EXIT
-cp "$(dirname "$0")"/many/* "$work"
+cp -R "$(dirname "$0")"/many/. "$work"
 cd "$work" || exit 1
 "$dsymlink" hello || exit 1
 image=hello.dSYM/Contents/Resources/DWARF/hello
