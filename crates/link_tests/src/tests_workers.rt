@@ -4,19 +4,13 @@ use ds_base::{Bytes, Fault, Kind, List, NoMemory, Part};
 use ds_files::{Gate, MemoryFiles, MemorySink, OpenGate};
 use link_cli::link_main;
 use link_core::{Options, Refusal, Status, link_objects};
-use macho_read::{Role, check_kind, read_image};
-use stab_map::MapObject;
+use sample_objects::generated;
 use std::alloc::Global;
 use std::hint::spin_loop;
 use std::process::Abort;
 use std::sync::atomic::AtomicBool;
 use std::sync::atomic::Ordering::SeqCst;
 use std::thread::Threads;
-
-/// A program for arm64 without commands (mach-o/loader.h): magic, cputype, cpusubtype, filetype, ncmds, sizeofcmds,
-/// flags, reserved.
-const PROGRAM: &[u8] =
-    b"\xcf\xfa\xed\xfe\x0c\0\0\x01\0\0\0\0\x02\0\0\0\0\0\0\0\0\0\0\0\0\0\0\0\0\0\0\0";
 
 /// In one phase the gate holds an item until another has passed, for so many turns at most.
 #[derive(Drop)]
@@ -63,16 +57,6 @@ impl Gate for Holds {
     }
 }
 
-/// An object that is no member of an archive.
-fn object(alloc: Global) -> MapObject {
-    MapObject {
-        path: Bytes::new(alloc),
-        file: Bytes::new(alloc),
-        member: None,
-        entries: List::new(alloc),
-    }
-}
-
 /// What is told of a generated program of so many objects, linked by so many threads behind a gate.
 fn told<R: Threads + Abort + Sync, G: Gate + Sync>(
     rt: &R,
@@ -107,8 +91,8 @@ fn shares_phase<R: Threads + Abort + Sync>(rt: &R, alloc: Global, phase: u32) {
 #[test]
 fn the_first_object_with_a_fault_is_told_whoever_met_it(rt: HostRuntime) {
     let alloc = rt.alloc();
-    let program = read_image(alloc, PROGRAM).expect(&rt, "a program");
-    assert!(rt; check_kind(&program, Role::Program).is_ok());
+    let made = generated(alloc, 4).expect(&rt, "a program");
+    assert_eq!(rt; made.objects.len(), 4);
     let options = Options {
         odr: true,
         workers: 8,
@@ -116,9 +100,9 @@ fn the_first_object_with_a_fault_is_told_whoever_met_it(rt: HostRuntime) {
     let linked = link_objects(
         &rt,
         alloc,
-        &program,
+        &made.program,
         "a.out",
-        &[object(alloc), object(alloc), object(alloc), object(alloc)],
+        made.objects.as_slice(),
         &[Bytes::new(alloc)],
         &[None, Some(0), None, Some(0)],
         &options,
