@@ -11,7 +11,8 @@ use Rattle.std.proofs.lemmas.Slice.Eq.{bytes_eq-Decides}
 use Rattle.ds_base.specs.FirstUse.{once}
 use Rattle.dwarf_types.specs.declared.abbrev.Declaration.{Declaration}
 use Rattle.dwarf_types.specs.Abbreviations.{code_in, same_declaration}
-use Rattle.abbrev_write.specs.Keys.{code_among, key_of, with_declaration}
+use Rattle.abbrev_write.specs.Keys.{code_among, key_of}
+use Rattle.abbrev_write.specs.Table.{with_declaration}
 use Rattle.abbrev_write.proofs.Codes.{among_is, among_push, same_keys}
 
 abbrev other : Declaration → Declaration → Bool

@@ -1,18 +1,12 @@
 -- A station between the code and the definitions: declarations are looked up by lists of numbers, which are equal exactly where the declarations are the same.
-use Rattle.std.specs.Prelude.{◌≡◌, ℕ, suc, Bool, List, [], ◌∷◌, ◌++◌, map, Option, Some, None, if◌then◌else◌}
-use Rattle.std.specs.List.{flat_map, list_any}
+use Rattle.std.specs.Prelude.{◌≡◌, ℕ, suc, List, [], ◌∷◌, Option, Some, None, if◌then◌else◌}
+use Rattle.std.specs.List.{flat_map}
 use Rattle.std.specs.Option.{option_map}
 use Rattle.std.specs.Str.{bytes_eq}
 use Rattle.std.specs.declared.vec.Vec.{Vec}
 use Rattle.indexmap.specs.IndexMap.{IndexMap, get_by}
 use Rattle.dwarf_types.specs.declared.abbrev.Declaration.{Declaration}
-use Rattle.dwarf_types.specs.declared.graph.Node.{Node}
 use Rattle.dwarf_types.specs.Abbreviations.{same_declaration}
-use Rattle.dwarf_types.specs.Forms.{form_of}
-
--- what declares a node of the unit of a number, with or without children
-abbrev pub declaring : ℕ → Node → Bool → Declaration
-declaring u node children = record { tag = node.tag; children = children; attributes = map (λ a. (a.name, form_of u a.value)) node.attrs }
 
 -- the tag, whether children follow, and the pairs
 abbrev pub key_of : Declaration → List ℕ
@@ -22,10 +16,6 @@ key_of d = d.tag ∷ (if d.children then 1 else 0) ∷ flat_map (λ p. p.0 ∷ p
 abbrev pub code_among : List Declaration → Declaration → Option ℕ
 code_among [] d = None
 code_among (x ∷ xs) d = if same_declaration x d then Some 1 else option_map suc (code_among xs d)
-
--- the declarations and one more, last, where it is new
-abbrev pub with_declaration : List Declaration → Declaration → List Declaration
-with_declaration ds d = if list_any (λ x. same_declaration x d) ds then ds else ds ++ d ∷ []
 
 module _ {A S : Type 0} where
   -- a look-up finds the code of each declaration

@@ -5,16 +5,16 @@ ghost use Rattle.std.specs.List.{flat_map};
 ghost use Rattle.ds_base.specs.Leb.{uleb};
 ghost use Rattle.dwarf_types.specs.Abbreviations.{declaration_bytes, declarations_bytes};
 
-use crate::abbreviations::{AbbrevTable, declarations_of};
+use crate::declarations::Declared;
 use appending::append_uleb;
 use ds_base::{Bytes, NoMemory};
 use dwarf_types::Declaration;
 
-/// Puts the table last: its declarations, and the zero byte that ends them.
-pub fn append_table(out: &mut Bytes, table: &AbbrevTable) -> Result<(), NoMemory>
-    ensures { OnOk result (out.new ≡ out.old ++ declarations_bytes table.now.declarations) }
+/// Puts the table of the declarations last: each with its code, and the zero byte that ends them.
+pub fn append_table(out: &mut Bytes, declared: &Declared) -> Result<(), NoMemory>
+    ensures { OnOk result (out.new ≡ out.old ++ declarations_bytes declared.now) }
 {
-    append_declarations(out, declarations_of(table))?;
+    append_declarations(out, declared.as_slice())?;
     Ok(())
 }
 

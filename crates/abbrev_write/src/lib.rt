@@ -1,15 +1,20 @@
 //! The abbreviation table of an output unit: `__debug_abbrev`.
 //!
 //! Layer: writers. A table has one declaration for all entries of one tag, with or without children, and with the same
-//! attributes in the same forms (DWARF 4, section 7.5.3). [`table`] makes `unit_table` of a unit's nodes
-//! (`specs/Table.antt`): the declarations by first use, and the code of each node, from 1. [`append_table`] puts
-//! `declarations_bytes` of it last (`dwarf_types/specs/Abbreviations.antt`). Each unit has a table of its own.
+//! attributes in the same forms (DWARF 4, section 7.5.3). [`Declared`] takes the nodes of a unit one by one: it keeps the
+//! declarations by first use, each once, and tells the code of each node, from 1, which later nodes don't change. Which
+//! nodes have children is told ahead, by [`parents_in`]. [`append_table`] puts `declarations_bytes` of the declarations
+//! last (`dwarf_types/specs/Abbreviations.antt`). Each unit has a table of its own. [`codes_in`] makes the codes alone
+//! (`specs/Table.antt`).
 #![tactic(auto)]
 
-mod abbreviations;
 mod append;
+mod declarations;
 mod declare;
-mod known;
+mod node_codes;
+mod parents;
 
-pub use abbreviations::{AbbrevTable, code_of, codes_of, table};
 pub use append::append_table;
+pub use declarations::Declared;
+pub use node_codes::codes_in;
+pub use parents::parents_in;

@@ -7,7 +7,7 @@ use Rattle.std.proofs.lemmas.List.FromFn.{length-enumerate_from}
 use Rattle.std.proofs.lemmas.List.Sums.{sum_by-take-le}
 use Rattle.std.proofs.lemmas.Option.{slice_get_read}
 use Rattle.ds_base.specs.Leb.{uleb_len_of}
-use Rattle.abbrev_write.specs.Table.{declared, unit_table}
+use Rattle.abbrev_write.specs.Table.{declared, unit_codes}
 use Rattle.dwarf_types.specs.declared.abbrev.Declaration.{Declaration}
 use Rattle.dwarf_types.specs.declared.graph.Node.{Node}
 use Rattle.dwarf_types.specs.declared.graph.OutUnit.{OutUnit}
@@ -22,7 +22,7 @@ use Rattle.sample_objects.proofs.SmallNodes.{nodes_len}
 pub function_within : (j : ℕ) → j < 100 → function_node j < 1803
 function_within j number = omega (arith, number)
 
-pub codes_len : (i : ℕ) → length (unit_table 0 (unit_nodes i)).codes ≡ 1803
+pub codes_len : (i : ℕ) → length (unit_codes 0 (unit_nodes i)) ≡ 1803
 codes_len i =
     omega (
       arith,
@@ -61,7 +61,7 @@ module _ (unit : OutUnit) (k : ℕ) (lt : k < length unit.nodes) where
       (omega (arith, lt, length-map (enumerate_from 0 unit.nodes) (λ (n : ℕ × Node). entry_of 0 unit.nodes n.0 n.1), length-enumerate_from 0 unit.nodes))
       (sym (made_here unit.nodes (λ n. entry_of 0 unit.nodes n.0 n.1) k here lt is_here e))
 
-  pub code_here : uleb_len_of (get_or (unit_table 0 unit.nodes).codes k 0) ≡ code_len unit k
+  pub code_here : uleb_len_of (get_or (unit_codes 0 unit.nodes) k 0) ≡ code_len unit k
   code_here =
       let within : k < length (declared 0 unit.nodes) = omega (arith, lt, length-map (enumerate_from 0 unit.nodes) (λ (n : ℕ × Node). declaration_of 0 unit.nodes n.0 n.1), length-enumerate_from 0 unit.nodes) in
       ap uleb_len_of (

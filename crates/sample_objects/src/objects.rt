@@ -1,7 +1,7 @@
 //! What the files of the generated objects are made of.
 
 ghost use Rattle.std.specs.Prelude.{◌≡◌, ◌<◌, ◌≤◌, ◌+◌, ◌++◌, ◌∷◌, [], IfOk, OnOk, map, length, slice_index};
-ghost use Rattle.abbrev_write.specs.Table.{unit_table};
+ghost use Rattle.abbrev_write.specs.Table.{unit_codes};
 ghost use Rattle.unit_draft.specs.Drafted.{IsDraft};
 ghost use Rattle.sample_objects.specs.GeneratedProgram;
 ghost use Rattle.sample_objects.specs.GeneratedProgram.{reloc_of, spec_of, symbol_of};
@@ -13,7 +13,7 @@ use crate::functions::function_name;
 use crate::spec::ObjectSpec;
 use crate::texts::SYMBOL;
 use crate::unit::{FUNCTION_SIZE, STRUCTURES, function_node, unit_of};
-use abbrev_write::{AbbrevTable, code_of, table};
+use abbrev_write::codes_in;
 use ds_base::macho::{CPU_TYPE_ARM64, N_EXT, N_SECT};
 use ds_base::{Bytes, List, NoMemory, uleb_len};
 use dwarf_types::OutUnit;
@@ -79,11 +79,11 @@ fn relocs_for(alloc: Global, unit: &OutUnit, i: u32) -> Result<List<Reloc>, NoMe
     requires unit { unit.now ≡ GeneratedUnit.unit_of i }
     ensures { IfOk result (λ relocs. relocs ≡ map (reloc_of i) all_numbers) }
 {
-    let table = table(alloc, unit, 0)?;
+    let codes = codes_in(alloc, unit, 0)?;
     let draft = draft_of(alloc, unit, i)?;
     let mut relocs = List::new(alloc);
     for j in 0..STRUCTURES {
-        let reloc = reloc_for(&draft, &table, i, j);
+        let reloc = reloc_for(&draft, codes.as_slice(), i, j);
         relocs.push(reloc)?;
     }
     Ok(relocs)
@@ -103,14 +103,14 @@ fn draft_of(alloc: Global, unit: &OutUnit, i: u32) -> Result<Draft, NoMemory>
 }
 
 /// The relocation of the low_pc of function `j`, by the draft of its unit and by the codes of the unit's entries.
-fn reloc_for(draft: &Draft, table: &AbbrevTable, i: u32, j: u32) -> Reloc
+fn reloc_for(draft: &Draft, codes: &[u32], i: u32, j: u32) -> Reloc
     requires number { j < 100 }
     requires draft { IsDraft 0 (GeneratedUnit.unit_of i) draft.now }
-    requires table { table.now ≡ unit_table 0 (GeneratedUnit.unit_nodes i) }
+    requires codes { codes.now ≡ unit_codes 0 (GeneratedUnit.unit_nodes i) }
     ensures { result ≡ reloc_of i j }
 {
     let node = function_node(j);
-    let code_len = uleb_len(u64::from(code_of(table, node)));
+    let code_len = uleb_len(u64::from(codes[node as usize]));
     let entry = draft.places.as_slice()[node as usize];
     Reloc {
         place: entry + code_len as u32 + TEXT_PLACE_SIZE,

@@ -36,13 +36,10 @@ module _ {X Y : Type 0} (xs : List X) (f : ℕ × X → Y) (i : ℕ) (x : X) (lt
   made_left = drop_one (map f (enumerate_from 0 xs)) i (f (i, x)) (omega (arith, within, length-map (enumerate_from 0 xs) f)) (sym (made_here (f (i, x))))
 
 -- an entry by what the code has at hand
-pub entry_here : (number : ℕ) (nodes : List Node) (codes depths : List ℕ) (k : ℕ) (node : Node) (ended : ℕ)
-    → codes ≡ map (λ n. code_in (table_of number nodes) (declaration_of number nodes n.0 n.1)) (enumerate_from 0 nodes) → depths ≡ depths_of nodes
-    → k < length nodes → node ≡ get_or nodes k node → ended ≡ slice_index depths k - slice_index depths (k + 1) → entry_by (get_or codes k 0) node ended ≡ entry_of number nodes k node
-entry_here number nodes codes depths k node ended coded deep lt is ends =
-    let code : get_or codes k 0 ≡ code_in (table_of number nodes) (declaration_of number nodes k node) =
-    ap (λ (cs : List ℕ). get_or cs k 0) coded ∙ made_here nodes (λ n. code_in (table_of number nodes) (declaration_of number nodes n.0 n.1)) k node lt is 0 in
-    ap (λ (n : ℕ). entry_by n node ended) code ∙ ap (entry_by (code_in (table_of number nodes) (declaration_of number nodes k node)) node)
+pub entry_here : (number : ℕ) (nodes : List Node) (depths : List ℕ) (k code : ℕ) (node : Node) (ended : ℕ) → code ≡ code_in (table_of number nodes) (declaration_of number nodes k node) → depths ≡ depths_of nodes
+    → ended ≡ slice_index depths k - slice_index depths (k + 1) → entry_by code node ended ≡ entry_of number nodes k node
+entry_here number nodes depths k code node ended coded deep ends =
+    ap (λ (n : ℕ). entry_by n node ended) coded ∙ ap (entry_by (code_in (table_of number nodes) (declaration_of number nodes k node)) node)
     (ends ∙ ap (λ (ds : List ℕ). slice_index ds k - slice_index ds (k + 1)) deep ∙ ap (λ (n : ℕ). n - slice_index (depths_of nodes) (k + 1)) (depth_is nodes k) ∙ ap (λ (n : ℕ). depth_of nodes k - n) (depth_is nodes (k + 1)))
 
 abbrev pub plain : ℕ → ℕ → World

@@ -16,8 +16,6 @@ use Rattle.dwarf_types.specs.declared.graph.OutAttr.{OutAttr}
 use Rattle.dwarf_types.specs.declared.graph.OutUnit.{OutUnit}
 use Rattle.dwarf_types.specs.declared.graph.OutValue.{OutValue}
 use Rattle.dwarf_types.specs.declared.graph.OutValue.TheVariants as values
-use Rattle.abbrev_write.specs.Table.{unit_table}
-use Rattle.dwarf_types.specs.Abbreviations.{code_in, declaration_of, table_of}
 use Rattle.dwarf_types.specs.Encode.{unit_locations, unit_ranges}
 use Rattle.dwarf_types.specs.Entries.{OutEntry, entries_bytes, entries_of, entry_len, entry_of, header_fields, header_len, node_place, unit_bytes, unit_len}
 use Rattle.dwarf_types.specs.Layout.{text_of, texts_of_node}
@@ -168,11 +166,3 @@ module _ (number : ℕ) (unit : OutUnit) (start final : Drafting) (header : (f :
       let place = node_place number unit in
       h.locations (told number unit f) place (own_is number unit) ∙ ap (λ (front : List ℕ). front ++ all_locations unit.version place (attrs_of (entries_of number unit))) (no_locations (told number unit f))
       ∙ by_number (λ a. locations_bytes unit.version place a.value) number unit.nodes 0 unit.nodes
-
-map-map : {A B D : Type 0} (g : B → D) (f : A → B) (xs : List A) → map g (map f xs) ≡ map (λ x. g (f x)) xs
-map-map g f [] = refl
-map-map g f (x ∷ xs) = ap (λ ys. g (f x) ∷ ys) (map-map g f xs)
-
--- the codes of a table, by the numbers of the nodes
-pub codes_by : (number : ℕ) (nodes : List Node) → (unit_table number nodes).codes ≡ map (λ n. code_in (table_of number nodes) (declaration_of number nodes n.0 n.1)) (enumerate_from 0 nodes)
-codes_by number nodes = map-map (code_in (table_of number nodes)) (λ (n : ℕ × Node). declaration_of number nodes n.0 n.1) (enumerate_from 0 nodes)

@@ -1,11 +1,11 @@
 -- How deep each node stands, by the nodes before it.
-use Rattle.std.proofs.Common.{◌≡◌, ℕ, zero, suc, ◌+◌, ◌<◌, ◌≤◌, ◌∷◌, [], List, All, if◌then◌else◌, Bool, true, false, nat_lt, length, map, slice_index, Option, Some, None, inl, inr, sym, ap, subst, ◌∙◌, arith}
+use Rattle.std.proofs.Common.{◌≡◌, ℕ, zero, suc, ◌+◌, ◌<◌, ◌≤◌, ◌∷◌, [], List, All, if◌then◌else◌, Bool, true, false, nat_lt, get_or, length, map, slice_get, slice_index, Option, Some, None, inl, inr, sym, ap, subst, ◌∙◌, arith}
 use Rattle.std.specs.List.{range_with_len}
 use Rattle.std.specs.Option.{option_and_then, option_map_or}
 use Rattle.std.proofs.lemmas.Bool.{cases_lt}
 use Rattle.std.proofs.lemmas.List.{get_or_past}
 use Rattle.std.proofs.lemmas.List.FromFn.{get_or-map-range_with_len, length-map-range_with_len}
-use Rattle.std.proofs.lemmas.Option.{slice_get_past}
+use Rattle.std.proofs.lemmas.Option.{slice_get-get_or, slice_get_past}
 use Rattle.dwarf_types.specs.declared.graph.Node.{Node}
 use Rattle.dwarf_types.specs.Entries.{ancestors_up, depth_of, parent_of}
 use Rattle.dwarf_types.proofs.Ancestors.{ancestors_of_child, ancestors_of_stray, no_ancestors}
@@ -20,6 +20,13 @@ module _ (nodes : List Node) where
 
   untold : (n k : ℕ) → n ≤ k → slice_index (first_depths n) k ≡ 0
   untold n k le = get_or_past (first_depths n) k 0 (omega (arith, le, length-map-range_with_len (depth_of nodes) 0 n))
+
+  -- the parent of a node, as it is told of each node that stands there
+  pub parent_told : (k : ℕ) (parent : Option ℕ) → k < length nodes → ((n : Node) → slice_get nodes k ≡ Some n → parent ≡ n.parent) → parent_of nodes k ≡ parent
+  parent_told k parent lt is =
+      let blank : Node = record { parent = None; tag = 0; attrs = [] } in
+      let at = slice_get-get_or nodes k blank lt in
+      ap (option_and_then (λ (n : Node). n.parent)) at ∙ sym (is (get_or nodes k blank) at)
 
   -- the depth of the next node, by those before it
   pub next_depth : (depths : List ℕ) (k depth : ℕ) (parent : Option ℕ) → depths ≡ map (depth_of nodes) (range_with_len 0 k) → parent_of nodes k ≡ parent

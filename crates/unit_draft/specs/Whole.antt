@@ -4,6 +4,7 @@ use Rattle.std.specs.List.{flat_map}
 use Rattle.std.specs.Str.{bytes_eq}
 use Rattle.ds_base.specs.FirstUse.{once}
 use Rattle.dwarf_types.specs.declared.graph.OutUnit.{OutUnit}
+use Rattle.dwarf_types.specs.Abbreviations.{table_of}
 use Rattle.dwarf_types.specs.Encode.{unit_locations, unit_ranges}
 use Rattle.dwarf_types.specs.Entries.{node_place, unit_bytes, unit_len}
 use Rattle.dwarf_types.specs.Layout.{texts_of_node}
@@ -20,6 +21,7 @@ told number clone f = settled f (unit_len number clone) (node_places number clon
 pub record IsWhole (number : ℕ) (clone : OutUnit) (whole : Whole) : Type 0 where
   pub info : (w : World) (line_texts : List (List ℕ)) → Stands number clone whole.drafting.names line_texts w
       → filled whole.drafting.info (told number clone w.filling) ≡ unit_bytes w.places w.lists w.table clone
+  pub declared : whole.declared ≡ table_of number clone.nodes
   pub size : (f : Filling) → length (filled whole.drafting.info f) ≡ unit_len number clone
   pub locations : (f : Filling) → filled whole.drafting.locations (told number clone f) ≡ unit_locations (node_place number clone) clone
   pub ranges : whole.drafting.ranges ≡ unit_ranges clone

@@ -6,17 +6,17 @@ ghost use Rattle.std.specs.Option.{option_map_or};
 ghost use Rattle.unit_draft.specs.Depths.{depths_of};
 
 use ds_base::{List, NoMemory};
-use dwarf_types::Node;
 use std::alloc::Global;
+use unit_source::UnitSource;
 
 /// How many ancestors each node has.
-pub(crate) fn depths_in(alloc: Global, nodes: &[Node]) -> Result<List<u32>, NoMemory>
-    requires few { length nodes.now < 2 ^ 28 }
-    ensures { IfOk result (λ depths. depths ≡ depths_of nodes.now) }
+pub(crate) fn depths_in<S: UnitSource>(alloc: Global, unit: &S) -> Result<List<u32>, NoMemory>
+    requires few { length (S.unit unit.now).nodes < 2 ^ 28 }
+    ensures { IfOk result (λ depths. depths ≡ depths_of (S.unit unit.now).nodes) }
 {
     let mut depths = List::new(alloc);
-    for node in nodes {
-        let depth = depth_in(depths.as_slice(), node.parent);
+    for k in 0..unit.len() {
+        let depth = depth_in(depths.as_slice(), unit.parent(k));
         depths.push(depth)?;
     }
     Ok(depths)

@@ -1,48 +1,64 @@
 //! Entries (DWARF 4, section 7.5.2), in preorder.
 
-ghost use Rattle.std.specs.Prelude.{ℕ, ◌≡◌, ◌++◌, ◌+◌, ◌<◌, ◌^◌, map, length, IfOk, OnOk};
-ghost use Rattle.std.specs.List.{enumerate_from, sum_by};
-ghost use Rattle.dwarf_types.specs.Abbreviations.{code_in, declaration_of, table_of};
-ghost use Rattle.dwarf_types.specs.Entries.{entry_len, entry_of};
+ghost use Rattle.std.specs.Prelude.{ℕ, ◌≡◌, ◌++◌, ◌+◌, ◌-◌, ◌<◌, ◌^◌, length, slice_index, IfOk, OnOk};
+ghost use Rattle.std.specs.List.{sum_by};
+ghost use Rattle.dwarf_types.specs.Abbreviations.{table_of};
+ghost use Rattle.dwarf_types.specs.Entries.{entries_of, entry_len};
 ghost use Rattle.patches.specs.Filling.{Filling, filled};
+ghost use Rattle.unit_source.specs.declared.source.NodeHead.{NodeHead as AHead};
+ghost use Rattle.unit_source.specs.Given.{node_given};
 ghost use Rattle.unit_draft.specs.Appends.{AppendsEntries, AppendsEntry, len_of, nowhere, places_from};
-ghost use Rattle.unit_draft.specs.Depths.{depths_of};
 ghost use Rattle.unit_draft.specs.Long.{RefusesLong};
 
-use crate::depths::depth_at;
+use crate::depths::{depth_at, depths_in};
 use crate::drafting::Drafting;
 use crate::error::DraftError;
 use crate::numbers::append_zeros;
 use crate::values::append_values;
+use abbrev_write::{Declared, parents_in};
 use ds_base::{List, NoMemory};
-use dwarf_types::Node;
 use patches::Buffer;
+use std::alloc::Global;
+use unit_source::{OutAttrRef, UnitSource};
 
 /// The size of a unit that is too long: a place in four LEB digits is below it.
 pub(crate) const UNIT_LIMIT: usize = 1 << 28;
 
-/// Appends the entries of nodes, which have these codes and depths, and tells where each stands.
-pub(crate) fn append_entries<'a>(
+/// Appends the entries of a unit's nodes, tells where each stands, and gives what declares them.
+pub(crate) fn append_entries<'a, S: UnitSource>(
+    alloc: Global,
     drafting: &mut Drafting<'a>,
     places: &mut List<u32>,
     number: u32,
-    version: u16,
-    nodes: &'a [Node],
-    codes: &[u32],
-    depths: &[u32],
-) -> Result<(), DraftError>
-    requires codes { codes.now ≡ map (λ n. code_in (table_of number nodes.now) (declaration_of number nodes.now n.0 n.1)) (enumerate_from 0 nodes.now) }
-    requires depths { depths.now ≡ depths_of nodes.now }
-    ensures appended { OnOk result (AppendsEntries number version drafting.old drafting.new (map (λ n. entry_of number nodes.now n.0 n.1) (enumerate_from 0 nodes.now))) }
-    ensures placed { OnOk result (places.new ≡ places.old ++ places_from (len_of drafting.old) (map (λ n. entry_of number nodes.now n.0 n.1) (enumerate_from 0 nodes.now))) }
-    ensures long { RefusesLong result (len_of drafting.old + sum_by entry_len (map (λ n. entry_of number nodes.now n.0 n.1) (enumerate_from 0 nodes.now))) }
+    unit: &'a S,
+) -> Result<Declared, DraftError>
+    requires few { length (S.unit unit.now).nodes < 2 ^ 28 }
+    ensures appended { OnOk result (AppendsEntries number (S.unit unit.now).version drafting.old drafting.new (entries_of number (S.unit unit.now))) }
+    ensures placed { OnOk result (places.new ≡ places.old ++ places_from (len_of drafting.old) (entries_of number (S.unit unit.now))) }
+    ensures declared { IfOk result (λ declared. declared ≡ table_of number (S.unit unit.now).nodes) }
+    ensures long { RefusesLong result (len_of drafting.old + sum_by entry_len (entries_of number (S.unit unit.now))) }
 {
-    for (k, node) in nodes.iter().enumerate() {
+    let version = unit.version();
+    let depths = depths_in(alloc, unit)?;
+    let parents = parents_in(alloc, unit)?;
+    let mut declared = Declared::new(alloc);
+    let mut attrs = Vec::new(alloc);
+    for k in 0..unit.len() {
         places.push(end_of(&drafting.info)?)?;
-        let ended = depth_at(depths, k).saturating_sub(depth_at(depths, k + 1));
-        append_entry(drafting, number, version, node, codes[k], ended)?;
+        let node = unit.node(alloc, k, &mut attrs)?;
+        let code = declared.code_of(alloc, number, node.tag, parents.get(k as u32), &attrs)?;
+        let ended = ended_behind(depths.as_slice(), k);
+        append_entry(drafting, number, version, code, &attrs, ended)?;
     }
-    Ok(())
+    Ok(declared)
+}
+
+/// How many lists of siblings end behind a node.
+fn ended_behind(depths: &[u32], node: usize) -> u32
+    requires { node < 2 ^ 28 }
+    ensures { result ≡ slice_index depths.now node - slice_index depths.now (node + 1) }
+{
+    depth_at(depths, node).saturating_sub(depth_at(depths, node + 1))
 }
 
 /// The place behind what there is of a unit.
@@ -58,19 +74,19 @@ pub(crate) fn end_of(info: &Buffer) -> Result<u32, DraftError>
     Ok(len as u32)
 }
 
-/// Appends the entry of a node, behind which lists of siblings end.
+/// Appends the entry of a node of these attributes, behind which lists of siblings end.
 fn append_entry<'a>(
     drafting: &mut Drafting<'a>,
     number: u32,
     version: u16,
-    node: &'a Node,
     code: u32,
+    attrs: &[OutAttrRef<'a>],
     ended: u32,
 ) -> Result<(), NoMemory>
-    ensures { OnOk result (AppendsEntry number version drafting.old drafting.new (record { code = code; node = node.now; ended = ended })) }
+    ensures { OnOk result ((head : AHead) → AppendsEntry number version drafting.old drafting.new (record { code = code; node = node_given head attrs.now; ended = ended })) }
 {
     drafting.info.extend_uleb(u64::from(code))?;
-    append_values(drafting, number, version, node.attrs.as_slice())?;
+    append_values(drafting, number, version, attrs)?;
     append_zeros(&mut drafting.info, ended)?;
     Ok(())
 }

@@ -2,10 +2,11 @@
 //!
 //! Layer: writers. A [`Draft`] has a unit's part of each section, in the form of the unit's version: the entries in
 //! `__debug_info` and the line table, with holes where something outside of the unit is named, and range lists, location
-//! lists and abbreviations, which are final. [`draft_unit`] walks over the nodes once; it needs no other unit, and no size
-//! is computed ahead. What a draft is stands in `specs/Drafted.antt`. Once it is known where all stands, [`emit_draft`]
-//! copies the entries and fills the holes, so that they are `unit_bytes` (`dwarf_types/specs/Entries.antt`), and
-//! [`emit_lines`] does so with the line table, so that it is `lines_bytes` (`dwarf_types/specs/LineTable.antt`).
+//! lists and abbreviations, which are final. [`draft_unit`] asks a source for the nodes, each once and in order, so that no
+//! unit stands in memory as a whole; it needs no other unit, and no size is computed ahead. What a draft is stands in
+//! `specs/Drafted.antt`. Once it is known where all stands, [`emit_draft`] copies the entries and fills the holes, so that
+//! they are `unit_bytes` (`dwarf_types/specs/Entries.antt`), and [`emit_lines`] does so with the line table, so that it is
+//! `lines_bytes` (`dwarf_types/specs/LineTable.antt`).
 #![tactic(auto)]
 
 mod depths;

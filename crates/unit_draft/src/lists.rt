@@ -9,10 +9,17 @@ ghost use Rattle.unit_draft.specs.Based.{AppendsBased};
 
 use crate::drafting::Scratch;
 use crate::expression::write_expression;
+use crate::numbers::ADDRESS_LEN;
 use ds_base::dwarf::{DW_LLE_start_end, DW_RLE_end_of_list, DW_RLE_start_end, DWARF_5};
 use ds_base::{Bytes, NoMemory};
 use dwarf_types::{OutLocation, Span};
 use patches::Buffer;
+
+/// The bytes of a pair of addresses, which are zero at the end of a list of version 4.
+const PAIR_LEN: usize = 2 * ADDRESS_LEN;
+
+/// The bytes of the length of an expression in a location list of version 4 (DWARF 4, section 2.6.2).
+const EXPRESSION_LENGTH_LEN: usize = 2;
 
 // ---- range lists
 
@@ -69,7 +76,7 @@ fn append_range_end(out: &mut Bytes, version: u16) -> Result<(), NoMemory>
     if version == DWARF_5 {
         out.push(DW_RLE_end_of_list)?;
     } else {
-        out.extend(&[0; 16])?;
+        out.extend(&[0; PAIR_LEN])?;
     }
     Ok(())
 }
@@ -102,8 +109,8 @@ fn append_location(
 {
     write_expression(scratch, item.parts.as_slice())?;
     append_location_kind(out, version)?;
-    out.extend_lowest(item.span.low, 8)?;
-    out.extend_lowest(item.span.high, 8)?;
+    out.extend_lowest(item.span.low, ADDRESS_LEN)?;
+    out.extend_lowest(item.span.high, ADDRESS_LEN)?;
     append_size(out, version, scratch.expression.len() as u64)?;
     out.append(&scratch.expression)?;
     Ok(())
@@ -125,7 +132,7 @@ fn append_size(out: &mut Buffer, version: u16, len: u64) -> Result<(), NoMemory>
     if version == DWARF_5 {
         out.extend_uleb(len)?;
     } else {
-        out.extend_lowest(len, 2)?;
+        out.extend_lowest(len, EXPRESSION_LENGTH_LEN)?;
     }
     Ok(())
 }
@@ -136,7 +143,7 @@ fn append_location_end(out: &mut Buffer, version: u16) -> Result<(), NoMemory>
     if version == DWARF_5 {
         out.push(DW_RLE_end_of_list)?;
     } else {
-        out.extend(&[0; 16])?;
+        out.extend(&[0; PAIR_LEN])?;
     }
     Ok(())
 }

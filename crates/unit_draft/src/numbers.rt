@@ -6,10 +6,13 @@ ghost use Rattle.patches.specs.Filling.{Filling, filled};
 
 use ds_base::NoMemory;
 use ds_base::dwarf::{
-    DW_FORM_block1, DW_FORM_block2, DW_FORM_block4, DW_FORM_data1, DW_FORM_data2, DW_FORM_data4,
-    DW_FORM_data8, DW_FORM_flag, DW_FORM_sdata, DW_FORM_udata,
+    ADDRESS_SIZE, DW_FORM_block1, DW_FORM_block2, DW_FORM_block4, DW_FORM_data1, DW_FORM_data2,
+    DW_FORM_data4, DW_FORM_data8, DW_FORM_flag, DW_FORM_sdata, DW_FORM_udata,
 };
 use patches::Buffer;
+
+/// The bytes of an address.
+pub(crate) const ADDRESS_LEN: usize = ADDRESS_SIZE as usize;
 
 #[tactic(auto, unfolding(dwarf_types::specs::Values::number_bytes))]
 pub(crate) fn append_number(out: &mut Buffer, form: u16, bits: u64) -> Result<(), NoMemory>

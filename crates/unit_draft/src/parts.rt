@@ -9,13 +9,14 @@ ghost use Rattle.patches.specs.Filling.{Filling, filled};
 ghost use Rattle.unit_draft.specs.Drafted.{lines_len};
 ghost use Rattle.unit_draft.specs.Lines.{AreLines};
 
-use abbrev_write::{AbbrevTable, append_table};
+use abbrev_write::{Declared, append_table};
 use ds_base::{Bytes, List, NoMemory};
-use dwarf_types::{OutUnit, Span};
+use dwarf_types::Span;
 use line_write::append_lines;
 use patches::Buffer;
 use std::alloc::Global;
 use text_pool::{Names, Naming};
+use unit_source::UnitSource;
 
 /// A unit's line table in `__debug_line`.
 #[derive(Drop)]
@@ -27,8 +28,8 @@ pub(crate) struct DraftedLines {
 }
 
 /// The line table of a unit.
-pub(crate) fn lines_of(alloc: Global, unit: &OutUnit) -> Result<DraftedLines, NoMemory>
-    ensures { IfOk result (AreLines unit.now) }
+pub(crate) fn lines_of<S: UnitSource>(alloc: Global, unit: &S) -> Result<DraftedLines, NoMemory>
+    ensures { IfOk result (AreLines (S.unit unit.now)) }
 {
     let mut table = Buffer::new(alloc);
     let mut naming = Naming::new(alloc);
@@ -39,28 +40,28 @@ pub(crate) fn lines_of(alloc: Global, unit: &OutUnit) -> Result<DraftedLines, No
     Ok(DraftedLines { table, names })
 }
 
-fn append_lines_of<'a>(
+fn append_lines_of<'a, S: UnitSource>(
     alloc: Global,
     out: &mut Buffer,
     names: &mut Naming<'a>,
-    unit: &'a OutUnit,
+    unit: &'a S,
 ) -> Result<(), NoMemory>
-    ensures table { OnOk result (AppendsNamed out.old out.new names.old names.new (λ text. lines_bytes text unit.now) (line_texts_of_unit unit.now)) }
-    ensures size { OnOk result ((f : Filling) → length (filled out.new f) ≡ length (filled out.old f) + lines_len unit.now) }
+    ensures table { OnOk result (AppendsNamed out.old out.new names.old names.new (λ text. lines_bytes text (S.unit unit.now)) (line_texts_of_unit (S.unit unit.now))) }
+    ensures size { OnOk result ((f : Filling) → length (filled out.new f) ≡ length (filled out.old f) + lines_len (S.unit unit.now)) }
 {
-    let Some(lines) = &unit.lines else {
+    let Some(lines) = unit.lines() else {
         return Ok(());
     };
-    append_lines(alloc, out, names, unit.version, lines)?;
+    append_lines(alloc, out, names, unit.version(), lines)?;
     Ok(())
 }
 
 /// The unit's abbreviations in `__debug_abbrev`.
-pub(crate) fn abbreviations_of(alloc: Global, table: &AbbrevTable) -> Result<Bytes, NoMemory>
-    ensures { IfOk result (λ bytes. bytes ≡ declarations_bytes table.now.declarations) }
+pub(crate) fn abbreviations_of(alloc: Global, declared: &Declared) -> Result<Bytes, NoMemory>
+    ensures { IfOk result (λ bytes. bytes ≡ declarations_bytes declared.now) }
 {
     let mut bytes = Bytes::new(alloc);
-    append_table(&mut bytes, table)?;
+    append_table(&mut bytes, declared)?;
     Ok(bytes)
 }
 

@@ -18,12 +18,12 @@ use crate::entries::UNIT_LIMIT;
 use crate::error::DraftError;
 use crate::parts::{DraftedLines, abbreviations_of, copy_of, lines_of};
 use crate::whole::{Whole, append_unit};
-use abbrev_write::{codes_of, table};
 use ds_base::{Bytes, List};
-use dwarf_types::{OutUnit, Span};
+use dwarf_types::Span;
 use patches::{Buffer, Outside};
 use std::alloc::Global;
 use text_pool::Names;
+use unit_source::UnitSource;
 
 /// A unit's parts of all sections, as far as they follow from the unit alone.
 #[derive(Drop)]
@@ -54,21 +54,21 @@ pub struct Draft {
 
 /// Drafts the unit of a number in the graph, counted from 0: whether a reference stays in the unit depends on it.
 ///
-/// References inside the unit and the base operands of expressions are final. The time is linear in the unit.
-pub fn draft_unit(alloc: Global, unit: &OutUnit, number: u32) -> Result<Draft, DraftError>
-    ensures { Drafts number unit.now result }
+/// References inside the unit and the base operands of expressions are final. Each node is asked for once, in order. The
+/// time is linear in the unit.
+pub fn draft_unit<S: UnitSource>(alloc: Global, unit: &S, number: u32) -> Result<Draft, DraftError>
+    ensures { Drafts number (S.unit unit.now) result }
 {
     // Each node has a byte at least.
-    if unit.nodes.len() >= UNIT_LIMIT {
+    if unit.len() >= UNIT_LIMIT {
         return Err(DraftError::Unit);
     }
-    let table = table(alloc, unit, number)?;
-    let whole = append_unit(alloc, unit, number, codes_of(&table))?;
+    let whole = append_unit(alloc, unit, number)?;
     let names = whole.drafting.names.kept(alloc)?;
     let lines = lines_of(alloc, unit)?;
-    let table = abbreviations_of(alloc, &table)?;
-    let code = copy_of(alloc, unit.ranges.as_slice())?;
-    Ok(settled_draft(whole, names, unit.version, lines, table, code))
+    let table = abbreviations_of(alloc, &whole.declared)?;
+    let code = copy_of(alloc, unit.ranges())?;
+    Ok(settled_draft(whole, names, unit.version(), lines, table, code))
 }
 
 /// The draft of a whole unit with these texts, whose own places are filled in.
@@ -94,6 +94,7 @@ fn settled_draft(
         drafting,
         places,
         len,
+        ..
     } = whole;
     let mut info = drafting.info;
     info.settle(len, places.as_slice());

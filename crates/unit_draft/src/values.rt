@@ -1,25 +1,27 @@
 //! Values of attributes (DWARF 4, section 7.5.4).
 
-ghost use Rattle.std.specs.Prelude.{OnOk};
+ghost use Rattle.std.specs.Prelude.{OnOk, map};
 ghost use Rattle.dwarf_types.specs.declared.graph.OutValue.TheVariants as out_values;
+ghost use Rattle.unit_source.specs.Given.{attr_given, value_given};
 ghost use Rattle.unit_draft.specs.Appends.{AppendsValue, AppendsValues};
 
 use crate::drafting::Drafting;
 use crate::expression::write_expression;
 use crate::lists::{append_location_list, append_range_list};
-use crate::numbers::{append_block, append_number};
-use ds_base::{Bytes, NoMemory};
-use dwarf_types::{ExprPart, OutAttr, OutLocation, OutValue, Span, Target};
+use crate::numbers::{ADDRESS_LEN, append_block, append_number};
+use ds_base::NoMemory;
+use dwarf_types::{ExprPart, OutLocation, Span, Target};
 use patches::{Outer, Own};
+use unit_source::{OutAttrRef, OutValueRef};
 
 /// Appends the values of an entry of the unit of a number and a version.
 pub(crate) fn append_values<'a>(
     drafting: &mut Drafting<'a>,
     number: u32,
     version: u16,
-    attrs: &'a [OutAttr],
+    attrs: &[OutAttrRef<'a>],
 ) -> Result<(), NoMemory>
-    ensures { OnOk result (AppendsValues number version drafting.old drafting.new attrs.now) }
+    ensures { OnOk result (AppendsValues number version drafting.old drafting.new (map attr_given attrs.now)) }
 {
     for attr in attrs {
         append_value(drafting, number, version, &attr.value)?;
@@ -31,25 +33,23 @@ fn append_value<'a>(
     drafting: &mut Drafting<'a>,
     number: u32,
     version: u16,
-    value: &'a OutValue,
+    value: &OutValueRef<'a>,
 ) -> Result<(), NoMemory>
-    ensures { OnOk result (AppendsValue number version drafting.old drafting.new value.now) }
+    ensures { OnOk result (AppendsValue number version drafting.old drafting.new (value_given value.now)) }
 {
     match value {
-        OutValue::Address(address) => drafting.info.extend_lowest(*address, 8),
-        OutValue::Text(text) => append_text(drafting, number, version, text),
-        OutValue::Number { form, bits } => append_number(&mut drafting.info, *form, *bits),
-        OutValue::Wide(bytes) => drafting.info.extend(bytes.as_slice()),
-        OutValue::Block { form, bytes } => append_block(
-            &mut drafting.info,
-            *form,
-            bytes.as_slice(),
-        ),
-        OutValue::Expr(parts) => append_expr(drafting, number, version, parts.as_slice()),
-        OutValue::Ref(target) => append_ref(drafting, number, version, *target),
-        OutValue::Ranges(spans) => append_ranges(drafting, number, version, spans.as_slice()),
-        OutValue::Locations(items) => append_locations(drafting, number, version, items.as_slice()),
-        OutValue::Lines => drafting.info.leave(Outer::Lines),
+        OutValueRef::Address(address) => drafting.info.extend_lowest(*address, ADDRESS_LEN),
+        OutValueRef::Text(text) => append_text(drafting, number, version, text),
+        OutValueRef::Number { form, bits } => append_number(&mut drafting.info, *form, *bits),
+        OutValueRef::Wide(bytes) => drafting.info.extend(bytes),
+        OutValueRef::Block { form, bytes } => append_block(&mut drafting.info, *form, bytes),
+        OutValueRef::Expr(parts) => append_expr(drafting, number, version, parts.as_slice()),
+        OutValueRef::Ref(target) => append_ref(drafting, number, version, *target),
+        OutValueRef::Ranges(spans) => append_ranges(drafting, number, version, spans),
+        OutValueRef::Locations(items) => {
+            append_locations(drafting, number, version, items.as_slice())
+        }
+        OutValueRef::Lines => drafting.info.leave(Outer::Lines),
     }
 }
 
@@ -57,11 +57,11 @@ fn append_text<'a>(
     drafting: &mut Drafting<'a>,
     number: u32,
     version: u16,
-    text: &'a Bytes,
+    text: &'a [u8],
 ) -> Result<(), NoMemory>
     ensures { OnOk result (AppendsValue number version drafting.old drafting.new (out_values.Text text.now)) }
 {
-    let i = drafting.names.number_of(text.as_slice())?;
+    let i = drafting.names.number_of(text)?;
     drafting.info.leave(Outer::Text(i))?;
     Ok(())
 }

@@ -1,5 +1,5 @@
 use Rattle.std.proofs.Common.{◌<◌, ◌+◌, ℕ, List, false, length, get_or, ap, ◌∙◌, arith}
-use Rattle.abbrev_write.specs.Table.{Table, unit_table}
+use Rattle.abbrev_write.specs.Table.{unit_codes}
 use Rattle.ds_base.specs.Leb.{uleb_len_of}
 use Rattle.dwarf_types.specs.Entries.{node_place}
 use Rattle.reloc_table.specs.declared.relocation.Reloc.{Reloc}
@@ -13,8 +13,8 @@ use Rattle.sample_objects.proofs.objects.reloc_for.Goals as goal
 within : (i j : ℕ) → j < 100 → function_node j < length (unit_of i).nodes
 within i j number = omega (arith, function_within j number, nodes_len i)
 
-pub code_of-requires : goal.code_of-requires
-code_of-requires c = omega (arith, ap (λ (t : Table). length t.codes) c.requires.table, codes_len c.args.i, function_within c.args.j c.requires.number, c.function_node-node.ensures)
+pub bounds-codes-node : goal.bounds-codes-node
+bounds-codes-node c = omega (arith, ap length c.requires.codes, codes_len c.args.i, function_within c.args.j c.requires.number, c.function_node-node.ensures)
 
 pub bounds-as_slice-node : goal.bounds-as_slice-node
 bounds-as_slice-node c = omega (arith, ap length c.as_slice.ensures, ap length c.requires.draft.places, places_len c.args.i, function_within c.args.j c.requires.number, c.function_node-node.ensures)
@@ -47,7 +47,7 @@ returns c =
     ∙ place_here (unit_of c.args.i) (function_node c.args.j) lt in
     let len =
     c.uleb_len-code_len.ensures.is
-    ∙ ap uleb_len_of (c.from.ensures ∙ c.code_of.ensures ∙ ap (λ (t : Table). get_or t.codes c.function_node-node.result 0) c.requires.table ∙ ap (λ (k : ℕ). get_or (unit_table 0 (unit_nodes c.args.i)).codes k 0) c.function_node-node.ensures)
+    ∙ ap uleb_len_of (c.from.ensures ∙ ap (λ (cs : List ℕ). get_or cs c.function_node-node.result 0) c.requires.codes ∙ ap (λ (k : ℕ). get_or (unit_codes 0 (unit_nodes c.args.i)) k 0) c.function_node-node.ensures)
     ∙ code_here (unit_of c.args.i) (function_node c.args.j) lt in
     ap (λ (n : ℕ). reloc_by n c.uleb_len-code_len.result c.from-2.result) place
     ∙ ap (λ (n : ℕ). reloc_by (node_place 0 (unit_of c.args.i) (function_node c.args.j)) n c.from-2.result) len

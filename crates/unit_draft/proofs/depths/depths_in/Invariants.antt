@@ -3,5 +3,5 @@ use Rattle.std.specs.List.{range_with_len}
 use Rattle.dwarf_types.specs.Entries.{depth_of}
 use Rattle.unit_draft.proofs.depths.depths_in.Given as goal
 
-abbrev pub invariant-loop-node : goal.invariant-loop-node
-invariant-loop-node l = l.depths ≡ map (depth_of l.nodes) (range_with_len 0 l.node-index)
+abbrev pub invariant-loop-k : goal.invariant-loop-k
+invariant-loop-k g l = l.depths ≡ map (depth_of (g.S.UnitSource.unit l.unit).nodes) (range_with_len 0 l.k)

@@ -14,8 +14,8 @@ behind_none : (bytes : List ℕ) (n m : ℕ) → bytes ≡ [] → m ≡ length b
 behind_none bytes n m none is = omega (arith, is, ap length none)
 
 pub returns : goal.returns
-returns c =
-    let unit = c.args.unit.now in
+returns g c =
+    let unit = g.S.UnitSource.unit c.args.unit.now in
     let table = c.in_ok-append_lines_of.ensures.table in
     record {
       table = λ f text tells.
