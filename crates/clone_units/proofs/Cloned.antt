@@ -25,10 +25,9 @@ use Rattle.dwarf_types.specs.LinkedValues.{attrs_written}
 use Rattle.link_graph.specs.Graph.{IsShape, graph_in, image_of}
 use Rattle.link_graph.proofs.Gathered.{All-enumerate}
 use Rattle.link_graph.proofs.Shapes.{Parts, object_parts}
-use Rattle.clone_units.specs.Nodes.{IsNamed, node_at, number_of_object}
+use Rattle.clone_units.specs.Nodes.{IsEntryOf, node_at, node_with, number_of_object}
 use Rattle.clone_units.specs.Pieces.{object_in}
 use Rattle.clone_units.specs.Units.{AreThere, IsUnitOf, Names, object_of, unit_with}
-use Rattle.clone_units.proofs.Named.{node_made}
 use Rattle.clone_units.proofs.Placed.{IsBehind}
 use Rattle.clone_units.proofs.Sources.{IsFrom, unit_from}
 
@@ -53,11 +52,9 @@ gather_each f origin made (x ∷ xs) each =
     let here : f (origin x) ≡ Some (made x) = All-head (λ y. f (origin y) ≡ Some (made y)) x xs each in
     ap (λ o. cons_option o (filter_map f (map origin xs))) here ∙ ap (λ ys. made x ∷ ys) (gather_each f origin made xs (All-tail (λ y. f (origin y) ≡ Some (made y)) x xs each))
 
-nodes_are : (image : ℕ → ℕ → Option Target) (seen : List Analysis) (images : List (List (Option Target))) (i : ℕ) (o : Object) (u : ℕ) (row : List (Option Target)) → slice_get seen i ≡ Some o.seen → slice_get images i ≡ Some row
-    → image_at row ≡ image i
-    → filter_map (node_at seen images (code_of_unit o u)) (map (origin_of i o u) (kept_entries o u)) ≡ map (node_of (image i) o u) (kept_entries o u)
-nodes_are image seen images i o u row there its tell =
-    gather_each (node_at seen images spans) (origin_of i o u) (node_of (image i) o u) (kept_entries o u) (λ k d lt. each (get_or (kept_entries o u) k d) (kept_stand o u k d lt))
+nodes_are : (image : ℕ → Option Target) (i : ℕ) (o : Object) (u : ℕ) (row : List (Option Target)) → image_at row ≡ image
+    → filter_map (node_at o.seen row (code_of_unit o u)) (map (origin_of i o u) (kept_entries o u)) ≡ map (node_of image o u) (kept_entries o u)
+nodes_are image i o u row tell = gather_each (node_at o.seen row spans) (origin_of i o u) (node_of image o u) (kept_entries o u) (λ k d lt. each (get_or (kept_entries o u) k d) (kept_stand o u k d lt))
   where
     spans : List Span
     spans = code_of_unit o u
@@ -65,8 +62,8 @@ nodes_are image seen images i o u row there its tell =
     made : ℕ × Entry → (ℕ → Option Target) → Node
     made e image = record { parent = parent_node o u e.1; tag = e.1.tag; attrs = attrs_written image None e.1 ++ closing e.1 spans }
 
-    each : (e : ℕ × Entry) → slice_get o.seen.entries e.0 ≡ Some e.1 → node_at seen images spans (origin_of i o u e) ≡ Some (node_of (image i) o u e)
-    each e at = node_made seen images spans (origin_of i o u e) i o.seen row e.1 (number_back i) there its at ∙ ap (λ (image : ℕ → Option Target). Some (made e image)) tell
+    each : (e : ℕ × Entry) → slice_get o.seen.entries e.0 ≡ Some e.1 → node_at o.seen row spans (origin_of i o u e) ≡ Some (node_of image o u e)
+    each e at = ap (option_map (node_with row spans (origin_of i o u e))) at ∙ ap (λ (image : ℕ → Option Target). Some (made e image)) tell
 
 -- ---- the unit
 
@@ -93,14 +90,15 @@ object_is o seen plain a b = ap (λ (s : Analysis). made s o.kept) a ∙ ap (mad
     made : Analysis → List Bool → Object
     made s m = record { seen = s; kept = m }
 
-unit_is : (image : ℕ → ℕ → Option Target) (seen : List Analysis) (images : List (List (Option Target))) (s : Source) (o : Object) (unit : InUnit) (plain : List (Option ℕ)) (row : List (Option Target)) (entry : Entry) (unit' : InUnit) (origins : List Origin)
-    → o ≡ object_in o.seen plain → slice_get seen s.object ≡ Some o.seen → slice_get images s.object ≡ Some row → image_at row ≡ image s.object
-    → entry.unit ≡ s.unit → unit' ≡ unit → origins ≡ map (origin_of s.object o s.unit) (kept_entries o s.unit)
-    → unit_with seen images o.seen plain entry.unit unit' origins ≡ unit_written (image s.object) o s.unit unit
-unit_is image seen images s o unit plain row entry unit' origins same there its tell u units are =
-    ap (λ (v : ℕ). unit_with seen images o.seen plain v unit' origins) u ∙ ap (λ (w : InUnit). unit_with seen images o.seen plain s.unit w origins) units ∙ ap (unit_with seen images o.seen plain s.unit unit) are
-    ∙ ap (λ (x : Object). made (filter_map (node_at seen images (code_of_unit x s.unit)) (map (origin_of s.object o s.unit) (kept_entries o s.unit))) (code_of_unit x s.unit)) (sym same)
-    ∙ ap (λ (ns : List Node). made ns (code_of_unit o s.unit)) (nodes_are image seen images s.object o s.unit row there its tell)
+unit_is : (image : ℕ → ℕ → Option Target) (s : Source) (o : Object) (unit : InUnit) (plain : List (Option ℕ)) (row : List (Option Target)) (entry : Entry) (unit' : InUnit) (origins : List Origin)
+    → o ≡ object_in o.seen plain → image_at row ≡ image s.object → entry.unit ≡ s.unit → unit' ≡ unit → origins ≡ map (origin_of s.object o s.unit) (kept_entries o s.unit)
+    → unit_with o.seen row unit' (code_of_unit (object_in o.seen plain) entry.unit) origins ≡ unit_written (image s.object) o s.unit unit
+unit_is image s o unit plain row entry unit' origins same tell u units are =
+    ap (λ (v : ℕ). unit_with o.seen row unit' (code_of_unit (object_in o.seen plain) v) origins) u
+    ∙ ap (λ (w : InUnit). unit_with o.seen row w (code_of_unit (object_in o.seen plain) s.unit) origins) units
+    ∙ ap (unit_with o.seen row unit (code_of_unit (object_in o.seen plain) s.unit)) are
+    ∙ ap (λ (x : Object). unit_with o.seen row unit (code_of_unit x s.unit) (map (origin_of s.object o s.unit) (kept_entries o s.unit))) (sym same)
+    ∙ ap (λ (ns : List Node). made ns (code_of_unit o s.unit)) (nodes_are (image s.object) s.object o s.unit row tell)
   where
     made : List Node → List Span → OutUnit
     made nodes spans = record { version = unit.version; nodes = nodes; lines = unit.lines; ranges = spans }
@@ -134,7 +132,7 @@ module _ (all : List Analysis) (shape : Shape) (n : ℕ) (unit : ShapeUnit) (is 
   pub parts : Parts all (marks_in shape) i o
   parts = object_parts all (marks_in shape) i o is.marked.each from.is.at
 
-  images_there : (row : List (Option Target)) × (slice_get shape.images i ≡ Some row)
+  pub images_there : (row : List (Option Target)) × (slice_get shape.images i ≡ Some row)
   images_there = elim (slice_get_cases shape.images i).1 [ inl w ↦ (w.0, w.2) | inr w ↦ absurd (omega (arith, w.0, is.rows, slice_get_within all i o.seen parts.analysis)) ]
 
   pub plain_there : slice_get shape.plain i ≡ Some (plain_in o)
@@ -177,26 +175,19 @@ module _ (all : List Analysis) (shape : Shape) (n : ℕ) (unit : ShapeUnit) (is 
       let from_entry = node_from 0 (get_or unit.nodes 0 (record { object = 0; entry = 0; parent = None })) root in
       ap (option_and_then (λ (x : ShapeUnit). option_and_then number_of_object (slice_get x.nodes 0))) at ∙ ap (option_and_then number_of_object) root ∙ ap number_of_object from_entry.2 ∙ number_back i
 
+  entry_at : (k : ℕ) (origin : Origin) → slice_get unit.nodes k ≡ Some origin → IsEntryOf o.seen origin
+  entry_at k origin stands =
+      let e = node_from k origin stands in
+      let entry = kept_stand o u k e.0 (slice_get_within (kept_entries o u) k e.0 e.1) in
+      let entry_is = subst (λ (x : ℕ × Entry). slice_get o.seen.entries x.0 ≡ Some x.1) (get_or_from_slice_get (kept_entries o u) k e.0 e.0 e.1) entry in
+      subst (IsEntryOf o.seen) (sym e.2) (slice_get_within o.seen.entries e.0.0 e.0.1 entry_is)
+
+  pub all_entries : All (IsEntryOf o.seen) unit.nodes
+  all_entries k d lt = entry_at k (get_or unit.nodes k d) (slice_get-get_or unit.nodes k d lt)
+
   module _ (seen : List Analysis) (there : AreThere shape n all seen) where
     its_seen : (k : ℕ) (origin : Origin) → slice_get unit.nodes k ≡ Some origin → slice_get seen i ≡ Some o.seen
     its_seen k origin stands = there i (names_it k origin stands) ∙ parts.analysis
-
-    pub named_at : (k : ℕ) (origin : Origin) → slice_get unit.nodes k ≡ Some origin → IsNamed seen shape.images origin
-    named_at k origin stands =
-        let e = node_from k origin stands in
-        let entry = kept_stand o u k e.0 (slice_get_within (kept_entries o u) k e.0 e.1) in
-        let entry_is = subst (λ (x : ℕ × Entry). slice_get o.seen.entries x.0 ≡ Some x.1) (get_or_from_slice_get (kept_entries o u) k e.0 e.0 e.1) entry in
-        record {
-          object = i;
-          number = ap number_of_object e.2 ∙ number_back i;
-          analysis = o.seen;
-          stands = its_seen k origin stands;
-          inside = subst (λ (x : Origin). x.entry < length o.seen.entries) (sym e.2) (slice_get_within o.seen.entries e.0.0 e.0.1 entry_is);
-          row = slice_get_within shape.images i images_there.0 images_there.1;
-        }
-
-    pub all_named : All (IsNamed seen shape.images) unit.nodes
-    all_named k d lt = named_at k (get_or unit.nodes k d) (slice_get-get_or unit.nodes k d lt)
 
     -- the root's object, and what it has
     pub record IsRooted (root : Origin) (object : ℕ) : Type 0 where
@@ -204,21 +195,21 @@ module _ (all : List Analysis) (shape : Shape) (n : ℕ) (unit : ShapeUnit) (is 
       pub own_of_all : slice_get all object ≡ Some o.seen
       pub inside : root.entry < length o.seen.entries
       pub plain : slice_get shape.plain object ≡ Some (plain_in o)
+      pub images : slice_get shape.images object ≡ Some images_there.0
 
     pub rooted : (root : Origin) (object : ℕ) → slice_get unit.nodes 0 ≡ Some root → number_of_object root ≡ Some object → IsRooted root object
     rooted root object first number =
         let e = node_from 0 root first in
         let same : i ≡ object = same_Some i object (sym (ap number_of_object e.2 ∙ number_back i) ∙ number) in
-        let entry = kept_stand o u 0 e.0 (slice_get_within (kept_entries o u) 0 e.0 e.1) in
-        let entry_is = subst (λ (x : ℕ × Entry). slice_get o.seen.entries x.0 ≡ Some x.1) (get_or_from_slice_get (kept_entries o u) 0 e.0 e.0 e.1) entry in
         record {
           own = ap (slice_get seen) (sym same) ∙ its_seen 0 root first;
           own_of_all = ap (slice_get all) (sym same) ∙ parts.analysis;
-          inside = subst (λ (x : Origin). x.entry < length o.seen.entries) (sym e.2) (slice_get_within o.seen.entries e.0.0 e.0.1 entry_is);
+          inside = entry_at 0 root first;
           plain = ap (slice_get shape.plain) (sym same) ∙ plain_there;
+          images = ap (slice_get shape.images) (sym same) ∙ images_there.1;
         }
 
-    pub cloned : (root : Origin) (it : OutUnit) → slice_get unit.nodes 0 ≡ Some root → IsUnitOf seen shape.images o.seen (plain_in o) root.entry unit.nodes it → slice_get (graph_in all shape).units n ≡ Some it
+    pub cloned : (root : Origin) (it : OutUnit) → slice_get unit.nodes 0 ≡ Some root → IsUnitOf o.seen images_there.0 (plain_in o) root.entry unit.nodes it → slice_get (graph_in all shape).units n ≡ Some it
     cloned root it first of = behind.in_graph ∙ from.linked_is ∙ ap (λ (made : OutUnit). Some made) (sym whole)
       where
         root_is : IsRootOf i o u root
@@ -235,5 +226,5 @@ module _ (all : List Analysis) (shape : Shape) (n : ℕ) (unit : ShapeUnit) (is 
 
         whole : it ≡ unit_written (image_of shape i) o u from.is.unit
         whole = of.is
-            ∙ unit_is (image_of shape) seen shape.images from.source o from.is.unit (plain_in o) images_there.0 of.entry of.unit unit.nodes (object_is o o.seen (plain_in o) refl kept_is) (its_seen 0 root first) images_there.1
+            ∙ unit_is (image_of shape) from.source o from.is.unit (plain_in o) images_there.0 of.entry of.unit unit.nodes (object_is o o.seen (plain_in o) refl kept_is)
             (images_tell shape i images_there.0 images_there.1) its_number its_unit origins

@@ -1,9 +1,9 @@
+pub mod Each
 pub mod Pieces
 pub mod Spans
 pub mod SpansInOrder
 pub mod Sources
 pub mod Placed
-pub mod Named
 pub mod Cloned
 pub mod Rooted
 pub mod Merged
@@ -11,3 +11,4 @@ pub mod Order
 pub mod FirstUses
 pub mod Numbered
 pub mod Pooled
+pub mod Asked

@@ -17,7 +17,7 @@ use Rattle.dwarf_types.specs.Sound.{IsSound}
 use Rattle.link_graph.specs.Graph.{IsShape, Source, files_of, image_of, pool_node, pool_root_node, pool_unit, source_of}
 use Rattle.link_graph.specs.PoolFiles.{SourceFile, files_named, number_among, same_file, table_of}
 use Rattle.clone_units.specs.Nodes.{number_of_object}
-use Rattle.clone_units.specs.Sourced.{IsPooled, image_in}
+use Rattle.clone_units.specs.Sourced.{ArePooled, IsPooled, image_in}
 use Rattle.clone_units.specs.Units.{AreThere, Holds, IsUnitIn, object_of}
 use Rattle.clone_units.proofs.Cloned.{its_object}
 use Rattle.clone_units.proofs.Placed.{IsBehind, IsFirst, placed}
@@ -57,6 +57,11 @@ same_source_of seen all origin there = by (eqb origin.object 0) refl
     by : (none : Bool) → eqb origin.object 0 ≡ none → cond none None (in_own (slice_get seen (origin.object - 1))) ≡ cond none None (in_own (slice_get all (origin.object - 1)))
     by true e = refl
     by false e = ap in_own (there (origin.object - 1) (ap (λ (b : Bool). cond b None (Some (origin.object - 1))) e))
+
+-- objects are counted from 1
+no_source : (all : List Analysis) (origin : Origin) → origin.object ≡ 0 → source_of all origin ≡ None
+no_source all origin none =
+    ap (λ (b : Bool). cond b None (option_and_then (λ (seen : Analysis). option_map (made (origin.object - 1) seen) (slice_get seen.entries origin.entry)) (slice_get all (origin.object - 1)))) (ap (λ (k : ℕ). eqb k 0) none)
 
 -- ---- the unit by the entries of its nodes
 
@@ -112,15 +117,32 @@ module _ (seen : List Analysis) (shape : Shape) (n : ℕ) (nodes : List Origin) 
         number = number;
       }))
 
-  pub are_pooled : All (IsPooled seen shape.images) nodes
-  are_pooled k d lt source at =
-      let is = source_is holds.all (get_or nodes k d) source (sym (sources_there holds.all holds.there k d lt) ∙ at) in
+  pooled_at : (origin : Origin) → source_of seen origin ≡ source_of holds.all origin → (source : Source) → source_of holds.all origin ≡ Some source → IsPooled seen shape.images origin
+  pooled_at origin same source at =
+      let is = source_is holds.all origin source at in
       let within = slice_get_within holds.all source.object source.seen is.own in
       let sound = subst IsSound (get_or_from_slice_get holds.all source.object source.seen source.seen is.own) (holds.sound source.object source.seen within) in
-      let entry = sound.entries (get_or nodes k d).entry source.entry is.stands in (
-        omega (arith, within, holds.is_shape.rows),
-        slice_get_within source.seen.units source.entry.unit entry.unit entry.its_unit,
-      )
+      let entry = sound.entries origin.entry source.entry is.stands in
+      record {
+        source = source;
+        stands = same ∙ at;
+        row = omega (arith, within, holds.is_shape.rows);
+        unit = slice_get_within source.seen.units source.entry.unit entry.unit entry.its_unit;
+      }
+
+  pub are_pooled : ArePooled seen shape.images nodes
+  are_pooled =
+      let pooled = (first holds.all holds.is_shape).pooled in
+      let nodes_are : nodes ≡ pooled.root ∷ pooled.below = r.same ∙ pooled.nodes in
+      let same = subst (All (λ origin. source_of seen origin ≡ source_of holds.all origin)) nodes_are (sources_there holds.all holds.there) in
+      let same_below = All-tail (λ origin. source_of seen origin ≡ source_of holds.all origin) pooled.root pooled.below same in
+      record {
+        root = pooled.root;
+        below = pooled.below;
+        nodes = nodes_are;
+        no_entry = no_source seen pooled.root pooled.is_root;
+        each = λ k d lt. (let found = pooled.each k d lt in pooled_at (get_or pooled.below k d) (same_below k d lt) found.0 found.1);
+      }
 
   pub done : (images : List (List (Option Target))) (it : OutUnit) → images ≡ shape.images → it ≡ pool_unit (image_in images) seen r.unit.version nodes → IsUnitIn seen shape n it
   done images it rows made all is there =

@@ -40,11 +40,17 @@ uses_are all (o ∷ origins) = ap (λ files. uses_of all o ++ files) (uses_are a
 -- ---- a node
 
 module _ (all : List Analysis) (images : List (List (Option Target))) (origin : Origin) (source : Source) (pooled : IsPooled all images origin) (at : Some source ≡ source_of all origin) where
+  its_source : pooled.source ≡ source
+  its_source = same_Some pooled.source source (sym pooled.stands ∙ sym at)
+
   pub has_row : source.object < length images
-  has_row = (pooled source (sym at)).0
+  has_row = subst (λ (s : Source). s.object < length images) its_source pooled.row
 
   unit_there : (unit : InUnit) × (slice_get source.seen.units source.entry.unit ≡ Some unit)
-  unit_there = elim (slice_get_cases source.seen.units source.entry.unit).1 [ inl w ↦ (w.0, w.2) | inr w ↦ absurd (omega (arith, w.0, (pooled source (sym at)).1)) ]
+  unit_there = elim (slice_get_cases source.seen.units source.entry.unit).1 [
+    | inl w ↦ (w.0, w.2)
+    | inr w ↦ absurd (omega (arith, w.0, subst (λ (s : Source). s.entry.unit < length s.seen.units) its_source pooled.unit))
+  ]
 
   row_there : (files : List SourceFile) → option_and_then (λ (row : List (List (Option ℕ))). slice_get row source.entry.unit) (slice_get (numbers_of_all files all) source.object) ≡ Some (numbers_of_unit files source.seen unit_there.0)
   row_there files = numbers_found files all source.object source.entry.unit source.seen unit_there.0 (source_is all origin source (sym at)).own unit_there.1
@@ -60,14 +66,16 @@ module _ (all : List Analysis) (images : List (List (Option Target))) (origin : 
     pub node_is : (row : List (Option Target)) (numbers : List (Option ℕ)) (tag : ℕ) (attrs : List OutAttr) → slice_get images source.object ≡ Some row
         → option_and_then (λ (row : List (List (Option ℕ))). slice_get row unit) (slice_get rows source.object) ≡ Some numbers → tag ≡ source.entry.tag
         → attrs ≡ attrs_written (image_at row) (Some (number_in numbers)) source.entry
-        → Some (record { parent = origin.parent; tag = tag; attrs = attrs }) ≡ pool_node (image_in images) all files origin
+        → pool_node (image_in images) all files origin ≡ Some (record { parent = origin.parent; tag = tag; attrs = attrs })
     node_is row numbers tag attrs leads found same_tag written =
+        sym (
         ap (λ (t : ℕ). Some (made t attrs)) same_tag
         ∙ ap (λ (xs : List OutAttr). Some (made source.entry.tag xs)) (
         written ∙ ap (λ (image : ℕ → Option Target). attrs_written image (Some (number_in numbers)) source.entry) (row_leads images source.object row leads)
         ∙ ap (λ (number : ℕ → Option ℕ). attrs_written (image_in images source.object) (Some number) source.entry) same_numbers
         )
         ∙ ap (option_map node_by) at
+        )
       where
         made : ℕ → List OutAttr → Node
         made tag attrs = record { parent = origin.parent; tag = tag; attrs = attrs }

@@ -1,8 +1,8 @@
 -- The unit of an object, as it is read of a shape.
-use Rattle.std.proofs.Common.{◌≡◌, ◌<◌, ◌⊎◌, ℕ, ◌-◌, cond, eqb, List, length, slice_get, Option, Some, None, inl, inr, refl, sym, ap, subst, ◌∙◌, arith}
+use Rattle.std.proofs.Common.{◌≡◌, ◌<◌, ◌⊎◌, ℕ, ◌-◌, cond, eqb, List, length, get_or, slice_get, Option, Some, None, inl, inr, refl, sym, ap, subst, ◌∙◌, arith}
 use Rattle.std.specs.List.{All}
 use Rattle.std.specs.Option.{option_and_then, option_map}
-use Rattle.std.proofs.lemmas.Option.{get_or_from_slice_get, same_Some, slice_get_within}
+use Rattle.std.proofs.lemmas.Option.{get_or_from_slice_get, same_Some, slice_get-get_or, slice_get_within}
 use Rattle.dwarf_types.specs.declared.analysis.Analysis.{Analysis}
 use Rattle.dwarf_types.specs.declared.graph.OutUnit.{OutUnit}
 use Rattle.dwarf_types.specs.declared.graph.Target.{Target}
@@ -12,9 +12,9 @@ use Rattle.dwarf_types.specs.declared.shape.ShapeUnit.{ShapeUnit}
 use Rattle.dwarf_types.specs.LinkedShape.{plain_in}
 use Rattle.dwarf_types.specs.Sound.{IsSound}
 use Rattle.link_graph.specs.Graph.{IsShape}
-use Rattle.clone_units.specs.Nodes.{IsNamed, number_of_object}
+use Rattle.clone_units.specs.Nodes.{IsEntryOf, number_of_object}
 use Rattle.clone_units.specs.Units.{Holds, IsUnitIn, IsUnitOf, object_of}
-use Rattle.clone_units.proofs.Cloned.{all_named, cloned, o, rooted}
+use Rattle.clone_units.proofs.Cloned.{all_entries, cloned, images_there, o, rooted}
 use Rattle.clone_units.proofs.Placed.{IsBehind, IsFirst, placed}
 
 -- the nodes of a unit as they are read
@@ -57,11 +57,8 @@ module _ (seen : List Analysis) (shape : Shape) (n : ℕ) (nodes : List Origin) 
   behind : (all : List Analysis) → IsShape all shape → IsBehind all shape n r.unit
   behind all is = behind_of all shape n r.unit object its_root (placed all shape is n r.unit r.at)
 
-  pub some_nodes : 0 < length nodes
+  some_nodes : 0 < length nodes
   some_nodes = omega (arith, ap length r.same, slice_get_within r.unit.nodes 0 its_root.root its_root.first)
-
-  pub are_named : All (IsNamed seen shape.images) nodes
-  are_named = subst (All (IsNamed seen shape.images)) (sym r.same) (all_named holds.all shape n r.unit holds.is_shape r.at (behind holds.all holds.is_shape) seen holds.there)
 
   -- its object, and what that has
   pub record AtRoot (root : Origin) : Type 0 where
@@ -71,9 +68,12 @@ module _ (seen : List Analysis) (shape : Shape) (n : ℕ) (nodes : List Origin) 
     pub inside : root.entry < length own.entries
     pub plain : List (Option ℕ)
     pub its_plain : slice_get shape.plain object ≡ Some plain
-    pub done : (it : OutUnit) → IsUnitOf seen shape.images own plain root.entry nodes it → IsUnitIn seen shape n it
+    pub images : List (Option Target)
+    pub its_images : slice_get shape.images object ≡ Some images
+    pub entries : All (IsEntryOf own) nodes
+    pub done : (it : OutUnit) → IsUnitOf own images plain root.entry nodes it → IsUnitIn seen shape n it
 
-  pub at_root : (root : Origin) → slice_get nodes 0 ≡ Some root → AtRoot root
+  at_root : (root : Origin) → slice_get nodes 0 ≡ Some root → AtRoot root
   at_root root first =
       let first_of = sym (ap (λ (os : List Origin). slice_get os 0) r.same) ∙ first in
       let same : its_root.root ≡ root = same_Some its_root.root root (sym its_root.first ∙ first_of) in
@@ -87,23 +87,43 @@ module _ (seen : List Analysis) (shape : Shape) (n : ℕ) (nodes : List Origin) 
         inside = h.inside;
         plain = plain_in own;
         its_plain = h.plain;
+        images = (images_there holds.all shape n r.unit holds.is_shape r.at (behind holds.all holds.is_shape)).0;
+        its_images = h.images;
+        entries = subst (All (IsEntryOf own.seen)) (sym r.same) (all_entries holds.all shape n r.unit holds.is_shape r.at (behind holds.all holds.is_shape));
         done = λ it of all is there.
             let h' = rooted all shape n r.unit is r.at (behind all is) seen there root object first_of number in
             let own' = o all shape n r.unit is r.at (behind all is) in
             let same : own.seen ≡ own'.seen = same_Some own.seen own'.seen (sym h.own ∙ h'.own) in
             let plain : plain_in own ≡ plain_in own' = same_Some (plain_in own) (plain_in own') (sym h.plain ∙ h'.plain) in
-            let of_unit = subst (λ (os : List Origin). IsUnitOf seen shape.images own.seen (plain_in own) root.entry os it) r.same of in
-            let of_own = subst (λ (a : Analysis). IsUnitOf seen shape.images a (plain_in own) root.entry r.unit.nodes it) same of_unit in
-            cloned all shape n r.unit is r.at (behind all is) seen there root it first_of (subst (λ (p : List (Option ℕ)). IsUnitOf seen shape.images own'.seen p root.entry r.unit.nodes it) plain of_own);
+            let row = images_there holds.all shape n r.unit holds.is_shape r.at (behind holds.all holds.is_shape) in
+            let row' = images_there all shape n r.unit is r.at (behind all is) in
+            let images : row.0 ≡ row'.0 = same_Some row.0 row'.0 (sym h.images ∙ h'.images) in
+            let of_unit = subst (λ (os : List Origin). IsUnitOf own.seen row.0 (plain_in own) root.entry os it) r.same of in
+            let of_own = subst (λ (a : Analysis). IsUnitOf a row.0 (plain_in own) root.entry r.unit.nodes it) same of_unit in
+            let of_row = subst (λ (rs : List (Option Target)). IsUnitOf own'.seen rs (plain_in own) root.entry r.unit.nodes it) images of_own in
+            cloned all shape n r.unit is r.at (behind all is) seen there root it first_of (subst (λ (p : List (Option ℕ)). IsUnitOf own'.seen row'.0 p root.entry r.unit.nodes it) plain of_row);
       }
 
-  -- as they are read
-  pub inside_of : (root : Origin) (own : Analysis) → AtRoot root → slice_get seen object ≡ Some own → root.entry < length own.entries
-  inside_of root own h its = subst (λ (a : Analysis). root.entry < length a.entries) (same_Some h.own own (sym h.its_own ∙ its)) h.inside
+  -- as it is read
+  pub the_root : AtRoot (get_or nodes 0 (record { object = 0; entry = 0; parent = None }))
+  the_root = at_root (get_or nodes 0 (record { object = 0; entry = 0; parent = None })) (slice_get-get_or nodes 0 (record { object = 0; entry = 0; parent = None }) some_nodes)
 
-  pub done_of : (root : Origin) (images : List (List (Option Target))) (own : Analysis) (plain : List (Option ℕ)) (it : OutUnit) → AtRoot root → images ≡ shape.images → slice_get seen object ≡ Some own
-      → slice_get shape.plain object ≡ Some plain → IsUnitOf seen images own plain root.entry nodes it → IsUnitIn seen shape n it
-  done_of root images own plain it h rows its its_plain of =
-      let of_rows = subst (λ (r : List (List (Option Target))). IsUnitOf seen r own plain root.entry nodes it) rows of in
-      let of_plain = subst (λ (p : List (Option ℕ)). IsUnitOf seen shape.images own p root.entry nodes it) (same_Some plain h.plain (sym its_plain ∙ h.its_plain)) of_rows in
-      h.done it (subst (λ (a : Analysis). IsUnitOf seen shape.images a h.plain root.entry nodes it) (same_Some own h.own (sym its ∙ h.its_own)) of_plain)
+  module _ (root : Origin) (h : AtRoot root) (own : Analysis) (its_own : slice_get seen object ≡ Some own) where
+    own_is : h.own ≡ own
+    own_is = same_Some h.own own (sym h.its_own ∙ its_own)
+
+    pub sound_of : IsSound own
+    sound_of = subst IsSound own_is h.sound
+
+    pub inside_of : root.entry < length own.entries
+    inside_of = subst (λ (a : Analysis). root.entry < length a.entries) own_is h.inside
+
+    pub entries_of : All (IsEntryOf own) nodes
+    entries_of = subst (λ (a : Analysis). All (IsEntryOf a) nodes) own_is h.entries
+
+    pub done_of : (images : List (Option Target)) (plain : List (Option ℕ)) (it : OutUnit) → slice_get shape.images object ≡ Some images → slice_get shape.plain object ≡ Some plain
+        → IsUnitOf own images plain root.entry nodes it → IsUnitIn seen shape n it
+    done_of images plain it its_images its_plain of =
+        let of_own = subst (λ (a : Analysis). IsUnitOf a images plain root.entry nodes it) (sym own_is) of in
+        let of_row = subst (λ (row : List (Option Target)). IsUnitOf h.own row plain root.entry nodes it) (same_Some images h.images (sym its_images ∙ h.its_images)) of_own in
+        h.done it (subst (λ (p : List (Option ℕ)). IsUnitOf h.own h.images p root.entry nodes it) (same_Some plain h.plain (sym its_plain ∙ h.its_plain)) of_row)

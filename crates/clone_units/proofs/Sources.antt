@@ -1,8 +1,8 @@
 -- The units of objects in a shape and those in the graph have the same sources.
-use Rattle.std.proofs.Common.{◌≡◌, ℕ, zero, suc, Bool, true, false, cond, eqb, List, [], ◌∷◌, length, get_or, slice_get, Option, Some, None, is_some, inl, inr, refl, sym, ap, subst, ◌∙◌}
-use Rattle.std.specs.List.{All, cons_option, enumerate_from, filter_map}
+use Rattle.std.proofs.Common.{◌≡◌, ℕ, Bool, true, false, cond, eqb, List, length, get_or, slice_get, Option, Some, None, is_some, inl, inr, refl, sym, ap, subst, ◌∙◌}
+use Rattle.std.specs.List.{All, enumerate_from, filter_map}
 use Rattle.std.specs.Option.{option_and_then, option_map}
-use Rattle.std.proofs.lemmas.List.Elements.{All-head, All-tail, All-weaker}
+use Rattle.std.proofs.lemmas.List.Elements.{All-weaker}
 use Rattle.std.proofs.lemmas.Option.{same_Some, slice_get_cases}
 use Rattle.dwarf_types.specs.declared.entry.InUnit.{InUnit}
 use Rattle.dwarf_types.specs.declared.graph.Target.{Target}
@@ -11,18 +11,7 @@ use Rattle.dwarf_types.specs.LinkedGraph.{unit_written, written}
 use Rattle.dwarf_types.specs.LinkedShape.{shape_in, unit_shape}
 use Rattle.dwarf_types.specs.LinkedUnits.{Object, Source, kept_entries, sources, sources_in}
 use Rattle.link_graph.proofs.Gathered.{All-enumerate, All-filter_map, All-flat_map}
-
--- ---- gathered from a list that gives something at each element
-
-at_more : {A B : Type 0} (f : A → Option B) (x : A) (xs : List A) (n : ℕ) (o : Option B) → f x ≡ o → is_some o ≡ true → ((m : ℕ) → slice_get (filter_map f xs) m ≡ option_and_then f (slice_get xs m))
-    → slice_get (cons_option o (filter_map f xs)) n ≡ option_and_then f (slice_get (x ∷ xs) n)
-at_more f x xs n None e some rest = absurd cc
-at_more f x xs zero (Some y) e some rest = sym e
-at_more f x xs (suc n) (Some y) e some rest = rest n
-
-filter_map_at : {A B : Type 0} (f : A → Option B) (xs : List A) → All (λ x. is_some (f x) ≡ true) xs → (n : ℕ) → slice_get (filter_map f xs) n ≡ option_and_then f (slice_get xs n)
-filter_map_at f [] each n = refl
-filter_map_at f (x ∷ xs) each n = at_more f x xs n (f x) refl (All-head (λ x. is_some (f x) ≡ true) x xs each) (filter_map_at f xs (All-tail (λ x. is_some (f x) ≡ true) x xs each))
+use Rattle.clone_units.proofs.Each.{filter_map_at}
 
 -- ---- sources
 

@@ -2,3 +2,4 @@ pub mod Pieces
 pub mod Nodes
 pub mod Units
 pub mod Sourced
+pub mod Given

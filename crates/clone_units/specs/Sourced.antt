@@ -1,18 +1,20 @@
 -- The entries of merged nodes, and the source files that they name: where names stand, and how files are numbered.
 use Rattle.std.specs.Prelude.{◌≡◌, ◌<◌, ℕ, List, [], ◌∷◌, ◌++◌, map, length, slice_get, Option, Some, None, if◌then◌else◌, ◌==◌}
+use Rattle.std.specs.List.{All}
 use Rattle.std.specs.Option.{option_and_then, option_map_or}
 use denote.Ref.{Bor}
 use Rattle.indexmap.specs.IndexSet.{IndexSet}
 use Rattle.clone_units.specs.declared.source_files.FileRef.{FileRef}
 use Rattle.clone_units.specs.declared.entry_sources.SourceRef.{SourceRef}
 use Rattle.clone_values.specs.Images.{image_at}
+use Rattle.dwarf_types.specs.declared.address.Span.{Span}
 use Rattle.dwarf_types.specs.declared.analysis.Analysis.{Analysis}
 use Rattle.dwarf_types.specs.declared.entry.InUnit.{InUnit}
 use Rattle.dwarf_types.specs.declared.graph.Target.{Target}
 use Rattle.dwarf_types.specs.declared.lines.OutLines.{OutLines}
 use Rattle.dwarf_types.specs.declared.shape.Origin.{Origin}
-use Rattle.link_graph.specs.Graph.{Source, source_of}
-use Rattle.link_graph.specs.PoolFiles.{SourceFile, files_named, listed_file, number_of}
+use Rattle.link_graph.specs.Graph.{Source, files_of, source_of}
+use Rattle.link_graph.specs.PoolFiles.{SourceFile, files_named, listed_file, number_of, table_of}
 
 -- ---- what is borrowed, as values
 
@@ -64,6 +66,23 @@ numbers_of_all files all = map (numbers_in files) all
 abbrev pub image_in : List (List (Option Target)) → ℕ → ℕ → Option Target
 image_in images object k = option_and_then (λ row. image_at row k) (slice_get images object)
 
--- the entry of a node has what its references and its source file need
-abbrev pub IsPooled : List Analysis → List (List (Option Target)) → Origin → Type 0
-IsPooled all images origin = (source : Source) → source_of all origin ≡ Some source → (source.object < length images) × (source.entry.unit < length source.seen.units)
+-- the entry of a node is there, with what its references and its source file need
+pub record IsPooled (all : List Analysis) (images : List (List (Option Target))) (origin : Origin) : Type 0 where
+  pub source : Source
+  pub stands : source_of all origin ≡ Some source
+  pub row : source.object < length images
+  pub unit : source.entry.unit < length source.seen.units
+
+-- all nodes but the root, which comes first, stand for entries
+pub record ArePooled (all : List Analysis) (images : List (List (Option Target))) (origins : List Origin) : Type 0 where
+  pub root : Origin
+  pub below : List Origin
+  pub nodes : origins ≡ root ∷ below
+  pub no_entry : source_of all root ≡ None
+  pub each : All (IsPooled all images) below
+
+-- what is made for the unit of merged entries: the numbers of the source files that its entries name, its line table, and no ranges
+pub record IsMadeFor (all : List Analysis) (version : ℕ) (origins : List Origin) (rows : List (List (List (Option ℕ)))) (table : OutLines) (spans : List Span) : Type 0 where
+  pub numbers : rows ≡ numbers_of_all (files_of all origins) all
+  pub lines : table ≡ table_of version (files_of all origins)
+  pub ranges : spans ≡ []

@@ -4,6 +4,7 @@ use Rattle.std.specs.List.{All, filter_map}
 use Rattle.std.specs.Option.{option_and_then}
 use Rattle.clone_units.specs.Nodes.{node_at, number_of_object}
 use Rattle.clone_units.specs.Pieces.{object_in}
+use Rattle.dwarf_types.specs.declared.address.Span.{Span}
 use Rattle.dwarf_types.specs.declared.analysis.Analysis.{Analysis}
 use Rattle.dwarf_types.specs.declared.entry.Entry.{Entry}
 use Rattle.dwarf_types.specs.declared.entry.InUnit.{InUnit}
@@ -17,23 +18,17 @@ use Rattle.dwarf_types.specs.Live.{Stands}
 use Rattle.dwarf_types.specs.Sound.{IsSound}
 use Rattle.link_graph.specs.Graph.{IsShape, graph_in}
 
--- unit u of an object, the nodes of whose entries are known
-abbrev pub unit_with : List Analysis → List (List (Option Target)) → Analysis → List (Option ℕ) → ℕ → InUnit → List Origin → OutUnit
-unit_with seen images own plain u unit origins =
-    record {
-      version = unit.version;
-      nodes = filter_map (node_at seen images (code_of_unit (object_in own plain) u)) origins;
-      lines = unit.lines;
-      ranges = code_of_unit (object_in own plain) u;
-    }
+-- a unit of an object, with the addresses of its code, by the entries for which its nodes stand
+abbrev pub unit_with : Analysis → List (Option Target) → InUnit → List Span → List Origin → OutUnit
+unit_with own row unit spans origins = record { version = unit.version; nodes = filter_map (node_at own row spans) origins; lines = unit.lines; ranges = spans }
 
--- the unit in which entry k of an object stands
-pub record IsUnitOf (seen : List Analysis) (images : List (List (Option Target))) (own : Analysis) (plain : List (Option ℕ)) (k : ℕ) (origins : List Origin) (it : OutUnit) : Type 0 where
+-- the unit in which entry k of an object stands, by the nodes of the object's entries
+pub record IsUnitOf (own : Analysis) (row : List (Option Target)) (plain : List (Option ℕ)) (k : ℕ) (origins : List Origin) (it : OutUnit) : Type 0 where
   pub entry : Entry
   pub stands : Stands own.entries k entry
   pub unit : InUnit
   pub its_unit : slice_get own.units entry.unit ≡ Some unit
-  pub is : it ≡ unit_with seen images own plain entry.unit unit origins
+  pub is : it ≡ unit_with own row unit (code_of_unit (object_in own plain) entry.unit) origins
 
 -- the object of a unit of a shape, which its root names; the root of the unit of merged entries names none
 abbrev pub object_of : Shape → ℕ → Option ℕ

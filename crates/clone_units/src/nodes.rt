@@ -1,73 +1,48 @@
-//! The nodes of a unit, whose entries may be of many objects.
+//! Nodes by the entries for which they stand.
 
-ghost use Rattle.std.specs.Prelude.{◌≡◌, ◌<◌, ◌++◌, Some, IsSome, length, slice_get, All, IfOk, OnOk};
-ghost use Rattle.std.specs.List.{filter_map};
-ghost use Rattle.clone_units.specs.Nodes.{IsNamed, node_at, number_of_object};
+ghost use Rattle.std.specs.Prelude.{◌≡◌, ◌<◌, ◌++◌, Some, length, map, slice_get, IfOk, OnOk};
+ghost use Rattle.clone_units.specs.Nodes.{IsEntryOf, node_at};
 ghost use Rattle.dwarf_types.specs.LinkedGraph.{closing};
 ghost use Rattle.dwarf_types.specs.WellRoots.{closing_pair};
+ghost use Rattle.unit_source.specs.Given.{attr_given, node_given};
 
-use clone_values::{Files, attrs_of, copy_of_spans};
+use clone_values::{Files, add_attrs};
 use ds_base::dwarf::{DW_AT_low_pc, DW_AT_ranges};
 use ds_base::{List, NoMemory};
-use dwarf_types::{Analysis, EntryRef, Node, Origin, OutAttr, OutValue, Span, Target};
+use dwarf_types::{Analysis, EntryRef, Origin, Span, Target};
 use std::alloc::Global;
+use unit_source::{NodeHead, OutAttrRef, OutValueRef};
 
-/// The nodes that stand for some entries, each of its object.
-pub(crate) fn nodes_of(
+/// The node that stands for an entry of an object, whose attributes take the place of those in `attrs`.
+///
+/// `images` tells where references to the entries of the object lead, and `spans` are the addresses of the unit's code.
+pub(crate) fn node_of<'a>(
     alloc: Global,
-    seen: &[Analysis],
-    images: &[List<Option<Target>>],
-    spans: &[Span],
-    origins: &[Origin],
-) -> Result<List<Node>, NoMemory>
-    requires named { All (IsNamed seen.now images.now) origins.now }
-    ensures { IfOk result (λ nodes. nodes ≡ filter_map (node_at seen.now images.now spans.now) origins.now) }
-{
-    let mut nodes = List::with_capacity(alloc, origins.len())?;
-    for origin in origins {
-        let node = node_of(alloc, seen, images, spans, *origin)?;
-        nodes.push(node)?;
-    }
-    Ok(nodes)
-}
-
-/// The node that stands for an entry.
-fn node_of(
-    alloc: Global,
-    seen: &[Analysis],
-    images: &[List<Option<Target>>],
-    spans: &[Span],
+    own: &'a Analysis,
+    images: &[Option<Target>],
+    spans: &'a [Span],
     origin: Origin,
-) -> Result<Node, NoMemory>
-    requires named { IsNamed seen.now images.now origin }
-    ensures { IfOk result (λ node. node_at seen.now images.now spans.now origin ≡ Some node) }
+    attrs: &mut Vec<OutAttrRef<'a>>,
+) -> Result<NodeHead, NoMemory>
+    requires { IsEntryOf own.now origin }
+    ensures { IfOk result (λ head. node_at own.now images.now spans.now origin ≡ Some (node_given head attrs.new.items)) }
 {
-    let object = object_named(origin);
-    let entry = entry_of(analysis_of(seen, object), origin.entry);
-    let row = row_of(images, object);
-    let mut attrs = attrs_of(alloc, row, &Files::Own, &entry)?;
-    add_closing(alloc, &entry, spans, &mut attrs)?;
-    Ok(Node {
+    let entry = entry_of(own, origin.entry);
+    attrs.clear();
+    add_attrs(alloc, images, &Files::Own, &entry, attrs)?;
+    add_closing(&entry, spans, attrs)?;
+    Ok(NodeHead {
         parent: origin.parent,
         tag: entry.tag(),
-        attrs,
     })
 }
 
-/// The number of a node's object, counted from 0.
-fn object_named(origin: Origin) -> usize
-    requires { IsSome (number_of_object origin) }
-    ensures { number_of_object origin ≡ Some result }
+/// The entry of node `k`.
+pub(crate) fn origin_at(origins: &[Origin], k: usize) -> Origin
+    requires { k < length origins.now }
+    ensures { slice_get origins.now k ≡ Some result }
 {
-    origin.object as usize - 1
-}
-
-/// The analysis of an object.
-pub(crate) fn analysis_of(seen: &[Analysis], object: usize) -> &Analysis
-    requires { object < length seen.now }
-    ensures { slice_get seen.now object ≡ Some result.now }
-{
-    &seen[object]
+    origins[k]
 }
 
 /// The row of an object.
@@ -87,36 +62,30 @@ pub(crate) fn entry_of(seen: &Analysis, k: u32) -> EntryRef<'_>
 }
 
 /// Ends the attributes of a root whose unit has code.
-fn add_closing(
-    alloc: Global,
-    entry: &EntryRef,
-    spans: &[Span],
-    attrs: &mut List<OutAttr>,
+fn add_closing<'a>(
+    entry: &EntryRef<'a>,
+    spans: &'a [Span],
+    attrs: &mut Vec<OutAttrRef<'a>>,
 ) -> Result<(), NoMemory>
-    ensures { OnOk result (attrs.new ≡ attrs.old ++ closing entry.now spans.now) }
+    ensures { OnOk result (map attr_given attrs.new.items ≡ map attr_given attrs.old.items ++ closing entry.now spans.now) }
 {
     if entry.parent().is_none() && !spans.is_empty() {
-        add_closing_pair(alloc, spans, attrs)?;
+        add_closing_pair(spans, attrs)?;
     }
     Ok(())
 }
 
 /// A low_pc of 0, from which the addresses of the unit's lists count, and the unit's ranges.
-fn add_closing_pair(
-    alloc: Global,
-    spans: &[Span],
-    attrs: &mut List<OutAttr>,
-) -> Result<(), NoMemory>
-    ensures { OnOk result (attrs.new ≡ attrs.old ++ closing_pair spans.now) }
+fn add_closing_pair<'a>(spans: &'a [Span], attrs: &mut Vec<OutAttrRef<'a>>) -> Result<(), NoMemory>
+    ensures { OnOk result (map attr_given attrs.new.items ≡ map attr_given attrs.old.items ++ closing_pair spans.now) }
 {
-    let ranges = copy_of_spans(alloc, spans)?;
-    attrs.push(OutAttr {
+    attrs.push(OutAttrRef {
         name: DW_AT_low_pc,
-        value: OutValue::Address(0),
+        value: OutValueRef::Address(0),
     })?;
-    attrs.push(OutAttr {
+    attrs.push(OutAttrRef {
         name: DW_AT_ranges,
-        value: OutValue::Ranges(ranges),
+        value: OutValueRef::Ranges(spans),
     })?;
     Ok(())
 }

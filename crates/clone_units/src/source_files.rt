@@ -1,6 +1,9 @@
 //! The source files that entries name, each by the names of its directory and of itself.
 
-ghost use Rattle.std.specs.Prelude.{◌≡◌, ◌==◌, [], None, if◌then◌else◌, fold, slice_get, OnOk, IfOk};
+ghost use Rattle.std.specs.Prelude.{◌≡◌, ◌==◌, [], ◌∷◌, None, if◌then◌else◌, fold, slice_get, OnOk, IfOk};
+ghost use Rattle.std.proofs.Common.{ap, ◌∙◌};
+ghost use Rattle.std.proofs.lemmas.Bool.{and_parts};
+ghost use Rattle.std.specs.Cmp.Lexicographic.{bytes_decides};
 ghost use Rattle.std.specs.List.{flat_map};
 ghost use Rattle.std.specs.Option.{option_and_then, option_map, option_map_or};
 ghost use Rattle.clone_units.specs.Sourced.{file_seen, files_seen, uses_of};
@@ -16,12 +19,26 @@ use ds_base::dwarf::{DW_AT_comp_dir, DW_AT_decl_file, DWARF_5};
 use dwarf_types::{Analysis, AttrRef, EntryRef, FileName, InUnit, Origin, OutLines, ValueRef};
 use indexmap::IndexSet;
 use std::alloc::Global;
+use std::hash::{Hash, Hasher};
 
 /// A source file, by the names of its directory and of itself where they stand.
-#[derive(Clone, Copy, PartialEq, Eq, Hash)]
+///
+/// Each is hashed as one piece, so by many bytes at a time.
+#[derive(Clone, Copy, PartialEq, Eq)]
 pub(crate) struct FileRef<'a> {
     pub(crate) dir: &'a [u8],
     pub(crate) name: &'a [u8],
+}
+
+impl<'a> Hash for FileRef<'a> {
+    ghost hash_input = { λ file. file.dir.now ∷ file.name.now ∷ [] };
+
+    ghost respects_eq = { λ x y same. ap (λ dir. dir ∷ x.name.now ∷ []) ((bytes_decides x.dir.now y.dir.now).0 (and_parts _ _ same).0) ∙ ap (λ name. y.dir.now ∷ name ∷ []) ((bytes_decides x.name.now y.name.now).0 (and_parts _ _ same).1) };
+
+    fn hash<H: Hasher>(&self, state: &mut H) {
+        state.write(self.dir);
+        state.write(self.name);
+    }
 }
 
 /// The source files that the entries of nodes name, by first use.

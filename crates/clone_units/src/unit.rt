@@ -3,16 +3,18 @@
 ghost use Rattle.std.specs.Prelude.{◌≡◌, ◌<◌, length, slice_get, None, Some, IfOk};
 ghost use Rattle.std.specs.List.{All};
 ghost use Rattle.std.specs.Option.{option_map};
-ghost use Rattle.clone_units.specs.Nodes.{IsNamed, number_of_object};
-ghost use Rattle.clone_units.specs.Units.{Holds, IsUnitIn, IsUnitOf, object_of, unit_with};
+ghost use Rattle.clone_units.specs.Given.{unit_given};
+ghost use Rattle.clone_units.specs.Nodes.{IsEntryOf, number_of_object};
+ghost use Rattle.clone_units.specs.Units.{Holds, IsUnitIn, IsUnitOf, object_of};
 ghost use Rattle.dwarf_types.specs.Sound.{IsSound};
 
-use crate::lines::copy_of_lines;
-use crate::nodes::{analysis_of, entry_of, nodes_of, row_of};
-use crate::pool::pool_unit;
+use crate::nodes::{entry_of, row_of};
+use crate::object::ObjectClone;
+use crate::pool::PoolClone;
 use crate::ranges::ranges_of;
-use ds_base::{List, NoMemory};
-use dwarf_types::{Analysis, InUnit, Origin, OutUnit, Shape, ShapeUnit, Target};
+use crate::unit_clone::UnitClone;
+use ds_base::NoMemory;
+use dwarf_types::{Analysis, Origin, Shape, ShapeUnit, Target};
 use std::alloc::Global;
 
 /// A unit of the linked graph, by its number in a shape of the objects.
@@ -21,30 +23,36 @@ use std::alloc::Global;
 /// its ranges are the pieces of its subprograms' code, in order and each once. The unit of merged entries has a root of
 /// its own, nodes that say what the entries say for which they stand, and a line table with the source files that those
 /// name. Versions are those of the shape. Of the analyses only those need be there whose entries the unit's nodes stand for.
-pub fn clone_unit(
+pub fn clone_unit<'a>(
     alloc: Global,
-    seen: &[Analysis],
-    shape: &Shape,
+    seen: &'a [Analysis],
+    shape: &'a Shape,
     unit: u32,
-) -> Result<OutUnit, NoMemory>
+) -> Result<UnitClone<'a>, NoMemory>
     requires unit { unit < length shape.now.units }
     requires holds { Holds seen.now shape.now unit }
-    ensures { IfOk result (IsUnitIn seen.now shape.now unit) }
+    ensures { IfOk result (λ clone. IsUnitIn seen.now shape.now unit (unit_given clone)) }
 {
     match object_of(shape, unit) {
-        Some(object) => unit_of_object(alloc, seen, shape, unit, object as usize),
-        None => unit_of_pool(alloc, seen, shape, unit),
+        Some(object) => {
+            let clone = unit_of_object(alloc, seen, shape, unit, object as usize)?;
+            Ok(UnitClone::Object(clone))
+        }
+        None => {
+            let clone = unit_of_pool(alloc, seen, shape, unit)?;
+            Ok(UnitClone::Pool(clone))
+        }
     }
 }
 
 /// A unit of one object.
-fn unit_of_object(
+fn unit_of_object<'a>(
     alloc: Global,
-    seen: &[Analysis],
-    shape: &Shape,
+    seen: &'a [Analysis],
+    shape: &'a Shape,
     unit: u32,
     object: usize,
-) -> Result<OutUnit, NoMemory>
+) -> Result<ObjectClone<'a>, NoMemory>
     requires unit { unit < length shape.now.units }
     requires holds { Holds seen.now shape.now unit }
     requires object { object_of shape.now unit ≡ Some object }
@@ -53,9 +61,8 @@ fn unit_of_object(
     let nodes = nodes_in(shape, unit);
     let made = unit_of_entry(
         alloc,
-        seen,
-        shape.images.as_slice(),
         analysis_of(seen, object),
+        row_of(shape.images.as_slice(), object),
         row_of(shape.plain.as_slice(), object),
         nodes[0].entry,
         nodes,
@@ -63,20 +70,28 @@ fn unit_of_object(
     Ok(made)
 }
 
+/// The analysis of an object.
+fn analysis_of(seen: &[Analysis], object: usize) -> &Analysis
+    requires { object < length seen.now }
+    ensures { slice_get seen.now object ≡ Some result.now }
+{
+    &seen[object]
+}
+
 /// The unit of merged entries.
-fn unit_of_pool(
+fn unit_of_pool<'a>(
     alloc: Global,
-    seen: &[Analysis],
-    shape: &Shape,
+    seen: &'a [Analysis],
+    shape: &'a Shape,
     unit: u32,
-) -> Result<OutUnit, NoMemory>
+) -> Result<PoolClone<'a>, NoMemory>
     requires unit { unit < length shape.now.units }
     requires holds { Holds seen.now shape.now unit }
     requires pool { object_of shape.now unit ≡ None }
     ensures { IfOk result (IsUnitIn seen.now shape.now unit) }
 {
     let pool = unit_in(shape, unit);
-    let made = pool_unit(
+    let made = PoolClone::new(
         alloc,
         seen,
         shape.images.as_slice(),
@@ -122,48 +137,21 @@ fn number_of_object(node: Origin) -> Option<u32>
 }
 
 /// The unit of an object in which entry `k` stands.
-fn unit_of_entry(
+fn unit_of_entry<'a>(
     alloc: Global,
-    seen: &[Analysis],
-    images: &[List<Option<Target>>],
-    own: &Analysis,
+    own: &'a Analysis,
+    images: &'a [Option<Target>],
     plain: &[Option<u32>],
     k: u32,
-    origins: &[Origin],
-) -> Result<OutUnit, NoMemory>
+    origins: &'a [Origin],
+) -> Result<ObjectClone<'a>, NoMemory>
     requires sound { IsSound own.now }
     requires inside { k < length own.now.entries }
-    requires named { All (IsNamed seen.now images.now) origins.now }
-    ensures { IfOk result (IsUnitOf seen.now images.now own.now plain.now k origins.now) }
+    requires named { All (IsEntryOf own.now) origins.now }
+    ensures { IfOk result (IsUnitOf own.now images.now plain.now k origins.now) }
 {
     let u = entry_of(own, k).unit();
     let unit = &own.units.as_slice()[u as usize];
-    let made = unit_of(alloc, seen, images, own, plain, u, unit, origins)?;
-    Ok(made)
-}
-
-/// Unit `u` of an object.
-fn unit_of(
-    alloc: Global,
-    seen: &[Analysis],
-    images: &[List<Option<Target>>],
-    own: &Analysis,
-    plain: &[Option<u32>],
-    u: u32,
-    unit: &InUnit,
-    origins: &[Origin],
-) -> Result<OutUnit, NoMemory>
-    requires sound { IsSound own.now }
-    requires unit { slice_get own.now.units u ≡ Some unit.now }
-    requires named { All (IsNamed seen.now images.now) origins.now }
-    ensures { IfOk result (λ it. it ≡ unit_with seen.now images.now own.now plain.now u unit.now origins.now) }
-{
     let ranges = ranges_of(alloc, own, plain, u, unit)?;
-    let nodes = nodes_of(alloc, seen, images, ranges.as_slice(), origins)?;
-    Ok(OutUnit {
-        version: unit.version,
-        nodes,
-        lines: copy_of_lines(alloc, &unit.lines)?,
-        ranges,
-    })
+    Ok(ObjectClone::new(own, images, unit, origins, ranges))
 }

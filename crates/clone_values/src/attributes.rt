@@ -1,6 +1,7 @@
 //! The attributes of an entry.
 
-ghost use Rattle.std.specs.Prelude.{◌≡◌, ◌==◌, ◌||◌, ◌&&◌, ℕ, Option, Some, if◌then◌else◌, is_none, IfOk};
+ghost use Rattle.std.specs.Prelude.{◌≡◌, ◌==◌, ◌||◌, ◌&&◌, ◌++◌, ℕ, Option, Some, if◌then◌else◌, is_none, map, IfOk, OnOk};
+ghost use Rattle.std.specs.Option.{option_map};
 ghost use Rattle.clone_values.specs.Files.{number_in, numbers_of};
 ghost use Rattle.clone_values.specs.Images.{image_at};
 ghost use Rattle.dwarf_types.specs.declared.entry.Entry.{Entry};
@@ -9,55 +10,58 @@ ghost use Rattle.dwarf_types.specs.LinkedValues.{attr_written, attrs_written, fi
 ghost use Rattle.dwarf_types.specs.Seen.{attr_seen};
 ghost use Rattle.dwarf_types.specs.WellNodes.{is_dropped};
 ghost use Rattle.dwarf_types.specs.WellRoots.{is_code_range};
+ghost use Rattle.unit_source.specs.Given.{attr_given, value_given};
 
 use crate::files::{Files, renumbered};
 use crate::value::value_written;
+use ds_base::NoMemory;
 use ds_base::dwarf::{
     DW_AT_addr_base, DW_AT_decl_file, DW_AT_high_pc, DW_AT_loclists_base, DW_AT_low_pc,
     DW_AT_ranges, DW_AT_rnglists_base, DW_AT_sibling, DW_AT_str_offsets_base,
 };
-use ds_base::{List, NoMemory};
-use dwarf_types::{AttrRef, EntryRef, OutAttr, OutValue, Target, ValueRef};
+use dwarf_types::{AttrRef, EntryRef, Target, ValueRef};
 use std::alloc::Global;
+use unit_source::{OutAttrRef, OutValueRef};
 
-/// What an entry says where it is written: its attributes in order, moved to the linked program, or dropped.
+/// Puts what an entry says where it is written behind other attributes: its attributes in order, moved to the linked
+/// program, or dropped.
 ///
 /// `images` tells where references to each entry of the object lead, and `files` how the output unit numbers source
 /// files. A dropped attribute speaks of how the input was laid out, has an address that did not move, a list with
 /// nothing left, a reference to an entry that is not written or a file that the output unit lacks, or is the length of
 /// code whose low_pc did not move. A root's own addresses are dropped, since its unit's ranges stand for them.
-pub fn attrs_of(
+pub fn add_attrs<'a>(
     alloc: Global,
     images: &[Option<Target>],
     files: &Files,
-    entry: &EntryRef,
-) -> Result<List<OutAttr>, NoMemory>
-    ensures { IfOk result (λ attrs. attrs ≡ attrs_written (image_at images.now) (numbers_of files.now) entry.now) }
+    entry: &EntryRef<'a>,
+    attrs: &mut Vec<OutAttrRef<'a>>,
+) -> Result<(), NoMemory>
+    ensures { OnOk result (map attr_given attrs.new.items ≡ map attr_given attrs.old.items ++ attrs_written (image_at images.now) (numbers_of files.now) entry.now) }
 {
-    let mut attrs = List::with_capacity(alloc, entry.len())?;
     for j in 0..entry.len() {
         if let Some(written) = attr_written(alloc, images, files, entry, &entry.attr(j))? {
             attrs.push(written)?;
         }
     }
-    Ok(attrs)
+    Ok(())
 }
 
 /// An attribute of an entry, where it is written.
-fn attr_written(
+fn attr_written<'a>(
     alloc: Global,
     images: &[Option<Target>],
     files: &Files,
-    entry: &EntryRef,
-    attr: &AttrRef,
-) -> Result<Option<OutAttr>, NoMemory>
-    ensures { IfOk result (λ it. it ≡ attr_written (image_at images.now) (numbers_of files.now) entry.now (attr_seen attr.now)) }
+    entry: &EntryRef<'a>,
+    attr: &AttrRef<'a>,
+) -> Result<Option<OutAttrRef<'a>>, NoMemory>
+    ensures { IfOk result (λ it. option_map attr_given it ≡ attr_written (image_at images.now) (numbers_of files.now) entry.now (attr_seen attr.now)) }
 {
     if is_left_out(entry, attr.name) {
         return Ok(None);
     }
     match said(alloc, images, files, entry, attr)? {
-        Some(value) => Ok(Some(OutAttr {
+        Some(value) => Ok(Some(OutAttrRef {
             name: attr.name,
             value,
         })),
@@ -66,14 +70,14 @@ fn attr_written(
 }
 
 /// What an attribute of an entry says, where it is written.
-fn said(
+fn said<'a>(
     alloc: Global,
     images: &[Option<Target>],
     files: &Files,
-    entry: &EntryRef,
-    attr: &AttrRef,
-) -> Result<Option<OutValue>, NoMemory>
-    ensures { IfOk result (λ it. it ≡ (if attr.now.name == DW_AT_decl_file then file_written (image_at images.now) (numbers_of files.now) entry.now (attr_seen attr.now) (attr_seen attr.now).value else value_written (image_at images.now) entry.now (attr_seen attr.now) (attr_seen attr.now).value)) }
+    entry: &EntryRef<'a>,
+    attr: &AttrRef<'a>,
+) -> Result<Option<OutValueRef<'a>>, NoMemory>
+    ensures { IfOk result (λ it. option_map value_given it ≡ (if attr.now.name == DW_AT_decl_file then file_written (image_at images.now) (numbers_of files.now) entry.now (attr_seen attr.now) (attr_seen attr.now).value else value_written (image_at images.now) entry.now (attr_seen attr.now) (attr_seen attr.now).value)) }
 {
     if attr.name == DW_AT_decl_file {
         file_said(alloc, images, files, entry, attr)
@@ -83,14 +87,14 @@ fn said(
 }
 
 /// What the number of a source file is in the output.
-fn file_said(
+fn file_said<'a>(
     alloc: Global,
     images: &[Option<Target>],
     files: &Files,
-    entry: &EntryRef,
-    attr: &AttrRef,
-) -> Result<Option<OutValue>, NoMemory>
-    ensures { IfOk result (λ it. it ≡ file_written (image_at images.now) (numbers_of files.now) entry.now (attr_seen attr.now) (attr_seen attr.now).value) }
+    entry: &EntryRef<'a>,
+    attr: &AttrRef<'a>,
+) -> Result<Option<OutValueRef<'a>>, NoMemory>
+    ensures { IfOk result (λ it. option_map value_given it ≡ file_written (image_at images.now) (numbers_of files.now) entry.now (attr_seen attr.now) (attr_seen attr.now).value) }
 {
     match files {
         Files::Own => value_written(alloc, images, entry, attr),
@@ -99,8 +103,8 @@ fn file_said(
 }
 
 /// The number of a source file, where the output unit's line table has the file.
-fn file_written(numbers: &[Option<u64>], attr: &AttrRef) -> Option<OutValue>
-    ensures { (image : ℕ → Option Node) (e : Entry) → result ≡ file_written image (Some (number_in numbers.now)) e (attr_seen attr.now) (attr_seen attr.now).value }
+fn file_written<'a>(numbers: &[Option<u64>], attr: &AttrRef<'a>) -> Option<OutValueRef<'a>>
+    ensures { (image : ℕ → Option Node) (e : Entry) → option_map value_given result ≡ file_written image (Some (number_in numbers.now)) e (attr_seen attr.now) (attr_seen attr.now).value }
 {
     match attr.value {
         ValueRef::Number { bits, .. } => renumbered(numbers, bits),

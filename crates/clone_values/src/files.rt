@@ -4,9 +4,10 @@ ghost use Rattle.std.specs.Prelude.{◌≡◌};
 ghost use Rattle.std.specs.Option.{option_map};
 ghost use Rattle.clone_values.specs.Files.{number_in};
 ghost use Rattle.dwarf_types.specs.declared.graph.OutValue.TheVariants as out;
+ghost use Rattle.unit_source.specs.Given.{value_given};
 
 use ds_base::dwarf::DW_FORM_udata;
-use dwarf_types::OutValue;
+use unit_source::OutValueRef;
 
 /// How an output unit numbers the source files of an entry that it has.
 #[derive(Clone, Copy)]
@@ -18,11 +19,11 @@ pub enum Files<'a> {
 }
 
 /// A number of a source file, where it has another.
-pub(crate) fn renumbered(numbers: &[Option<u64>], n: u64) -> Option<OutValue>
-    ensures { result ≡ option_map (λ m. out.Number DW_FORM_udata m) (number_in numbers.now n) }
+pub(crate) fn renumbered<'a>(numbers: &[Option<u64>], n: u64) -> Option<OutValueRef<'a>>
+    ensures { option_map value_given result ≡ option_map (λ m. out.Number DW_FORM_udata m) (number_in numbers.now n) }
 {
     let number = number_in(numbers, n)?;
-    Some(OutValue::Number {
+    Some(OutValueRef::Number {
         form: DW_FORM_udata,
         bits: number,
     })

@@ -10,62 +10,69 @@ ghost use Rattle.dwarf_types.specs.Forms.{is_flag};
 ghost use Rattle.dwarf_types.specs.LinkedValues.{all_move, location_written, loses_low_pc, unless_empty, value_written};
 ghost use Rattle.dwarf_types.specs.Moves.{address_moved};
 ghost use Rattle.dwarf_types.specs.Seen.{attr_seen, location_seen};
+ghost use Rattle.unit_source.specs.Given.{value_given};
 
 use crate::expression::parts_of;
 use crate::images::image_at;
 use ds_base::dwarf::DW_AT_high_pc;
-use ds_base::{Bytes, List, NoMemory};
+use ds_base::{List, NoMemory};
 use dwarf_types::{
-    AttrRef, EntryRef, LocationRef, LocationsRef, OpsRef, OutLocation, OutValue, Span, Target,
-    ValueRef, is_flag,
+    AttrRef, EntryRef, LocationRef, LocationsRef, OpsRef, OutLocation, Span, Target, ValueRef,
+    is_flag,
 };
 use liveness::{address_moved, all_fields_moved, low_pc_moves};
 use std::alloc::Global;
+use unit_source::{CowList, OutValueRef};
 
 /// What an attribute of an entry says where it is written; none where it is dropped.
-pub(crate) fn value_written(
+pub(crate) fn value_written<'a>(
     alloc: Global,
     images: &[Option<Target>],
-    entry: &EntryRef,
-    attr: &AttrRef,
-) -> Result<Option<OutValue>, NoMemory>
-    ensures { IfOk result (λ it. it ≡ value_written (image_at images.now) entry.now (attr_seen attr.now) (attr_seen attr.now).value) }
+    entry: &EntryRef<'a>,
+    attr: &AttrRef<'a>,
+) -> Result<Option<OutValueRef<'a>>, NoMemory>
+    ensures { IfOk result (λ it. option_map value_given it ≡ value_written (image_at images.now) entry.now (attr_seen attr.now) (attr_seen attr.now).value) }
 {
     match &attr.value {
         ValueRef::Address(_) => Ok(address_written(entry.tag(), attr)),
-        ValueRef::Text(text) => Ok(Some(OutValue::Text(Bytes::from_slice(alloc, text)?))),
+        ValueRef::Text(text) => Ok(Some(OutValueRef::Text(*text))),
         ValueRef::Number { form, bits } => Ok(number_written(entry, attr, *form, *bits)),
         ValueRef::Wide(bytes) if loses_low_pc(entry, attr) => Ok(None),
-        ValueRef::Wide(bytes) => Ok(Some(OutValue::Wide(Bytes::from_slice(alloc, bytes)?))),
-        ValueRef::Block { form, bytes } => Ok(Some(OutValue::Block {
+        ValueRef::Wide(bytes) => Ok(Some(OutValueRef::Wide(*bytes))),
+        ValueRef::Block { form, bytes } => Ok(Some(OutValueRef::Block {
             form: *form,
-            bytes: Bytes::from_slice(alloc, bytes)?,
+            bytes: *bytes,
         })),
         ValueRef::Expr(ops) => expression_written(alloc, images, ops),
         ValueRef::Ref(k) => Ok(reference_written(images, *k)),
-        ValueRef::Ranges(spans) => ranges_written(alloc, spans),
+        ValueRef::Ranges(spans) => Ok(ranges_written(*spans)),
         ValueRef::Locations(items) => locations_written(alloc, images, items),
-        ValueRef::Lines => Ok(Some(OutValue::Lines)),
+        ValueRef::Lines => Ok(Some(OutValueRef::Lines)),
         ValueRef::Offset(_) => Ok(None),
     }
 }
 
 /// An address, where it moved.
-fn address_written(tag: u16, attr: &AttrRef) -> Option<OutValue>
-    ensures { result ≡ option_map (λ n. out.Address n) (address_moved tag (attr_seen attr.now)) }
+fn address_written<'a>(tag: u16, attr: &AttrRef<'a>) -> Option<OutValueRef<'a>>
+    ensures { option_map value_given result ≡ option_map (λ n. out.Address n) (address_moved tag (attr_seen attr.now)) }
 {
     let address = address_moved(tag, attr)?;
-    Some(OutValue::Address(address))
+    Some(OutValueRef::Address(address))
 }
 
 /// A number, where it is no length that goes with its low_pc.
-fn number_written(entry: &EntryRef, attr: &AttrRef, form: u16, bits: u64) -> Option<OutValue>
-    ensures { result ≡ (if not (is_flag form) && loses_low_pc entry.now (attr_seen attr.now) then None else Some (out.Number form bits)) }
+fn number_written<'a>(
+    entry: &EntryRef<'a>,
+    attr: &AttrRef<'a>,
+    form: u16,
+    bits: u64,
+) -> Option<OutValueRef<'a>>
+    ensures { option_map value_given result ≡ (if not (is_flag form) && loses_low_pc entry.now (attr_seen attr.now) then None else Some (out.Number form bits)) }
 {
     if !is_flag(form) && loses_low_pc(entry, attr) {
         return None;
     }
-    Some(OutValue::Number { form, bits })
+    Some(OutValueRef::Number { form, bits })
 }
 
 /// Whether an attribute of class constant is a length that goes with its low_pc.
@@ -76,58 +83,51 @@ fn loses_low_pc(entry: &EntryRef, attr: &AttrRef) -> bool
 }
 
 /// An expression, where its addresses moved.
-fn expression_written(
+fn expression_written<'a>(
     alloc: Global,
     images: &[Option<Target>],
-    ops: &OpsRef,
-) -> Result<Option<OutValue>, NoMemory>
-    ensures { IfOk result (λ it. it ≡ (if all_move ops.now then Some (out.Expr (parts_of (image_at images.now) ops.now)) else None)) }
+    ops: &OpsRef<'a>,
+) -> Result<Option<OutValueRef<'a>>, NoMemory>
+    ensures { IfOk result (λ it. option_map value_given it ≡ (if all_move ops.now then Some (out.Expr (parts_of (image_at images.now) ops.now)) else None)) }
 {
     if !all_fields_moved(ops) {
         return Ok(None);
     }
     let parts = parts_of(alloc, images, ops)?;
-    Ok(Some(OutValue::Expr(parts)))
+    Ok(Some(OutValueRef::Expr(CowList::Owned(parts))))
 }
 
 /// A reference, where its entry is written.
-fn reference_written(images: &[Option<Target>], k: u32) -> Option<OutValue>
-    ensures { result ≡ option_map (λ target. out.Ref target) (image_at images.now k) }
+fn reference_written<'a>(images: &[Option<Target>], k: u32) -> Option<OutValueRef<'a>>
+    ensures { option_map value_given result ≡ option_map (λ target. out.Ref target) (image_at images.now k) }
 {
     let target = image_at(images, k)?;
-    Some(OutValue::Ref(target))
+    Some(OutValueRef::Ref(target))
 }
 
 /// A range list, where a piece is left of it.
-fn ranges_written(alloc: Global, spans: &[Span]) -> Result<Option<OutValue>, NoMemory>
-    ensures { IfOk result (λ it. it ≡ unless_empty (λ list. out.Ranges list) spans.now) }
+fn ranges_written(spans: &[Span]) -> Option<OutValueRef<'_>>
+    ensures { option_map value_given result ≡ unless_empty (λ list. out.Ranges list) spans.now }
 {
     if spans.is_empty() {
-        return Ok(None);
+        return None;
     }
-    Ok(Some(OutValue::Ranges(copy_of_spans(alloc, spans)?)))
-}
-
-/// A copy of a range list.
-pub fn copy_of_spans(alloc: Global, spans: &[Span]) -> Result<List<Span>, NoMemory>
-    ensures { IfOk result (λ copy. copy ≡ spans.now) }
-{
-    Ok(List::from_vec(Vec::from_slice(alloc, spans)?))
+    Some(OutValueRef::Ranges(spans))
 }
 
 /// A location list, where an item is left of it.
-fn locations_written(
+fn locations_written<'a>(
     alloc: Global,
     images: &[Option<Target>],
-    items: &LocationsRef,
-) -> Result<Option<OutValue>, NoMemory>
-    ensures { IfOk result (λ it. it ≡ unless_empty (λ list. out.Locations list) (filter_map (location_written (image_at images.now)) items.now)) }
+    items: &LocationsRef<'a>,
+) -> Result<Option<OutValueRef<'a>>, NoMemory>
+    ensures { IfOk result (λ it. option_map value_given it ≡ unless_empty (λ list. out.Locations list) (filter_map (location_written (image_at images.now)) items.now)) }
 {
     let locations = items_written(alloc, images, items)?;
     if locations.is_empty() {
         return Ok(None);
     }
-    Ok(Some(OutValue::Locations(locations)))
+    Ok(Some(OutValueRef::Locations(CowList::Owned(locations))))
 }
 
 /// The items of a location list that are left.

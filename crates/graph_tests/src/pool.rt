@@ -8,18 +8,19 @@ ghost use Rattle.dwarf_types.specs.Sound.{IsSound};
 use crate::rows::{Row, Says, analysis_of_files, under, unit};
 use crate::sound::is_sound;
 use crate::words::put_number;
-use clone_units::clone_unit;
+use clone_units::{UnitClone, clone_unit};
 use ds_base::NoMemory;
 use ds_base::dwarf::{
     DW_AT_comp_dir, DW_AT_const_value, DW_AT_decl_file, DW_AT_name, DW_AT_type, DW_FORM_data1,
     DW_TAG_structure_type, DW_TAG_variable,
 };
-use dwarf_types::{Analysis, Node, OutLines, OutUnit, OutValue};
+use dwarf_types::{Analysis, OutLines};
 use link_graph::build;
 use liveness::live;
 use odr_names::{book, winners_plain};
 use std::alloc::Global;
 use std::process::Abort;
+use unit_source::{OutAttrRef, OutValueRef, UnitSource};
 
 // ---- words
 
@@ -38,9 +39,9 @@ fn put_table(line: &mut Vec<u8>, lines: &OutLines) -> Result<(), NoMemory> {
 }
 
 /// The number of the source file that a node names, with its form.
-fn put_file(line: &mut Vec<u8>, node: &Node) -> Result<(), NoMemory> {
+fn put_file(line: &mut Vec<u8>, attrs: &[OutAttrRef]) -> Result<(), NoMemory> {
     line.push(b'\n')?;
-    for attr in node.attrs.as_slice() {
+    for attr in attrs {
         if attr.name == DW_AT_decl_file {
             put_file_number(line, &attr.value)?;
         }
@@ -48,8 +49,8 @@ fn put_file(line: &mut Vec<u8>, node: &Node) -> Result<(), NoMemory> {
     Ok(())
 }
 
-fn put_file_number(line: &mut Vec<u8>, value: &OutValue) -> Result<(), NoMemory> {
-    if let OutValue::Number { form, bits } = value {
+fn put_file_number(line: &mut Vec<u8>, value: &OutValueRef) -> Result<(), NoMemory> {
+    if let OutValueRef::Number { form, bits } = value {
         put_number(line, u64::from(*form))?;
         line.push(b'/')?;
         put_number(line, *bits)?;
@@ -57,16 +58,24 @@ fn put_file_number(line: &mut Vec<u8>, value: &OutValue) -> Result<(), NoMemory>
     Ok(())
 }
 
-fn words_of(alloc: Global, unit: &OutUnit) -> Result<Vec<u8>, NoMemory> {
+/// The same of all nodes of a unit.
+fn put_files(alloc: Global, line: &mut Vec<u8>, unit: &UnitClone) -> Result<(), NoMemory> {
+    let mut attrs = Vec::new(alloc);
+    for k in 0..unit.len() {
+        unit.node(alloc, k, &mut attrs)?;
+        put_file(line, &attrs)?;
+    }
+    Ok(())
+}
+
+fn words_of(alloc: Global, unit: &UnitClone) -> Result<Vec<u8>, NoMemory> {
     let mut line = Vec::new(alloc);
-    put_number(&mut line, u64::from(unit.version))?;
+    put_number(&mut line, u64::from(unit.version()))?;
     line.push(b' ')?;
-    if let Some(lines) = &unit.lines {
+    if let Some(lines) = unit.lines() {
         put_table(&mut line, lines)?;
     }
-    for node in unit.nodes.as_slice() {
-        put_file(&mut line, node)?;
-    }
+    put_files(alloc, &mut line, unit)?;
     Ok(line)
 }
 

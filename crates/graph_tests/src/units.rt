@@ -11,7 +11,7 @@ ghost use Rattle.dwarf_types.specs.Sound.{IsSound};
 use crate::rows::{Row, Says, analysis, marks, piece, under, unit};
 use crate::sound::is_sound;
 use crate::words::put_number;
-use clone_units::clone_unit;
+use clone_units::{UnitClone, clone_unit};
 use ds_base::dwarf::{
     DW_AT_byte_size, DW_AT_const_value, DW_AT_external, DW_AT_high_pc, DW_AT_language,
     DW_AT_low_pc, DW_AT_macro_info, DW_AT_name, DW_AT_sibling, DW_AT_type, DW_FORM_data1,
@@ -19,11 +19,12 @@ use ds_base::dwarf::{
     DW_TAG_structure_type, DW_TAG_subprogram, DW_TAG_variable,
 };
 use ds_base::{BitRow, NoMemory};
-use dwarf_types::{Analysis, CodeRange, Node, OutAttr, OutLines, OutUnit, OutValue, Span};
+use dwarf_types::{Analysis, CodeRange, OutLines, Span};
 use link_graph::build;
 use odr_names::{book, winners_plain};
 use std::alloc::Global;
 use std::process::Abort;
+use unit_source::{NodeHead, OutAttrRef, OutValueRef, UnitSource};
 
 // ---- words
 
@@ -37,31 +38,31 @@ fn put_spans(line: &mut Vec<u8>, spans: &[Span]) -> Result<(), NoMemory> {
     Ok(())
 }
 
-fn put_value(line: &mut Vec<u8>, value: &OutValue) -> Result<(), NoMemory> {
+fn put_value(line: &mut Vec<u8>, value: &OutValueRef) -> Result<(), NoMemory> {
     match value {
-        OutValue::Address(n) => {
+        OutValueRef::Address(n) => {
             line.push(b'a')?;
             put_number(line, *n)
         }
-        OutValue::Text(bytes) => {
+        OutValueRef::Text(bytes) => {
             line.push(b't')?;
-            line.extend_from_slice(bytes.as_slice())?;
+            line.extend_from_slice(bytes)?;
             Ok(())
         }
-        OutValue::Number { form, bits } => {
+        OutValueRef::Number { form, bits } => {
             line.push(b'n')?;
             put_number(line, u64::from(*form))?;
             line.push(b'/')?;
             put_number(line, *bits)
         }
-        OutValue::Ref(target) => {
+        OutValueRef::Ref(target) => {
             line.push(b'r')?;
             put_number(line, u64::from(target.unit))?;
             line.push(b'.')?;
             put_number(line, u64::from(target.node))
         }
-        OutValue::Ranges(spans) => put_spans(line, spans.as_slice()),
-        OutValue::Lines => {
+        OutValueRef::Ranges(spans) => put_spans(line, spans),
+        OutValueRef::Lines => {
             line.push(b'p')?;
             Ok(())
         }
@@ -72,7 +73,7 @@ fn put_value(line: &mut Vec<u8>, value: &OutValue) -> Result<(), NoMemory> {
     }
 }
 
-fn put_attrs(line: &mut Vec<u8>, attrs: &[OutAttr]) -> Result<(), NoMemory> {
+fn put_attrs(line: &mut Vec<u8>, attrs: &[OutAttrRef]) -> Result<(), NoMemory> {
     for attr in attrs {
         line.push(b' ')?;
         put_number(line, u64::from(attr.name))?;
@@ -82,22 +83,28 @@ fn put_attrs(line: &mut Vec<u8>, attrs: &[OutAttr]) -> Result<(), NoMemory> {
     Ok(())
 }
 
-fn put_nodes(line: &mut Vec<u8>, nodes: &[Node]) -> Result<(), NoMemory> {
-    for node in nodes {
-        line.push(b'\n')?;
-        if let Some(parent) = node.parent {
-            put_number(line, u64::from(parent))?;
-            line.push(b'<')?;
-        }
-        put_number(line, u64::from(node.tag))?;
-        line.push(b':')?;
-        put_attrs(line, node.attrs.as_slice())?;
+fn put_node(line: &mut Vec<u8>, head: NodeHead, attrs: &[OutAttrRef]) -> Result<(), NoMemory> {
+    line.push(b'\n')?;
+    if let Some(parent) = head.parent {
+        put_number(line, u64::from(parent))?;
+        line.push(b'<')?;
+    }
+    put_number(line, u64::from(head.tag))?;
+    line.push(b':')?;
+    put_attrs(line, attrs)
+}
+
+fn put_nodes(alloc: Global, line: &mut Vec<u8>, unit: &UnitClone) -> Result<(), NoMemory> {
+    let mut attrs = Vec::new(alloc);
+    for k in 0..unit.len() {
+        let head = unit.node(alloc, k, &mut attrs)?;
+        put_node(line, head, &attrs)?;
     }
     Ok(())
 }
 
 /// The numbers of a line table's directories, files and sequences.
-fn put_lines(line: &mut Vec<u8>, lines: &Option<OutLines>) -> Result<(), NoMemory> {
+fn put_lines(line: &mut Vec<u8>, lines: Option<&OutLines>) -> Result<(), NoMemory> {
     if let Some(lines) = lines {
         line.push(b'L')?;
         put_number(line, lines.dirs.len() as u64)?;
@@ -107,13 +114,13 @@ fn put_lines(line: &mut Vec<u8>, lines: &Option<OutLines>) -> Result<(), NoMemor
     Ok(())
 }
 
-fn put_unit(line: &mut Vec<u8>, unit: &OutUnit) -> Result<(), NoMemory> {
-    put_number(line, u64::from(unit.version))?;
-    put_lines(line, &unit.lines)?;
+fn put_unit(alloc: Global, line: &mut Vec<u8>, unit: &UnitClone) -> Result<(), NoMemory> {
+    put_number(line, u64::from(unit.version()))?;
+    put_lines(line, unit.lines())?;
     line.push(b'[')?;
-    put_spans(line, unit.ranges.as_slice())?;
+    put_spans(line, unit.ranges())?;
     line.push(b']')?;
-    put_nodes(line, unit.nodes.as_slice())?;
+    put_nodes(alloc, line, unit)?;
     line.push(b'\n')?;
     Ok(())
 }
@@ -145,7 +152,8 @@ fn both(
         return Err(NoMemory);
     };
     for unit in 0..count {
-        put_unit(&mut line, &clone_unit(alloc, &seen, &shape, unit)?)?;
+        let clone = clone_unit(alloc, &seen, &shape, unit)?;
+        put_unit(alloc, &mut line, &clone)?;
     }
     Ok(line)
 }

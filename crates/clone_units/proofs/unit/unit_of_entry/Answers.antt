@@ -1,6 +1,9 @@
-use Rattle.std.proofs.Common.{◌≡◌, ℕ, List, length, slice_get, Some, refl, sym, ap, subst, ◌∙◌, arith}
+use Rattle.std.proofs.Common.{◌≡◌, List, length, slice_get, Some, refl, sym, ap, subst, ◌∙◌, arith}
 use Rattle.std.proofs.lemmas.Option.{slice_get_read, slice_get_within}
+use Rattle.dwarf_types.specs.declared.address.Span.{Span}
 use Rattle.dwarf_types.specs.declared.entry.InUnit.{InUnit}
+use Rattle.dwarf_types.specs.LinkedGraph.{code_of_unit}
+use Rattle.clone_units.specs.Pieces.{object_in}
 use Rattle.clone_units.specs.Units.{unit_with}
 use Rattle.clone_units.proofs.unit.unit_of_entry.Goals as goal
 
@@ -9,8 +12,8 @@ bounds-as_slice-u c =
     let e = c.requires.sound.entries c.args.k c.entry_of.result c.entry_of.ensures in
     omega (arith, slice_get_within c.args.own.now.units c.entry_of.result.unit e.unit e.its_unit, c.unit-u.ensures, ap length c.as_slice.ensures)
 
-pub unit_of-requires-clause-unit : goal.unit_of-requires-clause-unit
-unit_of-requires-clause-unit c =
+pub ranges_of-requires-clause-unit : goal.ranges_of-requires-clause-unit
+ranges_of-requires-clause-unit c =
     let e = c.requires.sound.entries c.args.k c.entry_of.result c.entry_of.ensures in
     let within = slice_get_within c.args.own.now.units c.entry_of.result.unit e.unit e.its_unit in
     subst (λ (us : List InUnit). slice_get us c.unit-u.result ≡ Some c.index-as_slice-u.result) c.as_slice.ensures
@@ -22,10 +25,11 @@ returns c =
     let within = slice_get_within c.args.own.now.units c.entry_of.result.unit e.unit e.its_unit in
     let at = subst (λ (us : List InUnit). slice_get us c.unit-u.result ≡ Some c.index-as_slice-u.result) c.as_slice.ensures
     (slice_get_read c.as_slice.result.now _ c.unit-u.result c.index-as_slice-u.result refl (omega (arith, within, c.unit-u.ensures, ap length c.as_slice.ensures)) c.index-as_slice-u.is) in
+    let code = c.in_ok-ranges.ensures ∙ ap (code_of_unit (object_in c.args.own.now c.args.plain.now)) c.unit-u.ensures in
     record {
       entry = c.entry_of.result;
       stands = c.entry_of.ensures;
       unit = c.index-as_slice-u.result;
       its_unit = ap (slice_get c.args.own.now.units) (sym c.unit-u.ensures) ∙ at;
-      is = c.in_ok-made.ensures ∙ ap (λ (u : ℕ). unit_with c.args.seen.now c.args.images.now c.args.own.now c.args.plain.now u c.index-as_slice-u.result c.args.origins.now) c.unit-u.ensures;
+      is = c.new.ensures ∙ ap (λ (spans : List Span). unit_with c.args.own.now c.args.images.now c.index-as_slice-u.result spans c.args.origins.now) code;
     }

@@ -1,6 +1,8 @@
+use Rattle.std.proofs.Common.{map}
+use Rattle.unit_source.specs.Given.{attr_given}
 use Rattle.clone_units.specs.Sourced.{source_seen}
 use Rattle.clone_units.proofs.Pooled.{has_numbers, has_row, node_is}
-use Rattle.clone_units.proofs.pool.node_in_pool.Goals as goal
+use Rattle.clone_units.proofs.pool.merged_node.Goals as goal
 
 pub row_of-row-requires : goal.row_of-row-requires
 row_of-row-requires c = has_row c.args.seen.now c.args.images.now c.args.origin (source_seen c.in-Some.source) c.requires.pooled c.in-Some.ensures
@@ -12,4 +14,4 @@ numbers_at-requires c =
 pub returns : goal.returns
 returns c files are =
     node_is c.args.seen.now c.args.images.now c.args.origin (source_seen c.in-Some.source) c.requires.pooled c.in-Some.ensures c.args.numbers.now files are c.unit-unit.result c.unit-unit.ensures
-    c.row_of-row.result.now c.numbers_at.result.now c.tag.result c.in_ok-attrs.attrs c.row_of-row.ensures c.numbers_at.ensures c.tag.ensures c.in_ok-attrs.ensures
+    c.row_of-row.result.now c.numbers_at.result.now c.tag.result (map attr_given c.add_attrs.new.attrs.items) c.row_of-row.ensures c.numbers_at.ensures c.tag.ensures (rw c.clear.ensures.items at c.in_ok-add_attrs.ensures)
