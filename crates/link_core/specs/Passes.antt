@@ -12,7 +12,7 @@ use Rattle.dwarf_types.specs.Entries.{unit_len}
 use Rattle.dwarf_types.specs.Sound.{IsSound}
 use Rattle.macho_read.specs.declared.image.Image.{Image}
 use Rattle.link_graph.specs.Graph.{IsShape, graph_in}
-use Rattle.link_graph.specs.Merged.{linked_names, pool_units}
+use Rattle.link_graph.specs.Merged.{linked_names, pool_units, shape_of}
 use Rattle.link_graph.specs.Pool.{pool_names}
 use Rattle.dwarf_types.specs.declared.shape.Shape.{Shape}
 use Rattle.dwarf_types.specs.declared.shape.ShapeUnit.{ShapeUnit}
@@ -105,6 +105,13 @@ Names odr seen live (Ok names) = (names ≡ linked_names odr seen live) × (leng
 Names odr seen live (Err (refusals.Faulty file fault)) = ⊥
 Names odr seen live (Err (refusals.Limit which n)) = (program : Image) → limit_of odr program seen live ≡ Some (refusals.Limit which n)
 Names odr seen live (Err refusals.NoMemory) = Unit {0}
+
+-- the shape of what is linked, or that it has too many units
+abbrev pub ShapesAll : Bool → List Analysis → List (List Bool) → Result Shape Refusal → Type 0
+ShapesAll odr seen live (Ok shape) = (shape ≡ shape_of odr seen live) × IsShape seen shape × (length shape.units < 2 ^ 32 - 1)
+ShapesAll odr seen live (Err (refusals.Faulty file fault)) = ⊥
+ShapesAll odr seen live (Err (refusals.Limit which n)) = (program : Image) → limit_of odr program seen live ≡ Some (refusals.Limit which n)
+ShapesAll odr seen live (Err refusals.NoMemory) = Unit {0}
 
 -- where there are names, the first unit has a root and their nodes
 pub record HasPool (shape : Shape) (names : List Named) : Type 0 where

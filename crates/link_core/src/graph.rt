@@ -1,19 +1,23 @@
 //! The linked graph: its names, its shape, and its frames.
 
-ghost use Rattle.std.specs.Prelude.{◌≡◌, ◌<◌, ◌≤◌, ◌^◌, List as Listed, length, IfOk};
+ghost use Rattle.std.specs.Prelude.{◌≡◌, ◌<◌, ◌≤◌, ◌^◌, ◌-◌, List as Listed, Ok, length, IfOk};
 ghost use Rattle.std.specs.List.{All, flat_map};
 ghost use Rattle.dwarf_types.specs.Sound.{IsSound};
 ghost use Rattle.link_graph.specs.Pool.{pool_names};
+ghost use Rattle.odr_names.specs.Winners.{AreWinners};
 ghost use Rattle.type_names.specs.Names.{Named};
 ghost use Rattle.link_core.specs.Linked.{MarkLive};
-ghost use Rattle.link_core.specs.Passes.{HasPool, Names, Shapes};
+ghost use Rattle.link_core.specs.declared.refusal.LimitKind.TheVariants as limits;
+ghost use Rattle.link_core.specs.declared.refusal.Refusal.TheVariants as refusals;
+ghost use Rattle.link_core.specs.Passes.{HasPool, Names, Shapes, ShapesAll};
 
 use crate::refusal::{LimitKind, Refusal};
+use crate::shaping::shared_shape;
 use ds_base::limits::SECTION_BYTES;
 use ds_base::{BitRow, List, NoMemory};
 use ds_files::Gate;
 use dwarf_types::{Analysis, OutFrames, Shape};
-use link_graph::build;
+use link_graph::ShapeError;
 use name_bids::{shared_book, shared_winners};
 use odr_names::{BookError, MOST_POOLED, PathBook, count};
 use std::alloc::Global;
@@ -52,13 +56,7 @@ pub(crate) fn shape_of<R: Threads + Sync, G: Gate + Sync>(
     let names = names_of(rt, alloc, workers, odr, seen, live)?;
     let bids = shared_winners(rt, alloc, workers, gate, &names)?;
     let (winners, closed) = bids;
-    let shape = build(alloc, seen, live, &names, &winners)?;
-    if shape.units.len() as u64 >= SECTION_BYTES {
-        return Err(Refusal::Limit {
-            which: LimitKind::Section,
-            number: SECTION_BYTES,
-        });
-    }
+    let shape = few_units(rt, alloc, workers, odr, seen, live, &names, &winners)?;
     let pooled = count(&names);
     let names = merged_nodes(&shape, pooled);
     Ok(Shaped {
@@ -91,6 +89,47 @@ fn names_of<'a, R: Threads + Sync>(
             number: MOST_POOLED as u64,
         }),
         Err(BookError::NoMemory) => Err(Refusal::NoMemory),
+    }
+}
+
+/// The shape of what is linked, made by so many threads; or that it has too many units.
+fn few_units<R: Threads + Sync>(
+    rt: &R,
+    alloc: Global,
+    workers: u32,
+    odr: bool,
+    seen: &[Analysis],
+    live: &[BitRow],
+    names: &PathBook,
+    winners: &[u32],
+) -> Result<Shape, Refusal>
+    requires workers { (1 ≤ workers) × (workers ≤ 64) }
+    requires sound { All IsSound seen.now }
+    requires live { MarkLive seen.now live.now }
+    requires few { length seen.now < 2 ^ 16 }
+    requires names { Names odr seen.now live.now (Ok names.now) }
+    requires winners { AreWinners names.now winners.now }
+    ensures { ShapesAll odr seen.now live.now result }
+{
+    match shared_shape(rt, alloc, workers, seen, live, names, winners) {
+        Ok(shape) => {
+            if shape.units.len() as u64 >= SECTION_BYTES {
+                return Err(too_many_units());
+            }
+            Ok(shape)
+        }
+        Err(ShapeError::Units) => Err(too_many_units()),
+        Err(ShapeError::NoMemory) => Err(Refusal::NoMemory),
+    }
+}
+
+/// The limit of units: each takes bytes in a section.
+fn too_many_units() -> Refusal
+    ensures { result ≡ refusals.Limit limits.Section (2 ^ 32 - 1) }
+{
+    Refusal::Limit {
+        which: LimitKind::Section,
+        number: SECTION_BYTES,
     }
 }
 

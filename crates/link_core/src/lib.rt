@@ -1,10 +1,11 @@
 //! The objects of a program linked to its bundle, and how a link ends.
 //!
 //! Layer: top. [`link_objects`] goes over the objects in passes: it reads each and marks its live entries (`reading`,
-//! `objects`), has their names made and bid for and gives the output its shape (`graph`), makes each unit and drafts its
-//! bytes (`drafting`, `batches`), gives the drafts their places and writes the image (`image`), and counts (`counts`).
-//! Several threads share the objects, their names, and then the units, by `work_share` and `name_bids`. What it answers is
-//! `specs/Linked.antt`, which knows of no threads; what the passes answer, each to the next, `specs/Passes.antt`.
+//! `objects`), has their names made and bid for and gives the output its shape (`graph`, `shaping`), makes each unit and
+//! drafts its bytes (`drafting`, `batches`), gives the drafts their places and writes the image (`image`), and counts
+//! (`counts`). Several threads share the objects, their names and shapes, and then the units, by `work_share` and
+//! `name_bids`. What it answers is `specs/Linked.antt`, which knows of no threads; what the passes answer, each to the
+//! next, `specs/Passes.antt`.
 #![tactic(auto)]
 
 mod batches;
@@ -20,6 +21,7 @@ mod objects;
 mod reading;
 mod refusal;
 mod results;
+mod shaping;
 mod status;
 
 pub use bundle::{Counts, Linked, Options};

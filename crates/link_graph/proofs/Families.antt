@@ -2,7 +2,7 @@
 use Rattle.std.proofs.Common.{◌≡◌, ◌⊎◌, inl, inr, ℕ, zero, suc, ◌+◌, ◌-◌, ◌<◌, ◌≤◌, ◌==◌, eqb, Bool, false, cond, List, [], ◌∷◌, ◌++◌, length, map, Option, Some, None, slice_get, get_or, refl, sym, ap, ◌∙◌, arith, subst}
 use Rattle.std.specs.Cmp.{IsEquivalence, IsTotalOrder}
 use Rattle.std.specs.List.{IsDistinct, flat_map, list_any}
-use Rattle.std.specs.List.Sorted.{IsNonDecreasingBy, IsPartitionPoint, IsPermutation, IsSortedBy}
+use Rattle.std.specs.List.Sorted.{IsNonDecreasingBy, IsPermutation, IsSortedBy}
 use Rattle.std.specs.Option.{ForSome, option_map_or}
 use Rattle.std.specs.Ordering.{is_lt, nat_cmp, ordering_then}
 use Rattle.std.proofs.lemmas.Bool.{both_ways, cases_Bool, cases_eq, cases_lt, eq-eqb, eqb-true, ne_eqb}
@@ -20,7 +20,7 @@ use Rattle.type_names.specs.Paths.{Piece}
 use Rattle.link_graph.specs.declared.pool.Child.{Child}
 use Rattle.link_graph.specs.declared.pool.Run.{Run}
 use Rattle.link_graph.specs.Pool.{children_of, is_outbid}
-use Rattle.link_graph.specs.PoolOrder.{AreApart, AreChildrenTo, AreInOrder, IsChildOf, IsFamily, IsKey, IsLinkedUp, IsRunOf, Wins, below, key_of, key_path, name_at, run_gives, run_in}
+use Rattle.link_graph.specs.PoolOrder.{AreApart, AreChildrenTo, AreInOrder, IsChildOf, IsFamily, IsKey, IsLinkedUp, AreLowerTo, IsRunOf, IsStart, Wins, below, key_of, key_path, name_at, run_gives, run_in}
 use Rattle.link_graph.proofs.PoolPaths.{child_path, is_child_from, not_empty}
 use Rattle.link_graph.proofs.PoolTrees.{AreShort, below_unfolds, child_from, child_is, children_rise, not_outbid, outbid_none}
 use Rattle.link_graph.proofs.Rising.{Differ, Has, Rises, differ_from, flat_map_of_map, from_map, has_at, has_map, has_part, only_rising, part_at, place_of, rises_from, rises_map}
@@ -264,17 +264,41 @@ family_sorted names winners cs moved are same order = record {
 
 -- ---- runs
 
-pub run_from : (cs : List Child) (key next end : ℕ) → next ≤ length cs → end ≤ length cs → IsPartitionPoint (λ c. c.parent < key) (λ c. key ≤ c.parent) cs next → IsPartitionPoint (λ c. c.parent ≤ key) (λ c. key < c.parent) cs end
-    → IsRunOf cs key (record { next = next; end = end })
-run_from cs key next end next_in end_in low high = record {
-  within = end_in;
-  front = λ i c at lt. subst (λ (c : Child). c.parent < key) (get_or_from_slice_get cs i c c at) (low.0 i c (omega arith) lt);
+pub run_from : (cs : List Child) (key next end : ℕ) → IsStart cs key next → IsStart cs (key + 1) end → IsRunOf cs key (record { next = next; end = end })
+run_from cs key next end low high = record {
+  within = high.before.within;
+  front = low.before.lower;
   here = λ i c at from lt. (
-      let one : key ≤ c.parent = subst (λ (c : Child). key ≤ c.parent) (get_or_from_slice_get cs i c c at) (low.1 i c from (slice_get_within cs i c at)) in
-      let two : c.parent ≤ key = subst (λ (c : Child). c.parent ≤ key) (get_or_from_slice_get cs i c c at) (high.0 i c (omega arith) lt) in
+      let one : key ≤ c.parent = low.behind i c at from in
+      let two : c.parent < key + 1 = high.before.lower i c at lt in
       omega (arith, one, two));
-  behind = λ i c at from. subst (λ (c : Child). key < c.parent) (get_or_from_slice_get cs i c c at) (high.1 i c from (slice_get_within cs i c at));
+  behind = λ i c at from. let far : key + 1 ≤ c.parent = high.behind i c at from in omega (arith, far);
 }
+
+-- one more is of a lower number
+pub lower_more : (cs : List Child) (key place : ℕ) (d : Child) → place < length cs → (get_or cs place d).parent < key → AreLowerTo cs key place → AreLowerTo cs key (place + 1)
+lower_more cs key place d lt low so_far = record {
+  within = omega (arith, lt);
+  lower = λ i c at within. elim (cases_lt i place) [
+    | inl before ↦ so_far.lower i c at before
+    | inr le ↦ (
+        let same : place ≡ i = omega (arith, le, within) in
+        subst (λ (c : Child). c.parent < key) (ap (λ (n : ℕ). get_or cs n d) same ∙ get_or_from_slice_get cs i c d at) low)
+  ];
+}
+
+-- the first one that is not of a lower number
+pub start_here : (cs : List Child) (key place : ℕ) (d : Child) → IsNonDecreasingBy (λ c. c.parent) cs → key ≤ (get_or cs place d).parent → AreLowerTo cs key place → IsStart cs key place
+start_here cs key place d order far so_far = record {
+  before = so_far;
+  behind = λ i c at le. (
+      let rise = order place i d le (slice_get_within cs i c at) in
+      omega (arith, far, rise, ap (λ (c : Child). c.parent) (get_or_from_slice_get cs i c d at)));
+}
+
+-- none is left
+pub start_end : (cs : List Child) (key place : ℕ) → length cs ≤ place → AreLowerTo cs key place → IsStart cs key place
+start_end cs key place le so_far = record { before = so_far; behind = λ i d at from. absurd (omega (arith, le, from, slice_get_within cs i d at)) }
 
 -- a run has the winners right below a path, by their bids
 pub run_children : (names : List Named) (winners : List ℕ) (cs : List Child) (key : ℕ) (run : Run) → AreApart names → AreWinners names winners → IsFamily names winners cs → IsKey names winners key → IsRunOf cs key run

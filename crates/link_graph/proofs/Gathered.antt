@@ -110,6 +110,13 @@ numbers_below xs i j d lt =
     let within : j < length xs = omega (arith, lt, length-take i (enumerate_from 0 xs), length-enumerate_from 0 xs) in
     subst (λ (n : ℕ). n < i) (sym (ap (λ e. e.0) (get_or-take i (enumerate_from 0 xs) j d below ∙ enumerate_at xs j d within))) below
 
+pub numbers_before : {A : Type 0} (n : ℕ) (xs : List A) (i : ℕ) → All (λ e. e.0 < n + i) (take i (enumerate_from n xs))
+numbers_before n xs i j d lt =
+    let below : j < i = omega (arith, lt, length-take i (enumerate_from n xs)) in
+    let within : j < length xs = omega (arith, lt, length-take i (enumerate_from n xs), length-enumerate_from n xs) in
+    let number : (get_or (take i (enumerate_from n xs)) j d).0 ≡ n + j = ap (λ e. e.0) (get_or-take i (enumerate_from n xs) j d below ∙ get_or-enumerate_from n xs j d within) in
+    omega (arith, number, below)
+
 pub numbers_behind : {A : Type 0} (n : ℕ) (xs : List A) (i : ℕ) → All (λ e. n + i ≤ e.0) (drop i (enumerate_from n xs))
 numbers_behind n xs i j d lt =
     let within : i + j < length xs = omega (arith, lt, length-drop i (enumerate_from n xs), length-enumerate_from n xs) in

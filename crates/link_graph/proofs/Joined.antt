@@ -1,13 +1,15 @@
 -- The whole shape: the pool's unit and the objects, one by one.
-use Rattle.std.proofs.Common.{◌≡◌, ◌⊎◌, inl, inr, ℕ, zero, suc, ◌+◌, ◌-◌, ◌<◌, ◌≤◌, ◌&&◌, not, Bool, true, false, cond, List, [], ◌∷◌, ◌++◌, length, map, take, get_or, slice_get, Option, Some, None, is_some, refl, sym, ap, subst, ◌∙◌, arith, append_assoc, append-nil, length-append}
+use Rattle.std.proofs.Common.{◌≡◌, ◌⊎◌, inl, inr, ℕ, zero, suc, ◌+◌, ◌-◌, ◌<◌, ◌≤◌, ◌^◌, ◌&&◌, not, Bool, true, false, cond, List, [], ◌∷◌, ◌++◌, length, map, take, get_or, slice_get, Option, Some, None, is_some, refl, sym, ap, subst, ◌∙◌, arith, append_assoc, append-nil, length-append}
 use Rattle.std.specs.List.{All, enumerate_from, filter, filter_map, flat_map, zip}
-use Rattle.std.specs.Option.{option_and_then, option_map}
-use Rattle.std.proofs.lemmas.Bool.{ne_eqb}
-use Rattle.std.specs.Prelude.{nat_lt}
+use Rattle.std.specs.Option.{IfSome, option_and_then, option_map}
+use Rattle.std.proofs.lemmas.Bool.{cases_lt, ne_eqb}
+use Rattle.std.specs.Prelude.{nat_lt, IfOk, Result, Ok, Err}
+use Rattle.ds_base.specs.declared.fault.NoMemory.{NoMemory}
 use Rattle.std.proofs.lemmas.List.{get_or-map, length-map, map-append, same_lists, take_all}
 use Rattle.std.proofs.lemmas.List.Elements.{All-cons, All-filter, All-head, All-map, All-nil, All-tail, All-weaker}
+use Rattle.std.proofs.lemmas.List.Folds.{length-flat_map-take}
 use Rattle.std.proofs.lemmas.List.FromFn.{length-enumerate_from}
-use Rattle.std.proofs.lemmas.Option.{get_or_from_slice_get, slice_get_cases, slice_get-get_or, slice_get-map, slice_get_within}
+use Rattle.std.proofs.lemmas.Option.{get_or_from_slice_get, same_Some, slice_get_cases, slice_get-get_or, slice_get-map, slice_get_within}
 use Rattle.std.proofs.lemmas.Simd.{map-map}
 use Rattle.dwarf_types.specs.declared.analysis.Analysis.{Analysis}
 use Rattle.dwarf_types.specs.declared.entry.Entry.{Entry}
@@ -20,6 +22,8 @@ use Rattle.dwarf_types.specs.LinkedShape as shapes
 use Rattle.dwarf_types.specs.LinkedUnits.{Object, numbered, plain_target, sources}
 use Rattle.dwarf_types.specs.Sound.{IsSound}
 use Rattle.odr_names.specs.Book.{objects_of}
+use Rattle.odr_names.specs.Stretches.{IsFirstOf}
+use Rattle.odr_names.proofs.BookPaths.{get_before}
 use Rattle.odr_names.proofs.MakingBooks.{length_objects}
 use Rattle.odr_names.proofs.ObjectLists.{object_parts}
 use Rattle.type_names.specs.Heads.{entries_of, is_pooled}
@@ -29,11 +33,15 @@ use Rattle.type_names.specs.Objects.{object_of}
 use Rattle.type_names.specs.Paths.{Piece, path_of}
 use Rattle.link_graph.specs.Graph.{IsPool, IsShape, Source, pool_version, source_of, units_in}
 use Rattle.link_graph.specs.Merged.{image_in, images_in, kept_object, kept_objects, linked_names, object_units, pool_count, pool_origin, pool_root, pool_units, shape_of}
-use Rattle.link_graph.specs.Passes.{image_behind, images_of, kept_with, path_target, plain_before, put_each, units_before, units_of}
+use Rattle.link_graph.specs.declared.object.ObjectShape.{ObjectShape}
+use Rattle.link_graph.specs.OwnShapes.{AreOwnShapes, IsOwnShape, IsOwnShapeAt, target_behind}
+use Rattle.link_graph.specs.Passes.{image_behind, images_of, kept_with, names_between, path_target, plain_before, put_each, units_before, units_of}
 use Rattle.link_graph.specs.Pool.{by_bids, children_of, is_child, is_outbid, node_of_path, pool_names, preorder, winners, with_bid}
 use Rattle.link_graph.proofs.Gathered.{All-flat_map, enumerate_at, enumerate_more, map_same}
 use Rattle.link_graph.proofs.KeptRows.{kept_is, kept_length}
-use Rattle.link_graph.proofs.Merging.{IsNameOf, are_names_of, named_in, names_begin, one_on, put_length, put_named}
+use Rattle.link_graph.proofs.Merging.{AreBetween, IsNameOf, are_names_of, named_in, names_begin, one_on, own_entries, own_names, put_length, put_named}
+use Rattle.link_graph.proofs.Objects.{images_length}
+use Rattle.link_graph.proofs.Placed.{images_few, images_placed, images_within}
 use Rattle.link_graph.proofs.Shapes.{image_is, marks_of, plain_before_more, units_before_more, units_shaped}
 use Rattle.link_graph.proofs.Stretches.{numbered_at, numbered_length}
 
@@ -44,8 +52,35 @@ object_sound seen live i o sound at =
     let there = (object_parts seen live i o at).0 in
     subst IsSound (get_or_from_slice_get seen i o.seen o.seen there) (sound i o.seen (slice_get_within seen i o.seen there))
 
+pub slice_get_behind : {A : Type 0} (xs : List A) (y : A) (ys : List A) → slice_get (xs ++ y ∷ ys) (length xs) ≡ Some y
+slice_get_behind [] y ys = refl
+slice_get_behind (x ∷ xs) y ys = slice_get_behind xs y ys
+
 pub kept_there : (odr : Bool) (seen : List Analysis) (live : List (List Bool)) (i : ℕ) (o : heads.Object) → slice_get (objects_of seen live) i ≡ Some o → slice_get (kept_objects odr seen live) i ≡ Some (kept_object odr o)
 kept_there odr seen live i o at = slice_get-map (kept_object odr) (objects_of seen live) i ∙ ap (option_map (kept_object odr)) at
+
+-- what the object at a place gives, where its kept entries are told by its names
+pub own_at : (odr : Bool) (seen : List Analysis) (live : List (List Bool)) (i : ℕ) (o : heads.Object) (ws : List Named) (one : ObjectShape) → slice_get (objects_of seen live) i ≡ Some o → ws ≡ named_in odr (i + 1) o
+    → IsOwnShape i (kept_with o.seen o.live ws) one → IsOwnShapeAt (kept_objects odr seen live) i one
+own_at odr seen live i o ws one at own is = λ p its.
+    let kept : kept_with o.seen o.live ws ≡ kept_object odr o = ap (kept_with o.seen o.live) own ∙ kept_is odr (i + 1) o in
+    subst (λ (x : Object). IsOwnShape i x one) (kept ∙ same_Some (kept_object odr o) p (sym (kept_there odr seen live i o at) ∙ its)) is
+
+-- one more is given
+pub own_more : (objects : List Object) (own : List ObjectShape) (i : ℕ) (one : ObjectShape) → length own ≡ i → ((k : ℕ) (x : ObjectShape) → slice_get own k ≡ Some x → IsOwnShapeAt objects k x) → IsOwnShapeAt objects i one
+    → (k : ℕ) (x : ObjectShape) → slice_get (own ++ one ∷ []) k ≡ Some x → IsOwnShapeAt objects k x
+own_more objects own i one long so_far here k x at = elim (cases_lt k (length own)) [
+  | inl lt ↦ so_far k x (sym (get_before own (one ∷ []) k lt) ∙ at)
+  | inr le ↦ (
+      let place : i ≡ k = omega (arith, le, long, slice_get_within (own ++ one ∷ []) k x at, length-append own (one ∷ [])) in
+      let same : one ≡ x = same_Some one x (sym (slice_get_behind own one []) ∙ ap (slice_get (own ++ one ∷ [])) (long ∙ place) ∙ at) in
+      subst (λ (n : ℕ). IsOwnShapeAt objects n x) place (subst (IsOwnShapeAt objects i) same here))
+]
+
+-- where it is given
+pub given : {P Q : ObjectShape → Type 0} (r : Result ObjectShape NoMemory) → IfOk r P → ((one : ObjectShape) → P one → Q one) → IfOk r Q
+given (Ok one) is h = h one is
+given (Err e) is h = tt
 
 -- ---- images
 
@@ -117,36 +152,105 @@ shaped_begin odr seen live names units same is = record {
   are_images = refl;
 }
 
-pub shaped_more : (odr : Bool) (seen : List Analysis) (live : List (List Bool)) (names ws : List Named) (i : ℕ) (o : heads.Object) (units later : List ShapeUnit) (plain : List (List (Option ℕ))) (images : List (List (Option Target))) (nodes : List (Option ℕ)) (leading : List (Option Target))
-    → slice_get (objects_of seen live) i ≡ Some o → IsSound o.seen → names ≡ linked_names odr seen live → ws ≡ named_in odr (i + 1) o
-    → later ≡ units ++ units_of i (kept_with o.seen o.live ws) → nodes ≡ plain_in (kept_with o.seen o.live ws) → leading ≡ put_each (path_target names) ws (images_of (length units) i (kept_with o.seen o.live ws))
-    → IsShapedTo odr seen live units plain images i → IsShapedTo odr seen live later (plain ++ nodes ∷ []) (images ++ leading ∷ []) (i + 1)
-shaped_more odr seen live names ws i o units later plain images nodes leading at sound same own units_are nodes_are leading_are so_far = record {
-  are_units = units_are ∙ ap (λ (k : Object). units ++ units_of i k) kept ∙ ap (λ (us : List ShapeUnit). us ++ units_of i (kept_object odr o)) so_far.are_units
-      ∙ append_assoc (pool_units 4 (linked_names odr seen live)) (units_before objects i) (units_of i (kept_object odr o))
-      ∙ ap (λ (us : List ShapeUnit). pool_units 4 (linked_names odr seen live) ++ us) (sym (units_before_more objects i (kept_object odr o) there));
-  are_plain = ap (λ (row : List (Option ℕ)). plain ++ row ∷ []) (nodes_are ∙ ap plain_in kept) ∙ ap (λ (rows : List (List (Option ℕ))). rows ++ plain_in (kept_object odr o) ∷ []) so_far.are_plain
-      ∙ sym (plain_before_more objects i (kept_object odr o) there);
-  are_images = ap (λ (row : List (Option Target)). images ++ row ∷ []) led ∙ ap (λ (rows : List (List (Option Target))). rows ++ images_in odr seen live (i, o) ∷ []) so_far.are_images
-      ∙ sym (ap (map (images_in odr seen live)) (enumerate_more (objects_of seen live) i o at) ∙ map-append (images_in odr seen live) (take i (enumerate_from 0 (objects_of seen live))) ((i, o) ∷ []));
-}
+-- an object of a link, and what it gives
+pub record IsPart (odr : Bool) (seen : List Analysis) (live : List (List Bool)) (i : ℕ) (one : ObjectShape) : Type 0 where
+  pub its : heads.Object
+  pub at : slice_get (objects_of seen live) i ≡ Some its
+  pub sound : IsSound its.seen
+  pub own : IsOwnShape i (kept_object odr its) one
+
+pub part_at : (odr : Bool) (seen : List Analysis) (live : List (List Bool)) (names : List Named) (own so_far rest : List ObjectShape) (i : ℕ) (one : ObjectShape) → AreOwnShapes odr seen live names own
+    → so_far ++ one ∷ rest ≡ own → i ≡ length so_far → IsPart odr seen live i one
+part_at odr seen live names own so_far rest i one are whole place = elim (slice_get_cases (objects_of seen live) i).1 [
+  | inl w ↦ record { its = w.0; at = w.2; sound = object_sound seen live i w.0 are.sound w.2; own = are.each i one here (kept_object odr w.0) (kept_there odr seen live i w.0 w.2) }
+  | inr w ↦ absurd (omega (arith, w.0, length_objects seen live are.marked.each, are.len, ap length whole, length-append so_far (one ∷ rest), place))
+]
   where
-    objects : List Object
-    objects = kept_objects odr seen live
+    here : slice_get own i ≡ Some one
+    here = ap (λ (xs : List ObjectShape). slice_get xs i) (sym whole) ∙ ap (slice_get (so_far ++ one ∷ rest)) place ∙ slice_get_behind so_far one rest
 
-    there : slice_get objects i ≡ Some (kept_object odr o)
-    there = kept_there odr seen live i o at
+pub part_few : (odr : Bool) (seen : List Analysis) (live : List (List Bool)) (names : List Named) (own so_far rest : List ObjectShape) (i : ℕ) (one : ObjectShape) → AreOwnShapes odr seen live names own
+    → so_far ++ one ∷ rest ≡ own → i ≡ length so_far → i < 2 ^ 16
+part_few odr seen live names own so_far rest i one are whole place = omega (arith, are.few, are.len, ap length whole, length-append so_far (one ∷ rest), place)
 
-    kept : kept_with o.seen o.live ws ≡ kept_object odr o
-    kept = ap (kept_with o.seen o.live) own ∙ kept_is odr (i + 1) o
+module _ (odr : Bool) (seen : List Analysis) (live : List (List Bool)) (names : List Named) (i : ℕ) (one : ObjectShape) (named : names ≡ linked_names odr seen live) (part : IsPart odr seen live i one) where
+  -- the names of its merged entries
+  pub part_names : (from end : ℕ) → IsFirstOf names (i + 1) from → IsFirstOf names (i + 2) end → AreBetween names from end (named_in odr (i + 1) part.its)
+  part_names from end is_from is_end = own_names odr (objects_of seen live) names i from end part.its part.at (named ∙ names_begin odr seen live) is_from is_end
 
-    led : leading ≡ images_in odr seen live (i, o)
-    led = leading_are
-        ∙ ap (λ (ns : List Named). put_each (path_target ns) ws (images_of (length units) i (kept_with o.seen o.live ws))) same
-        ∙ ap (λ (k : Object). put_each (path_target (linked_names odr seen live)) ws (images_of (length units) i k)) kept
-        ∙ ap (λ (vs : List Named). put_each (path_target (linked_names odr seen live)) vs (images_of (length units) i (kept_object odr o))) own
-        ∙ images_are odr seen live i (length units) o at sound (ap length so_far.are_units ∙ length-append (pool_units 4 (linked_names odr seen live)) (units_before objects i)
-        ∙ ap (λ (n : ℕ). n + length (units_before objects i)) (pools_counted 4 (linked_names odr seen live)))
+  pub part_entries : (from end : ℕ) → IsFirstOf names (i + 1) from → IsFirstOf names (i + 2) end → All (λ w. w.entry < length one.images) (names_between names from end)
+  part_entries from end is_from is_end =
+      subst (λ (n : ℕ). All (λ (w : Named). w.entry < n) (names_between names from end)) (sym (ap length part.own.images ∙ images_length 0 i (kept_object odr part.its)))
+      (own_entries odr names i from end part.its (part_names from end is_from is_end))
+
+  -- its images have numbers of 32 bits behind so many units
+  pub part_numbered : (before number : ℕ) → number ≡ before → before + length one.units.items < 2 ^ 32 → All (λ image. IfSome image (λ target. number + target.unit < 2 ^ 32)) one.images
+  part_numbered before number same few =
+      let unit_count : length one.units.items ≡ length (units_of i (kept_object odr part.its)) = ap length part.own.units in
+      images_few number (length (units_of i (kept_object odr part.its))) one.images (omega (arith, few, same, unit_count))
+      (subst (All (λ (image : Option Target). IfSome image (λ target. target.unit < length (units_of i (kept_object odr part.its))))) (sym part.own.images) (images_within i (kept_object odr part.its) part.sound))
+
+  pub shaped_more : (from end before : ℕ) (units later : List ShapeUnit) (plain : List (List (Option ℕ))) (images : List (List (Option Target))) (leading : List (Option Target))
+      → IsFirstOf names (i + 1) from → IsFirstOf names (i + 2) end → before ≡ length units
+      → later ≡ units ++ one.units.items → leading ≡ put_each (path_target names) (names_between names from end) (map (target_behind before) one.images)
+      → IsShapedTo odr seen live units plain images i → IsShapedTo odr seen live later (plain ++ one.plain ∷ []) (images ++ leading ∷ []) (i + 1)
+  shaped_more from end before units later plain images leading is_from is_end place later_are leading_are so_far = record {
+    are_units = later_are ∙ ap (λ (us : List ShapeUnit). units ++ us) part.own.units ∙ ap (λ (us : List ShapeUnit). us ++ units_of i (kept_object odr o)) so_far.are_units
+        ∙ append_assoc (pool_units 4 (linked_names odr seen live)) (units_before objects i) (units_of i (kept_object odr o))
+        ∙ ap (λ (us : List ShapeUnit). pool_units 4 (linked_names odr seen live) ++ us) (sym (units_before_more objects i (kept_object odr o) there));
+    are_plain = ap (λ (row : List (Option ℕ)). plain ++ row ∷ []) part.own.plain ∙ ap (λ (rows : List (List (Option ℕ))). rows ++ plain_in (kept_object odr o) ∷ []) so_far.are_plain
+        ∙ sym (plain_before_more objects i (kept_object odr o) there);
+    are_images = ap (λ (row : List (Option Target)). images ++ row ∷ []) led ∙ ap (λ (rows : List (List (Option Target))). rows ++ images_in odr seen live (i, o) ∷ []) so_far.are_images
+        ∙ sym (ap (map (images_in odr seen live)) (enumerate_more (objects_of seen live) i o part.at) ∙ map-append (images_in odr seen live) (take i (enumerate_from 0 (objects_of seen live))) ((i, o) ∷ []));
+  }
+    where
+      o : heads.Object
+      o = part.its
+
+      objects : List Object
+      objects = kept_objects odr seen live
+
+      there : slice_get objects i ≡ Some (kept_object odr o)
+      there = kept_there odr seen live i o part.at
+
+      moved : map (target_behind before) one.images ≡ images_of before i (kept_object odr o)
+      moved = ap (map (target_behind before)) part.own.images ∙ images_placed before i (kept_object odr o)
+
+      led : leading ≡ images_in odr seen live (i, o)
+      led = leading_are
+          ∙ ap (λ (ns : List Named). put_each (path_target ns) (names_between names from end) (map (target_behind before) one.images)) named
+          ∙ ap (put_each (path_target (linked_names odr seen live)) (names_between names from end)) moved
+          ∙ ap (λ (vs : List Named). put_each (path_target (linked_names odr seen live)) vs (images_of before i (kept_object odr o))) (part_names from end is_from is_end).own
+          ∙ images_are odr seen live i before o part.at part.sound (place ∙ ap length so_far.are_units ∙ length-append (pool_units 4 (linked_names odr seen live)) (units_before objects i)
+          ∙ ap (λ (n : ℕ). n + length (units_before objects i)) (pools_counted 4 (linked_names odr seen live)))
+
+  -- the shape has no fewer units than those so far and the object's
+  pub units_long : (units : List ShapeUnit) (plain : List (List (Option ℕ))) (images : List (List (Option Target))) → IsShapedTo odr seen live units plain images i
+      → length units + length one.units.items ≤ length (shape_of odr seen live).units
+  units_long units plain images so_far =
+      let each : ℕ × Object → List ShapeUnit = λ o. units_of o.0 o.1 in
+      let own : ℕ × Object = (i, kept_object odr part.its) in
+      let there = kept_there odr seen live i part.its part.at in
+      let within = slice_get_within objects i (kept_object odr part.its) there in
+      let here : get_or (enumerate_from 0 objects) i own ≡ own = enumerate_at objects i own within ∙ ap (λ (o : Object). (i, o)) (get_or_from_slice_get objects i (kept_object odr part.its) (kept_object odr part.its) there) in
+      let most = length-flat_map-take each (enumerate_from 0 objects) i own (omega (arith, within, length-enumerate_from 0 objects)) in
+      let all : length (object_units odr seen live) ≡ length (flat_map each (enumerate_from 0 objects)) =
+      ap length (units_shaped objects ∙ ap (flat_map each) (take_all (length objects) (enumerate_from 0 objects) (omega (arith, length-enumerate_from 0 objects)))) in
+      omega (
+        arith,
+        most,
+        all,
+        ap length so_far.are_units,
+        length-append (pool_units 4 (linked_names odr seen live)) (units_before objects i),
+        pools_counted 4 (linked_names odr seen live),
+        length-append (pool_units (pool_version (object_units odr seen live)) (linked_names odr seen live)) (object_units odr seen live),
+        pools_counted (pool_version (object_units odr seen live)) (linked_names odr seen live),
+        ap length part.own.units,
+        ap (λ (o : ℕ × Object). length (each o)) here,
+      )
+    where
+      objects : List Object
+      objects = kept_objects odr seen live
 
 -- the units of all objects stand behind the pool's
 pub units_whole : (odr : Bool) (seen : List Analysis) (live : List (List Bool)) (i : ℕ) (units : List ShapeUnit) (plain : List (List (Option ℕ))) (images : List (List (Option Target))) → length live ≡ length seen → length seen ≤ i

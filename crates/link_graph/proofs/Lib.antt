@@ -8,6 +8,7 @@ pub mod Objects
 pub mod Merging
 pub mod KeptRows
 pub mod Shapes
+pub mod Placed
 pub mod Joined
 pub mod Rising
 pub mod PoolPaths

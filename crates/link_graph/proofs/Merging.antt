@@ -1,22 +1,23 @@
 -- What is put at the entries of names, and the names of objects in their order.
-use Rattle.std.proofs.Common.{◌≡◌, inl, inr, ℕ, suc, ◌+◌, ◌-◌, ◌<◌, ◌≤◌, ◌&&◌, Bool, true, false, cond, eqb, List, [], ◌∷◌, ◌++◌, length, take, drop, set, get_or, slice_get, Option, Some, None, refl, sym, ap, subst, ◌∙◌, arith}
-use Rattle.std.specs.List.{All, cons_option, enumerate_from, filter_map, flat_map, prefix_len, take_while}
+use Rattle.std.proofs.Common.{◌≡◌, inl, inr, ℕ, zero, suc, ◌+◌, ◌-◌, ◌<◌, ◌≤◌, ◌&&◌, Bool, true, false, cond, List, [], ◌∷◌, ◌++◌, length, take, drop, set, get_or, slice_get, Option, Some, None, refl, sym, ap, subst, ◌∙◌, arith, length-append}
+use Rattle.std.specs.List.{All, cons_option, enumerate_from, filter_map, flat_map}
 use Rattle.std.specs.Option.{option_map_or}
-use Rattle.std.proofs.Math.Seq.{drop-append_seam}
-use Rattle.std.proofs.lemmas.Bool.{eq-eqb, ne_eqb}
-use Rattle.std.proofs.lemmas.List.{drop-drop, drop_more, get_or-drop, get_or-set_other, get_or-set_same, get_or-take, length-drop, length-set, length-take, length-take-le}
+use Rattle.std.proofs.Math.Seq.{drop-append_seam, take-append_seam}
+use Rattle.std.proofs.lemmas.Bool.{cases_lt}
+use Rattle.std.proofs.lemmas.Grind.{flat_map-append}
+use Rattle.std.proofs.lemmas.List.{drop_more, get_or-drop, get_or-set_other, get_or-set_same, get_or-take, length-drop, length-set, length-take, take-append-drop}
 use Rattle.std.proofs.lemmas.List.Elements.{All-head, All-nil, All-tail, All-weaker, filter_map-append}
 use Rattle.std.proofs.lemmas.List.FromFn.{get_or-enumerate_from, length-enumerate_from}
-use Rattle.std.proofs.lemmas.List.Sums.{take_while-cons}
 use Rattle.std.proofs.lemmas.Option.{get_or_from_slice_get, same_Some, slice_get-get_or, slice_get_cases, slice_get_within}
 use Rattle.dwarf_types.specs.declared.analysis.Analysis.{Analysis}
 use Rattle.dwarf_types.specs.declared.entry.Entry.{Entry}
 use Rattle.odr_names.specs.Book.{objects_of, path_at}
+use Rattle.odr_names.specs.Stretches.{IsFirstOf, object_at}
 use Rattle.type_names.specs.Heads.{Object, entries_of, is_pooled}
 use Rattle.type_names.specs.Names.{Named, named_of, names_in}
 use Rattle.link_graph.specs.Merged.{linked_names}
-use Rattle.link_graph.specs.Passes.{names_between, names_first, put_each}
-use Rattle.link_graph.proofs.Gathered.{All-enumerate, All-filter_map, All-flat_map, numbers_behind, numbers_below, parts_at}
+use Rattle.link_graph.specs.Passes.{names_between, put_each}
+use Rattle.link_graph.proofs.Gathered.{All-enumerate, All-filter_map, All-flat_map, numbers_before, numbers_behind, numbers_below, parts_at}
 
 -- ---- what is put
 
@@ -137,67 +138,90 @@ names_next odr objects i o at =
     get_or-enumerate_from 1 objects i (i + 1, o) within ∙ ap (λ (n : ℕ). (n, get_or objects i o)) number ∙ ap (λ (x : Object). (i + 1, x)) (get_or_from_slice_get objects i o o at) in
     ap (flat_map (λ (o : ℕ × Object). named_in odr o.0 o.1)) (drop_more (enumerate_from 1 objects) i (i + 1, o) (omega (arith, within, length-enumerate_from 1 objects)) ∙ ap (λ (x : ℕ × Object). x ∷ drop (i + 1) (enumerate_from 1 objects)) here)
 
--- those of the objects behind are of others
-later_names : (odr : Bool) (objects : List Object) (i : ℕ) → All (λ w. w.object ≡ i + 1 → ⊥) (names_from odr objects (i + 1))
-later_names odr objects i = All-flat_map (λ (w : Named). w.object ≡ i + 1 → ⊥) (λ (o : ℕ × Object). named_in odr o.0 o.1) (drop (i + 1) (enumerate_from 1 objects))
-    (All-weaker (λ (x : ℕ × Object). 1 + (i + 1) ≤ x.0) (λ x. All (λ (w : Named). w.object ≡ i + 1 → ⊥) (named_in odr x.0 x.1))
-    (λ x le. All-weaker (IsNameOf x.0 x.1) (λ w. w.object ≡ i + 1 → ⊥) (λ w is same. omega (arith, le, is.of_object, same)) (named_in odr x.0 x.1) (are_names_of odr x.0 x.1))
-    (drop (i + 1) (enumerate_from 1 objects)) (numbers_behind 1 objects (i + 1)))
+-- those of the objects before object i
+abbrev names_to : Bool → List Object → ℕ → List Named
+names_to odr objects i = flat_map (λ o. named_in odr o.0 o.1) (take i (enumerate_from 1 objects))
 
-first_are : (n : ℕ) (vs ws : List Named) → All (λ w. w.object ≡ n) vs → All (λ w. w.object ≡ n → ⊥) ws → names_first n (vs ++ ws) ≡ vs
-first_are n [] [] own others = refl
-first_are n [] (w ∷ ws) own others =
-    take_while-cons (λ (w : Named). eqb w.object n) w ws
-    ∙ ap (λ (b : Bool). cond b (w ∷ take_while (λ (w : Named). eqb w.object n) ws) []) (ne_eqb w.object n (All-head (λ (w : Named). w.object ≡ n → ⊥) w ws others))
-first_are n (v ∷ vs) ws own others =
-    take_while-cons (λ (w : Named). eqb w.object n) v (vs ++ ws)
-    ∙ ap (λ (b : Bool). cond b (v ∷ take_while (λ (w : Named). eqb w.object n) (vs ++ ws)) []) (eq-eqb v.object n (All-head (λ (w : Named). w.object ≡ n) v vs own))
-    ∙ ap (λ (xs : List Named). v ∷ xs) (first_are n vs ws (All-tail (λ (w : Named). w.object ≡ n) v vs own) others)
+named_whole : (odr : Bool) (objects : List Object) (i : ℕ) → names_from odr objects 0 ≡ names_to odr objects i ++ names_from odr objects i
+named_whole odr objects i =
+    ap (flat_map (λ (o : ℕ × Object). named_in odr o.0 o.1)) (sym (take-append-drop i (enumerate_from 1 objects)))
+    ∙ flat_map-append (λ (o : ℕ × Object). named_in odr o.0 o.1) (take i (enumerate_from 1 objects)) (drop i (enumerate_from 1 objects))
 
-pub first_of_object : (odr : Bool) (objects : List Object) (i : ℕ) (o : Object) → slice_get objects i ≡ Some o → names_first (i + 1) (names_from odr objects i) ≡ named_in odr (i + 1) o
-first_of_object odr objects i o at =
-    ap (names_first (i + 1)) (names_next odr objects i o at)
-    ∙ first_are (i + 1) (named_in odr (i + 1) o) (names_from odr objects (i + 1))
-    (All-weaker (IsNameOf (i + 1) o) (λ w. w.object ≡ i + 1) (λ w is. is.of_object) (named_in odr (i + 1) o) (are_names_of odr (i + 1) o)) (later_names odr objects i)
+earlier_names : (odr : Bool) (objects : List Object) (i : ℕ) → All (λ w. w.object < i + 1) (names_to odr objects i)
+earlier_names odr objects i = All-flat_map (λ (w : Named). w.object < i + 1) (λ (o : ℕ × Object). named_in odr o.0 o.1) (take i (enumerate_from 1 objects))
+    (All-weaker (λ (x : ℕ × Object). x.0 < 1 + i) (λ x. All (λ (w : Named). w.object < i + 1) (named_in odr x.0 x.1))
+    (λ x lt. All-weaker (IsNameOf x.0 x.1) (λ w. w.object < i + 1) (λ w is. omega (arith, lt, is.of_object)) (named_in odr x.0 x.1) (are_names_of odr x.0 x.1))
+    (take i (enumerate_from 1 objects)) (numbers_before 1 objects i))
 
-pub own_names : (odr : Bool) (objects : List Object) (names : List Named) (from end i : ℕ) (o : Object) → slice_get objects i ≡ Some o → drop from names ≡ names_from odr objects i
-    → names_between names from end ≡ names_first (i + 1) (drop from names) → names_between names from end ≡ named_in odr (i + 1) o
-own_names odr objects names from end i o at left is = is ∙ ap (names_first (i + 1)) left ∙ first_of_object odr objects i o at
+later_names : (odr : Bool) (objects : List Object) (i : ℕ) → All (λ w. i + 1 ≤ w.object) (names_from odr objects i)
+later_names odr objects i = All-flat_map (λ (w : Named). i + 1 ≤ w.object) (λ (o : ℕ × Object). named_in odr o.0 o.1) (drop i (enumerate_from 1 objects))
+    (All-weaker (λ (x : ℕ × Object). 1 + i ≤ x.0) (λ x. All (λ (w : Named). i + 1 ≤ w.object) (named_in odr x.0 x.1))
+    (λ x le. All-weaker (IsNameOf x.0 x.1) (λ w. i + 1 ≤ w.object) (λ w is. omega (arith, le, is.of_object)) (named_in odr x.0 x.1) (are_names_of odr x.0 x.1))
+    (drop i (enumerate_from 1 objects)) (numbers_behind 1 objects i))
 
-pub own_entries : (odr : Bool) (objects : List Object) (names : List Named) (from end i : ℕ) (o : Object) → slice_get objects i ≡ Some o → drop from names ≡ names_from odr objects i
-    → names_between names from end ≡ names_first (i + 1) (drop from names) → All (λ w. w.entry < length (entries_of o)) (names_between names from end)
-own_entries odr objects names from end i o at left is =
-    subst (All (λ (w : Named). w.entry < length (entries_of o))) (sym (own_names odr objects names from end i o at left is)) (entries_within odr (i + 1) o)
+-- ---- where they begin
 
--- behind the names of an object stand those of the objects behind
-pub names_on : (names vs ws : List Named) (from end : ℕ) → from ≤ end → end ≤ length names → drop from names ≡ vs ++ ws → names_between names from end ≡ vs → drop end names ≡ ws
-names_on names vs ws from end le within are own =
-    let long : length vs ≡ end - from = ap length (sym own) ∙ length-take-le (end - from) (drop from names) (omega (arith, length-drop from names)) in
-    let place : from + length vs ≡ end = omega (arith, long, le) in
-    ap (λ (n : ℕ). drop n names) (sym place) ∙ sym (drop-drop (length vs) from names) ∙ ap (drop (length vs)) are ∙ drop-append_seam vs ws
+object_before : (n : ℕ) (vs ws : List Named) (x : ℕ) → All (λ w. w.object < n) vs → x < length vs → object_at (vs ++ ws) x < n
+object_before n [] ws x are lt = absurd (omega (arith, lt))
+object_before n (v ∷ vs) ws zero are lt = All-head (λ (w : Named). w.object < n) v vs are
+object_before n (v ∷ vs) ws (suc x) are lt = object_before n vs ws x (All-tail (λ (w : Named). w.object < n) v vs are) (omega (arith, lt))
+
+object_behind : (n : ℕ) (vs ws : List Named) → All (λ w. n ≤ w.object) ws → 0 < length ws → n ≤ object_at (vs ++ ws) (length vs)
+object_behind n [] [] are lt = absurd (omega (arith, lt))
+object_behind n [] (w ∷ ws) are lt = All-head (λ (w : Named). n ≤ w.object) w ws are
+object_behind n (v ∷ vs) ws are lt = object_behind n vs ws are lt
+
+-- names of objects from n on begin behind those of objects below n
+first_place : (n : ℕ) (vs ws : List Named) (first : ℕ) → All (λ w. w.object < n) vs → All (λ w. n ≤ w.object) ws → IsFirstOf (vs ++ ws) n first → first ≡ length vs
+first_place n vs ws first below behind is = elim (cases_lt first (length vs)) [
+  | inl lt ↦ absurd (omega (arith, object_before n vs ws first below lt, is.behind first (omega arith) (omega (arith, lt, length-append vs ws))))
+  | inr le ↦ elim (cases_lt (length vs) first) [
+    | inl lt ↦ absurd (omega (arith, object_behind n vs ws behind (omega (arith, lt, is.within, length-append vs ws)), is.before (length vs) lt))
+    | inr ge ↦ omega (arith, le, ge)
+  ]
+]
+
+left_from : (odr : Bool) (objects : List Object) (names : List Named) (i n first : ℕ) → names ≡ names_from odr objects 0 → n ≡ i + 1 → IsFirstOf names n first → drop first names ≡ names_from odr objects i
+left_from odr objects names i n first all number is =
+    let whole : names ≡ names_to odr objects i ++ names_from odr objects i = all ∙ named_whole odr objects i in
+    let is_first : IsFirstOf (names_to odr objects i ++ names_from odr objects i) (i + 1) first =
+    subst (λ (m : ℕ). IsFirstOf (names_to odr objects i ++ names_from odr objects i) m first) number (subst (λ (ns : List Named). IsFirstOf ns n first) whole is) in
+    let place = first_place (i + 1) (names_to odr objects i) (names_from odr objects i) first (earlier_names odr objects i) (later_names odr objects i) is_first in
+    ap (λ (m : ℕ). drop m names) place ∙ ap (drop (length (names_to odr objects i))) whole ∙ drop-append_seam (names_to odr objects i) (names_from odr objects i)
+
+-- the names from one on up to another are these
+pub record AreBetween (names : List Named) (from end : ℕ) (ws : List Named) : Type 0 where
+  pub order : from ≤ end
+  pub within : end ≤ length names
+  pub own : names_between names from end ≡ ws
+
+-- those of object i
+pub own_names : (odr : Bool) (objects : List Object) (names : List Named) (i from end : ℕ) (o : Object) → slice_get objects i ≡ Some o → names ≡ names_from odr objects 0
+    → IsFirstOf names (i + 1) from → IsFirstOf names (i + 2) end → AreBetween names from end (named_in odr (i + 1) o)
+own_names odr objects names i from end o at all is_from is_end =
+    let own = named_in odr (i + 1) o in
+    let rest = names_from odr objects (i + 1) in
+    let left : drop from names ≡ own ++ rest = left_from odr objects names i (i + 1) from all refl is_from ∙ names_next odr objects i o at in
+    let behind : drop end names ≡ rest = left_from odr objects names (i + 1) (i + 2) end all (omega arith) is_end in
+    let long : length names - from ≡ length own + length rest = sym (length-drop from names) ∙ ap length left ∙ length-append own rest in
+    let short : length names - end ≡ length rest = sym (length-drop end names) ∙ ap length behind in
+    let count : end - from ≡ length own = omega (arith, long, short, is_from.within, is_end.within) in
+    record {
+      order = omega (arith, long, short, is_from.within, is_end.within);
+      within = is_end.within;
+      own = ap (λ (m : ℕ). take m (drop from names)) count ∙ ap (take (length own)) left ∙ take-append_seam own rest;
+    }
+
+pub own_entries : (odr : Bool) (names : List Named) (i from end : ℕ) (o : Object) → AreBetween names from end (named_in odr (i + 1) o) → All (λ w. w.entry < length (entries_of o)) (names_between names from end)
+own_entries odr names i from end o are = subst (All (λ (w : Named). w.entry < length (entries_of o))) (sym are.own) (entries_within odr (i + 1) o)
 
 -- ---- name by name
-
--- how many names at the front are of an object
-abbrev pub leading : ℕ → List Named → ℕ
-leading n names = prefix_len (λ (w : Named). eqb w.object n) names
 
 pub name_there : (names : List Named) (x : ℕ) → x < length names → (w : Named) × (slice_get names x ≡ Some w)
 name_there names x within = elim (slice_get_cases names x).1 [ inl some ↦ (some.0, some.2) | inr past ↦ absurd (omega (arith, within, past.0)) ]
 
 dropped : (names : List Named) (x : ℕ) (w : Named) → slice_get names x ≡ Some w → drop x names ≡ w ∷ drop (x + 1) names
 dropped names x w at = drop_more names x w (slice_get_within names x w at) ∙ ap (λ (v : Named). v ∷ drop (x + 1) names) (get_or_from_slice_get names x w w at)
-
--- one name more is of the object
-pub name_passes : (n : ℕ) (names : List Named) (x : ℕ) (w : Named) → slice_get names x ≡ Some w → w.object ≡ n → leading n (drop x names) ≡ 1 + leading n (drop (x + 1) names)
-name_passes n names x w at is = ap (leading n) (dropped names x w at) ∙ ap (λ (b : Bool). cond b (1 + leading n (drop (x + 1) names)) 0) (eq-eqb w.object n is)
-
--- none is left
-pub name_fails : (n : ℕ) (names : List Named) (x : ℕ) (w : Named) → slice_get names x ≡ Some w → (w.object ≡ n → ⊥) → leading n (drop x names) ≡ 0
-name_fails n names x w at other = ap (leading n) (dropped names x w at) ∙ ap (λ (b : Bool). cond b (1 + leading n (drop (x + 1) names)) 0) (ne_eqb w.object n other)
-
-pub first_between : (n : ℕ) (names : List Named) (from end : ℕ) → end ≡ from + leading n (drop from names) → names_between names from end ≡ names_first n (drop from names)
-first_between n names from end is = let long : end - from ≡ leading n (drop from names) = omega (arith, is) in ap (λ (m : ℕ). take m (drop from names)) long
 
 -- the names that are left, one by one
 pub between_more : (names : List Named) (x end : ℕ) (w : Named) → slice_get names x ≡ Some w → x < end → names_between names x end ≡ w ∷ names_between names (x + 1) end

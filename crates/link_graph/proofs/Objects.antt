@@ -1,8 +1,8 @@
 -- The units of an object and the images of its entries, unit by unit.
 use Rattle.std.proofs.Common.{◌≡◌, ℕ, ◌+◌, ◌<◌, ◌≤◌, List, [], ◌∷◌, ◌++◌, length, map, take, drop, get_or, slice_get, Option, Some, refl, sym, ap, subst, ◌∙◌, arith, length-append, inl, inr, None}
-use Rattle.std.specs.List.{All, enumerate_from, filter_map}
+use Rattle.std.specs.List.{All, cons_option, enumerate_from, filter_map}
 use Rattle.std.specs.Option.{IfSome, option_and_then, option_map, option_to_list}
-use Rattle.std.proofs.lemmas.List.{drop_all, length-map, map-append, take_all, take_more}
+use Rattle.std.proofs.lemmas.List.{drop_all, length-map, length-take, map-append, take_all, take_more}
 use Rattle.std.proofs.lemmas.List.Elements.{filter_map-append}
 use Rattle.std.proofs.lemmas.List.FromFn.{get_or-enumerate_from, length-enumerate_from}
 use Rattle.std.proofs.lemmas.Option.{get_or_from_slice_get, slice_get-get_or, slice_get_cases, slice_get_within}
@@ -32,6 +32,24 @@ units_more object o u unit is =
 
 pub units_all : (object : ℕ) (o : Object) (u : ℕ) → length o.seen.units ≤ u → units_below object o u ≡ units_of object o
 units_all object o u le = ap (filter_map (unit_in object o)) (take_all u (enumerate_from 0 o.seen.units) (omega (arith, length-enumerate_from 0 o.seen.units)))
+
+-- an object has no more units than entries
+pub units_few : (at end : ℕ) (units : List InUnit) → AreUnits at units end → at + length units ≤ end
+units_few at end [] h = omega (arith, h)
+units_few at end (u ∷ units) h = let rest = units_few (at + u.count) end units h.2 in omega (arith, h.1, rest)
+
+gathered_few : {A B : Type 0} (f : A → Option B) (xs : List A) → length (filter_map f xs) ≤ length xs
+gathered_few f [] = omega arith
+gathered_few {A} {B} f (x ∷ xs) = both (f x) (gathered_few f xs)
+  where
+    both : (y : Option B) → length (filter_map f xs) ≤ length xs → length (cons_option y (filter_map f xs)) ≤ length (x ∷ xs)
+    both None h = omega (arith, h)
+    both (Some y) h = omega (arith, h)
+
+pub below_few : (object : ℕ) (o : Object) (u : ℕ) → length (units_below object o u) ≤ length o.seen.units
+below_few object o u =
+    let few = gathered_few (unit_in object o) (take u (enumerate_from 0 o.seen.units)) in
+    omega (arith, few, length-take u (enumerate_from 0 o.seen.units), length-enumerate_from 0 o.seen.units)
 
 -- the images of a unit's entries, by the number that the unit has in the output
 pub images_same : (before number object : ℕ) (o : Object) (u : ℕ) (unit : InUnit) → IsSound o.seen → slice_get o.seen.units u ≡ Some unit → number ≡ before + length (units_below object o u)

@@ -123,7 +123,7 @@ source_position objects i o u unit at is written =
 
 -- ---- images
 
-some_there : {A : Type 0} (p : A → Bool) (xs : List A) (n : ℕ) → position p xs ≡ Some n → eqb (length xs) 0 ≡ false
+pub some_there : {A : Type 0} (p : A → Bool) (xs : List A) (n : ℕ) → position p xs ≡ Some n → eqb (length xs) 0 ≡ false
 some_there p [] n e = absurd cc
 some_there p (x ∷ xs) n e = ne_eqb (length (x ∷ xs)) 0 (λ same. omega (arith, same))
 

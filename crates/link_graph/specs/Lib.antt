@@ -1,5 +1,6 @@
 pub mod Graph
 pub mod Merged
+pub mod OwnShapes
 pub mod Passes
 pub mod Pool
 pub mod PoolFiles

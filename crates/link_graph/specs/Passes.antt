@@ -1,6 +1,6 @@
 -- What passing over one object gives: its units that are written, the nodes of its entries, and where references to them lead.
 use Rattle.std.specs.Prelude.{ℕ, ◌+◌, ◌-◌, ◌==◌, Bool, true, false, List, [], ◌∷◌, map, take, drop, length, replicate, slice_get, slice_set, Option, Some, None, if◌then◌else◌}
-use Rattle.std.specs.List.{enumerate_from, filter, filter_map, flat_map, take_while}
+use Rattle.std.specs.List.{enumerate_from, filter, filter_map, flat_map}
 use Rattle.std.specs.Option.{option_and_then, option_map, option_map_or}
 use Rattle.dwarf_types.specs.declared.analysis.Analysis.{Analysis}
 use Rattle.dwarf_types.specs.declared.entry.Entry.{Entry}
@@ -103,10 +103,6 @@ plain_before objects i = map plain_in (take i objects)
 -- the names from one on up to another
 abbrev pub names_between : List Named → ℕ → ℕ → List Named
 names_between names from end = take (end - from) (drop from names)
-
--- the names at the front that are of an object
-abbrev pub names_first : ℕ → List Named → List Named
-names_first object names = take_while (λ w. w.object == object) names
 
 -- something is put at the entry of each of these names
 abbrev pub put_each : {A : Type 0} → (Named → A) → List Named → List A → List A

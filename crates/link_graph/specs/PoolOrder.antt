@@ -67,6 +67,21 @@ pub record IsFamily (names : List Named) (winners : List ℕ) (children : List C
   pub are : AreChildrenTo names winners children (length names)
   pub order : AreInOrder children
 
+-- those before a place are of lower numbers
+pub record AreLowerTo (children : List Child) (key place : ℕ) : Type 0 where
+  pub within : place ≤ length children
+  pub lower : (i : ℕ) (c : Child) → slice_get children i ≡ Some c → i < place → c.parent < key
+
+-- where the children of a number begin
+pub record IsStart (children : List Child) (key start : ℕ) : Type 0 where
+  pub before : AreLowerTo children key start
+  pub behind : (i : ℕ) (c : Child) → slice_get children i ≡ Some c → start ≤ i → key ≤ c.parent
+
+-- of each of n numbers where its children begin
+pub record AreStarts (children : List Child) (starts : List ℕ) (n : ℕ) : Type 0 where
+  pub len : length starts ≡ n
+  pub each : (key : ℕ) → key < n → IsStart children key (slice_index_or starts key 0)
+
 -- the run of the children of one number
 pub record IsRunOf (children : List Child) (key : ℕ) (run : Run) : Type 0 where
   pub within : run.end ≤ length children

@@ -1,22 +1,28 @@
 //! The shape of the linked graph: which units and entries are written, and where each entry went.
 //!
 //! Layer: output graph. [`build`] takes the analyses of all objects with a row of live entries for each, and the book of
-//! their names, and gives `shape_of` of them (`specs/Merged.antt`). The entries that the book names are merged: they
-//! stand in the pool's unit, the first, which holds a node for each path (`pool`, `specs/Pool.antt`). It then goes over the
-//! objects one by one. Names stand in the order of objects and entries, so a cursor over the book gives the merged entries
-//! of each (`merged`); of these the namespaces above an entry that is not merged have a node in their own unit too
-//! (`kept`). Where none is merged, no row is made. Each object's units are passed over once (`object`), and each unit's
-//! entries once (`unit`): an entry's parent stands before it, so the node of the parent is known when the entry comes.
-//! References to a merged entry then lead to the node of its path. What the passes make of one object stands in
-//! `specs/Passes.antt`; the graph for which a shape stands in `specs/Graph.antt` and `specs/PoolFiles.antt`.
+//! their names, and gives `shape_of` of them (`specs/Merged.antt`). What an object gives ([`object_shape`]) is told by the
+//! object and its names alone: the entries that the book names are merged (`merged`), and of these the namespaces above an
+//! entry that is not merged have a node in their own unit too (`kept`). Where none is merged, no row is made. The object's
+//! units are passed over once (`object`), and each unit's entries once (`unit`): an entry's parent stands before it, so the
+//! node of the parent is known when the entry comes. What the passes make of one object stands in `specs/Passes.antt`, and
+//! when that is the object's shape in `specs/OwnShapes.antt`. [`joined_shape`] puts the shapes of all objects together:
+//! merged entries stand in the pool's unit, the first, which holds a node for each path (`pool`, `specs/Pool.antt`), the
+//! units of the objects stand behind it, and references to a merged entry lead to the node of its path. The graph for
+//! which a shape stands is in `specs/Graph.antt` and `specs/PoolFiles.antt`.
 #![tactic(auto)]
 
 mod entry;
+mod joining;
 mod kept;
 mod merged;
 mod object;
 mod pool;
 mod shape;
+mod shape_error;
 mod unit;
 
-pub use shape::build;
+pub use joining::joined_shape;
+pub use object::ObjectShape;
+pub use shape::{build, object_shape};
+pub use shape_error::ShapeError;

@@ -1,42 +1,25 @@
 //! Merged entries: which entries of an object they are, and where references to them lead.
 
-ghost use Rattle.std.specs.Prelude.{◌≡◌, ◌≤◌, ◌<◌, ◌^◌, ◌++◌, ℕ, None, length, drop, slice_index_or, IfOk, OnOk};
+ghost use Rattle.std.specs.Prelude.{◌≡◌, ◌≤◌, ◌<◌, ◌^◌, ℕ, None, length, slice_index_or, IfOk};
 ghost use Rattle.std.specs.List.{All};
-ghost use Rattle.dwarf_types.specs.LinkedShape.{plain_in};
 ghost use Rattle.dwarf_types.specs.Sound.{IsSound};
 ghost use Rattle.odr_names.specs.Book.{path_at};
-ghost use Rattle.link_graph.specs.Passes.{images_of, kept_with, merged_by, names_between, names_first, path_target, put_each, units_of};
+ghost use Rattle.link_graph.specs.OwnShapes.{IsOwnShape};
+ghost use Rattle.link_graph.specs.Passes.{kept_with, merged_by, names_between, path_target, put_each};
 ghost use Rattle.link_graph.specs.Pool.{node_of_path};
 
 use crate::kept::kept_row;
-use crate::object::{Rows, add_object};
+use crate::object::{ObjectShape, kept_shape};
 use crate::unit::target_in;
-use ds_base::{BitRow, List, NoMemory};
-use dwarf_types::{Analysis, ShapeUnit, Target};
-use odr_names::{PathBook, count, occurrence};
+use ds_base::{BitRow, NoMemory};
+use dwarf_types::{Analysis, Target};
+use odr_names::{PathBook, occurrence};
 use std::alloc::Global;
 
-/// The number behind the names of an object, of which name `from` is the first, if it has any.
+/// What an object gives to the shape of a link, where the names from `from` on up to `end` are those of its merged entries.
 ///
-/// `object` counts from 1.
-pub(crate) fn names_end(names: &PathBook, object: u32, from: u32) -> u32
-    requires { from ≤ length names.now }
-    ensures within { (from ≤ result) × (result ≤ length names.now) }
-    ensures names { names_between names.now from result ≡ names_first object (drop from names.now) }
-{
-    let count = count(names);
-    let mut x = from;
-    while x < count && occurrence(names, x).object == object {
-        x += 1;
-    }
-    x
-}
-
-/// Puts the units of an object that are written behind those of the objects before, and tells the nodes of its entries.
-///
-/// Its names are those from `from` on up to `end`. Where there are none, its live entries are those that have a node.
-/// `object` is the object's number from 0.
-pub(crate) fn add_kept(
+/// Where there are none, its live entries are those that are kept. `object` is the object's number from 0.
+pub(crate) fn merged_shape(
     alloc: Global,
     object: u32,
     seen: &Analysis,
@@ -44,23 +27,20 @@ pub(crate) fn add_kept(
     names: &PathBook,
     from: u32,
     end: u32,
-    units: &mut List<ShapeUnit>,
-) -> Result<Rows, NoMemory>
+) -> Result<ObjectShape, NoMemory>
     requires few { object < 2 ^ 16 }
     requires sound { IsSound seen.now }
     requires live { length live.now ≡ length seen.now.entries }
     requires within { (from ≤ end) × (end ≤ length names.now) }
     requires entries { All (λ w. w.entry < length seen.now.entries) (names_between names.now from end) }
-    ensures units { OnOk result (units.new ≡ units.old ++ units_of object (kept_with seen.now live.now (names_between names.now from end))) }
-    ensures plain { IfOk result (λ rows. rows.plain ≡ plain_in (kept_with seen.now live.now (names_between names.now from end))) }
-    ensures images { IfOk result (λ rows. rows.images ≡ images_of (length units.old) object (kept_with seen.now live.now (names_between names.now from end))) }
+    ensures { IfOk result (IsOwnShape object (kept_with seen.now live.now (names_between names.now from end))) }
 {
     if from == end {
-        return add_object(alloc, object, seen, live, units);
+        return kept_shape(alloc, object, seen, live);
     }
     let merged = merged_row(alloc, seen.entries.len() as u32, names, from, end)?;
     let kept = kept_row(alloc, &seen.entries, live, &merged)?;
-    add_object(alloc, object, seen, &kept, units)
+    kept_shape(alloc, object, seen, &kept)
 }
 
 /// A row for so many entries that marks those of the names from `from` on up to `end`.

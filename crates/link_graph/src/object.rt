@@ -1,45 +1,47 @@
 //! One object: its units that are written, the nodes of its entries, and where references to them lead.
 
-ghost use Rattle.std.specs.Prelude.{◌≡◌, ◌<◌, ◌^◌, ◌++◌, length, map, OnOk, IfOk};
-ghost use Rattle.dwarf_types.specs.LinkedShape.{plain_in};
+ghost use Rattle.std.specs.Prelude.{◌≡◌, ◌<◌, ◌^◌, length, IfOk};
 ghost use Rattle.dwarf_types.specs.Sound.{IsSound};
-ghost use Rattle.link_graph.specs.Passes.{images_of, marked, units_of};
+ghost use Rattle.link_graph.specs.OwnShapes.{IsOwnShape};
+ghost use Rattle.link_graph.specs.Passes.{marked};
 
 use crate::unit::add_unit;
 use ds_base::{BitRow, List, NoMemory};
 use dwarf_types::{Analysis, ShapeUnit, Target};
 use std::alloc::Global;
 
-/// Of each entry of an object the number of its node in its own unit, and where a reference to it leads.
+/// What one object gives to the shape of a link. Its units are counted from 0.
 #[derive(Drop)]
-pub(crate) struct Rows {
-    pub(crate) plain: List<Option<u32>>,
-    pub(crate) images: List<Option<Target>>,
+pub struct ObjectShape {
+    /// Its units that are written.
+    pub units: Vec<ShapeUnit>,
+    /// Of each entry the number of its node in its own unit.
+    pub plain: List<Option<u32>>,
+    /// Of each entry where a reference to its node in its own unit leads.
+    pub images: List<Option<Target>>,
 }
 
-/// Puts the units of an object that are written behind those of the objects before, and tells the nodes of its entries.
+/// What an object gives to the shape of a link, by its entries that are kept.
 ///
 /// `object` is the object's number from 0.
-pub(crate) fn add_object(
+pub(crate) fn kept_shape(
     alloc: Global,
     object: u32,
     seen: &Analysis,
-    live: &BitRow,
-    units: &mut List<ShapeUnit>,
-) -> Result<Rows, NoMemory>
+    kept: &BitRow,
+) -> Result<ObjectShape, NoMemory>
     requires few { object < 2 ^ 16 }
     requires sound { IsSound seen.now }
-    requires marked { length live.now ≡ length seen.now.entries }
-    ensures units { OnOk result (units.new ≡ units.old ++ units_of object (marked seen.now live.now)) }
-    ensures images { IfOk result (λ rows. rows.images ≡ images_of (length units.old) object (marked seen.now live.now)) }
-    ensures plain { IfOk result (λ rows. rows.plain ≡ plain_in (marked seen.now live.now)) }
+    requires marked { length kept.now ≡ length seen.now.entries }
+    ensures { IfOk result (IsOwnShape object (marked seen.now kept.now)) }
 {
-    let mut rows = Rows {
+    let mut own = ObjectShape {
+        units: Vec::new(alloc),
         plain: List::with_capacity(alloc, seen.entries.len())?,
         images: List::with_capacity(alloc, seen.entries.len())?,
     };
     for u in 0..seen.units.len() {
-        add_unit(alloc, object, seen, live, u, units, &mut rows)?;
+        add_unit(alloc, object, seen, kept, u, &mut own)?;
     }
-    Ok(rows)
+    Ok(own)
 }

@@ -1,11 +1,11 @@
 //! The nodes of merged entries: one for each path of the names of a link.
 //!
 //! The winners are put in order by what stands above them and then by their bids, so those right below a path are one
-//! run. The runs are gone over in preorder with a stack of the runs that are not yet done.
+//! run. Where each run begins is told by one pass. The runs are gone over in preorder with a stack of the runs that are not yet done.
 
 ghost use Rattle.std.specs.Prelude.{◌≡◌, ◌<◌, ◌≤◌, ◌+◌, ◌^◌, ◌==◌, ◌++◌, ℕ, ◌∷◌, None, length, map, slice_index_or, IfOk, List as Listed};
 ghost use Rattle.std.specs.List.{All, list_any};
-ghost use Rattle.std.specs.List.Sorted.{IsNonDecreasingBy, IsPartitionPoint, IsPermutation};
+ghost use Rattle.std.specs.List.Sorted.{IsNonDecreasingBy, IsPermutation};
 ghost use Rattle.std.specs.Option.{ForSome};
 ghost use Rattle.odr_names.specs.Book.{path_at};
 ghost use Rattle.odr_names.specs.Winners.{AreWinners};
@@ -13,7 +13,7 @@ ghost use Rattle.link_graph.specs.Graph.{pool_version};
 ghost use Rattle.link_graph.specs.Merged.{pool_origin, pool_root, pool_units};
 ghost use Rattle.link_graph.specs.Passes.{with_version};
 ghost use Rattle.link_graph.specs.Pool.{node_above, node_of_path, pool_names};
-ghost use Rattle.link_graph.specs.PoolOrder.{AreApart, AreChildrenTo, AreInOrder, AreNodes, AreNodesFrom, IsFamily, IsLinkedUp, IsPreorder, IsRunOf, key_of, name_at};
+ghost use Rattle.link_graph.specs.PoolOrder.{AreApart, AreChildrenTo, AreInOrder, AreLowerTo, AreNodes, AreNodesFrom, AreStarts, IsFamily, IsLinkedUp, IsPreorder, IsRunOf, IsStart, key_of, name_at};
 
 use ds_base::dwarf::{DWARF_4, DWARF_5};
 use ds_base::{List, NoMemory};
@@ -25,7 +25,7 @@ use std::alloc::Global;
 #[derive(Drop)]
 pub(crate) struct Pool {
     /// The unit that they stand in, if any entry is merged.
-    pub(crate) units: List<ShapeUnit>,
+    pub(crate) units: Vec<ShapeUnit>,
     /// The node of each name's path.
     pub(crate) nodes: Vec<Option<u32>>,
 }
@@ -58,7 +58,7 @@ pub(crate) struct Tree<'a, 'b> {
 pub(crate) fn pool_of(alloc: Global, names: &PathBook, winners: &[u32]) -> Result<Pool, NoMemory>
     requires apart { AreApart names.now }
     requires winners { AreWinners names.now winners.now }
-    ensures units { IfOk result (λ pool. pool.units ≡ pool_units 4 names.now) }
+    ensures units { IfOk result (λ pool. pool.units.items ≡ pool_units 4 names.now) }
     ensures nodes { IfOk result (λ pool. (length pool.nodes.items ≡ length names.now) × ((x : ℕ) → x < length names.now → slice_index_or pool.nodes.items x None ≡ node_of_path names.now (path_at names.now x))) }
 {
     let mut children = children_of(alloc, names, winners)?;
@@ -123,9 +123,10 @@ fn order_of(alloc: Global, tree: &Tree) -> Result<Vec<u32>, NoMemory>
     ensures { IfOk result (λ order. IsPreorder tree.now.names.now tree.now.winners.now order.items) }
 {
     let children = tree.children.as_slice();
+    let starts = starts_of(alloc, children, count(tree.names) as usize + 2)?;
     let mut order = Vec::new(alloc);
     let mut open = Vec::new(alloc);
-    open.push(run_of(children, 0))?;
+    open.push(run_of(children, &starts, 0))?;
     while let Some(run) = open.pop() {
         if run.next >= run.end {
             continue;
@@ -136,38 +137,51 @@ fn order_of(alloc: Global, tree: &Tree) -> Result<Vec<u32>, NoMemory>
             next: run.next + 1,
             end: run.end,
         })?;
-        open.push(run_of(children, name + 1))?;
+        open.push(run_of(children, &starts, name as usize + 1))?;
     }
     Ok(order)
 }
 
-/// The run of the children of a parent.
-fn run_of(children: &[Child], parent: u32) -> Run
+/// Where the children of each parent begin, of so many parents.
+fn starts_of(alloc: Global, children: &[Child], parents: usize) -> Result<Vec<usize>, NoMemory>
     requires { IsNonDecreasingBy (λ c. c.parent) children.now }
+    ensures { IfOk result (λ starts. AreStarts children.now starts.items parents) }
+{
+    let mut starts = Vec::with_capacity(alloc, parents)?;
+    let mut start = 0;
+    for parent in 0..parents {
+        start = start_from(children, start, parent);
+        starts.push(start)?;
+    }
+    Ok(starts)
+}
+
+/// Where the children of a parent begin, from a place on before which all are of lower parents.
+fn start_from(children: &[Child], from: usize, parent: usize) -> usize
+    requires order { IsNonDecreasingBy (λ c. c.parent) children.now }
+    requires lower { AreLowerTo children.now parent from }
+    ensures { IsStart children.now parent result }
+{
+    let mut start = from;
+    while start < children.len() {
+        if children[start].parent as usize >= parent {
+            return start;
+        }
+        start += 1;
+    }
+    start
+}
+
+/// The run of the children of a parent.
+fn run_of(children: &[Child], starts: &[usize], parent: usize) -> Run
+    requires within { parent + 1 < length starts.now }
+    requires starts { AreStarts children.now starts.now (length starts.now) }
     ensures { IsRunOf children.now parent result }
 {
     Run {
-        next: count_below(children, parent),
-        end: count_up_to(children, parent),
+        next: starts[parent],
+        end: starts[parent + 1],
     }
-}
-
-/// How many children have a lower parent.
-fn count_below(children: &[Child], parent: u32) -> usize
-    requires { IsNonDecreasingBy (λ c. c.parent) children.now }
-    ensures within { result ≤ length children.now }
-    ensures parted { IsPartitionPoint (λ c. c.parent < parent) (λ c. parent ≤ c.parent) children.now result }
-{
-    children.partition_point(|c| c.parent < parent)
-}
-
-/// How many children have this parent or a lower one.
-fn count_up_to(children: &[Child], parent: u32) -> usize
-    requires { IsNonDecreasingBy (λ c. c.parent) children.now }
-    ensures within { result ≤ length children.now }
-    ensures parted { IsPartitionPoint (λ c. c.parent ≤ parent) (λ c. parent < c.parent) children.now result }
-{
-    children.partition_point(|c| c.parent <= parent)
 }
 
 /// The node of each name's path.
@@ -225,13 +239,13 @@ fn units_of(
     names: &PathBook,
     order: &[u32],
     nodes: &[Option<u32>],
-) -> Result<List<ShapeUnit>, NoMemory>
+) -> Result<Vec<ShapeUnit>, NoMemory>
     requires within { All (λ w. w < length names.now) order.now }
     requires order { map (name_at names.now) order.now ≡ pool_names names.now }
     requires nodes { AreNodes names.now nodes.now }
-    ensures { IfOk result (λ units. units ≡ pool_units 4 names.now) }
+    ensures { IfOk result (λ units. units.items ≡ pool_units 4 names.now) }
 {
-    let mut units = List::new(alloc);
+    let mut units = Vec::new(alloc);
     if count(names) > 0 {
         units.push(ShapeUnit {
             version: DWARF_4,

@@ -5,13 +5,15 @@ ghost use Rattle.dwarf_types.specs.LinkedShape.{AreMarked};
 ghost use Rattle.dwarf_types.specs.Sound.{IsSound};
 ghost use Rattle.odr_names.specs.Winners.{AreWinners};
 ghost use Rattle.link_graph.specs.Graph.{IsShape};
-ghost use Rattle.link_graph.specs.Merged.{linked_names, shape_of};
+ghost use Rattle.link_graph.specs.Merged.{kept_objects, linked_names, shape_of};
+ghost use Rattle.link_graph.specs.OwnShapes.{IsOwnShapeAt};
 
-use crate::merged::{add_kept, lead_to_paths, names_end};
-use crate::pool::{pool_of, settle_version};
-use ds_base::{BitRow, List, NoMemory};
+use crate::joining::joined_shape;
+use crate::merged::merged_shape;
+use crate::object::ObjectShape;
+use ds_base::{BitRow, NoMemory};
 use dwarf_types::{Analysis, Shape};
-use odr_names::PathBook;
+use odr_names::{PathBook, first_of};
 use std::alloc::Global;
 
 /// The shape of what is linked of some objects: the pool's unit, if entries are merged; of each unit with a kept entry its
@@ -37,25 +39,37 @@ pub fn build(
     ensures exact { IfOk result (λ shape. (odr : Bool) → names.now ≡ linked_names odr seen.now live.now → shape ≡ shape_of odr seen.now live.now) }
     ensures is { IfOk result (λ shape. IsShape seen.now shape) }
 {
-    let pool = pool_of(alloc, names, winners)?;
-    let mut units = pool.units;
-    let mut plain = List::new(alloc);
-    let mut images = List::new(alloc);
-    let mut from = 0;
-    for (i, object) in seen.iter().enumerate() {
-        let end = names_end(names, i as u32 + 1, from);
-        let mut rows = add_kept(
-            alloc, i as u32, object, &live[i], names, from, end, &mut units,
-        )?;
-        lead_to_paths(rows.images.as_mut_slice(), names, &pool.nodes, from, end);
-        plain.push(rows.plain)?;
-        images.push(rows.images)?;
-        from = end;
+    let mut own = Vec::with_capacity(alloc, seen.len())?;
+    for i in 0..seen.len() {
+        own.push(object_shape(alloc, seen, live, names, i as u32)?)?;
     }
-    settle_version(names, &mut units);
-    Ok(Shape {
-        units,
-        plain,
-        images,
-    })
+    match joined_shape(alloc, names, winners, own) {
+        Ok(shape) => Ok(shape),
+        Err(_) => Err(NoMemory),
+    }
+}
+
+/// What an object gives to the shape of a link, whatever the other objects give.
+///
+/// `seen`, `live` and `names` are as [`build`] takes them, and `object` is the object's number from 0. Its units are
+/// counted from 0, and a merged entry has an image only where it has a node in its own unit. [`joined_shape`] puts the
+/// shapes of all objects together.
+pub fn object_shape(
+    alloc: Global,
+    seen: &[Analysis],
+    live: &[BitRow],
+    names: &PathBook,
+    object: u32,
+) -> Result<ObjectShape, NoMemory>
+    requires sound { All IsSound seen.now }
+    requires marked { AreMarked seen.now live.now }
+    requires few { length seen.now < 2 ^ 16 }
+    requires book { (odr : Bool) × (names.now ≡ linked_names odr seen.now live.now) }
+    requires there { object < length seen.now }
+    ensures { IfOk result (λ own. (odr : Bool) → names.now ≡ linked_names odr seen.now live.now → IsOwnShapeAt (kept_objects odr seen.now live.now) object own) }
+{
+    let i = object as usize;
+    let from = first_of(names, object + 1);
+    let end = first_of(names, object + 2);
+    merged_shape(alloc, object, &seen[i], &live[i], names, from, end)
 }

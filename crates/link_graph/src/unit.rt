@@ -1,17 +1,17 @@
 //! One unit of an object: the nodes of its entries.
 
-ghost use Rattle.std.specs.Prelude.{◌≡◌, ◌<◌, ◌≤◌, ◌^◌, ◌++◌, ◌↔◌, drop, length, map, slice_get, IfSome, IsErr, OnOk, IfOk};
+ghost use Rattle.std.specs.Prelude.{◌≡◌, ◌<◌, ◌≤◌, ◌^◌, ◌++◌, drop, length, map, slice_get, IfSome, OnOk, IfOk};
 ghost use Rattle.std.specs.Option.{option_to_list};
 ghost use Rattle.dwarf_types.specs.Sound.{IsSound};
 ghost use Rattle.link_graph.specs.Passes.{entries_of, images_in_unit, marked, node_in, nodes_in, plain_in_unit, target_in, unit_at};
 
 use crate::entry::add_entry;
-use crate::object::Rows;
+use crate::object::ObjectShape;
 use ds_base::{BitRow, List, NoMemory};
 use dwarf_types::{Analysis, Origin, ShapeUnit, Target};
 use std::alloc::Global;
 
-/// Puts unit `u` of an object, if one of its entries is kept, behind the units, and the nodes of its entries behind those
+/// Puts unit `u` of an object, if one of its entries is kept, behind those before it, and the nodes of its entries behind those
 /// of the entries before.
 ///
 /// `object` is the object's number from 0.
@@ -21,25 +21,25 @@ pub(crate) fn add_unit(
     seen: &Analysis,
     live: &BitRow,
     u: usize,
-    units: &mut List<ShapeUnit>,
-    rows: &mut Rows,
+    own: &mut ObjectShape,
 ) -> Result<(), NoMemory>
     requires few { object < 2 ^ 16 }
     requires sound { IsSound seen.now }
     requires marked { length live.now ≡ length seen.now.entries }
     requires unit { u < length seen.now.units }
-    requires begun { IfSome (slice_get seen.now.units u) (λ unit. length rows.old.images ≡ unit.first) }
-    requires same { rows.old.plain ≡ map node_in rows.old.images }
-    ensures units { OnOk result (units.new ≡ units.old ++ option_to_list (unit_at object (marked seen.now live.now) u)) }
-    ensures images { OnOk result (rows.new.images ≡ rows.old.images ++ images_in_unit (length units.old) (marked seen.now live.now) u (entries_of (marked seen.now live.now) u)) }
-    ensures same { OnOk result (rows.new.plain ≡ map node_in rows.new.images) }
+    requires numbered { length own.old.units.items < 2 ^ 32 }
+    requires begun { IfSome (slice_get seen.now.units u) (λ unit. length own.old.images ≡ unit.first) }
+    requires same { own.old.plain ≡ map node_in own.old.images }
+    ensures units { OnOk result (own.new.units.items ≡ own.old.units.items ++ option_to_list (unit_at object (marked seen.now live.now) u)) }
+    ensures images { OnOk result (own.new.images ≡ own.old.images ++ images_in_unit (length own.old.units.items) (marked seen.now live.now) u (entries_of (marked seen.now live.now) u)) }
+    ensures same { OnOk result (own.new.plain ≡ map node_in own.new.images) }
 {
-    let number = number_of(units.len())?;
-    let nodes = nodes_in(alloc, object, seen, live, u, &mut rows.plain)?;
-    let begun = rows.images.len();
-    add_images(number, &rows.plain.as_slice()[begun..], &mut rows.images)?;
+    let number = own.units.len() as u32;
+    let nodes = nodes_in(alloc, object, seen, live, u, &mut own.plain)?;
+    let begun = own.images.len();
+    add_images(number, &own.plain.as_slice()[begun..], &mut own.images)?;
     if !nodes.is_empty() {
-        units.push(ShapeUnit {
+        own.units.push(ShapeUnit {
             version: seen.units.as_slice()[u].version,
             nodes,
         })?;
@@ -100,15 +100,4 @@ fn nodes_in(
         )?;
     }
     Ok(nodes)
-}
-
-/// A count as a number, unless it passes 32 bits.
-fn number_of(count: usize) -> Result<u32, NoMemory>
-    ensures number { IfOk result (λ number. number ≡ count) }
-    ensures full { IsErr result ↔ (2 ^ 32 ≤ count) }
-{
-    match u32::try_from(count) {
-        Ok(number) => Ok(number),
-        Err(_) => Err(NoMemory),
-    }
 }

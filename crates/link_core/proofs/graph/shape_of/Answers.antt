@@ -1,17 +1,11 @@
-use Rattle.std.proofs.Common.{◌∙◌, arith}
-use Rattle.link_core.proofs.Graphs.{has_pool, shape_long, shape_whole}
+use Rattle.std.proofs.Common.{◌∙◌}
+use Rattle.link_core.proofs.Graphs.{has_pool, shape_whole}
 use Rattle.link_core.proofs.graph.shape_of.Goals as goal
-
-pub returns-then-len-ge-SECTION_BYTES : goal.returns-then-len-ge-SECTION_BYTES
-returns-then-len-ge-SECTION_BYTES g c =
-    let named = c.in_ok-names.ensures.0 in
-    shape_long c.args.odr c.args.seen.now c.args.live.now c.in_ok-names.names c.in_ok-shape.shape named (c.in_ok-shape.ensures.exact c.args.odr named) c.in_ok-shape.ensures.is c.in_ok-names.ensures.1
-    (omega (arith, c.if-len-ge-SECTION_BYTES.true, c.len.ensures))
 
 pub returns : goal.returns
 returns g c =
     let named = c.in_ok-names.ensures.0 in
-    let is = c.in_ok-shape.ensures.exact c.args.odr named in
-    let pool = has_pool c.args.odr c.args.seen.now c.args.live.now c.in_ok-names.names c.in_ok-shape.shape named is c.in_ok-shape.ensures.is in
-    shape_whole c.args.odr c.args.seen.now c.args.live.now c.in_ok-names.names c.in_ok-shape.shape named is c.in_ok-shape.ensures.is c.from.result c.merged_nodes-names.result c.in_ok-bids.bids.1 c.in_ok-names.ensures.1
-    (omega (arith, c.if-len-ge-SECTION_BYTES.false, c.len.ensures)) (c.from.ensures ∙ c.count-pooled.ensures) (c.merged_nodes-names.ensures c.in_ok-names.names c.count-pooled.ensures pool) (record { table = c.in_ok-bids.ensures.table; book = c.in_ok-bids.ensures.book })
+    let is = c.in_ok-shape.ensures.0 in
+    let pool = has_pool c.args.odr c.args.seen.now c.args.live.now c.in_ok-names.names c.in_ok-shape.shape named is c.in_ok-shape.ensures.1 in
+    shape_whole c.args.odr c.args.seen.now c.args.live.now c.in_ok-names.names c.in_ok-shape.shape named is c.in_ok-shape.ensures.1 c.from.result c.merged_nodes-names.result c.in_ok-bids.bids.1 c.in_ok-names.ensures.1
+    c.in_ok-shape.ensures.2 (c.from.ensures ∙ c.count-pooled.ensures) (c.merged_nodes-names.ensures c.in_ok-names.names c.count-pooled.ensures pool) (record { table = c.in_ok-bids.ensures.table; book = c.in_ok-bids.ensures.book })

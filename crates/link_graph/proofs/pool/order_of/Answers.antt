@@ -37,8 +37,17 @@ overflow_add-name c =
     let few = child_few tree.names.now tree.winners.now children c.requires.apart c.requires.winners family c.loop-run.order.items c.loop-run.open.items c.pop.new.self.items c.in-Some.run' c.in-Some.ensures.items c.loop-run.invariant d c.if-run.false in
     omega (arith, few, c.requires.few)
 
-pub run_of-requires-in-Some : goal.run_of-requires-in-Some
-run_of-requires-in-Some c = rw c.as_slice-children.ensures.value (parents_rise c.args.tree.now.children.items c.requires.family.order)
+pub starts_of-requires : goal.starts_of-requires
+starts_of-requires c = rw c.as_slice-children.ensures.value (parents_rise c.args.tree.now.children.items c.requires.family.order)
+
+pub run_of-requires-in-Some-clause-within : goal.run_of-requires-in-Some-clause-within
+run_of-requires-in-Some-clause-within c =
+    let tree = c.args.tree.now in
+    let children = c.as_slice-children.result.now in
+    let d : Child = record { parent = 0; bid = 0; name = 0 } in
+    let family : IsFamily tree.names.now tree.winners.now children = subst (IsFamily tree.names.now tree.winners.now) (sym c.as_slice-children.ensures.value) c.requires.family in
+    let few = child_few tree.names.now tree.winners.now children c.requires.apart c.requires.winners family c.loop-run.order.items c.loop-run.open.items c.pop.new.self.items c.in-Some.run' c.in-Some.ensures.items c.loop-run.invariant d c.if-run.false in
+    omega (arith, few, c.in_ok-starts.ensures.len, c.count.ensures)
 
 pub loop-run-smaller : goal.loop-run-smaller
 loop-run-smaller c =
