@@ -109,6 +109,7 @@ fn run_program<R: Threads + Sync, F: Files, G: Gate + Sync>(
         }
     };
     let most = MOST_INPUT - bytes.len() as u64;
+    drop(bytes);
     match plan.mode {
         Mode::Link => link_program(rt, alloc, plan, &program, most, files, gate),
         Mode::Map => tell_map(alloc, &program),

@@ -189,6 +189,7 @@ fn link_marked<R: Threads + Sync, G: Gate + Sync>(
     } = shaped;
     let frames = frames_of(alloc, seen.as_slice())?;
     let drafts = drafts_of(rt, alloc, options.workers, gate, seen, &shape)?;
+    drop(shape);
     let nodes = count_nodes(drafts.as_slice());
     let image = image_of(alloc, program, drafts, &frames)?;
     let plist = plist_text(alloc, name)?;
