@@ -1,5 +1,6 @@
 //! What the items of a list are understood by.
 
+use ds_base::Part;
 use dwarf_types::Sections;
 use macho_read::Image;
 use reloc_table::Relocs;
@@ -13,6 +14,15 @@ pub enum ListForm {
     RangeEntries,
     /// By location list entries: in `__debug_loclists` (DWARF 5, section 2.6.2).
     LocationEntries,
+}
+
+/// A section in which lists stand.
+#[derive(Clone, Copy)]
+pub struct ListSection<'a> {
+    pub part: Part,
+    pub bytes: &'a [u8],
+    /// How the items of its lists are spelled.
+    pub form: ListForm,
 }
 
 /// The object of a list, how the list's items are spelled, and the addresses that its unit names by indices.

@@ -18,7 +18,7 @@ mod kinds;
 mod list;
 mod words;
 
-pub use context::{ListContext, ListForm};
+pub use context::{ListContext, ListForm, ListSection};
 pub use ends::is_empty;
 pub use item::{Item, read_item};
 pub use list::{Behind, read_list};

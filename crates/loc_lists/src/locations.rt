@@ -13,7 +13,7 @@ ghost use Rattle.loc_lists.specs.Sound.{IsSoundLocation};
 use ds_base::dwarf::DWARF_5;
 use ds_base::{Bytes, Cursor, Fault, List, Part, ReadError};
 use dwarf_types::{Addr, RawLocation, RawSpan, Sections};
-use list_items::{Behind, ListContext, ListForm, read_list};
+use list_items::{Behind, ListContext, ListForm, ListSection, read_list};
 use macho_read::Image;
 use reloc_table::Relocs;
 use std::alloc::Global;
@@ -79,8 +79,9 @@ pub fn read_locations(
     // The ends of each span are of one class, the low one is below the high one, and each expression ends in the section.
     ensures sound { IfOk result (All (IsSoundLocation (length (location_bytes (bytes_in sections.now) version)))) }
 {
+    let section = section_of(sections, version);
     let context = ListContext {
-        form: form_of(version),
+        form: section.form,
         image,
         relocs,
         sections,
@@ -89,8 +90,8 @@ pub fn read_locations(
     };
     read_list(
         alloc,
-        part_of(version),
-        bytes_of(sections, version),
+        section.part,
+        section.bytes,
         offset,
         &context,
         base,
@@ -125,34 +126,22 @@ fn read_len(cursor: &mut Cursor, version: u16) -> Result<u64, Fault>
 }
 
 /// The section in which a unit of this version has its location lists.
-fn bytes_of<'a>(sections: &Sections<'a>, version: u16) -> &'a [u8]
-    ensures { result.now ≡ location_bytes (bytes_in sections.now) version }
+fn section_of<'a>(sections: &Sections<'a>, version: u16) -> ListSection<'a>
+    ensures part { result.part ≡ location_part version }
+    ensures bytes { result.bytes.now ≡ location_bytes (bytes_in sections.now) version }
+    ensures form { result.form ≡ location_form version }
 {
     if version == DWARF_5 {
-        sections.loclists
+        ListSection {
+            part: Part::Loclists,
+            bytes: sections.loclists,
+            form: ListForm::LocationEntries,
+        }
     } else {
-        sections.loc
-    }
-}
-
-/// The part of the file that this section is.
-fn part_of(version: u16) -> Part
-    ensures { result ≡ location_part version }
-{
-    if version == DWARF_5 {
-        Part::Loclists
-    } else {
-        Part::Loc
-    }
-}
-
-/// How items are spelled there.
-fn form_of(version: u16) -> ListForm
-    ensures { result ≡ location_form version }
-{
-    if version == DWARF_5 {
-        ListForm::LocationEntries
-    } else {
-        ListForm::Words
+        ListSection {
+            part: Part::Loc,
+            bytes: sections.loc,
+            form: ListForm::Words,
+        }
     }
 }

@@ -12,7 +12,7 @@ ghost use Rattle.range_lists.specs.Reading.{range_at, range_bytes, range_form, r
 use ds_base::dwarf::DWARF_5;
 use ds_base::{Cursor, List, Part, ReadError};
 use dwarf_types::{Addr, RawSpan, Sections};
-use list_items::{Behind, ListContext, ListForm, read_list};
+use list_items::{Behind, ListContext, ListForm, ListSection, read_list};
 use macho_read::Image;
 use reloc_table::Relocs;
 use std::alloc::Global;
@@ -66,8 +66,9 @@ pub fn read_ranges(
     // The ends of each span are of one class, and the low one is below the high one.
     ensures sound { IfOk result (All IsSoundSpan) }
 {
+    let section = section_of(sections, version);
     let context = ListContext {
-        form: form_of(version),
+        form: section.form,
         image,
         relocs,
         sections,
@@ -76,8 +77,8 @@ pub fn read_ranges(
     };
     read_list(
         alloc,
-        part_of(version),
-        bytes_of(sections, version),
+        section.part,
+        section.bytes,
         offset,
         &context,
         base,
@@ -86,34 +87,22 @@ pub fn read_ranges(
 }
 
 /// The section in which a unit of this version has its range lists.
-fn bytes_of<'a>(sections: &Sections<'a>, version: u16) -> &'a [u8]
-    ensures { result.now ≡ range_bytes (bytes_in sections.now) version }
+fn section_of<'a>(sections: &Sections<'a>, version: u16) -> ListSection<'a>
+    ensures part { result.part ≡ range_part version }
+    ensures bytes { result.bytes.now ≡ range_bytes (bytes_in sections.now) version }
+    ensures form { result.form ≡ range_form version }
 {
     if version == DWARF_5 {
-        sections.rnglists
+        ListSection {
+            part: Part::Rnglists,
+            bytes: sections.rnglists,
+            form: ListForm::RangeEntries,
+        }
     } else {
-        sections.ranges
-    }
-}
-
-/// The part of the file that this section is.
-fn part_of(version: u16) -> Part
-    ensures { result ≡ range_part version }
-{
-    if version == DWARF_5 {
-        Part::Rnglists
-    } else {
-        Part::Ranges
-    }
-}
-
-/// How items are spelled there.
-fn form_of(version: u16) -> ListForm
-    ensures { result ≡ range_form version }
-{
-    if version == DWARF_5 {
-        ListForm::RangeEntries
-    } else {
-        ListForm::Words
+        ListSection {
+            part: Part::Ranges,
+            bytes: sections.ranges,
+            form: ListForm::Words,
+        }
     }
 }
