@@ -13,7 +13,7 @@ ghost use Rattle.object_view.specs.Ready.{IsReady};
 
 use crate::expressions::{ExprRoom, Expressions, info_context};
 use byteorder::{ByteOrder, LittleEndian};
-use ds_base::dwarf::DW_FORM_exprloc;
+use ds_base::dwarf::{ADDRESS_SIZE, DW_FORM_exprloc};
 use ds_base::{ReadError, bytes_from};
 use dwarf_types::{Addr, Place, PlaceTable, RawAttrRef, ValueRef};
 use expr_resolve::{ExprContext, read_expression};
@@ -21,9 +21,6 @@ use index_tables::address_at;
 use moved_parts::place;
 use reloc_table::resolve;
 use unit_tree::is_address_index;
-
-/// So many bytes has an address.
-const ADDRESS_SIZE: u32 = 8;
 
 /// By what the attributes of `__debug_info` are understood: addresses move, references lead to the numbers of entries,
 /// and expressions become operations.
@@ -84,7 +81,7 @@ fn field_address(context: &ExprContext, end: u32, stored: &Addr) -> Addr
     requires there { 8 ≤ end }
     ensures { result ≡ Attributes.field_address (context_in context.now) end stored.now }
 {
-    let first = end - ADDRESS_SIZE;
+    let first = end - u32::from(ADDRESS_SIZE);
     resolve(context.relocs, context.image, first, number_of(stored))
 }
 

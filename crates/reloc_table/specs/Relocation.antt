@@ -11,7 +11,7 @@ use Rattle.macho_read.specs.declared.image.Section.{Section}
 use Rattle.macho_read.specs.Fields.{number_of}
 use Rattle.reloc_table.specs.declared.relocation.Reloc.{Reloc}
 use Rattle.reloc_table.specs.declared.relocation.RelocationInfo.{RelocationInfo}
-use Rattle.reloc_table.specs.declared.relocation.TheConstants.{ADDRESS_SIZE}
+use Rattle.ds_base.specs.declared.dwarf.TheConstants.{ADDRESS_SIZE}
 
 -- relocation_info: r_address, and then in one word from the low bit on r_symbolnum (24 bits), r_pcrel (1), r_length (2), r_extern (1), r_type (4)
 unfoldable pub info_of : List ℕ → RelocationInfo

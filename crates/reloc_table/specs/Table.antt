@@ -12,7 +12,7 @@ use Rattle.macho_read.specs.Fields.{is_named}
 use Rattle.macho_read.specs.Symbols.{each}
 use Rattle.reloc_table.specs.declared.relocation.Reloc.{Reloc}
 use Rattle.reloc_table.specs.declared.relocation.Relocs.{Relocs}
-use Rattle.reloc_table.specs.declared.relocation.TheConstants.{ADDRESS_SIZE}
+use Rattle.ds_base.specs.declared.dwarf.TheConstants.{ADDRESS_SIZE}
 use Rattle.reloc_table.specs.Relocation.{reloc_of}
 
 -- a debug section that is read: its segment is `__DWARF`, and its name is that of a part of the file

@@ -5,6 +5,7 @@ ghost use Rattle.ds_base.specs.Reading.{Finds};
 ghost use Rattle.reloc_table.specs.Relocation.{info_of, reloc_of, reloc_fault};
 
 use byteorder::{ByteOrder, LittleEndian};
+use ds_base::dwarf::ADDRESS_SIZE;
 use ds_base::macho::{R_SCATTERED, RELOC_LENGTH_8, X86_64_RELOC_UNSIGNED};
 use ds_base::{Fault, Kind, List, Part};
 use macho_read::{Image, Section};
@@ -34,9 +35,6 @@ impl Reloc {
         u64::from(self.place) + u64::from(ADDRESS_SIZE)
     }
 }
-
-/// The size in bytes of the numbers that are read.
-pub(crate) const ADDRESS_SIZE: u32 = 8;
 
 /// The fields of an entry (mach-o/reloc.h, `relocation_info`).
 #[derive(Clone, Copy)]
