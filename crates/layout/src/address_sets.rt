@@ -6,11 +6,15 @@ ghost use Rattle.byteorder.specs.Endian.{little_bytes};
 ghost use Rattle.dwarf_types.specs.Aranges.{arange_bytes, aranges_bytes, set_bytes};
 
 use appending::{append_u16, append_u32, append_u64, close_length, open_length};
+use ds_base::dwarf::ADDRESS_SIZE;
 use ds_base::{Bytes, NoMemory};
 use dwarf_types::Span;
 
 /// The version of a set, which is not that of the unit.
 const SET_VERSION: u16 = 2;
+
+/// The bytes of a pair of addresses, which are zero at the end of a set.
+const PAIR_LEN: usize = 2 * ADDRESS_SIZE as usize;
 
 /// Puts the addresses of a unit's code last; nothing where it has none. `start` is the place of the unit's header.
 pub(crate) fn append_aranges(out: &mut Bytes, start: u32, spans: &[Span]) -> Result<(), NoMemory>
@@ -40,9 +44,9 @@ fn append_behind_length(out: &mut Bytes, start: u32, spans: &[Span]) -> Result<(
     append_u16(out, SET_VERSION)?;
     append_u32(out, start)?;
     // address_size, segment_size, and four bytes up to a multiple of 16
-    out.extend(&[8, 0, 0, 0, 0, 0])?;
+    out.extend(&[ADDRESS_SIZE, 0, 0, 0, 0, 0])?;
     append_spans(out, spans)?;
-    out.extend(&[0; 16])?;
+    out.extend(&[0; PAIR_LEN])?;
     Ok(())
 }
 

@@ -84,10 +84,10 @@ fn append_version(out: &mut Buffer, version: u16) -> Result<(), NoMemory>
     ensures { OnOk result ((f : Filling) → filled out.new f ≡ filled out.old f ++ version_bytes version) }
 {
     if version == DWARF_5 {
-        out.extend_lowest(u64::from(DWARF_5), 2)?;
+        out.extend(&DWARF_5.to_le_bytes())?;
         out.extend(&[ADDRESS_SIZE, 0])?;
     } else {
-        out.extend_lowest(u64::from(DWARF_4), 2)?;
+        out.extend(&DWARF_4.to_le_bytes())?;
     }
     Ok(())
 }

@@ -7,10 +7,13 @@ ghost use Rattle.dwarf_types.specs.Lists.{behind_header, lists_header};
 ghost use Rattle.section_write.specs.Copied.{part_in};
 
 use crate::parts::{DraftPart, emit_parts};
-use ds_base::dwarf::{ADDRESS_SIZE, DWARF_5};
+use ds_base::dwarf::{ADDRESS_SIZE, DWARF_5, OFFSET_SIZE};
 use ds_base::{emit_u8, emit_u16, emit_u32};
 use layout::LISTS_HEADER_LEN;
 use unit_draft::Draft;
+
+/// The bytes of the header behind `unit_length`.
+const BEHIND_LENGTH_LEN: u32 = LISTS_HEADER_LEN - OFFSET_SIZE as u32;
 
 /// Writes the lists of drafts behind their header, where there are any. The section has so many bytes.
 pub(crate) fn emit_lists(
@@ -40,7 +43,7 @@ fn emit_header(lists: u32, room: &mut [u8], at: usize) -> usize
     requires fits { at + length (lists_header lists) ≤ length room.old }
     ensures { Adds room.old at (lists_header lists) room.new result }
 {
-    let at = emit_u32(room, at, 8 + lists);
+    let at = emit_u32(room, at, BEHIND_LENGTH_LEN + lists);
     let at = emit_u16(room, at, DWARF_5);
     let at = emit_u8(room, at, ADDRESS_SIZE);
     let at = emit_u8(room, at, 0);
