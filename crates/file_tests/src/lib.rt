@@ -1,7 +1,7 @@
 //! Tables of what the readers of files answer: bytes of images, archives, debug maps and relocations, and what they say or
 //! their first fault.
 //!
-//! Layer: addresses. Expected values are other tools' or were written out by hand from the standards. There is nothing
+//! Layer: samples. Expected values are other tools' or were written out by hand from the standards. There is nothing
 //! here but tests.
 #![tactic(auto)]
 
@@ -13,3 +13,5 @@ mod archives;
 mod images;
 #[cfg(test)]
 mod maps;
+#[cfg(test)]
+mod sample;

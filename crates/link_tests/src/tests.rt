@@ -1,4 +1,4 @@
-use crate::bytes::{OBJECT, PLIST_TEXT, PROGRAM, PROGRAM_OF_TWO, image, joined};
+use crate::bytes::{OBJECT, PLIST_TEXT, image, joined, program, program_of_two};
 use ds_base::{Fault, Kind, List, NoMemory, Part};
 use ds_files::{MemoryFiles, MemorySink, OpenGate};
 use link_cli::link_main;
@@ -144,7 +144,7 @@ fn a_program_is_linked_again_where_the_image_was_not_written(
     rt: HostRuntime,
 ) -> Result<(), NoMemory> {
     let alloc = rt.alloc();
-    let program = joined(alloc, PROGRAM)?;
+    let program = program(alloc)?;
     let object = joined(alloc, OBJECT)?;
     let image = image(alloc)?;
     assert_eq!(rt; image.len(), 4258);
@@ -189,7 +189,7 @@ fn a_program_is_linked_again_where_the_image_was_not_written(
 #[test]
 fn a_message_that_fails_leaves_the_bundle(rt: HostRuntime) -> Result<(), NoMemory> {
     let alloc = rt.alloc();
-    let program = joined(alloc, PROGRAM)?;
+    let program = program(alloc)?;
     let object = joined(alloc, OBJECT)?;
     let image = image(alloc)?;
     let mut files = files(alloc, program.as_slice(), object.as_slice(), 0)?;
@@ -259,7 +259,7 @@ fn a_generated_program_is_linked_whatever_the_files_are(rt: HostRuntime) {
 #[test]
 fn a_debug_map_is_told(rt: HostRuntime) -> Result<(), NoMemory> {
     let alloc = rt.alloc();
-    let program = joined(alloc, PROGRAM)?;
+    let program = program(alloc)?;
     refuses(
         &rt,
         alloc,
@@ -276,7 +276,7 @@ fn a_debug_map_is_told(rt: HostRuntime) -> Result<(), NoMemory> {
 #[test]
 fn a_missing_object_is_told_or_let_go(rt: HostRuntime) -> Result<(), NoMemory> {
     let alloc = rt.alloc();
-    let program = joined(alloc, PROGRAM_OF_TWO)?;
+    let program = program_of_two(alloc)?;
     let (p, o) = (program.as_slice(), b"");
     let missing = Status::Missing { file: 2 };
     refuses(
@@ -305,7 +305,7 @@ fn a_missing_object_is_told_or_let_go(rt: HostRuntime) -> Result<(), NoMemory> {
 #[test]
 fn a_link_that_is_refused_writes_nothing(rt: HostRuntime) -> Result<(), NoMemory> {
     let alloc = rt.alloc();
-    let program = joined(alloc, PROGRAM)?;
+    let program = program(alloc)?;
     let object = joined(alloc, OBJECT)?;
     let (a, o) = (program.as_slice(), object.as_slice());
     let words = &["a.out"];

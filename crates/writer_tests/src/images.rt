@@ -2,6 +2,7 @@
 
 ghost use Rattle.macho_read.specs.Sound.{IsSound};
 
+use crate::samples::made;
 use ds_base::dwarf::{
     DW_AT_high_pc, DW_AT_language, DW_AT_location, DW_AT_low_pc, DW_AT_name, DW_AT_ranges,
     DW_AT_stmt_list, DW_FORM_data2, DW_FORM_data4, DW_OP_dup, DW_OP_stack_value,
@@ -26,6 +27,15 @@ fn program_in(rt: &impl Abort, alloc: Global, bytes: &[u8]) -> Image
     read_image(alloc, bytes).expect(rt, "a program")
 }
 
+// The image of a program and a graph.
+fn image_of(rt: &impl Abort, alloc: Global, program: &Image, graph: &Graph) -> Bytes
+    requires { IsSound program.now }
+{
+    assert!(rt; graph.units.len() <= 2);
+    let layout = measure(alloc, graph).expect(rt, "a layout");
+    image_from(alloc, program, &layout).expect(rt, "an image")
+}
+
 // An image begins with some bytes, and has zeros behind them up to 4096.
 fn begins_with(rt: &impl Abort, image: &[u8], front: &[u8]) {
     assert!(rt; front.len() <= 4096 && image.len() >= 4096);
@@ -41,14 +51,6 @@ fn sections_are(rt: &impl Abort, image: &[u8], sections: &[u8]) {
 
 fn are_zeros(bytes: &[u8]) -> bool {
     bytes.iter().all(|b| *b == 0)
-}
-
-// The image of a program and a graph.
-fn image_of(rt: &impl Abort, alloc: Global, program: &[u8], graph: &Graph) -> Bytes {
-    let program = program_in(rt, alloc, program);
-    assert!(rt; graph.units.len() <= 2);
-    let layout = measure(alloc, graph).expect(rt, "a layout");
-    image_from(alloc, &program, &layout).expect(rt, "an image")
 }
 
 // ---- graphs
@@ -230,19 +232,16 @@ fn an_image_has_the_commands_of_its_program_and_the_sections_of_its_graph(rt: Ho
         units: one(&rt, alloc, unit(&rt, alloc, 4)),
         frames: OutFrames::new(alloc),
     };
+    let program = program_in(&rt, alloc, &program);
     let image = image_of(&rt, alloc, &program, &graph);
     begins_with(&rt, image.as_slice(), &front);
     sections_are(&rt, image.as_slice(), &sections);
 }
 
-// The program has neither segments nor symbols.
 #[rattlefmt::skip]
 #[test]
 fn the_ranges_of_a_unit_of_version_5_stand_behind_a_header(rt: HostRuntime) {
     let alloc = rt.alloc();
-    let program = [
-        0xcf, 0xfa, 0xed, 0xfe,  7, 0, 0, 1,  3, 0, 0, 0,  2, 0, 0, 0,  0, 0, 0, 0,  0, 0, 0, 0,  0, 0, 0, 0,  0, 0, 0, 0,
-    ];
     let sections = [
         // __debug_abbrev
         1, 0x11, 1,  3, 0x0e,  0x13, 5,  0x11, 1,  0x55, 0x17,  0, 0,
@@ -268,7 +267,8 @@ fn the_ranges_of_a_unit_of_version_5_stand_behind_a_header(rt: HostRuntime) {
         units: one(&rt, alloc, unit(&rt, alloc, 5)),
         frames: OutFrames::new(alloc),
     };
-    let image = image_of(&rt, alloc, &program, &graph);
+    let made = made(&rt, alloc, 1);
+    let image = image_of(&rt, alloc, &made.program, &graph);
     sections_are(&rt, image.as_slice(), &sections);
 }
 
@@ -378,14 +378,10 @@ fn frames(rt: &impl Abort, alloc: Global) -> OutFrames {
     frames
 }
 
-// The program has neither segments nor symbols.
 #[rattlefmt::skip]
 #[test]
 fn eight_sections_stand_one_behind_the_other(rt: HostRuntime) {
     let alloc = rt.alloc();
-    let program = [
-        0xcf, 0xfa, 0xed, 0xfe,  7, 0, 0, 1,  3, 0, 0, 0,  2, 0, 0, 0,  0, 0, 0, 0,  0, 0, 0, 0,  0, 0, 0, 0,  0, 0, 0, 0,
-    ];
     let graph = Graph {
         units: one(&rt, alloc, full_unit(&rt, alloc, 4, no_lines(alloc))),
         frames: frames(&rt, alloc),
@@ -418,18 +414,16 @@ fn eight_sections_stand_one_behind_the_other(rt: HostRuntime) {
         0x0c, 0, 0, 0,  0xff, 0xff, 0xff, 0xff,  4, 0, 8, 0, 1, 0x78, 0x1e, 0,
         0x14, 0, 0, 0,  0, 0, 0, 0,  0, 0x10, 0, 0, 0, 0, 0, 0,  0x10, 0, 0, 0, 0, 0, 0, 0,
     ];
-    let image = image_of(&rt, alloc, &program, &graph);
+    let made = made(&rt, alloc, 1);
+    let image = image_of(&rt, alloc, &made.program, &graph);
     sections_are(&rt, image.as_slice(), &sections);
 }
 
-// The program is the same; a unit of version 4 stands before one of version 5.
+// A unit of version 4 stands before one of version 5.
 #[rattlefmt::skip]
 #[test]
 fn eleven_sections_stand_one_behind_the_other(rt: HostRuntime) {
     let alloc = rt.alloc();
-    let program = [
-        0xcf, 0xfa, 0xed, 0xfe,  7, 0, 0, 1,  3, 0, 0, 0,  2, 0, 0, 0,  0, 0, 0, 0,  0, 0, 0, 0,  0, 0, 0, 0,  0, 0, 0, 0,
-    ];
     let sections = [
         // __debug_abbrev
         1, 0x11, 1,  3, 0x0e,  0x10, 0x17,  0x11, 1,  0x55, 0x17,  0, 0,
@@ -488,7 +482,8 @@ fn eleven_sections_stand_one_behind_the_other(rt: HostRuntime) {
         units,
         frames: frames(&rt, alloc),
     };
-    let image = image_of(&rt, alloc, &program, &graph);
+    let made = made(&rt, alloc, 1);
+    let image = image_of(&rt, alloc, &made.program, &graph);
     sections_are(&rt, image.as_slice(), &sections);
 }
 

@@ -2,7 +2,7 @@
 //! `unit_draft`, `graph_check`, `layout`, `emit_info`, `dsym_write`, and below them the writers of each section), and over
 //! the samples of `sample_objects`.
 //!
-//! Layer: writers. There is nothing here but tests.
+//! Layer: samples. There is nothing here but tests.
 #![tactic(auto)]
 
 #[cfg(test)]

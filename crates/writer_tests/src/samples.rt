@@ -12,7 +12,7 @@ use stab_map::{MapEntry, MapObject, debug_map};
 use std::alloc::Global;
 use std::process::Abort;
 
-fn made(rt: &impl Abort, alloc: Global, count: u32) -> Generated
+pub(crate) fn made(rt: &impl Abort, alloc: Global, count: u32) -> Generated
     ensures { IsSound result.program }
 {
     assert!(rt; 1 <= count && count <= 1000);
