@@ -92,7 +92,9 @@ fn first_unit(alloc: Global, first: Analysis, second: Analysis) -> Result<Option
         return Ok(None);
     };
     let winners = winners_plain(alloc, &names)?;
-    let shape = build(alloc, &seen, &rows, &names, &winners)?;
+    let Ok(shape) = build(alloc, &seen, &rows, &names, &winners) else {
+        return Err(NoMemory);
+    };
     if shape.units.is_empty() {
         return Ok(None);
     }

@@ -146,7 +146,9 @@ fn both(
         return Err(NoMemory);
     };
     let winners = winners_plain(alloc, &names)?;
-    let shape = build(alloc, &seen, &live, &names, &winners)?;
+    let Ok(shape) = build(alloc, &seen, &live, &names, &winners) else {
+        return Err(NoMemory);
+    };
     let mut line = Vec::new(alloc);
     let Ok(count) = u32::try_from(shape.units.len()) else {
         return Err(NoMemory);

@@ -1,9 +1,10 @@
 //! All objects: the shape of what is linked of them.
 
-ghost use Rattle.std.specs.Prelude.{◌≡◌, ◌<◌, ◌^◌, Bool, length, All, IfOk};
+ghost use Rattle.std.specs.Prelude.{◌≡◌, ◌<◌, ◌≤◌, ◌^◌, Bool, Err, length, All, IfOk};
 ghost use Rattle.dwarf_types.specs.LinkedShape.{AreMarked};
 ghost use Rattle.dwarf_types.specs.Sound.{IsSound};
 ghost use Rattle.odr_names.specs.Winners.{AreWinners};
+ghost use Rattle.link_graph.specs.declared.shape_error.ShapeError.TheVariants as errors;
 ghost use Rattle.link_graph.specs.Graph.{IsShape};
 ghost use Rattle.link_graph.specs.Merged.{kept_objects, linked_names, shape_of};
 ghost use Rattle.link_graph.specs.OwnShapes.{IsOwnShapeAt};
@@ -11,6 +12,7 @@ ghost use Rattle.link_graph.specs.OwnShapes.{IsOwnShapeAt};
 use crate::joining::joined_shape;
 use crate::merged::merged_shape;
 use crate::object::ObjectShape;
+use crate::shape_error::ShapeError;
 use ds_base::{BitRow, NoMemory};
 use dwarf_types::{Analysis, Shape};
 use odr_names::{PathBook, first_of};
@@ -23,14 +25,14 @@ use std::alloc::Global;
 /// of one path the winner stands in the pool's unit, and references to all of them lead there. Kept are the live entries
 /// that are not merged, and merged namespaces above them. A kept entry keeps the unit in which it stands, and units keep
 /// the order of the objects and of their places there, and their versions. The pool's unit is of version 5 where another
-/// unit is, else of version 4.
+/// unit is, else of version 4. A shape with 2^32 units or more is not made ([`ShapeError::Units`]).
 pub fn build(
     alloc: Global,
     seen: &[Analysis],
     live: &[BitRow],
     names: &PathBook,
     winners: &[u32],
-) -> Result<Shape, NoMemory>
+) -> Result<Shape, ShapeError>
     requires sound { All IsSound seen.now }
     requires marked { AreMarked seen.now live.now }
     requires few { length seen.now < 2 ^ 16 }
@@ -38,15 +40,13 @@ pub fn build(
     requires winners { AreWinners names.now winners.now }
     ensures exact { IfOk result (λ shape. (odr : Bool) → names.now ≡ linked_names odr seen.now live.now → shape ≡ shape_of odr seen.now live.now) }
     ensures is { IfOk result (λ shape. IsShape seen.now shape) }
+    ensures units { result ≡ Err errors.Units → (odr : Bool) → names.now ≡ linked_names odr seen.now live.now → 2 ^ 32 ≤ length (shape_of odr seen.now live.now).units }
 {
     let mut own = Vec::with_capacity(alloc, seen.len())?;
     for i in 0..seen.len() {
         own.push(object_shape(alloc, seen, live, names, i as u32)?)?;
     }
-    match joined_shape(alloc, names, winners, own) {
-        Ok(shape) => Ok(shape),
-        Err(_) => Err(NoMemory),
-    }
+    joined_shape(alloc, names, winners, own)
 }
 
 /// What an object gives to the shape of a link, whatever the other objects give.

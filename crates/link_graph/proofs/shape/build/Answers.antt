@@ -1,4 +1,5 @@
 use Rattle.std.proofs.Common.{◌≡◌, ◌+◌, ◌∷◌, ◌∙◌, [], ℕ, length, ap, arith, length-append}
+use Rattle.std.proofs.lemmas.Result.{IfOk-weaker}
 use Rattle.link_graph.specs.Merged.{kept_objects}
 use Rattle.link_graph.specs.OwnShapes.{AreOwnShapes}
 use Rattle.link_graph.proofs.Joined.{own_more}
@@ -22,18 +23,25 @@ joined_shape-requires-clause-own c =
     record { sound = c.requires.sound; marked = c.requires.marked; few = c.requires.few; named = named; len = c.loop-i.invariant.len ∙ all; each = c.loop-i.invariant.each odr named } in
     (odr, c.args.seen.now, c.args.live.now, are)
 
-pub returns-in-Ok-clause-exact : goal.returns-in-Ok-clause-exact
-returns-in-Ok-clause-exact c = λ odr named. (
+pub returns-clause-exact : goal.returns-clause-exact
+returns-clause-exact c = IfOk-weaker c.joined_shape.result _ _ (λ shape is odr named. (
     let all : c.loop-i.i ≡ length c.args.seen.now = omega arith in
     let are : AreOwnShapes odr c.args.seen.now c.args.live.now c.args.names.now c.loop-i.own.items =
     record { sound = c.requires.sound; marked = c.requires.marked; few = c.requires.few; named = named; len = c.loop-i.invariant.len ∙ all; each = c.loop-i.invariant.each odr named } in
-    c.in-Ok.ensures.exact odr c.args.seen.now c.args.live.now are)
+    is odr c.args.seen.now c.args.live.now are)) c.joined_shape.ensures.exact
 
-pub returns-in-Ok-clause-is : goal.returns-in-Ok-clause-is
-returns-in-Ok-clause-is c =
+pub returns-clause-is : goal.returns-clause-is
+returns-clause-is c = IfOk-weaker c.joined_shape.result _ _ (λ shape is. (
     let odr = c.requires.book.0 in
     let named = c.requires.book.1 in
     let all : c.loop-i.i ≡ length c.args.seen.now = omega arith in
     let are : AreOwnShapes odr c.args.seen.now c.args.live.now c.args.names.now c.loop-i.own.items =
     record { sound = c.requires.sound; marked = c.requires.marked; few = c.requires.few; named = named; len = c.loop-i.invariant.len ∙ all; each = c.loop-i.invariant.each odr named } in
-    c.in-Ok.ensures.is odr c.args.seen.now c.args.live.now are
+    is odr c.args.seen.now c.args.live.now are)) c.joined_shape.ensures.is
+
+pub returns-clause-units : goal.returns-clause-units
+returns-clause-units c = λ e odr named. (
+    let all : c.loop-i.i ≡ length c.args.seen.now = omega arith in
+    let are : AreOwnShapes odr c.args.seen.now c.args.live.now c.args.names.now c.loop-i.own.items =
+    record { sound = c.requires.sound; marked = c.requires.marked; few = c.requires.few; named = named; len = c.loop-i.invariant.len ∙ all; each = c.loop-i.invariant.each odr named } in
+    c.joined_shape.ensures.units e odr c.args.seen.now c.args.live.now are)
