@@ -1,16 +1,14 @@
 -- The shapes of all objects, made by several workers, and the limit of units.
-use Rattle.std.proofs.Common.{◌≡◌, ◌<◌, ◌≤◌, ◌-◌, ◌^◌, Bool, List, length, map, Some, Result, Ok, Err, IfOk, slice_get, refl, sym, ap, ◌∙◌, arith}
+use Rattle.std.proofs.Common.{◌≡◌, ◌<◌, ◌≤◌, ◌-◌, ◌^◌, Bool, List, length, map, Some, Result, Ok, slice_get, refl, sym, ap, ◌∙◌, arith}
 use Rattle.std.specs.List.{All}
 use Rattle.std.specs.Option.{option_map}
 use Rattle.std.proofs.lemmas.List.{length-map}
 use Rattle.std.proofs.lemmas.Option.{slice_get-map}
 use Rattle.ds_base.specs.declared.fault.NoMemory.{NoMemory}
 use Rattle.dwarf_types.specs.declared.analysis.Analysis.{Analysis}
-use Rattle.dwarf_types.specs.declared.shape.Shape.{Shape}
 use Rattle.dwarf_types.specs.LinkedShape.{AreMarked}
 use Rattle.dwarf_types.specs.Sound.{IsSound}
 use Rattle.link_graph.specs.declared.object.ObjectShape.{ObjectShape}
-use Rattle.link_graph.specs.declared.shape_error.ShapeError.{ShapeError}
 use Rattle.link_graph.specs.Merged.{linked_names, shape_of}
 use Rattle.link_graph.specs.OwnShapes.{AreOwnShapes}
 use Rattle.link_graph.proofs.Joined.{shape_is}
@@ -39,11 +37,6 @@ all_given odr seen live names outs own sound marked few named is all = record {
       let made : slice_get outs i ≡ Some (Ok one) = ap (λ (xs : List (Result ObjectShape NoMemory)). slice_get xs i) (sym is) ∙ slice_get-map (λ (one : ObjectShape). Ok one) own i ∙ ap (option_map (λ (one : ObjectShape). Ok one)) at in
       all.1 i (Ok one) made odr named);
 }
-
--- where it is joined
-pub joined : {P Q : Shape → Type 0} (r : Result Shape ShapeError) → IfOk r P → ((shape : Shape) → P shape → Q shape) → IfOk r Q
-joined (Ok shape) is h = h shape is
-joined (Err e) is h = tt
 
 -- where it would have so many units
 pub units_limit : (odr : Bool) (seen : List Analysis) (live : List (List Bool)) → All IsSound seen → AreMarked seen live → length (linked_names odr seen live) < 2 ^ 25 → 2 ^ 32 ≤ length (shape_of odr seen live).units
