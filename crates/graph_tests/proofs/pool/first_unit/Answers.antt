@@ -7,4 +7,4 @@ book-requires-clause-live c = two_live c.args.first c.args.second c.in_ok-live.f
     (record { len = c.in_ok-live-2.ensures.size; exact = c.in_ok-live-2.ensures.exact })
 
 pub clone_unit-requires-clause-holds : goal.clone_unit-requires-clause-holds
-clone_unit-requires-clause-holds c = both_there c.args.first c.args.second c.in_ok-shape.shape 0 c.in_ok-shape.ensures.is c.requires.first c.requires.second
+clone_unit-requires-clause-holds c = both_there c.args.first c.args.second c.in-Ok-build.shape 0 c.in-Ok-build.ensures.is c.requires.first c.requires.second
