@@ -10,13 +10,14 @@ use Rattle.dwarf_types.specs.declared.address.Addr.TheVariants as addrs
 use Rattle.dwarf_types.specs.declared.frame_columns.Before.{Before}
 use Rattle.dwarf_types.specs.declared.frame_columns.FrameParts.{FrameParts}
 use Rattle.dwarf_types.specs.declared.frame_columns.FrameSides.{FrameSides}
-use Rattle.dwarf_types.specs.declared.frame_columns.Run.{Run}
+use Rattle.dwarf_types.specs.declared.runs.Run.{Run}
 use Rattle.dwarf_types.specs.declared.frames.OutFrame.{OutFrame}
 use Rattle.dwarf_types.specs.declared.frames.OutRow.{OutRow}
 use Rattle.dwarf_types.specs.declared.frames.RawFrame.{RawFrame}
 use Rattle.dwarf_types.specs.declared.frames.RawRow.{RawRow}
 use Rattle.dwarf_types.specs.Cells.{Begins}
-use Rattle.dwarf_types.specs.FrameColumns.{AreCies, InRun, IsHeld, OutHeld, RawHeld, SidesGrow, code_of, content_of, linked_rows, no_run, out_frame_of, out_row_moved, raw_frame_of, run_moved, run_of}
+use Rattle.dwarf_types.specs.FrameColumns.{AreCies, IsHeld, OutHeld, RawHeld, SidesGrow, code_of, content_of, linked_rows, out_frame_of, out_row_moved, raw_frame_of, run_moved}
+use Rattle.dwarf_types.specs.Runs.{InRun, no_run, run_of}
 use Rattle.dwarf_types.specs.SeenFrames.{at_addresses}
 use Rattle.dwarf_types.proofs.Heads.{maps_same}
 use Rattle.dwarf_types.proofs.Kept.{get_begins, longer, range_begins}

@@ -6,6 +6,7 @@ pub mod Growing
 pub mod Heads
 pub mod Kept
 pub mod Lengths
+pub mod LineRows
 pub mod Placing
 pub mod Plain
 pub mod PlainCells

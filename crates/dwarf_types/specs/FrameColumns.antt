@@ -1,21 +1,15 @@
 -- What the rows of frames stand for.
-use Rattle.std.specs.Prelude.{ℕ, ◌+◌, ◌<◌, ◌≤◌, ◌^◌, List, ◌∷◌, [], All, length, get_or, slice_range, Option, Some, None}
+use Rattle.std.specs.Prelude.{ℕ, ◌+◌, ◌<◌, ◌^◌, List, ◌∷◌, [], All, length, get_or, Option, Some, None}
 use Rattle.dwarf_types.specs.declared.frame_columns.Before.{Before}
 use Rattle.dwarf_types.specs.declared.frame_columns.FrameParts.{FrameParts}
 use Rattle.dwarf_types.specs.declared.frame_columns.FrameSides.{FrameSides}
-use Rattle.dwarf_types.specs.declared.frame_columns.Run.{Run}
 use Rattle.dwarf_types.specs.declared.frames.OutFrame.{OutFrame}
 use Rattle.dwarf_types.specs.declared.frames.OutRow.{OutRow}
 use Rattle.dwarf_types.specs.declared.frames.RawFrame.{RawFrame}
 use Rattle.dwarf_types.specs.declared.frames.RawRow.{RawRow}
+use Rattle.dwarf_types.specs.declared.runs.Run.{Run}
 use Rattle.dwarf_types.specs.Cells.{Begins}
-
-abbrev pub no_run : Run
-no_run = record { from = 0; to = 0 }
-
--- the bytes of a run
-abbrev pub run_of : List ℕ → Run → List ℕ
-run_of bytes r = slice_range bytes r.from r.to
+use Rattle.dwarf_types.specs.Runs.{InRun, no_run, run_of}
 
 -- the content of a common information entry, by its number
 abbrev pub content_of : FrameSides → ℕ → List ℕ
@@ -31,9 +25,6 @@ abbrev pub out_frame_of : FrameSides → OutRow → OutFrame
 out_frame_of s r = record { cie = content_of s r.parts.cie; address = r.address; length = r.parts.length; code = code_of s r.parts }
 
 -- ---- rows whose parts lie in the columns
-
-abbrev pub InRun : List ℕ → Run → Type 0
-InRun bytes r = (r.from ≤ r.to) × (r.to ≤ length bytes)
 
 abbrev pub AreCies : FrameSides → Type 0
 AreCies s = All (InRun s.bytes.items) s.cies.items

@@ -12,6 +12,7 @@ pub mod Frames
 pub mod Gathered
 pub mod Kept
 pub mod Layout
+pub mod LineColumns
 pub mod LineProgram
 pub mod LineTable
 pub mod LinkedExpressions
@@ -28,9 +29,11 @@ pub mod PlaceSteps
 pub mod Plain
 pub mod Put
 pub mod Raw
+pub mod Runs
 pub mod SectionBytes
 pub mod Seen
 pub mod SeenFrames
+pub mod SeenLines
 pub mod Sound
 pub mod Spelled
 pub mod SpelledOperands

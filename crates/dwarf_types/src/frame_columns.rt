@@ -1,17 +1,12 @@
 //! What frames are made of: the contents of common information entries, and bytes, in columns.
 
 ghost use Rattle.std.specs.Prelude.{◌≡◌, ◌+◌, ◌++◌, ◌<◌, ◌^◌, All, length, map, IfOk, OnOk, OnErr};
-ghost use Rattle.dwarf_types.specs.FrameColumns.{AreCies, Fits, InRun, IsHeld, PartsFit, SidesGrow, code_of, content_of, parts_moved, run_moved, run_of};
+ghost use Rattle.dwarf_types.specs.FrameColumns.{AreCies, Fits, IsHeld, PartsFit, SidesGrow, code_of, content_of, parts_moved, run_moved};
+ghost use Rattle.dwarf_types.specs.Runs.{InRun};
 
+use crate::runs::{Run, append, part_of};
 use ds_base::NoMemory;
 use std::alloc::Global;
-
-/// From one place of the bytes up to another.
-#[derive(Clone, Copy, Debug, PartialEq, Eq)]
-pub(crate) struct Run {
-    pub(crate) from: usize,
-    pub(crate) to: usize,
-}
 
 /// A frame but for its address.
 #[derive(Clone, Copy, Debug, PartialEq, Eq)]
@@ -170,26 +165,4 @@ fn moved_run(run: Run, by: usize) -> Run
         from: by + run.from,
         to: by + run.to,
     }
-}
-
-/// The bytes of a run.
-fn part_of(bytes: &[u8], run: Run) -> &[u8]
-    requires { InRun bytes.now run }
-    ensures { result.now ≡ run_of bytes.now run }
-{
-    &bytes[run.from..run.to]
-}
-
-/// Puts bytes last, and answers where they lie.
-fn append(column: &mut Vec<u8>, bytes: &[u8]) -> Result<Run, NoMemory>
-    ensures ok { OnOk result (column.new.items ≡ column.old.items ++ bytes.now) }
-    ensures at { IfOk result (λ run. (run.from ≡ length column.old.items) × (run.to ≡ length column.old.items + length bytes.now)) }
-    ensures unchanged { OnErr result (column.new.items ≡ column.old.items) }
-{
-    let from = column.len();
-    column.extend_from_slice(bytes)?;
-    Ok(Run {
-        from,
-        to: column.len(),
-    })
 }

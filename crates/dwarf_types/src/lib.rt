@@ -19,6 +19,7 @@ mod entries;
 mod entry;
 mod entry_ref;
 mod expr;
+mod files;
 mod forms;
 mod frame_columns;
 mod frames;
@@ -28,10 +29,13 @@ mod lists;
 mod operands;
 mod ops;
 mod parts;
+mod paths;
 mod place_table;
 mod put;
+mod runs;
 mod sections;
 mod seen;
+mod sequences;
 mod shape;
 mod sides;
 mod value;
@@ -44,6 +48,7 @@ pub use entries::{Entries, RawEntries};
 pub use entry::{Attr, Entry, InUnit, RawAttr, RawEntry, RawUnits};
 pub use entry_ref::{EntryRef, RawEntryRef};
 pub use expr::{Base, Op, PlainOp};
+pub use files::{FileNameRef, FileNames};
 pub use forms::is_flag;
 pub use frames::{FrameRef, OutFrame, OutFrames, RawFrame, RawFrameRef, RawFrames};
 pub use graph::{Graph, Node, OutAttr, OutLocation, OutUnit, OutValue, Target, Written};
@@ -52,12 +57,16 @@ pub use lists::{Location, RawLocation, RawSpan};
 pub use operands::{Named, Operands, operands_after};
 pub use ops::{LocationList, Ops};
 pub use parts::{ExprPart, PlainPart};
+pub use paths::Paths;
 pub use place_table::PlaceTable;
 pub use put::{NewValue, RawValue};
 pub use sections::Sections;
 pub use seen::{
     AttrRef, InnerOpRef, InnerOpsRef, LocationRef, LocationsRef, OpRef, OpsRef, RawAttrRef,
     ValueRef,
+};
+pub use sequences::{
+    RawSequenceBuilder, RawSequenceRef, RawSequences, SequenceBuilder, SequenceRef, Sequences,
 };
 pub use shape::{Origin, Shape, ShapeUnit};
 pub use value::Value;

@@ -1,6 +1,9 @@
 //! Line tables (DWARF 4, section 6.2).
 
 use crate::address::Addr;
+use crate::files::FileNames;
+use crate::paths::Paths;
+use crate::sequences::{RawSequences, Sequences};
 use ds_base::{Bytes, List};
 
 /// A file of a line table (DWARF 4, section 6.2.4).
@@ -47,9 +50,9 @@ pub struct Sequence {
 /// A unit's line table, as it is written.
 #[derive(Drop)]
 pub struct OutLines {
-    pub dirs: List<Bytes>,
-    pub files: List<FileName>,
-    pub sequences: List<Sequence>,
+    pub dirs: Paths,
+    pub files: FileNames,
+    pub sequences: Sequences,
 }
 
 /// A row as it is read: its address is the object's.
@@ -70,7 +73,7 @@ pub struct RawSequence {
 /// A line table as it is read.
 #[derive(Drop)]
 pub struct RawLines {
-    pub dirs: List<Bytes>,
-    pub files: List<FileName>,
-    pub sequences: List<RawSequence>,
+    pub dirs: Paths,
+    pub files: FileNames,
+    pub sequences: RawSequences,
 }

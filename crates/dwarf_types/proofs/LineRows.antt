@@ -1,0 +1,113 @@
+-- What rows of line tables stand for, as their columns grow.
+use Rattle.std.proofs.Common.{◌≡◌, ℕ, ◌+◌, ◌-◌, ◌≤◌, List, [], ◌∷◌, ◌++◌, Option, Some, None, map, length, drop, All, refl, ap, ap₂, ◌∙◌, arith}
+use Rattle.std.specs.Prelude.{IfSome}
+use Rattle.std.specs.Option.{option_map}
+use Rattle.std.proofs.lemmas.List.{drop-append-le, drop_at, length-append, map_push, take_all}
+use Rattle.std.proofs.lemmas.List.Elements.{All-push, All-weaker}
+use Rattle.dwarf_types.specs.declared.files.FileRow.{FileRow}
+use Rattle.dwarf_types.specs.declared.lines.FileName.{FileName}
+use Rattle.dwarf_types.specs.declared.lines.RawRow.{RawRow}
+use Rattle.dwarf_types.specs.declared.lines.RawSequence.{RawSequence}
+use Rattle.dwarf_types.specs.declared.lines.Row.{Row}
+use Rattle.dwarf_types.specs.declared.lines.Sequence.{Sequence}
+use Rattle.dwarf_types.specs.declared.runs.Run.{Run}
+use Rattle.dwarf_types.specs.declared.sequences.RawSequenceRow.{RawSequenceRow}
+use Rattle.dwarf_types.specs.declared.sequences.SequenceRow.{SequenceRow}
+use Rattle.dwarf_types.specs.Cells.{Begins}
+use Rattle.dwarf_types.specs.LineColumns.{FileWithin, RawSequenceWithin, SequenceWithin, built_of, file_of, raw_built_of, raw_sequence_of, sequence_of}
+use Rattle.dwarf_types.specs.Runs.{InRun, run_of}
+use Rattle.dwarf_types.proofs.Heads.{maps_same}
+use Rattle.dwarf_types.proofs.Kept.{longer, range_begins}
+
+-- ---- rows whose column grows
+
+-- a row keeps what it stands for, and lies in the longer column too
+pub record Keeps {T R A : Type 0} (mean : List T → R → A) (Within : List T → R → Type 0) : Type 0 where
+  pub same : (old new : List T) → Begins old new → (r : R) → Within old r → mean new r ≡ mean old r
+  pub within : (old new : List T) → Begins old new → (r : R) → Within old r → Within new r
+
+module _ {T R A : Type 0} (mean : List T → R → A) (Within : List T → R → Type 0) (k : Keeps mean Within) (old new : List T) (b : Begins old new) (rows : List R) (are : All (Within old) rows) where
+  pub means_kept : map (mean new) rows ≡ map (mean old) rows
+  means_kept = maps_same (Within old) (mean old) (mean new) (k.same old new b) rows are
+
+  pub within_kept : All (Within new) rows
+  within_kept = All-weaker (Within old) (Within new) (k.within old new b) rows are
+
+  -- a row that is put last
+  pub means_put : (r : R) (part : A) → mean new r ≡ part → map (mean new) (rows ++ r ∷ []) ≡ map (mean old) rows ++ part ∷ []
+  means_put r part is = map_push (mean new) rows r ∙ ap₂ (λ (xs : List A) (x : A). xs ++ x ∷ []) means_kept is
+
+  pub within_put : (r : R) → Within new r → All (Within new) (rows ++ r ∷ [])
+  within_put r is = All-push (Within new) rows r within_kept is
+
+-- ---- runs, files and sequences
+
+pub runs_keep : {T : Type 0} → Keeps {T = T} run_of InRun
+runs_keep = record {
+  same = λ old new b r w. range_begins old new r.from r.to b w.0 w.1;
+  within = λ old new b r w.
+      let more = longer old new b in
+      let up : r.from ≤ r.to = w.0 in
+      let inside : r.to ≤ length old = w.1 in
+      (up, omega arith);
+}
+
+digest_kept : (old new : List ℕ) → Begins old new → (d : Option Run) → IfSome d (InRun old) → option_map (run_of new) d ≡ option_map (run_of old) d
+digest_kept old new b None w = refl
+digest_kept old new b (Some r) w = ap Some (runs_keep.same old new b r w)
+
+digest_within : (old new : List ℕ) → Begins old new → (d : Option Run) → IfSome d (InRun old) → IfSome d (InRun new)
+digest_within old new b None w = tt
+digest_within old new b (Some r) w = runs_keep.within old new b r w
+
+abbrev pub file_with : FileRow → List ℕ → Option (List ℕ) → FileName
+file_with r name digest = record { name = name; dir = r.dir; time = r.time; size = r.size; digest = digest }
+
+pub files_keep : Keeps file_of FileWithin
+files_keep = record {
+  same = λ old new b r w. ap₂ (file_with r) (runs_keep.same old new b r.name w.0) (digest_kept old new b r.digest w.1);
+  within = λ old new b r w. (runs_keep.within old new b r.name w.0, digest_within old new b r.digest w.1);
+}
+
+abbrev sequence_with : SequenceRow → List Row → Sequence
+sequence_with s rows = record { rows = rows; end = s.end }
+
+abbrev raw_sequence_with : RawSequenceRow → List RawRow → RawSequence
+raw_sequence_with s rows = record { rows = rows; end = s.end }
+
+pub sequences_keep : Keeps sequence_of SequenceWithin
+sequences_keep = record {
+  same = λ old new b s w. ap (sequence_with s) (runs_keep.same old new b s.rows w);
+  within = λ old new b s w. runs_keep.within old new b s.rows w;
+}
+
+pub raw_sequences_keep : Keeps raw_sequence_of RawSequenceWithin
+raw_sequences_keep = record {
+  same = λ old new b s w. ap (raw_sequence_with s) (runs_keep.same old new b s.rows w);
+  within = λ old new b s w. runs_keep.within old new b s.rows w;
+}
+
+-- items that are put last lie in a run
+
+module _ {T : Type 0} (old new more : List T) (r : Run) (put : new ≡ old ++ more) (at : (r.from ≡ length old) × (r.to ≡ length old + length more)) where
+  pub put_within : InRun new r
+  put_within =
+      let long = length-append old more in
+      let from : r.from ≡ length old = at.0 in
+      let to : r.to ≡ length old + length more = at.1 in
+      rw put (omega (arith, from, to), omega (arith, long, to))
+
+  pub put_is : run_of new r ≡ more
+  put_is =
+      let fits : length more ≤ (length old + length more) - length old = omega arith in
+      rw (put, at.0, at.1) (search (drop_at, take_all))
+
+-- ---- a row of the next sequence, behind its others
+
+module _ (rows : List Row) (row : Row) (open_from : ℕ) (le : open_from ≤ length rows) (ended : List SequenceRow) (are : All (SequenceWithin rows) ended) where
+  pub row_put : built_of (rows ++ row ∷ []) ended open_from ≡ record { ended = map (sequence_of rows) ended; rows = drop open_from rows ++ row ∷ [] }
+  row_put = rw (means_kept sequence_of SequenceWithin sequences_keep rows (rows ++ row ∷ []) (row ∷ [], refl) ended are, drop-append-le open_from rows (row ∷ []) le) refl
+
+module _ (rows : List RawRow) (row : RawRow) (open_from : ℕ) (le : open_from ≤ length rows) (ended : List RawSequenceRow) (are : All (RawSequenceWithin rows) ended) where
+  pub raw_row_put : raw_built_of (rows ++ row ∷ []) ended open_from ≡ record { ended = map (raw_sequence_of rows) ended; rows = drop open_from rows ++ row ∷ [] }
+  raw_row_put = rw (means_kept raw_sequence_of RawSequenceWithin raw_sequences_keep rows (rows ++ row ∷ []) (row ∷ [], refl) ended are, drop-append-le open_from rows (row ∷ []) le) refl
