@@ -1,10 +1,12 @@
 -- Heads whose cells follow one another, and what their entries are as columns grow.
-use Rattle.std.proofs.Common.{◌≡◌, ℕ, zero, suc, ◌+◌, ◌-◌, ◌<◌, ◌≤◌, ◌||◌, List, [], ◌∷◌, ◌++◌, Bool, true, false, cond, Option, Some, map, length, drop, get_or, slice_get, All, refl, ap, ap₂, subst, sym, ◌∙◌, arith}
-use Rattle.std.specs.List.{find, list_any}
+use Rattle.std.proofs.Common.{◌≡◌, ℕ, zero, suc, ◌+◌, ◌-◌, ◌<◌, ◌≤◌, ◌||◌, List, [], ◌∷◌, ◌++◌, Bool, true, false, cond, Option, Some, None, map, length, drop, get_or, slice_get, All, refl, ap, ap₂, sym, ◌∙◌, arith}
+use Rattle.std.specs.List.{find, list_any, position, position_or_len}
 use Rattle.std.specs.Option.{option_map}
+use Rattle.std.proofs.lemmas.Grind.{common_steps}
 use Rattle.std.proofs.lemmas.List.{map_push, length-drop, length_push, take_all}
 use Rattle.std.proofs.lemmas.List.Elements.{All-take, All-drop, All-head, All-tail, All-push, All-weaker}
-use Rattle.std.proofs.lemmas.Option.{get_or_from_slice_get, slice_get-get_or, slice_get-map}
+use Rattle.std.proofs.lemmas.List.Folds.{find_at}
+use Rattle.std.proofs.lemmas.Option.{get_or_from_slice_get, slice_get-get_or, slice_get-map, slice_get_past}
 use Rattle.dwarf_types.specs.declared.columns.Head.{Head}
 use Rattle.dwarf_types.specs.Cells.{Begins}
 use Rattle.dwarf_types.specs.Columns.{Follow, IsFlat, cells_of, row}
@@ -111,15 +113,26 @@ cond_some : {A B : Type 0} (b : Bool) (f : A → B) (x : A) (o : Option A) → c
 cond_some true f x o = refl
 cond_some false f x o = refl
 
-pub find_map : {A B : Type 0} (f : A → B) (p : B → Bool) (xs : List A) → find p (map f xs) ≡ option_map f (find (λ x. p (f x)) xs)
+find_map : {A B : Type 0} (f : A → B) (p : B → Bool) (xs : List A) → find p (map f xs) ≡ option_map f (find (λ x. p (f x)) xs)
 find_map f p [] = refl
 find_map {A} {B} f p (x ∷ xs) = ap (λ (o : Option B). cond (p (f x)) (Some (f x)) o) (find_map f p xs) ∙ cond_some (p (f x)) f x (find (λ y. p (f y)) xs)
 
-found_step : {A : Type 0} (P : A → Type 0) (b : Bool) (y x : A) (rest : Option A) → P y → (rest ≡ Some x → P x) → cond b (Some y) rest ≡ Some x → P x
-found_step P true y x rest here later e = let same : y ≡ x = cc in subst P same here
-found_step P false y x rest here later e = later e
+-- what is found stands at the position of the first that passes
+at_position : {A : Type 0} (p : A → Bool) (xs : List A) (j : ℕ) → position p xs ≡ Some j → position_or_len p xs ≡ j
+at_position p xs j e = grind (arith, common_steps)
 
--- what is true of each item is true of the one that is found
-pub found_within : {A : Type 0} (P : A → Type 0) (p : A → Bool) (xs : List A) (x : A) → All P xs → find p xs ≡ Some x → P x
-found_within P p [] x all e = absurd (let no : ⊥ = cc in no)
-found_within P p (y ∷ ys) x all e = found_step P (p y) y x (find p ys) (All-head P y ys all) (λ later. found_within P p ys x (All-tail P y ys all) later) e
+pub position_within : {A : Type 0} (p : A → Bool) (xs : List A) (j : ℕ) → position p xs ≡ Some j → j < length xs
+position_within p xs j e = grind (arith, common_steps)
+
+past_position : {A : Type 0} (p : A → Bool) (xs : List A) → position p xs ≡ None → length xs ≤ position_or_len p xs
+past_position p xs e = grind (arith, common_steps)
+
+pub find_there : {A B : Type 0} (f : A → B) (p : B → Bool) (xs : List A) (j : ℕ) → position (λ x. p (f x)) xs ≡ Some j → find p (map f xs) ≡ slice_get (map f xs) j
+find_there f p xs j e =
+    let here : find (λ x. p (f x)) xs ≡ slice_get xs j = find_at (λ x. p (f x)) xs ∙ ap (slice_get xs) (at_position (λ x. p (f x)) xs j e) in
+    find_map f p xs ∙ ap (option_map f) here ∙ sym (slice_get-map f xs j)
+
+pub find_none : {A B : Type 0} (f : A → B) (p : B → Bool) (xs : List A) → position (λ x. p (f x)) xs ≡ None → find p (map f xs) ≡ None
+find_none f p xs e =
+    let none : find (λ x. p (f x)) xs ≡ None = find_at (λ x. p (f x)) xs ∙ slice_get_past xs (position_or_len (λ x. p (f x)) xs) (past_position (λ x. p (f x)) xs e) in
+    find_map f p xs ∙ ap (option_map f) none

@@ -1,5 +1,6 @@
 pub mod Ancestors
 pub mod Building
+pub mod Ends
 pub mod FrameRows
 pub mod Gathering
 pub mod Growing

@@ -1,5 +1,5 @@
 -- What the kind of a cell tells of its value.
-use Rattle.std.proofs.Common.{◌≡◌, ℕ, zero, suc, List, [], ◌∷◌, Bool, Some, map, slice_get, refl, sym, ap, ◌∙◌}
+use Rattle.std.proofs.Common.{◌≡◌, ℕ, zero, suc, List, [], ◌∷◌, Bool, Some, map, length, slice_get, refl, sym, ap, ◌∙◌, arith}
 use Rattle.std.specs.Prelude.{is_some}
 use Rattle.std.specs.List.{list_any}
 use Rattle.std.proofs.Math.Path.{fun_ext}
@@ -7,11 +7,10 @@ use Rattle.dwarf_types.specs.declared.columns.Cell.{Cell}
 use Rattle.dwarf_types.specs.declared.sides.Kind.{Kind}
 use Rattle.dwarf_types.specs.declared.sides.Kind.TheVariants as kinds
 use Rattle.dwarf_types.specs.declared.sides.Sides.{Sides}
-use Rattle.dwarf_types.specs.declared.columns.RawCell.{RawCell}
 use Rattle.dwarf_types.specs.declared.entry.Attr.{Attr}
 use Rattle.dwarf_types.specs.declared.entry.RawAttr.{RawAttr}
 use Rattle.dwarf_types.specs.Cells.{held_value}
-use Rattle.dwarf_types.specs.Columns.{attr_of, raw_attr_of}
+use Rattle.dwarf_types.specs.Columns.{attr_of, raw_attr_of, raw_attrs_of}
 use Rattle.dwarf_types.specs.declared.value.Value.{Value}
 use Rattle.dwarf_types.specs.Moves.{place_in}
 use Rattle.dwarf_types.specs.Plain.{holds_address, holds_offset, holds_plain, is_offset, is_plain}
@@ -84,18 +83,20 @@ any_address s cells = any_held s holds_address (λ value. is_some (place_in valu
 
 -- ---- the kind of an attribute's cell
 
--- a cell that stands for an attribute of the cell's value
-module _ {X A : Type 0} (s : Sides) (cell_of : X → Cell) (attr : X → A) (value_of : A → Value) (stands : (x : X) → value_of (attr x) ≡ (attr_of s (cell_of x)).value) where
-  pub plain_of : (cells : List X) (j : ℕ) (kind : Kind) (a : A) → slice_get (map (λ x. (cell_of x).kind) cells) j ≡ Some kind → slice_get (map attr cells) j ≡ Some a → holds_plain kind ≡ is_plain (value_of a)
-  plain_of [] j kind a there is = absurd (let no : ⊥ = cc in no)
-  plain_of (x ∷ cells) zero kind a there is =
-      let own : (cell_of x).kind ≡ kind = cc in
-      let same : attr x ≡ a = cc in
-      ap holds_plain (sym own) ∙ plain_held s (cell_of x).kind (cell_of x).form (cell_of x).payload ∙ ap is_plain (sym (stands x)) ∙ ap (λ (b : A). is_plain (value_of b)) same
-  plain_of (x ∷ cells) (suc j) kind a there is = plain_of cells j kind a there is
-
 pub plain_at : (s : Sides) (cells : List Cell) (j : ℕ) (kind : Kind) (a : Attr) → slice_get (map (λ (c : Cell). c.kind) cells) j ≡ Some kind → slice_get (map (attr_of s) cells) j ≡ Some a → holds_plain kind ≡ is_plain a.value
-plain_at s cells j kind a there is = plain_of s (λ (c : Cell). c) (attr_of s) (λ (b : Attr). b.value) (λ c. refl) cells j kind a there is
+plain_at s [] j kind a there is = absurd (let no : ⊥ = cc in no)
+plain_at s (c ∷ cells) zero kind a there is =
+    let own : c.kind ≡ kind = cc in
+    let same : attr_of s c ≡ a = cc in
+    ap holds_plain (sym own) ∙ plain_held s c.kind c.form c.payload ∙ ap (λ (b : Attr). is_plain b.value) same
+plain_at s (c ∷ cells) (suc j) kind a there is = plain_at s cells j kind a there is
 
-pub raw_plain_at : (s : Sides) (cells : List RawCell) (j : ℕ) (kind : Kind) (a : RawAttr) → slice_get (map (λ (c : RawCell). c.cell.kind) cells) j ≡ Some kind → slice_get (map (raw_attr_of s) cells) j ≡ Some a → holds_plain kind ≡ is_plain a.value
-raw_plain_at s cells j kind a there is = plain_of s (λ (c : RawCell). c.cell) (raw_attr_of s) (λ (b : RawAttr). b.value) (λ c. refl) cells j kind a there is
+pub raw_plain_at : (s : Sides) (cells : List Cell) (ends : List ℕ) (j : ℕ) (kind : Kind) (a : RawAttr) → length ends ≡ length cells → slice_get (map (λ (c : Cell). c.kind) cells) j ≡ Some kind → slice_get (raw_attrs_of s cells ends) j ≡ Some a → holds_plain kind ≡ is_plain a.value
+raw_plain_at s [] ends j kind a beside there is = absurd (let no : ⊥ = cc in no)
+raw_plain_at s (c ∷ cells) [] j kind a beside there is = absurd (omega arith)
+raw_plain_at s (c ∷ cells) (e ∷ ends) zero kind a beside there is =
+    let own : c.kind ≡ kind = cc in
+    let pair : Cell × ℕ = (c, e) in
+    let same : raw_attr_of s pair ≡ a = cc in
+    ap holds_plain (sym own) ∙ plain_held s c.kind c.form c.payload ∙ ap (λ (b : RawAttr). is_plain b.value) same
+raw_plain_at s (c ∷ cells) (e ∷ ends) (suc j) kind a beside there is = raw_plain_at s cells ends j kind a (omega arith) there is

@@ -1,8 +1,8 @@
 -- What heads and cells stand for.
-use Rattle.std.specs.Prelude.{ℕ, ◌+◌, ◌≤◌, ◌==◌, List, [], ◌∷◌, All, length, map, drop, slice_range, Option, None, Some, if◌then◌else◌}
+use Rattle.std.specs.Prelude.{ℕ, ◌≡◌, ◌+◌, ◌≤◌, ◌==◌, List, [], ◌∷◌, All, length, map, drop, slice_range, Option, None, Some, if◌then◌else◌}
+use Rattle.std.specs.List.{zip}
 use Rattle.dwarf_types.specs.declared.columns.Cell.{Cell}
 use Rattle.dwarf_types.specs.declared.columns.Head.{Head}
-use Rattle.dwarf_types.specs.declared.columns.RawCell.{RawCell}
 use Rattle.dwarf_types.specs.declared.columns.TheConstants.{NO_PARENT}
 use Rattle.dwarf_types.specs.declared.entry.Attr.{Attr}
 use Rattle.dwarf_types.specs.declared.entry.Entry.{Entry}
@@ -17,15 +17,16 @@ use Rattle.dwarf_types.specs.Cells.{IsWithin, held_value}
 abbrev pub attr_of : Sides → Cell → Attr
 attr_of s c = record { name = c.name; form = c.form; value = held_value s c.kind c.form c.payload }
 
-abbrev pub raw_attr_of : Sides → RawCell → RawAttr
-raw_attr_of s c = record { name = c.cell.name; form = c.cell.form; end = c.end; value = held_value s c.cell.kind c.cell.form c.cell.payload }
+-- as it is read: of a cell and the place behind its value
+abbrev pub raw_attr_of : Sides → Cell × ℕ → RawAttr
+raw_attr_of s c = record { name = c.0.name; form = c.0.form; end = c.1; value = held_value s c.0.kind c.0.form c.0.payload }
+
+abbrev pub raw_attrs_of : Sides → List Cell → List ℕ → List RawAttr
+raw_attrs_of s cells ends = map (raw_attr_of s) (zip cells ends)
 
 -- a cell's payload lies in its column
 abbrev pub CellWithin : Sides → Cell → Type 0
 CellWithin s c = IsWithin s c.kind c.payload
-
-abbrev pub RawWithin : Sides → RawCell → Type 0
-RawWithin s c = CellWithin s c.cell
 
 -- ---- entries
 
@@ -48,12 +49,12 @@ row f with_attrs cells h = with_attrs h (map f (cells_of cells h))
 abbrev pub entries_of : Sides → List Head → List Cell → List Entry
 entries_of s heads cells = map (row (attr_of s) entry_with cells) heads
 
-abbrev pub raw_entries_of : Sides → List Head → List RawCell → List RawEntry
-raw_entries_of s heads cells = map (row (raw_attr_of s) raw_entry_with cells) heads
+abbrev pub raw_entries_of : Sides → List Head → List Cell → List ℕ → List RawEntry
+raw_entries_of s heads cells ends = map (row (raw_attr_of s) raw_entry_with (zip cells ends)) heads
 
 -- the entries of the heads, and the attributes of the cells from a place on
-abbrev pub built_of : Sides → List Head → List RawCell → ℕ → Built
-built_of s heads cells open_from = record { entries = raw_entries_of s heads cells; attrs = map (raw_attr_of s) (drop open_from cells) }
+abbrev pub built_of : Sides → List Head → List Cell → List ℕ → ℕ → Built
+built_of s heads cells ends open_from = record { entries = raw_entries_of s heads cells ends; attrs = map (raw_attr_of s) (drop open_from (zip cells ends)) }
 
 -- ---- heads and their cells
 
@@ -67,3 +68,8 @@ pub record IsFlat {X : Type 0} (Within : X → Type 0) (heads : List Head) (cell
   pub follow : Follow 0 heads open_from
   pub few : open_from ≤ length cells
   pub within : All Within cells
+
+-- the same of cells as they are read: each has the place behind its value
+pub record IsRaw (s : Sides) (heads : List Head) (cells : List Cell) (ends : List ℕ) (open_from : ℕ) : Type 0 where
+  pub flat : IsFlat (CellWithin s) heads cells open_from
+  pub beside : length ends ≡ length cells

@@ -5,7 +5,7 @@ ghost use Rattle.std.specs.List.{list_any};
 ghost use Rattle.dwarf_types.specs.Columns.{parent_of};
 ghost use Rattle.dwarf_types.specs.Put.{value_read};
 
-use crate::columns::{Cell, Head, NO_PARENT, RawCell, cells_from, cells_in, has_name};
+use crate::columns::{Cell, Head, NO_PARENT, cells_from, cells_in, has_name};
 use crate::entries::RawEntries;
 use crate::entry_ref::RawEntryRef;
 use crate::put::RawValue;
@@ -23,7 +23,9 @@ const BYTES_AN_ATTRIBUTE: usize = 3;
 #[derive(Drop)]
 pub struct Builder {
     heads: Vec<Head>,
-    cells: Vec<RawCell>,
+    cells: Vec<Cell>,
+    /// Of each cell, the place behind its value.
+    ends: Vec<u32>,
     sides: Sides,
     /// The place of the first cell that is no entry's yet.
     open_from: usize,
@@ -34,11 +36,11 @@ impl Model for Builder {
 
     ghost Value = { Built };
 
-    ghost use Rattle.dwarf_types.specs.Columns.{IsFlat, RawWithin, built_of};
+    ghost use Rattle.dwarf_types.specs.Columns.{IsRaw, built_of};
 
-    ghost view = { λ b. built_of b.sides b.heads.items b.cells.items b.open_from };
+    ghost view = { λ b. built_of b.sides b.heads.items b.cells.items b.ends.items b.open_from };
 
-    ghost invariant = { λ b. IsFlat (RawWithin b.sides) b.heads.items b.cells.items b.open_from };
+    ghost invariant = { λ b. IsRaw b.sides b.heads.items b.cells.items b.ends.items b.open_from };
 }
 
 impl Builder {
@@ -50,6 +52,7 @@ impl Builder {
         Ok(Builder {
             heads: Vec::with_capacity(alloc, size / BYTES_AN_ENTRY)?,
             cells: Vec::with_capacity(alloc, size / BYTES_AN_ATTRIBUTE)?,
+            ends: Vec::with_capacity(alloc, size / BYTES_AN_ATTRIBUTE)?,
             sides: Sides::with_texts(alloc, strings)?,
             open_from: 0,
         })
@@ -71,7 +74,8 @@ impl Builder {
         }
         let head = self.heads[i];
         let cells = cells_in(&self.cells, &head);
-        Some(RawEntryRef::new(&self.sides, cells, head))
+        let ends = cells_in(&self.ends, &head);
+        Some(RawEntryRef::new(&self.sides, cells, ends, head))
     }
 
     /// Whether an attribute of the next entry has the name.
@@ -101,7 +105,10 @@ impl Builder {
             kind: held.kind,
             payload: held.payload,
         };
-        self.cells.push(RawCell { cell, end })?;
+        // Room first: nothing fails behind the cell, so both columns grow or neither.
+        self.ends.reserve(1)?;
+        self.cells.push(cell)?;
+        self.ends.push_reserved(end);
         Ok(())
     }
 
@@ -137,10 +144,11 @@ impl Builder {
         let Builder {
             heads,
             cells,
+            ends,
             sides,
             ..
         } = self;
-        RawEntries::from_columns(heads, cells, sides)
+        RawEntries::from_columns(heads, cells, ends, sides)
     }
 }
 

@@ -1,8 +1,7 @@
 //! Heads and cells: an entry but for its attributes, and an attribute.
 
 ghost use Rattle.std.specs.Prelude.{◌≡◌, ◌==◌, ◌<◌, ◌≤◌, ◌+◌, length, map, drop, slice_get, Some};
-ghost use Rattle.std.specs.List.{find, list_any};
-ghost use Rattle.std.specs.Option.{option_copied};
+ghost use Rattle.std.specs.List.{list_any, position};
 ghost use Rattle.dwarf_types.specs.Columns.{cells_of, parent_of};
 ghost use Rattle.dwarf_types.specs.Plain.{holds_address, holds_offset, holds_plain};
 
@@ -31,13 +30,6 @@ pub(crate) struct Cell {
     pub(crate) payload: u32,
 }
 
-/// An attribute as it is read: `end` is the place behind its value.
-#[derive(Clone, Copy, Debug, PartialEq, Eq)]
-pub(crate) struct RawCell {
-    pub(crate) cell: Cell,
-    pub(crate) end: u32,
-}
-
 impl Head {
     /// The number of the parent, if there is one.
     pub(crate) fn parent(&self) -> Option<u32>
@@ -51,7 +43,7 @@ impl Head {
     }
 }
 
-/// The cells of a head.
+/// The cells of a head, or what else a column has of them, one item a cell.
 pub(crate) fn cells_in<'a, C>(cells: &'a [C], head: &Head) -> &'a [C]
     requires { head.now.first + head.now.count ≤ length cells.now }
     ensures { result.now ≡ cells_of cells.now head.now }
@@ -68,25 +60,18 @@ pub(crate) fn cells_from<C>(cells: &[C], from: usize) -> &[C]
     &cells[from..]
 }
 
-/// The first cell of a name.
-pub(crate) fn first_named(cells: &[Cell], name: u16) -> Option<&Cell>
-    ensures { option_copied result ≡ find (λ c. c.name == name) cells.now }
+/// The index of the first cell of a name.
+pub(crate) fn first_named(cells: &[Cell], name: u16) -> Option<usize>
+    ensures { result ≡ position (λ c. c.name == name) cells.now }
 {
-    cells.iter().find(|cell| cell.name == name)
-}
-
-/// The same of cells as they are read.
-pub(crate) fn first_raw_named(cells: &[RawCell], name: u16) -> Option<&RawCell>
-    ensures { option_copied result ≡ find (λ c. c.cell.name == name) cells.now }
-{
-    cells.iter().find(|raw| raw.cell.name == name)
+    cells.iter().position(|cell| cell.name == name)
 }
 
 /// Whether a cell has the name.
-pub(crate) fn has_name(cells: &[RawCell], name: u16) -> bool
-    ensures { result ≡ list_any (λ c. c.cell.name == name) cells.now }
+pub(crate) fn has_name(cells: &[Cell], name: u16) -> bool
+    ensures { result ≡ list_any (λ c. c.name == name) cells.now }
 {
-    cells.iter().any(|raw| raw.cell.name == name)
+    cells.iter().any(|cell| cell.name == name)
 }
 
 /// The kind of a cell.
@@ -95,14 +80,6 @@ pub(crate) fn kind_at(cells: &[Cell], j: usize) -> Kind
     ensures { slice_get (map (λ c. c.kind) cells.now) j ≡ Some result }
 {
     cells[j].kind
-}
-
-/// The kind of a cell as it is read.
-pub(crate) fn raw_kind_at(cells: &[RawCell], j: usize) -> Kind
-    requires { j < length cells.now }
-    ensures { slice_get (map (λ c. c.cell.kind) cells.now) j ≡ Some result }
-{
-    cells[j].cell.kind
 }
 
 /// Whether a cell of this kind holds a text or a number.

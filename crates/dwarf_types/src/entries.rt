@@ -5,11 +5,11 @@ ghost use Rattle.dwarf_types.specs.declared.entry.Attr.{Attr as AnAttr};
 ghost use Rattle.dwarf_types.specs.declared.entry.Entry.{Entry as AnEntry};
 ghost use Rattle.dwarf_types.specs.declared.entry.RawAttr.{RawAttr as ARawAttr};
 ghost use Rattle.dwarf_types.specs.declared.entry.RawEntry.{RawEntry as ARawEntry};
-ghost use Rattle.dwarf_types.specs.Columns.{CellWithin, IsFlat, RawWithin, raw_entries_of};
+ghost use Rattle.dwarf_types.specs.Columns.{CellWithin, IsFlat, IsRaw, raw_entries_of};
 ghost use Rattle.dwarf_types.specs.Put.{value_put};
 ghost use Rattle.dwarf_types.specs.Raw.{attr_of, entry_of};
 
-use crate::columns::{Cell, Head, RawCell, cells_in};
+use crate::columns::{Cell, Head, cells_in};
 use crate::entry_ref::{EntryRef, RawEntryRef};
 use crate::put::NewValue;
 use crate::sides::{Held, Sides, copied};
@@ -47,7 +47,9 @@ impl Model for Entries {
 #[derive(Drop)]
 pub struct RawEntries {
     heads: Vec<Head>,
-    cells: Vec<RawCell>,
+    cells: Vec<Cell>,
+    /// Of each cell, the place behind its value.
+    ends: Vec<u32>,
     sides: Sides,
 }
 
@@ -62,11 +64,11 @@ impl Model for RawEntries {
     ghost coded = { coded_list the_row.coded };
 
     ghost use Rattle.std.specs.Prelude.{length};
-    ghost use Rattle.dwarf_types.specs.Columns.{IsFlat, RawWithin, raw_entries_of};
+    ghost use Rattle.dwarf_types.specs.Columns.{IsRaw, raw_entries_of};
 
-    ghost view = { λ e. raw_entries_of e.sides e.heads.items e.cells.items };
+    ghost view = { λ e. raw_entries_of e.sides e.heads.items e.cells.items e.ends.items };
 
-    ghost invariant = { λ e. IsFlat (RawWithin e.sides) e.heads.items e.cells.items (length e.cells.items) };
+    ghost invariant = { λ e. IsRaw e.sides e.heads.items e.cells.items e.ends.items (length e.cells.items) };
 }
 
 impl Entries {
@@ -136,13 +138,19 @@ impl Entries {
 
 impl RawEntries {
     /// The entries of columns.
-    pub(crate) fn from_columns(heads: Vec<Head>, cells: Vec<RawCell>, sides: Sides) -> RawEntries
-        requires { IsFlat (RawWithin sides) heads.items cells.items (length cells.items) }
-        ensures { result ≡ raw_entries_of sides heads.items cells.items }
+    pub(crate) fn from_columns(
+        heads: Vec<Head>,
+        cells: Vec<Cell>,
+        ends: Vec<u32>,
+        sides: Sides,
+    ) -> RawEntries
+        requires { IsRaw sides heads.items cells.items ends.items (length cells.items) }
+        ensures { result ≡ raw_entries_of sides heads.items cells.items ends.items }
     {
         RawEntries {
             heads,
             cells,
+            ends,
             sides,
         }
     }
@@ -171,7 +179,9 @@ impl RawEntries {
         ensures item { result ≡ slice_index_or self.now i result }
     {
         let head = self.heads[i];
-        RawEntryRef::new(&self.sides, cells_in(&self.cells, &head), head)
+        let cells = cells_in(&self.cells, &head);
+        let ends = cells_in(&self.ends, &head);
+        RawEntryRef::new(&self.sides, cells, ends, head)
     }
 
     /// Another value for the attribute at place `j` of entry `i`.
@@ -183,28 +193,26 @@ impl RawEntries {
     {
         let k = self.heads[i].first as usize + j;
         let held = self.sides.store_new(value)?;
-        let raw = self.cells[k];
-        self.cells[k] = RawCell {
-            cell: with_value(raw.cell, held),
-            end: raw.end,
-        };
+        let cell = self.cells[k];
+        self.cells[k] = with_value(cell, held);
         Ok(())
     }
 
     /// The entries, without the places of their values.
-    pub fn into_entries(self, alloc: Global) -> Result<Entries, NoMemory>
-        ensures { IfOk result (λ entries. entries ≡ map entry_of self) }
+    pub fn into_entries(self) -> Entries
+        ensures { result ≡ map entry_of self }
     {
         let RawEntries {
             heads,
             cells,
             sides,
+            ..
         } = self;
-        Ok(Entries {
+        Entries {
             heads,
-            cells: cells_without_places(alloc, &cells)?,
+            cells,
             sides,
-        })
+        }
     }
 }
 
@@ -218,15 +226,4 @@ fn with_value(cell: Cell, held: Held) -> Cell
         kind: held.kind,
         payload: held.payload,
     }
-}
-
-/// The cells, without the places behind their values.
-fn cells_without_places(alloc: Global, raws: &[RawCell]) -> Result<Vec<Cell>, NoMemory>
-    ensures { IfOk result (λ cells. cells.items ≡ map (λ raw. raw.cell) raws.now) }
-{
-    let mut cells = Vec::with_capacity(alloc, raws.len())?;
-    for raw in raws {
-        cells.push(raw.cell)?;
-    }
-    Ok(cells)
 }

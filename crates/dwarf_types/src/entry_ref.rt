@@ -5,15 +5,12 @@ ghost use Rattle.std.specs.Option.{option_map};
 ghost use Rattle.std.specs.List.{find, list_any};
 ghost use Rattle.dwarf_types.specs.declared.entry.Attr.{Attr as AnAttr};
 ghost use Rattle.dwarf_types.specs.declared.entry.RawAttr.{RawAttr as ARawAttr};
-ghost use Rattle.dwarf_types.specs.Columns.{CellWithin, RawWithin, attr_of, entry_with, raw_attr_of, raw_entry_with};
+ghost use Rattle.dwarf_types.specs.Columns.{CellWithin, attr_of, entry_with, raw_attr_of, raw_attrs_of, raw_entry_with};
 ghost use Rattle.dwarf_types.specs.Moves.{place_in};
 ghost use Rattle.dwarf_types.specs.Plain.{is_offset, is_plain};
 ghost use Rattle.dwarf_types.specs.Seen.{attr_seen, raw_attr_seen};
 
-use crate::columns::{
-    Cell, Head, RawCell, first_named, first_raw_named, has_address, has_offset, is_plain, kind_at,
-    raw_kind_at,
-};
+use crate::columns::{Cell, Head, first_named, has_address, has_offset, is_plain, kind_at};
 use crate::seen::{AttrRef, RawAttrRef, attr_in};
 use crate::sides::Sides;
 use std::marker::Model;
@@ -122,7 +119,7 @@ impl<'a> EntryRef<'a> {
         ensures { option_map attr_seen result ≡ find (λ a. a.name == name) self.now.attrs }
     {
         match first_named(self.cells, name) {
-            Some(cell) => Some(attr_in(self.sides, *cell)),
+            Some(j) => Some(self.attr(j)),
             None => None,
         }
     }
@@ -133,12 +130,14 @@ impl<'a> EntryRef<'a> {
 pub struct RawEntryRef<'a> {
     sides: &'a Sides,
     /// Its own.
-    cells: &'a [RawCell],
+    cells: &'a [Cell],
+    /// Of each cell, the place behind its value.
+    ends: &'a [u32],
     head: Head,
 }
 
 impl<'a> Model for RawEntryRef<'a> {
-    ghost use Rattle.std.specs.Prelude.{All, map};
+    ghost use Rattle.std.specs.Prelude.{◌≡◌, All, length};
     ghost use Rattle.dwarf_types.specs.declared.entry.RawEntry.{RawEntry as ARawEntry};
     ghost use Rattle.dwarf_types.specs.contracts.entry.RawEntry.{the_row};
 
@@ -146,19 +145,30 @@ impl<'a> Model for RawEntryRef<'a> {
 
     ghost coded = { the_row.coded };
 
-    ghost use Rattle.dwarf_types.specs.Columns.{RawWithin, raw_attr_of, raw_entry_with};
+    ghost use Rattle.dwarf_types.specs.Columns.{CellWithin, raw_attrs_of, raw_entry_with};
 
-    ghost view = { λ e. raw_entry_with e.head (map (raw_attr_of e.sides.now) e.cells.now) };
+    ghost view = { λ e. raw_entry_with e.head (raw_attrs_of e.sides.now e.cells.now e.ends.now) };
 
-    ghost invariant = { λ e. All (RawWithin e.sides.now) e.cells.now };
+    ghost invariant = { λ e. All (CellWithin e.sides.now) e.cells.now × (length e.ends.now ≡ length e.cells.now) };
 }
 
 impl<'a> RawEntryRef<'a> {
-    pub(crate) fn new(sides: &'a Sides, cells: &'a [RawCell], head: Head) -> RawEntryRef<'a>
-        requires { All (RawWithin sides.now) cells.now }
-        ensures { result ≡ raw_entry_with head (map (raw_attr_of sides.now) cells.now) }
+    pub(crate) fn new(
+        sides: &'a Sides,
+        cells: &'a [Cell],
+        ends: &'a [u32],
+        head: Head,
+    ) -> RawEntryRef<'a>
+        requires within { All (CellWithin sides.now) cells.now }
+        requires beside { length ends.now ≡ length cells.now }
+        ensures { result ≡ raw_entry_with head (raw_attrs_of sides.now cells.now ends.now) }
     {
-        RawEntryRef { sides, cells, head }
+        RawEntryRef {
+            sides,
+            cells,
+            ends,
+            head,
+        }
     }
 
     /// The `DW_TAG` number.
@@ -202,7 +212,7 @@ impl<'a> RawEntryRef<'a> {
         ensures stands { slice_get self.now.attrs j ≡ Some (raw_attr_seen result) }
         ensures item { raw_attr_seen result ≡ slice_index_or self.now.attrs j (raw_attr_seen result) }
     {
-        raw_attr_in(self.sides, self.cells[j])
+        raw_attr_in(self.sides, self.cells[j], self.ends[j])
     }
 
     /// Whether its attribute at a place, counted from 0, is a text or a number, which mean the same wherever they stand.
@@ -210,30 +220,30 @@ impl<'a> RawEntryRef<'a> {
         requires { j < length self.now.attrs }
         ensures { (a : ARawAttr) → slice_get self.now.attrs j ≡ Some a → result ≡ is_plain a.value }
     {
-        is_plain(raw_kind_at(self.cells, j))
+        is_plain(kind_at(self.cells, j))
     }
 
     /// Its first attribute of a name.
     pub fn find(&self, name: u16) -> Option<RawAttrRef<'a>>
         ensures { option_map raw_attr_seen result ≡ find (λ a. a.name == name) self.now.attrs }
     {
-        match first_raw_named(self.cells, name) {
-            Some(raw) => Some(raw_attr_in(self.sides, *raw)),
+        match first_named(self.cells, name) {
+            Some(j) => Some(self.attr(j)),
             None => None,
         }
     }
 }
 
-/// The attribute of a cell as it is read.
-fn raw_attr_in<'a>(sides: &'a Sides, raw: RawCell) -> RawAttrRef<'a>
-    requires { RawWithin sides.now raw }
-    ensures { raw_attr_seen result ≡ raw_attr_of sides.now raw }
+/// The attribute of a cell as it is read, where `end` is the place behind its value.
+fn raw_attr_in<'a>(sides: &'a Sides, cell: Cell, end: u32) -> RawAttrRef<'a>
+    requires { CellWithin sides.now cell }
+    ensures { raw_attr_seen result ≡ raw_attr_of sides.now (cell, end) }
 {
-    let attr = attr_in(sides, raw.cell);
+    let attr = attr_in(sides, cell);
     RawAttrRef {
         name: attr.name,
         form: attr.form,
-        end: raw.end,
+        end,
         value: attr.value,
     }
 }
