@@ -2,16 +2,13 @@
 use Rattle.std.proofs.Common.{◌≡◌, ℕ, ◌+◌, ◌<◌, List, length, drop, get_or, Result, Ok, Err, sym, ap, ◌∙◌}
 use Rattle.std.proofs.lemmas.List.{get_or_default}
 use Rattle.ds_base.specs.declared.fault.Fault.{Fault}
-use Rattle.ds_base.specs.declared.fault.ReadError.{ReadError}
-use Rattle.ds_base.specs.declared.fault.ReadError.TheVariants as errors
 use Rattle.ds_base.specs.Spot.{Spot}
-use Rattle.ds_base.specs.Reading.{◌>>=◌, ReadsUnlessFull}
+use Rattle.ds_base.specs.Reading.{◌>>=◌}
 use Rattle.ds_base.proofs.Walking.{drop_one}
 use Rattle.dwarf_types.specs.SectionBytes.{SectionBytes}
-use Rattle.line_read.specs.declared.entries.EntryParts.{EntryParts}
 use Rattle.line_read.specs.declared.formats.EntryItem.{EntryItem}
 use Rattle.line_read.specs.declared.names.HeaderEnd.{HeaderEnd}
-use Rattle.line_read.specs.Entries.{item_at, parts_at}
+use Rattle.line_read.specs.Entries.{EntryParts, item_at, parts_at}
 
 module _ (header : HeaderEnd) (sections : SectionBytes) (format : List EntryItem) (i : ℕ) (d : EntryItem) (parts : EntryParts) where
   -- the value at hand comes first
@@ -25,8 +22,6 @@ module _ (header : HeaderEnd) (sections : SectionBytes) (format : List EntryItem
       → parts_at header sections (drop i format) parts s ≡ total → parts_at header sections (drop (i + 1) format) new behind ≡ total
   parts_more new s behind total lt e so_far = this_first s (Ok (new, behind)) total lt e so_far
 
-  pub parts_refused : (new : EntryParts) (s behind : Spot) (e : ReadError) (total : Result (EntryParts × Spot) Fault) → i < length format
-      → ReadsUnlessFull {X = Unit {0}} (λ u. new) (Err e) behind (item_at header sections (get_or format i d) parts s)
-      → parts_at header sections (drop i format) parts s ≡ total → ReadsUnlessFull {X = EntryParts} (λ parts. parts) (Err e) behind total
-  parts_refused new s behind (errors.Faulty f) total lt read so_far = sym (this_first s (Err f) total lt read so_far)
-  parts_refused new s behind errors.NoMemory total lt read so_far = tt
+  pub parts_refused : (s : Spot) (f : Fault) (total : Result (EntryParts × Spot) Fault) → i < length format → item_at header sections (get_or format i d) parts s ≡ Err f
+      → parts_at header sections (drop i format) parts s ≡ total → total ≡ Err f
+  parts_refused s f total lt e so_far = sym (this_first s (Err f) total lt e so_far)

@@ -15,7 +15,6 @@ use Rattle.dwarf_types.specs.Spelled.{AreBytes, AreTextBytes}
 use Rattle.dwarf_types.specs.WellLines.{IsDigest}
 use Rattle.dwarf_types.proofs.Readers.{IsBytes-drop, IsBytes-from, Stands, bytes_reader, number_reader, text_reader, uleb_reader, zero_at}
 use Rattle.line_read.specs.declared.entries.EntryFormat.{EntryFormat}
-use Rattle.line_read.specs.declared.entries.EntryParts.{EntryParts}
 use Rattle.line_read.specs.declared.formats.EntryForm.{EntryForm}
 use Rattle.line_read.specs.declared.formats.EntryForm.TheVariants as forms
 use Rattle.line_read.specs.declared.formats.EntryItem.{EntryItem}
@@ -25,7 +24,7 @@ use Rattle.line_read.specs.declared.formats.NumberForm.TheVariants as numbers
 use Rattle.line_read.specs.declared.formats.TextForm.{TextForm}
 use Rattle.line_read.specs.declared.formats.TextForm.TheVariants as texts
 use Rattle.line_read.specs.declared.names.HeaderEnd.{HeaderEnd}
-use Rattle.line_read.specs.Entries.{block_at, dir_entry_at, dropped, entries_of, file_entry_at, first, form_number_at, form_text_at, format_at, item_at, no_parts, pair_at, parts_at, passed_at, placed_text_at, text_of}
+use Rattle.line_read.specs.Entries.{EntryParts, block_at, dir_entry_at, dropped, entries_of, file_entry_at, first, form_number_at, form_text_at, format_at, item_at, no_parts, pair_at, parts_at, passed_at, placed_text_at, text_of}
 use Rattle.line_read.specs.Formats.{is_path, item_of}
 use Rattle.line_read.specs.Names.{within}
 

@@ -5,6 +5,11 @@ use Rattle.ds_base.specs.declared.fault.Kind.TheVariants as kinds
 use Rattle.ds_base.specs.Spot.{Spot, fault_at}
 use Rattle.line_read.specs.Names.{listed_at}
 
+-- an item is seen where it stands
+pub some_read : {A X : Type 0} (view : Option X → Option A) (found : Option X) (item : X) (read : Result (Option A × Spot) Fault) (behind : Spot)
+    → found ≡ Some item → read ≡ Ok (view found, behind) → read ≡ Ok (view (Some item), behind)
+some_read view found item read behind is e = rw (← is) e
+
 -- one more is read
 pub listed_more : {A : Type 0} (read : Spot → Result (Option A × Spot) Fault) (left i : ℕ) (before : List A) (s : Spot) (item : A) (behind : Spot) (total : Result (List A × Spot) Fault)
     → i < left → read s ≡ Ok (Some item, behind) → listed_at read (left - i) before s ≡ total → listed_at read (left - (i + 1)) (before ++ item ∷ []) behind ≡ total

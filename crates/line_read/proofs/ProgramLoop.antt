@@ -4,7 +4,7 @@ use Rattle.ds_base.specs.declared.fault.Fault.{Fault}
 use Rattle.ds_base.specs.declared.fault.ReadError.{ReadError}
 use Rattle.ds_base.specs.declared.fault.ReadError.TheVariants as errors
 use Rattle.ds_base.specs.Spot.{Spot}
-use Rattle.ds_base.specs.Reading.{Gives, ReadsUnlessFull}
+use Rattle.ds_base.specs.Reading.{Gives}
 use Rattle.line_read.specs.declared.header.LineHeader.{LineHeader}
 use Rattle.line_read.specs.declared.operation.LineOp.{LineOp}
 use Rattle.line_read.specs.declared.program.Matrix.{Matrix}
@@ -24,12 +24,11 @@ run_more read header left i m new s behind op total lt some is step so_far =
     sym (rw (more, some, is, step) refl) ∙ so_far
 
 -- one is faulty
-pub read_refused : (read : Spot → Result (LineOp × Spot) Fault) (header : LineHeader) (left i : ℕ) (m : Matrix) (s behind : Spot) (e : ReadError) (total : Result Matrix Fault)
-    → i < left → eqb (s.end - s.place) 0 ≡ false → ReadsUnlessFull {X = LineOp} (λ op. op) (Err e) behind (read s) → run_at read header (left - i) m s ≡ total → Gives {X = Matrix} (λ matrix. matrix) (Err e) total
-read_refused read header left i m s behind (errors.Faulty f) total lt some is so_far =
+pub read_refused : (read : Spot → Result (LineOp × Spot) Fault) (header : LineHeader) (left i : ℕ) (m : Matrix) (s : Spot) (f : Fault) (total : Result Matrix Fault)
+    → i < left → eqb (s.end - s.place) 0 ≡ false → read s ≡ Err f → run_at read header (left - i) m s ≡ total → total ≡ Err f
+read_refused read header left i m s f total lt some is so_far =
     let more : left - i ≡ suc (left - (i + 1)) = omega arith in
     sym so_far ∙ rw (more, some, is) refl
-read_refused read header left i m s behind errors.NoMemory total lt some is so_far = tt
 
 -- one gives a row that falls
 pub step_refused : (read : Spot → Result (LineOp × Spot) Fault) (header : LineHeader) (left i : ℕ) (m new : Matrix) (s behind : Spot) (op : LineOp) (e : ReadError) (total : Result Matrix Fault)

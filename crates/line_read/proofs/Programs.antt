@@ -1,7 +1,6 @@
 -- The one pass makes of a program what the list of its operations means.
-use Rattle.std.proofs.Common.{◌≡◌, ℕ, zero, suc, ◌-◌, Bool, true, false, List, [], ◌∷◌, ◌++◌, length, Option, Some, None, Result, Ok, Err, refl, sym, ap, ◌∙◌, append_assoc, arith}
+use Rattle.std.proofs.Common.{◌≡◌, ℕ, zero, suc, ◌-◌, Bool, true, false, List, [], ◌∷◌, ◌++◌, Option, Some, None, Result, Ok, Err, refl, sym, ap, ◌∙◌, append_assoc}
 use Rattle.std.specs.Prelude.{◌==◌, if◌then◌else◌}
-use Rattle.std.proofs.lemmas.Bool.{ne_eqb}
 use Rattle.std.proofs.lemmas.List.{append-nil}
 use Rattle.ds_base.specs.declared.fault.Fault.{Fault}
 use Rattle.ds_base.specs.declared.fault.ReadError.{ReadError}
@@ -14,13 +13,14 @@ use Rattle.dwarf_types.specs.declared.lines.FileName.{FileName}
 use Rattle.dwarf_types.specs.declared.lines.RawLines.{RawLines}
 use Rattle.dwarf_types.specs.declared.lines.RawRow.{RawRow}
 use Rattle.dwarf_types.specs.declared.lines.RawSequence.{RawSequence}
+use Rattle.dwarf_types.specs.SeenLines.{last_of}
 use Rattle.line_read.specs.declared.header.LineHeader.{LineHeader}
 use Rattle.line_read.specs.declared.operation.LineOp.{LineOp}
 use Rattle.line_read.specs.declared.operation.LineOp.TheVariants as ops
 use Rattle.line_read.specs.declared.program.Matrix.{Matrix}
 use Rattle.line_read.specs.Registers.{initial, changed, cleared}
 use Rattle.line_read.specs.Program.{Listing, listed, ops_at, defined, MatrixRow, matrix, last_placed, falls, backwards, all_rise, before, sequences, unless_stopped, program_of}
-use Rattle.line_read.specs.Pass.{empty_matrix, row_at, end_at, step_of, run_at, closed, finished}
+use Rattle.line_read.specs.Pass.{empty_matrix, row_at, end_at, step_of, run_at, finished}
 
 -- ---- rows that are open, before sequences
 
@@ -40,16 +40,14 @@ rows_open : (row : RawRow) (rows : List RawRow) → with_rows (row ∷ rows) [] 
 rows_open row [] = refl
 rows_open row (x ∷ rows) = ap (before row) (rows_open x rows)
 
-rows_closed : (ss : List RawSequence) (rows : List RawRow) → ss ++ with_rows rows [] ≡ closed ss rows
-rows_closed ss [] = append-nil ss
-rows_closed ss (row ∷ rows) =
-    let some : (length (row ∷ rows) == 0) ≡ false = ne_eqb _ _ (λ e. omega arith) in
-    ap (λ (more : List RawSequence). ss ++ more) (rows_open row rows) ∙ sym (rw some refl)
+rows_left : (rows : List RawRow) → with_rows rows [] ≡ last_of rows
+rows_left [] = refl
+rows_left (row ∷ rows) = rows_open row rows
 
 -- ---- what is left of a program, where some of it has been run
 
 abbrev table : List (List ℕ) → Matrix → List FileName → List MatrixRow → RawLines
-table dirs m files rows = record { dirs = dirs; files = m.files ++ files; sequences = m.sequences ++ with_rows m.rows (sequences rows) }
+table dirs m files rows = record { dirs = dirs; files = m.files ++ files; sequences = m.built.ended ++ with_rows m.built.rows (sequences rows) }
 
 abbrev so_far : Result (Unit {0}) Fault → Option Fault → RawLines → Result RawLines Fault
 so_far rise stop lines = rise >>= λ u. unless_stopped stop >>= λ v. Ok lines
@@ -76,7 +74,7 @@ unfolding row_at
 row_step header dirs place r m l =
     let rows = matrix header (cleared r) l.ops in
     tried (falls m.last r.at) (backwards place) (all_rise (last_placed m.last r.at) rows) l.stop _ _ _ _
-    (ap (λ (ss : List RawSequence). lines_with dirs (m.files ++ defined l.ops) (m.sequences ++ ss)) (rows_push m.rows r (sequences rows))) refl
+    (ap (λ (ss : List RawSequence). lines_with dirs (m.files ++ defined l.ops) (m.built.ended ++ ss)) (rows_push m.built.rows r (sequences rows))) refl
 
 end_step : (header : LineHeader) (dirs : List (List ℕ)) (place : ℕ) (m : Matrix) (l : Listing) → left_of header dirs m (with_op place ops.EndSequence l) ≡ (end_at header place m >>= λ new. left_of header dirs new l)
 unfolding end_at
@@ -84,7 +82,7 @@ end_step header dirs place m l =
     let rows = matrix header (initial header) l.ops in
     tried (falls m.last m.registers.at) (backwards place) (all_rise None rows) l.stop _ _ _ _
     (ap (λ (ss : List RawSequence). lines_with dirs (m.files ++ defined l.ops) ss)
-    (ap (λ (ss : List RawSequence). m.sequences ++ ss) (rows_end m.rows m.registers.at (sequences rows)) ∙ sym (append_assoc m.sequences (record { rows = m.rows; end = Some m.registers.at } ∷ []) (sequences rows)))) refl
+    (ap (λ (ss : List RawSequence). m.built.ended ++ ss) (rows_end m.built.rows m.registers.at (sequences rows)) ∙ sym (append_assoc m.built.ended (record { rows = m.built.rows; end = Some m.registers.at } ∷ []) (sequences rows)))) refl
 
 op_step : (header : LineHeader) (dirs : List (List ℕ)) (place : ℕ) (op : LineOp) (m : Matrix) (l : Listing) → left_of header dirs m (with_op place op l) ≡ (step_of header place op m >>= λ new. left_of header dirs new l)
 unfolding step_of changed
@@ -116,7 +114,7 @@ abbrev ended : List (List ℕ) → Result Matrix Fault → Result RawLines Fault
 ended dirs run = run >>= λ m. Ok (finished dirs m)
 
 all_run : (header : LineHeader) (dirs : List (List ℕ)) (m : Matrix) → ended dirs (Ok m) ≡ left_of header dirs m (record { ops = []; stop = None })
-all_run header dirs m = sym (ap done (rw (append-nil m.files, rows_closed m.sequences m.rows) refl))
+all_run header dirs m = sym (ap done (rw (append-nil m.files, rows_left m.built.rows) refl))
 
 then_run : (header : LineHeader) (dirs : List (List ℕ)) (l : Listing) (step : Result Matrix Fault) (run : Matrix → Result Matrix Fault)
     → ((m : Matrix) → ended dirs (run m) ≡ left_of header dirs m l) → ended dirs (step >>= run) ≡ (step >>= λ new. left_of header dirs new l)

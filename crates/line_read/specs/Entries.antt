@@ -9,7 +9,6 @@ use Rattle.ds_base.specs.Reading.{◌>>=◌, refuse_if, or_fault, index_below, b
 use Rattle.dwarf_types.specs.declared.lines.FileName.{FileName}
 use Rattle.dwarf_types.specs.SectionBytes.{SectionBytes}
 use Rattle.line_read.specs.declared.entries.EntryFormat.{EntryFormat}
-use Rattle.line_read.specs.declared.entries.EntryParts.{EntryParts}
 use Rattle.line_read.specs.declared.formats.EntryForm.{EntryForm}
 use Rattle.line_read.specs.declared.formats.EntryForm.TheVariants as forms
 use Rattle.line_read.specs.declared.formats.EntryItem.{EntryItem}
@@ -85,6 +84,14 @@ passed_at header sections forms.Wide s = dropped (within header (bytes_at 16 s))
 passed_at header sections forms.Block s = block_at header s
 
 -- ---- an entry
+
+-- what an entry tells
+pub record EntryParts : Type 0 where
+  pub path : Option (List ℕ)
+  pub dir : Option ℕ
+  pub time : Option ℕ
+  pub size : Option ℕ
+  pub digest : Option (List ℕ)
 
 -- of two values of one content the first counts
 abbrev pub first : {A : Type 0} → Option A → A → A

@@ -1,5 +1,5 @@
 -- The one pass over a program's operations: what has been made of those before.
-use Rattle.std.specs.Prelude.{ℕ, zero, suc, ◌-◌, ◌==◌, List, [], ◌∷◌, ◌++◌, length, Some, None, Result, Ok, Err, if◌then◌else◌}
+use Rattle.std.specs.Prelude.{ℕ, zero, suc, ◌-◌, ◌==◌, List, [], ◌∷◌, ◌++◌, Some, None, Result, Ok, Err, if◌then◌else◌}
 use Rattle.ds_base.specs.declared.fault.Fault.{Fault}
 use Rattle.ds_base.specs.declared.fault.Kind.TheVariants as kinds
 use Rattle.ds_base.specs.Spot.{Spot, fault_at}
@@ -7,7 +7,7 @@ use Rattle.ds_base.specs.Reading.{◌>>=◌, refuse_if}
 use Rattle.dwarf_types.specs.declared.lines.FileName.{FileName}
 use Rattle.dwarf_types.specs.declared.lines.RawLines.{RawLines}
 use Rattle.dwarf_types.specs.declared.lines.RawRow.{RawRow}
-use Rattle.dwarf_types.specs.declared.lines.RawSequence.{RawSequence}
+use Rattle.dwarf_types.specs.SeenLines.{last_of}
 use Rattle.line_read.specs.declared.header.LineHeader.{LineHeader}
 use Rattle.line_read.specs.declared.operation.LineOp.{LineOp}
 use Rattle.line_read.specs.declared.operation.LineOp.TheVariants as ops
@@ -17,13 +17,13 @@ use Rattle.line_read.specs.Program.{falls, last_placed, backwards}
 
 -- nothing but the files of the header
 abbrev pub empty_matrix : LineHeader → List FileName → Matrix
-empty_matrix header files = record { files = files; sequences = []; rows = []; registers = initial header; last = None }
+empty_matrix header files = record { files = files; built = record { ended = []; rows = [] }; registers = initial header; last = None }
 
 -- a row is appended
 unfoldable pub row_at : ℕ → RawRow → Matrix → Result Matrix Fault
 row_at place r m = do
   _ ← refuse_if (falls m.last r.at) (backwards place)
-  Ok (record m { rows = m.rows ++ r ∷ []; registers = cleared r; last = last_placed m.last r.at })
+  Ok (record m { built = record m.built { rows = m.built.rows ++ r ∷ [] }; registers = cleared r; last = last_placed m.last r.at })
 
 -- a sequence ends where the registers stand
 unfoldable pub end_at : LineHeader → ℕ → Matrix → Result Matrix Fault
@@ -31,8 +31,7 @@ end_at header place m = do
   _ ← refuse_if (falls m.last m.registers.at) (backwards place)
   Ok (record {
     files = m.files;
-    sequences = m.sequences ++ record { rows = m.rows; end = Some m.registers.at } ∷ [];
-    rows = [];
+    built = record { ended = m.built.ended ++ record { rows = m.built.rows; end = Some m.registers.at } ∷ []; rows = [] };
     registers = initial header;
     last = None;
   })
@@ -52,10 +51,6 @@ run_at read header (suc left) m s =
     if s.end - s.place == 0 then Ok m
     else (read s >>= λ op. step_of header s.place op.0 m >>= λ new. run_at read header left new op.1)
 
--- the sequences, where rows behind the last end are one that has none
-abbrev pub closed : List RawSequence → List RawRow → List RawSequence
-closed before rows = if length rows == 0 then before else before ++ record { rows = rows; end = None } ∷ []
-
--- all is run
+-- all is run; rows behind the last end are a sequence that has none
 abbrev pub finished : List (List ℕ) → Matrix → RawLines
-finished dirs m = record { dirs = dirs; files = m.files; sequences = closed m.sequences m.rows }
+finished dirs m = record { dirs = dirs; files = m.files; sequences = m.built.ended ++ last_of m.built.rows }

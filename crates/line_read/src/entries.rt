@@ -1,19 +1,21 @@
 //! The tables of directories and files of version 5.
 
-ghost use Rattle.std.specs.Prelude.{◌≡◌, [], OnOk, Some};
+ghost use Rattle.std.specs.Prelude.{◌≡◌, [], Some};
 ghost use Rattle.std.specs.List.{list_any};
 ghost use Rattle.std.specs.Option.{option_copied};
 ghost use Rattle.ds_base.specs.Reading.{Reads, ReadsUnlessFull, bytes_at, items_at, number_at};
 ghost use Rattle.dwarf_types.specs.SectionBytes.{bytes_in};
+ghost use Rattle.dwarf_types.specs.SeenLines.{file_seen};
 ghost use Rattle.line_read.specs.Entries.{pair_at, format_at, text_of, placed_text_at, form_text_at, form_number_at, block_at, passed_at, first, item_at, parts_at, no_parts, dir_entry_at, file_entry_at, entries_of};
 ghost use Rattle.line_read.specs.Formats;
 ghost use Rattle.line_read.specs.Names.{within};
 
 use crate::formats::{EntryForm, EntryItem, NumberForm, TextForm, is_path, item_of};
 use crate::names::{HeaderEnd, read_number};
-use ds_base::{Bytes, Cursor, Fault, Kind, List, NoMemory, Part, ReadError};
-use dwarf_types::{FileName, Sections};
+use ds_base::{Cursor, Fault, Kind, List, Part, ReadError};
+use dwarf_types::{FileNameRef, FileNames, Paths, Sections};
 use std::alloc::Global;
+use std::marker::Model;
 
 /// The bytes of an MD5 digest.
 const DIGEST_SIZE: u64 = 16;
@@ -27,12 +29,21 @@ pub(crate) struct EntryFormat {
 
 /// What an entry tells; of two values of one content the first counts.
 #[derive(Drop)]
-pub(crate) struct EntryParts {
-    pub(crate) path: Option<Bytes>,
+pub(crate) struct EntryParts<'a> {
+    pub(crate) path: Option<&'a [u8]>,
     pub(crate) dir: Option<u64>,
     pub(crate) time: Option<u64>,
     pub(crate) size: Option<u64>,
-    pub(crate) digest: Option<Bytes>,
+    pub(crate) digest: Option<&'a [u8]>,
+}
+
+impl<'a> Model for EntryParts<'a> {
+    ghost use Rattle.std.specs.Option.{option_copied};
+    ghost use Rattle.line_read.specs.Entries.{EntryParts as Told};
+
+    ghost Value = { Told };
+
+    ghost view = { λ p. record { path = option_copied p.path; dir = p.dir; time = p.time; size = p.size; digest = option_copied p.digest } };
 }
 
 /// The directories (DWARF 5, section 6.2.4, from directory_entry_format_count to directories).
@@ -41,7 +52,7 @@ pub(crate) fn read_dir_entries<'a>(
     cursor: &mut Cursor<'a>,
     sections: &Sections<'a>,
     header: HeaderEnd,
-) -> Result<List<Bytes>, ReadError>
+) -> Result<Paths, ReadError>
     ensures { ReadsUnlessFull (λ dirs. dirs) result cursor.new (entries_of (dir_entry_at header (bytes_in sections.now)) header cursor.old) }
 {
     let format = read_format(alloc, cursor, header)?;
@@ -55,7 +66,7 @@ pub(crate) fn read_file_entries<'a>(
     cursor: &mut Cursor<'a>,
     sections: &Sections<'a>,
     header: HeaderEnd,
-) -> Result<List<FileName>, ReadError>
+) -> Result<FileNames, ReadError>
     ensures { ReadsUnlessFull (λ files. files) result cursor.new (entries_of (file_entry_at header (bytes_in sections.now)) header cursor.old) }
 {
     let format = read_format(alloc, cursor, header)?;
@@ -71,12 +82,12 @@ fn read_dirs_in<'a>(
     header: HeaderEnd,
     format: &[EntryItem],
     count: u64,
-) -> Result<List<Bytes>, ReadError>
+) -> Result<Paths, ReadError>
     ensures { ReadsUnlessFull (λ dirs. dirs) result cursor.new (items_at (dir_entry_at header (bytes_in sections.now) format.now) count [] cursor.old) }
 {
-    let mut dirs = List::new(alloc);
+    let mut dirs = Paths::new(alloc);
     for _ in 0..count {
-        let dir = read_dir_entry(alloc, cursor, sections, header, format)?;
+        let dir = read_dir_entry(cursor, sections, header, format)?;
         dirs.push(dir)?;
     }
     Ok(dirs)
@@ -90,13 +101,13 @@ fn read_files_in<'a>(
     header: HeaderEnd,
     format: &[EntryItem],
     count: u64,
-) -> Result<List<FileName>, ReadError>
+) -> Result<FileNames, ReadError>
     ensures { ReadsUnlessFull (λ files. files) result cursor.new (items_at (file_entry_at header (bytes_in sections.now) format.now) count [] cursor.old) }
 {
-    let mut files = List::new(alloc);
+    let mut files = FileNames::new(alloc);
     for _ in 0..count {
-        let file = read_file_entry(alloc, cursor, sections, header, format)?;
-        files.push(file)?;
+        let file = read_file_entry(cursor, sections, header, format)?;
+        files.push(&file)?;
     }
     Ok(files)
 }
@@ -158,13 +169,12 @@ fn has_path(items: &[EntryItem]) -> bool
 /// A directory.
 #[tactic(auto, unfolding(crate::specs::Entries::dir_entry_at))]
 fn read_dir_entry<'a>(
-    alloc: Global,
     cursor: &mut Cursor<'a>,
     sections: &Sections<'a>,
     header: HeaderEnd,
     format: &[EntryItem],
-) -> Result<Bytes, ReadError>
-    ensures { ReadsUnlessFull (λ dir. dir) result cursor.new (dir_entry_at header (bytes_in sections.now) format.now cursor.old) }
+) -> Result<&'a [u8], Fault>
+    ensures { Reads (λ dir. dir.now) result cursor.new (dir_entry_at header (bytes_in sections.now) format.now cursor.old) }
 {
     let EntryParts {
         path,
@@ -172,23 +182,22 @@ fn read_dir_entry<'a>(
         time: _,
         size: _,
         digest: _,
-    } = read_parts(alloc, cursor, sections, header, format)?;
+    } = read_parts(cursor, sections, header, format)?;
     match path {
         Some(path) => Ok(path),
-        None => Err(ReadError::Faulty(header.bad_format)),
+        None => Err(header.bad_format),
     }
 }
 
 /// A file.
 #[tactic(auto, unfolding(crate::specs::Entries::file_entry_at))]
 fn read_file_entry<'a>(
-    alloc: Global,
     cursor: &mut Cursor<'a>,
     sections: &Sections<'a>,
     header: HeaderEnd,
     format: &[EntryItem],
-) -> Result<FileName, ReadError>
-    ensures { ReadsUnlessFull (λ file. file) result cursor.new (file_entry_at header (bytes_in sections.now) format.now cursor.old) }
+) -> Result<FileNameRef<'a>, Fault>
+    ensures { Reads file_seen result cursor.new (file_entry_at header (bytes_in sections.now) format.now cursor.old) }
 {
     let EntryParts {
         path,
@@ -196,28 +205,27 @@ fn read_file_entry<'a>(
         time,
         size,
         digest,
-    } = read_parts(alloc, cursor, sections, header, format)?;
+    } = read_parts(cursor, sections, header, format)?;
     match path {
-        Some(name) => Ok(FileName {
+        Some(name) => Ok(FileNameRef {
             name,
             dir: dir.unwrap_or(0),
             time: time.unwrap_or(0),
             size: size.unwrap_or(0),
             digest,
         }),
-        None => Err(ReadError::Faulty(header.bad_format)),
+        None => Err(header.bad_format),
     }
 }
 
 /// What an entry of this format tells.
 fn read_parts<'a>(
-    alloc: Global,
     cursor: &mut Cursor<'a>,
     sections: &Sections<'a>,
     header: HeaderEnd,
     format: &[EntryItem],
-) -> Result<EntryParts, ReadError>
-    ensures { ReadsUnlessFull (λ parts. parts) result cursor.new (parts_at header (bytes_in sections.now) format.now no_parts cursor.old) }
+) -> Result<EntryParts<'a>, Fault>
+    ensures { Reads (λ parts. parts) result cursor.new (parts_at header (bytes_in sections.now) format.now no_parts cursor.old) }
 {
     let mut parts = EntryParts {
         path: None,
@@ -227,7 +235,7 @@ fn read_parts<'a>(
         digest: None,
     };
     for item in format {
-        read_item(alloc, cursor, sections, header, item, &mut parts)?;
+        read_item(cursor, sections, header, item, &mut parts)?;
     }
     Ok(parts)
 }
@@ -235,19 +243,18 @@ fn read_parts<'a>(
 /// A value of an entry.
 #[tactic(auto, unfolding(crate::specs::Entries::item_at))]
 fn read_item<'a>(
-    alloc: Global,
     cursor: &mut Cursor<'a>,
     sections: &Sections<'a>,
     header: HeaderEnd,
     item: &EntryItem,
-    parts: &mut EntryParts,
-) -> Result<(), ReadError>
-    ensures { ReadsUnlessFull (λ _. parts.new) result cursor.new (item_at header (bytes_in sections.now) item.now parts.old cursor.old) }
+    parts: &mut EntryParts<'a>,
+) -> Result<(), Fault>
+    ensures { Reads (λ _. parts.new) result cursor.new (item_at header (bytes_in sections.now) item.now parts.old cursor.old) }
 {
     match item {
         EntryItem::Path(form) => {
             let text = read_text(cursor, sections, header, *form)?;
-            keep_bytes(alloc, &mut parts.path, text)?;
+            keep_bytes(&mut parts.path, text);
             Ok(())
         }
         EntryItem::Directory(form) => {
@@ -272,21 +279,20 @@ fn read_item<'a>(
         }
         EntryItem::Digest => {
             let bytes = read_bytes(cursor, header, DIGEST_SIZE)?;
-            keep_bytes(alloc, &mut parts.digest, bytes)?;
+            keep_bytes(&mut parts.digest, bytes);
             Ok(())
         }
-        EntryItem::Other(form) => Ok(skip_value(cursor, sections, header, *form)?),
+        EntryItem::Other(form) => skip_value(cursor, sections, header, *form),
     }
 }
 
-/// Keeps a copy of the first bytes of their content.
-fn keep_bytes(alloc: Global, so_far: &mut Option<Bytes>, bytes: &[u8]) -> Result<(), NoMemory>
-    ensures { OnOk result (so_far.new ≡ Some (first so_far.old bytes.now)) }
+/// Keeps the first bytes of their content.
+fn keep_bytes<'a>(so_far: &mut Option<&'a [u8]>, bytes: &'a [u8])
+    ensures { option_copied so_far.new ≡ Some (first (option_copied so_far.old) bytes.now) }
 {
     if so_far.is_none() {
-        *so_far = Some(Bytes::from_slice(alloc, bytes)?);
+        *so_far = Some(bytes);
     }
-    Ok(())
 }
 
 /// Keeps the first number of its content.

@@ -1,10 +1,12 @@
 //! The directories and files of a line table before version 5.
 
+ghost use Rattle.std.specs.Option.{option_copied, option_map};
 ghost use Rattle.ds_base.specs.Reading.{Reads, ReadsUnlessFull, text_at, uleb_at};
+ghost use Rattle.dwarf_types.specs.SeenLines.{file_seen};
 ghost use Rattle.line_read.specs.Names.{within, dir_at, file_of, file_at, table_of};
 
-use ds_base::{Bytes, Cursor, Fault, Kind, List, ReadError};
-use dwarf_types::FileName;
+use ds_base::{Cursor, Fault, Kind, ReadError};
+use dwarf_types::{FileNameRef, FileNames, Paths};
 use std::alloc::Global;
 
 /// Where a header ends, which its tables do not pass.
@@ -23,13 +25,13 @@ pub(crate) fn read_dirs(
     alloc: Global,
     cursor: &mut Cursor,
     header: HeaderEnd,
-) -> Result<List<Bytes>, ReadError>
+) -> Result<Paths, ReadError>
     ensures { ReadsUnlessFull (λ dirs. dirs) result cursor.new (table_of (dir_at header) cursor.old) }
 {
-    let mut dirs = List::new(alloc);
+    let mut dirs = Paths::new(alloc);
     let left = cursor.left();
     for _ in 0..left {
-        let Some(dir) = read_dir(alloc, cursor, header)? else {
+        let Some(dir) = read_dir(cursor, header)? else {
             return Ok(dirs);
         };
         dirs.push(dir)?;
@@ -42,67 +44,61 @@ pub(crate) fn read_files(
     alloc: Global,
     cursor: &mut Cursor,
     header: HeaderEnd,
-) -> Result<List<FileName>, ReadError>
+) -> Result<FileNames, ReadError>
     ensures { ReadsUnlessFull (λ files. files) result cursor.new (table_of (file_at header) cursor.old) }
 {
-    let mut files = List::new(alloc);
+    let mut files = FileNames::new(alloc);
     let left = cursor.left();
     for _ in 0..left {
-        let Some(file) = read_file(alloc, cursor, header)? else {
+        let Some(file) = read_file(cursor, header)? else {
             return Ok(files);
         };
-        files.push(file)?;
+        files.push(&file)?;
     }
     Err(ReadError::Faulty(cursor.fault(Kind::Truncated)))
 }
 
 /// A directory, or `None` at the empty name.
 #[tactic(auto, unfolding(crate::specs::Names::dir_at))]
-fn read_dir(
-    alloc: Global,
-    cursor: &mut Cursor,
-    header: HeaderEnd,
-) -> Result<Option<Bytes>, ReadError>
-    ensures { ReadsUnlessFull (λ dir. dir) result cursor.new (dir_at header cursor.old) }
+fn read_dir<'a>(cursor: &mut Cursor<'a>, header: HeaderEnd) -> Result<Option<&'a [u8]>, Fault>
+    ensures { Reads option_copied result cursor.new (dir_at header cursor.old) }
 {
     let name = read_name(cursor, header)?;
     if name.is_empty() {
         return Ok(None);
     }
-    Ok(Some(Bytes::from_slice(alloc, name)?))
+    Ok(Some(name))
 }
 
 /// A file, or `None` at the empty name.
 #[tactic(auto, unfolding(crate::specs::Names::file_at))]
-fn read_file(
-    alloc: Global,
-    cursor: &mut Cursor,
+fn read_file<'a>(
+    cursor: &mut Cursor<'a>,
     header: HeaderEnd,
-) -> Result<Option<FileName>, ReadError>
-    ensures { ReadsUnlessFull (λ file. file) result cursor.new (file_at header cursor.old) }
+) -> Result<Option<FileNameRef<'a>>, Fault>
+    ensures { Reads (option_map file_seen) result cursor.new (file_at header cursor.old) }
 {
     let name = read_name(cursor, header)?;
     if name.is_empty() {
         return Ok(None);
     }
-    read_file_of(alloc, cursor, header, name)
+    read_file_of(cursor, header, name)
 }
 
 /// The file of a name, which its numbers follow.
 #[tactic(auto, unfolding(crate::specs::Names::file_of))]
-fn read_file_of(
-    alloc: Global,
+fn read_file_of<'a>(
     cursor: &mut Cursor,
     header: HeaderEnd,
-    name: &[u8],
-) -> Result<Option<FileName>, ReadError>
-    ensures { ReadsUnlessFull (λ file. file) result cursor.new (file_of header name.now cursor.old) }
+    name: &'a [u8],
+) -> Result<Option<FileNameRef<'a>>, Fault>
+    ensures { Reads (option_map file_seen) result cursor.new (file_of header name.now cursor.old) }
 {
     let dir = read_number(cursor, header)?;
     let time = read_number(cursor, header)?;
     let size = read_number(cursor, header)?;
-    Ok(Some(FileName {
-        name: Bytes::from_slice(alloc, name)?,
+    Ok(Some(FileNameRef {
+        name,
         dir,
         time,
         size,

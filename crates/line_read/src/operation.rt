@@ -1,7 +1,7 @@
 //! One operation of a line program, from its bytes.
 
 ghost use Rattle.std.specs.Prelude.{◌≡◌, ◌<◌, ◌^◌, length, Some, IfOk};
-ghost use Rattle.ds_base.specs.Reading.{Gives, Reads, ReadsUnlessFull};
+ghost use Rattle.ds_base.specs.Reading.{Finds, Reads};
 ghost use Rattle.ds_base.specs.Spot.{IsSmall};
 ghost use Rattle.macho_read.specs.Sound.{IsSound as IsSoundImage};
 ghost use Rattle.reloc_table.specs.Sound.{IsSound};
@@ -12,15 +12,30 @@ ghost use Rattle.line_read.specs.Operation.{standard_at, ulebs_at, operand_count
 use crate::codes::{ExtendedOp, StandardOp, extended_op, standard_op};
 use crate::header::LineHeader;
 use ds_base::dwarf::DW_LNS_extended_op;
-use ds_base::{Bytes, Cursor, Fault, Kind, Part, ReadError};
-use dwarf_types::{Addr, FileName};
+use ds_base::{Cursor, Fault, Kind, Part};
+use dwarf_types::{Addr, FileNameRef};
 use macho_read::Image;
 use reloc_table::{Relocs, resolve};
-use std::alloc::Global;
+use std::marker::Model;
+
+/// A file that an operation defines, where it stands.
+#[derive(Drop)]
+pub(crate) struct DefinedFile<'a> {
+    pub(crate) file: FileNameRef<'a>,
+}
+
+impl<'a> Model for DefinedFile<'a> {
+    ghost use Rattle.dwarf_types.specs.declared.lines.FileName.{FileName};
+    ghost use Rattle.dwarf_types.specs.SeenLines.{file_seen};
+
+    ghost Value = { FileName };
+
+    ghost view = { λ d. file_seen d.file };
+}
 
 /// An operation of a line program (DWARF 4 and DWARF 5, section 6.2.5), with its operands.
 #[derive(Drop)]
-pub(crate) enum LineOp {
+pub(crate) enum LineOp<'a> {
     /// A special operation, by its code less opcode_base.
     Special(u8),
     Copy,
@@ -37,7 +52,7 @@ pub(crate) enum LineOp {
     SetIsa(u64),
     EndSequence,
     SetAddress(Addr),
-    DefineFile(FileName),
+    DefineFile(DefinedFile<'a>),
     SetDiscriminator(u64),
     /// One that the standard does not have, or not in this version, which is passed over.
     Unknown,
@@ -45,19 +60,18 @@ pub(crate) enum LineOp {
 
 /// The next operation. `bytes` is the whole of `__debug_line`, which the cursor reads.
 #[tactic(auto, unfolding(crate::specs::Operation::op_at))]
-pub(crate) fn read_op(
-    alloc: Global,
+pub(crate) fn read_op<'a>(
     header: &LineHeader,
-    bytes: &[u8],
+    bytes: &'a [u8],
     relocs: &Relocs,
     image: &Image,
-    cursor: &mut Cursor,
-) -> Result<LineOp, ReadError>
+    cursor: &mut Cursor<'a>,
+) -> Result<LineOp<'a>, Fault>
     requires inside { IsInside bytes.now cursor.old }
     requires small { length bytes.now < 2 ^ 32 }
     requires sound { IsSound image.now relocs.now }
     requires sound_image { IsSoundImage image.now }
-    ensures { ReadsUnlessFull (λ op. op) result cursor.new (op_at header.now image.now relocs.now cursor.old) }
+    ensures { Reads (λ op. op) result cursor.new (op_at header.now image.now relocs.now cursor.old) }
 {
     let first = cursor.fork();
     let code = cursor.u8()?;
@@ -65,14 +79,14 @@ pub(crate) fn read_op(
         return Ok(LineOp::Special(code - header.opcode_base));
     }
     if code == DW_LNS_extended_op {
-        return read_extended(alloc, header, bytes, relocs, image, &first, cursor);
+        return read_extended(header, bytes, relocs, image, &first, cursor);
     }
-    Ok(read_low(cursor, header, code)?)
+    read_low(cursor, header, code)
 }
 
 /// The operation of a code below opcode_base, behind the code. One that is not known is passed over.
 #[tactic(auto, unfolding(crate::specs::Operation::low_at))]
-fn read_low(cursor: &mut Cursor, header: &LineHeader, code: u8) -> Result<LineOp, Fault>
+fn read_low<'a>(cursor: &mut Cursor<'a>, header: &LineHeader, code: u8) -> Result<LineOp<'a>, Fault>
     ensures { Reads (λ op. op) result cursor.new (low_at header.now code (standard_of code) cursor.old) }
 {
     match standard_op(code) {
@@ -108,7 +122,7 @@ fn skip_ulebs(cursor: &mut Cursor, count: u8) -> Result<(), Fault>
 
 /// A standard operation, behind its code.
 #[tactic(auto, unfolding(crate::specs::Operation::standard_at))]
-fn read_standard(op: StandardOp, cursor: &mut Cursor) -> Result<LineOp, Fault>
+fn read_standard<'a>(op: StandardOp, cursor: &mut Cursor<'a>) -> Result<LineOp<'a>, Fault>
     ensures { Reads (λ op. op) result cursor.new (standard_at op cursor.old) }
 {
     match op {
@@ -129,30 +143,28 @@ fn read_standard(op: StandardOp, cursor: &mut Cursor) -> Result<LineOp, Fault>
 
 /// The extended operation that begins at `first`, behind its code: the length of the body, and the body.
 #[tactic(auto, unfolding(crate::specs::Operation::extended_at))]
-fn read_extended(
-    alloc: Global,
+fn read_extended<'a>(
     header: &LineHeader,
-    bytes: &[u8],
+    bytes: &'a [u8],
     relocs: &Relocs,
     image: &Image,
     first: &Cursor,
     cursor: &mut Cursor,
-) -> Result<LineOp, ReadError>
+) -> Result<LineOp<'a>, Fault>
     requires inside { IsInside bytes.now cursor.old }
     requires small { length bytes.now < 2 ^ 32 }
     requires sound { IsSound image.now relocs.now }
     requires sound_image { IsSoundImage image.now }
-    ensures { ReadsUnlessFull (λ op. op) result cursor.new (extended_at header.now image.now relocs.now first.now cursor.old) }
+    ensures { Reads (λ op. op) result cursor.new (extended_at header.now image.now relocs.now first.now cursor.old) }
 {
     let len = cursor.uleb()?;
     if len == 0 {
-        return Err(ReadError::Faulty(first.fault(Kind::BadLineOp)));
+        return Err(first.fault(Kind::BadLineOp));
     }
     let body = read_part(bytes, cursor, len)?;
-    match read_body(alloc, header, relocs, image, first, body) {
+    match read_body(header, relocs, image, first, body) {
         Ok(op) => Ok(op),
-        Err(ReadError::Faulty(fault)) => Err(ReadError::Faulty(fault_in_body(first, fault))),
-        Err(ReadError::NoMemory) => Err(ReadError::NoMemory),
+        Err(fault) => Err(fault_in_body(first, fault)),
     }
 }
 
@@ -181,64 +193,61 @@ fn fault_in_body(first: &Cursor, fault: Fault) -> Fault
 
 /// The extended operation of a body, with which the cursor ends.
 #[tactic(auto, unfolding(crate::specs::Operation::body_at, crate::specs::Operation::filled_at))]
-fn read_body(
-    alloc: Global,
+fn read_body<'a>(
     header: &LineHeader,
     relocs: &Relocs,
     image: &Image,
     first: &Cursor,
-    body: Cursor,
-) -> Result<LineOp, ReadError>
+    body: Cursor<'a>,
+) -> Result<LineOp<'a>, Fault>
     requires small { IsSmall body }
     requires sound { IsSound image.now relocs.now }
     requires sound_image { IsSoundImage image.now }
-    ensures { Gives (λ op. op) result (body_at header.now image.now relocs.now first.now body.entry) }
+    ensures { Finds (λ op. op) result (body_at header.now image.now relocs.now first.now body.entry) }
 {
     let mut body = body;
     let code = body.u8()?;
     match extended_op(header.version, code) {
-        Some(op) => read_filled(alloc, relocs, image, first, op, body),
+        Some(op) => read_filled(relocs, image, first, op, body),
         None => Ok(LineOp::Unknown),
     }
 }
 
 /// A known extended operation, behind its code. Its operands fill the body.
 #[tactic(auto, unfolding(crate::specs::Operation::filled_at))]
-fn read_filled(
-    alloc: Global,
+fn read_filled<'a>(
     relocs: &Relocs,
     image: &Image,
     first: &Cursor,
     op: ExtendedOp,
-    body: Cursor,
-) -> Result<LineOp, ReadError>
+    body: Cursor<'a>,
+) -> Result<LineOp<'a>, Fault>
     requires small { IsSmall body }
     requires sound { IsSound image.now relocs.now }
     requires sound_image { IsSoundImage image.now }
-    ensures { Gives (λ op. op) result (filled_at image.now relocs.now first.now (Some op) body.entry) }
+    ensures { Finds (λ op. op) result (filled_at image.now relocs.now first.now (Some op) body.entry) }
 {
     let mut body = body;
-    let op = read_operands(alloc, relocs, image, first, op, &mut body)?;
+    let op = read_operands(relocs, image, first, op, &mut body)?;
     if body.left() != 0 {
-        return Err(ReadError::Faulty(first.fault(Kind::BadLineOp)));
+        return Err(first.fault(Kind::BadLineOp));
     }
     Ok(op)
 }
 
 /// The operands of a known extended operation.
 #[tactic(auto, unfolding(crate::specs::Operation::operands_at))]
-fn read_operands(
-    alloc: Global,
+fn read_operands<'a>(
     relocs: &Relocs,
     image: &Image,
     first: &Cursor,
     op: ExtendedOp,
-    body: &mut Cursor,
-) -> Result<LineOp, ReadError>
+    body: &mut Cursor<'a>,
+) -> Result<LineOp<'a>, Fault>
     requires small { IsSmall body.old }
     requires sound { IsSound image.now relocs.now }
     requires sound_image { IsSoundImage image.now }
-    ensures { ReadsUnlessFull (λ op. op) result body.new (operands_at image.now relocs.now first.now op body.old) }
+    ensures { Reads (λ op. op) result body.new (operands_at image.now relocs.now first.now op body.old) }
 {
     match op {
         ExtendedOp::EndSequence => Ok(LineOp::EndSequence),
@@ -247,28 +256,29 @@ fn read_operands(
             let stored = body.u64()?;
             Ok(LineOp::SetAddress(resolve(relocs, image, place, stored)))
         }
-        ExtendedOp::DefineFile => Ok(LineOp::DefineFile(read_defined(alloc, first, body)?)),
+        ExtendedOp::DefineFile => Ok(LineOp::DefineFile(read_defined(first, body)?)),
         ExtendedOp::SetDiscriminator => Ok(LineOp::SetDiscriminator(body.uleb()?)),
     }
 }
 
 /// The file that an operation defines.
 #[tactic(auto, unfolding(crate::specs::Operation::defined_at))]
-fn read_defined(alloc: Global, first: &Cursor, body: &mut Cursor) -> Result<FileName, ReadError>
-    ensures { ReadsUnlessFull (λ file. file) result body.new (defined_at first.now body.old) }
+fn read_defined<'a>(first: &Cursor, body: &mut Cursor<'a>) -> Result<DefinedFile<'a>, Fault>
+    ensures { Reads (λ file. file) result body.new (defined_at first.now body.old) }
 {
     let name = body.text()?;
     if name.is_empty() {
-        return Err(ReadError::Faulty(first.fault(Kind::BadLineOp)));
+        return Err(first.fault(Kind::BadLineOp));
     }
     let dir = body.uleb()?;
     let time = body.uleb()?;
     let size = body.uleb()?;
-    Ok(FileName {
-        name: Bytes::from_slice(alloc, name)?,
+    let file = FileNameRef {
+        name,
         dir,
         time,
         size,
         digest: None,
-    })
+    };
+    Ok(DefinedFile { file })
 }

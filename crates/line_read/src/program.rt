@@ -15,36 +15,33 @@ ghost use Rattle.line_read.specs.Pass.{empty_matrix, row_at, end_at, step_of, ru
 use crate::header::LineHeader;
 use crate::operation::{LineOp, read_op};
 use crate::registers::{changed, cleared, initial};
-use ds_base::{Bytes, Cursor, Fault, Kind, List, NoMemory, Part, ReadError};
-use dwarf_types::{Addr, FileName, RawLines, RawRow, RawSequence};
+use ds_base::{Cursor, Fault, Kind, NoMemory, Part, ReadError};
+use dwarf_types::{Addr, FileNames, Paths, RawLines, RawRow, RawSequenceBuilder};
 use macho_read::Image;
 use reloc_table::Relocs;
 use std::alloc::Global;
-use std::mem::replace;
 
 /// What has been made of the operations so far.
 #[derive(Drop)]
 pub(crate) struct Matrix {
-    pub(crate) files: List<FileName>,
-    /// The sequences that have ended.
-    pub(crate) sequences: List<RawSequence>,
-    /// The rows of the sequence that has not.
-    pub(crate) rows: List<RawRow>,
+    pub(crate) files: FileNames,
+    /// The sequences that have ended, and the rows of the one that has not.
+    pub(crate) built: RawSequenceBuilder,
     pub(crate) registers: RawRow,
-    /// The last address of the object in `rows`.
+    /// The last address of the object in those rows.
     pub(crate) last: Option<u64>,
 }
 
 /// The line table of these directories and files, whose program stands at the cursor.
-pub(crate) fn read_sequences(
+pub(crate) fn read_sequences<'a>(
     alloc: Global,
     header: &LineHeader,
-    bytes: &[u8],
+    bytes: &'a [u8],
     relocs: &Relocs,
     image: &Image,
-    program: Cursor,
-    dirs: List<Bytes>,
-    files: List<FileName>,
+    program: Cursor<'a>,
+    dirs: Paths,
+    files: FileNames,
 ) -> Result<RawLines, ReadError>
     requires inside { IsInside bytes.now program }
     requires small { length bytes.now < 2 ^ 32 }
@@ -59,14 +56,14 @@ pub(crate) fn read_sequences(
 }
 
 /// Runs the program at the cursor. `files` are those of the header.
-fn run(
+fn run<'a>(
     alloc: Global,
     header: &LineHeader,
-    bytes: &[u8],
+    bytes: &'a [u8],
     relocs: &Relocs,
     image: &Image,
-    program: Cursor,
-    files: List<FileName>,
+    program: Cursor<'a>,
+    files: FileNames,
 ) -> Result<Matrix, ReadError>
     requires inside { IsInside bytes.now program }
     requires small { length bytes.now < 2 ^ 32 }
@@ -78,8 +75,7 @@ fn run(
     let mut cursor = program;
     let mut matrix = Matrix {
         files,
-        sequences: List::new(alloc),
-        rows: List::new(alloc),
+        built: RawSequenceBuilder::new(alloc),
         registers: initial(header),
         last: None,
     };
@@ -89,31 +85,25 @@ fn run(
             return Ok(matrix);
         }
         let place = cursor.place();
-        let op = read_op(alloc, header, bytes, relocs, image, &mut cursor)?;
-        run_op(alloc, header, place, op, &mut matrix)?;
+        let op = read_op(header, bytes, relocs, image, &mut cursor)?;
+        run_op(header, place, op, &mut matrix)?;
     }
     Ok(matrix)
 }
 
 /// Runs the operation that stands at a place.
 #[tactic(auto, unfolding(crate::specs::Pass::step_of))]
-fn run_op(
-    alloc: Global,
-    header: &LineHeader,
-    place: u64,
-    op: LineOp,
-    matrix: &mut Matrix,
-) -> Result<(), ReadError>
+fn run_op(header: &LineHeader, place: u64, op: LineOp, matrix: &mut Matrix) -> Result<(), ReadError>
     requires range { 0 < header.now.line_range }
-    ensures { Gives (λ _. matrix.new) result (step_of header.now place op matrix.old) }
+    ensures { Gives (λ _. matrix.new) result (step_of header.now place op.entry matrix.old) }
 {
     let registers = changed(header, &op, matrix.registers);
     match op {
         LineOp::Special(_) => append_row(place, registers, matrix),
         LineOp::Copy => append_row(place, registers, matrix),
-        LineOp::EndSequence => end_sequence(alloc, header, place, matrix),
+        LineOp::EndSequence => end_sequence(header, place, matrix),
         LineOp::DefineFile(file) => {
-            matrix.files.push(file)?;
+            matrix.files.push(&file.file)?;
             Ok(())
         }
         _ => {
@@ -131,7 +121,7 @@ fn append_row(place: u64, registers: RawRow, matrix: &mut Matrix) -> Result<(), 
     if falls(matrix.last, registers.at) {
         return Err(ReadError::Faulty(backwards(place)));
     }
-    matrix.rows.push(registers)?;
+    matrix.built.push(registers)?;
     matrix.registers = cleared(registers);
     matrix.last = last_placed(matrix.last, registers.at);
     Ok(())
@@ -139,23 +129,14 @@ fn append_row(place: u64, registers: RawRow, matrix: &mut Matrix) -> Result<(), 
 
 /// Ends the sequence where the registers stand.
 #[tactic(auto, unfolding(crate::specs::Pass::end_at))]
-fn end_sequence(
-    alloc: Global,
-    header: &LineHeader,
-    place: u64,
-    matrix: &mut Matrix,
-) -> Result<(), ReadError>
+fn end_sequence(header: &LineHeader, place: u64, matrix: &mut Matrix) -> Result<(), ReadError>
     ensures { Gives (λ _. matrix.new) result (end_at header.now place matrix.old) }
 {
     let end = matrix.registers.at;
     if falls(matrix.last, end) {
         return Err(ReadError::Faulty(backwards(place)));
     }
-    let rows = replace(&mut matrix.rows, List::new(alloc));
-    matrix.sequences.push(RawSequence {
-        rows,
-        end: Some(end),
-    })?;
+    matrix.built.close(end)?;
     matrix.registers = initial(header);
     matrix.last = None;
     Ok(())
@@ -193,22 +174,18 @@ fn backwards(place: u64) -> Fault
 }
 
 /// The line table of these directories, once all operations are run.
-fn finish(dirs: List<Bytes>, matrix: Matrix) -> Result<RawLines, NoMemory>
+fn finish(dirs: Paths, matrix: Matrix) -> Result<RawLines, NoMemory>
     ensures { IfOk result (λ lines. lines ≡ finished dirs matrix) }
 {
     let Matrix {
         files,
-        mut sequences,
-        rows,
+        built,
         registers: _,
         last: _,
     } = matrix;
-    if !rows.is_empty() {
-        sequences.push(RawSequence { rows, end: None })?;
-    }
     Ok(RawLines {
         dirs,
         files,
-        sequences,
+        sequences: built.finish()?,
     })
 }

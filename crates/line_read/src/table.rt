@@ -17,8 +17,8 @@ use crate::header::{
 };
 use crate::names::{HeaderEnd, read_dirs, read_files};
 use crate::program::read_sequences;
-use ds_base::{Bytes, Cursor, Kind, List, ReadError};
-use dwarf_types::{FileName, RawLines, Sections};
+use ds_base::{Cursor, Kind, ReadError};
+use dwarf_types::{FileNames, Paths, RawLines, Sections};
 use macho_read::Image;
 use reloc_table::Relocs;
 use std::alloc::Global;
@@ -92,7 +92,7 @@ fn read_dir_table<'a>(
     sections: &Sections<'a>,
     header: HeaderEnd,
     version: u16,
-) -> Result<List<Bytes>, ReadError>
+) -> Result<Paths, ReadError>
     ensures { ReadsUnlessFull (λ dirs. dirs) result cursor.new (dirs_at header (bytes_in sections.now) version cursor.old) }
 {
     if version >= FORMATS_SINCE {
@@ -109,7 +109,7 @@ fn read_file_table<'a>(
     sections: &Sections<'a>,
     header: HeaderEnd,
     version: u16,
-) -> Result<List<FileName>, ReadError>
+) -> Result<FileNames, ReadError>
     ensures { ReadsUnlessFull (λ files. files) result cursor.new (files_at header (bytes_in sections.now) version cursor.old) }
 {
     if version >= FORMATS_SINCE {

@@ -12,7 +12,7 @@ pub returns-in_err-op : goal.returns-in_err-op
 returns-in_err-op c =
     let at = op_at c.args.header.now c.args.image.now c.args.relocs.now in
     let p = err_from_is_err_and c.from_residual.result c.from_residual.ensures.1 in
-    rw (p.1, p.2) (read_refused at c.args.header.now c.left-left.result c.loop.counter c.loop.matrix c.loop.cursor _ _ _ (omega arith) (rw (← c.left.ensures) (ne_eqb _ _ c.if-left-eq0.false)) c.in_err-op.ensures c.loop.invariant.so_far)
+    rw (p.1, p.2) (read_refused at c.args.header.now c.left-left.result c.loop.counter c.loop.matrix c.loop.cursor _ _ (omega arith) (rw (← c.left.ensures) (ne_eqb _ _ c.if-left-eq0.false)) c.in_err-op.ensures c.loop.invariant.so_far)
 
 pub returns-in_err-run_op : goal.returns-in_err-run_op
 returns-in_err-run_op c =
