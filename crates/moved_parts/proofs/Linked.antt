@@ -18,7 +18,7 @@ use Rattle.addr_map.specs.declared.map.MapRange.{MapRange}
 use Rattle.addr_map.specs.Sound.{IsSoundRange}
 use Rattle.moved_parts.specs.declared.lines.SequencePart.{SequencePart}
 use Rattle.moved_parts.specs.Lines.{by_linked, is_first, placed_among, sequence_by, sequences_moved}
-use Rattle.moved_parts.specs.Parts.{is_before, part_of, parts_of}
+use Rattle.moved_parts.specs.Parts.{MovedPart, is_before, part_of, part_seen, parts_of}
 use Rattle.moved_parts.proofs.Orders.{Rises, all_weaker, all_append, not_below_itself, only_order, rises_append, rises_from_sorted}
 
 -- ---- the order of ranges
@@ -32,11 +32,11 @@ ranges_ranked = then_total (on_total (λ (r : MapRange). r.linked) nat_cmp_total
 before_ranks : IsStrictWeakOrder is_before
 before_ranks = ranks_by ranges_ranked (λ (r : MapRange). r)
 
-abbrev part_before : SequencePart → SequencePart → Bool
+abbrev part_before : MovedPart → MovedPart → Bool
 part_before p other = is_before p.range other.range
 
 parts_rank : IsStrictWeakOrder part_before
-parts_rank = ranks_by ranges_ranked (λ (p : SequencePart). p.range)
+parts_rank = ranks_by ranges_ranked (λ (p : MovedPart). p.range)
 
 -- the definition's test is the order's, turned round
 start_turned : (k l : ℕ) → nat_le k l ≡ not (is_lt (nat_cmp l k))
@@ -137,14 +137,14 @@ by_linked_rises (r ∷ rs) = placed_rises r (by_linked rs) (by_linked_rises rs)
 
 -- ---- the parts of one range
 
-abbrev part_in : MapRange → Option Sequence → Option SequencePart
+abbrev part_in : MapRange → Option Sequence → Option MovedPart
 part_in r moved = option_map (λ (s : Sequence). record { range = r; sequence = s }) moved
 
 -- those of each sequence
-abbrev of_range : List RawSequence → MapRange → List SequencePart
+abbrev of_range : List RawSequence → MapRange → List MovedPart
 of_range ss r = filter_map (λ s. part_of s r) ss
 
-one_range : (r : MapRange) (moved : Option Sequence) (ps : List SequencePart) → AllByRecursion (λ p. p.range ≡ r) ps → AllByRecursion (λ p. p.range ≡ r) (cons_option (part_in r moved) ps)
+one_range : (r : MapRange) (moved : Option Sequence) (ps : List MovedPart) → AllByRecursion (λ p. p.range ≡ r) ps → AllByRecursion (λ p. p.range ≡ r) (cons_option (part_in r moved) ps)
 one_range r None ps all = all
 one_range r (Some s) ps all = (refl, all)
 
@@ -152,7 +152,7 @@ all_of_range : (r : MapRange) (ss : List RawSequence) → AllByRecursion (λ p. 
 all_of_range r [] = tt
 all_of_range r (s ∷ ss) = one_range r (sequence_by s r) (of_range ss r) (all_of_range r ss)
 
-same_rises : (r : MapRange) (ps : List SequencePart) → AllByRecursion (λ p. p.range ≡ r) ps → Rises part_before ps
+same_rises : (r : MapRange) (ps : List MovedPart) → AllByRecursion (λ p. p.range ≡ r) ps → Rises part_before ps
 same_rises r [] all = tt
 same_rises r (p ∷ ps) all =
     (all_weaker (λ q. q.range ≡ r) (λ q. part_before q p ≡ false) (λ q e. rw (e, all.0) (not_below_itself is_before before_ranks r)) ps all.1, same_rises r ps all.1)
@@ -167,7 +167,7 @@ filter_false t (x ∷ xs) all = rw all.0 (filter_false t xs all.1)
 
 -- ---- of all ranges in order
 
-abbrev of_ranges : List RawSequence → List MapRange → List SequencePart
+abbrev of_ranges : List RawSequence → List MapRange → List MovedPart
 of_ranges ss rs = flat_map (of_range ss) rs
 
 all_of_ranges : (P : MapRange → Type 0) (ss : List RawSequence) (rs : List MapRange) → AllByRecursion P rs → AllByRecursion (λ p. P p.range) (of_ranges ss rs)
@@ -184,29 +184,29 @@ of_ranges_rise ss (r ∷ rs) up =
     (λ p e. subst (λ (n : MapRange). AllByRecursion (λ later. is_before later.range n ≡ false) (of_ranges ss rs)) (sym e) behind) (of_range ss r) (all_of_range r ss))
 
 -- the parts of some ranges are those of the ranges that pass
-of_range_passes : (t : MapRange → Bool) (ss : List RawSequence) (r : MapRange) → t r ≡ true → filter (λ (p : SequencePart). t p.range) (of_range ss r) ≡ of_range ss r
-of_range_passes t ss r e = filter_true (λ (p : SequencePart). t p.range) (of_range ss r) (all_weaker (λ p. p.range ≡ r) (λ p. t p.range ≡ true) (λ p f. ap t f ∙ e) (of_range ss r) (all_of_range r ss))
+of_range_passes : (t : MapRange → Bool) (ss : List RawSequence) (r : MapRange) → t r ≡ true → filter (λ (p : MovedPart). t p.range) (of_range ss r) ≡ of_range ss r
+of_range_passes t ss r e = filter_true (λ (p : MovedPart). t p.range) (of_range ss r) (all_weaker (λ p. p.range ≡ r) (λ p. t p.range ≡ true) (λ p f. ap t f ∙ e) (of_range ss r) (all_of_range r ss))
 
-of_range_fails : (t : MapRange → Bool) (ss : List RawSequence) (r : MapRange) → t r ≡ false → filter (λ (p : SequencePart). t p.range) (of_range ss r) ≡ []
-of_range_fails t ss r e = filter_false (λ (p : SequencePart). t p.range) (of_range ss r) (all_weaker (λ p. p.range ≡ r) (λ p. t p.range ≡ false) (λ p f. ap t f ∙ e) (of_range ss r) (all_of_range r ss))
+of_range_fails : (t : MapRange → Bool) (ss : List RawSequence) (r : MapRange) → t r ≡ false → filter (λ (p : MovedPart). t p.range) (of_range ss r) ≡ []
+of_range_fails t ss r e = filter_false (λ (p : MovedPart). t p.range) (of_range ss r) (all_weaker (λ p. p.range ≡ r) (λ p. t p.range ≡ false) (λ p f. ap t f ∙ e) (of_range ss r) (all_of_range r ss))
 
-of_ranges_filtered : (t : MapRange → Bool) (ss : List RawSequence) (rs : List MapRange) → filter (λ (p : SequencePart). t p.range) (of_ranges ss rs) ≡ of_ranges ss (filter t rs)
+of_ranges_filtered : (t : MapRange → Bool) (ss : List RawSequence) (rs : List MapRange) → filter (λ (p : MovedPart). t p.range) (of_ranges ss rs) ≡ of_ranges ss (filter t rs)
 of_ranges_filtered t ss [] = refl
-of_ranges_filtered t ss (r ∷ rs) = filter-append (λ (p : SequencePart). t p.range) (of_range ss r) (of_ranges ss rs) ∙ elim (cases_Bool (t r)) [
-  | inl passes ↦ rw passes (ap (λ (ps : List SequencePart). ps ++ filter (λ (p : SequencePart). t p.range) (of_ranges ss rs)) (of_range_passes t ss r passes) ∙ ap (λ (ps : List SequencePart). of_range ss r ++ ps) (of_ranges_filtered t ss rs))
-  | inr fails ↦ rw fails (ap (λ (ps : List SequencePart). ps ++ filter (λ (p : SequencePart). t p.range) (of_ranges ss rs)) (of_range_fails t ss r fails) ∙ of_ranges_filtered t ss rs)
+of_ranges_filtered t ss (r ∷ rs) = filter-append (λ (p : MovedPart). t p.range) (of_range ss r) (of_ranges ss rs) ∙ elim (cases_Bool (t r)) [
+  | inl passes ↦ rw passes (ap (λ (ps : List MovedPart). ps ++ filter (λ (p : MovedPart). t p.range) (of_ranges ss rs)) (of_range_passes t ss r passes) ∙ ap (λ (ps : List MovedPart). of_range ss r ++ ps) (of_ranges_filtered t ss rs))
+  | inr fails ↦ rw fails (ap (λ (ps : List MovedPart). ps ++ filter (λ (p : MovedPart). t p.range) (of_ranges ss rs)) (of_range_fails t ss r fails) ∙ of_ranges_filtered t ss rs)
 ]
 
 -- ---- of all sequences, in the order of the table
 
-one_filtered : (t : MapRange → Bool) (r : MapRange) (moved : Option Sequence) (ps qs : List SequencePart) (b : Bool) → t r ≡ b → filter (λ (p : SequencePart). t p.range) ps ≡ qs
-    → filter (λ (p : SequencePart). t p.range) (cons_option (part_in r moved) ps) ≡ cond b (cons_option (part_in r moved) qs) qs
+one_filtered : (t : MapRange → Bool) (r : MapRange) (moved : Option Sequence) (ps qs : List MovedPart) (b : Bool) → t r ≡ b → filter (λ (p : MovedPart). t p.range) ps ≡ qs
+    → filter (λ (p : MovedPart). t p.range) (cons_option (part_in r moved) ps) ≡ cond b (cons_option (part_in r moved) qs) qs
 one_filtered t r None ps qs true e so_far = so_far
 one_filtered t r None ps qs false e so_far = so_far
-one_filtered t r (Some s) ps qs true e so_far = rw e (ap (λ (xs : List SequencePart). record { range = r; sequence = s } ∷ xs) so_far)
+one_filtered t r (Some s) ps qs true e so_far = rw e (ap (λ (xs : List MovedPart). record { range = r; sequence = s } ∷ xs) so_far)
 one_filtered t r (Some s) ps qs false e so_far = rw e so_far
 
-of_sequence_filtered : (t : MapRange → Bool) (s : RawSequence) (rs : List MapRange) → filter (λ (p : SequencePart). t p.range) (parts_of rs s) ≡ parts_of (filter t rs) s
+of_sequence_filtered : (t : MapRange → Bool) (s : RawSequence) (rs : List MapRange) → filter (λ (p : MovedPart). t p.range) (parts_of rs s) ≡ parts_of (filter t rs) s
 of_sequence_filtered t s [] = refl
 of_sequence_filtered t s (r ∷ rs) = one_filtered t r (sequence_by s r) (parts_of rs s) (parts_of (filter t rs) s) (t r) refl (of_sequence_filtered t s rs) ∙ apart (t r)
   where
@@ -214,12 +214,12 @@ of_sequence_filtered t s (r ∷ rs) = one_filtered t r (sequence_by s r) (parts_
     apart true = refl
     apart false = refl
 
-of_sequences_filtered : (t : MapRange → Bool) (ss : List RawSequence) (rs : List MapRange) → filter (λ (p : SequencePart). t p.range) (flat_map (parts_of rs) ss) ≡ flat_map (parts_of (filter t rs)) ss
+of_sequences_filtered : (t : MapRange → Bool) (ss : List RawSequence) (rs : List MapRange) → filter (λ (p : MovedPart). t p.range) (flat_map (parts_of rs) ss) ≡ flat_map (parts_of (filter t rs)) ss
 of_sequences_filtered t [] rs = refl
 of_sequences_filtered t (s ∷ ss) rs =
-    filter-append (λ (p : SequencePart). t p.range) (parts_of rs s) (flat_map (parts_of rs) ss)
-    ∙ ap (λ (ps : List SequencePart). ps ++ filter (λ (p : SequencePart). t p.range) (flat_map (parts_of rs) ss)) (of_sequence_filtered t s rs)
-    ∙ ap (λ (ps : List SequencePart). parts_of (filter t rs) s ++ ps) (of_sequences_filtered t ss rs)
+    filter-append (λ (p : MovedPart). t p.range) (parts_of rs s) (flat_map (parts_of rs) ss)
+    ∙ ap (λ (ps : List MovedPart). ps ++ filter (λ (p : MovedPart). t p.range) (flat_map (parts_of rs) ss)) (of_sequence_filtered t s rs)
+    ∙ ap (λ (ps : List MovedPart). parts_of (filter t rs) s ++ ps) (of_sequences_filtered t ss rs)
 
 -- ---- no two ranges have one start
 
@@ -248,7 +248,7 @@ single (s ∷ ss) r = by (sequence_by s r) (single ss r)
   where
     by : (moved : Option Sequence) → of_range ss r ≡ flat_map (parts_of (r ∷ [])) ss → cons_option (part_in r moved) (of_range ss r) ≡ cons_option (part_in r moved) [] ++ flat_map (parts_of (r ∷ [])) ss
     by None so_far = so_far
-    by (Some m) so_far = ap (λ (ps : List SequencePart). record { range = r; sequence = m } ∷ ps) so_far
+    by (Some m) so_far = ap (λ (ps : List MovedPart). record { range = r; sequence = m } ∷ ps) so_far
 
 none_of : (ss : List RawSequence) → flat_map (parts_of []) ss ≡ []
 none_of [] = refl
@@ -263,7 +263,7 @@ either_way n ss (r ∷ rs) differ = elim (cases_Bool (at n r)) [
 
 -- ---- sorted parts
 
-seen_moved : (r : MapRange) (moved : Option Sequence) (ps : List SequencePart) (ms : List Sequence) → map (λ p. p.sequence) ps ≡ ms → map (λ p. p.sequence) (cons_option (part_in r moved) ps) ≡ cons_option moved ms
+seen_moved : (r : MapRange) (moved : Option Sequence) (ps : List MovedPart) (ms : List Sequence) → map (λ p. p.sequence) ps ≡ ms → map (λ p. p.sequence) (cons_option (part_in r moved) ps) ≡ cons_option moved ms
 seen_moved r None ps ms so_far = so_far
 seen_moved r (Some s) ps ms so_far = ap (λ (xs : List Sequence). s ∷ xs) so_far
 
@@ -274,17 +274,51 @@ range_seen (s ∷ ss) r = seen_moved r (sequence_by s r) (of_range ss r) (filter
 ranges_seen : (ss : List RawSequence) (rs : List MapRange) → map (λ p. p.sequence) (of_ranges ss rs) ≡ flat_map (λ r. filter_map (λ s. sequence_by s r) ss) rs
 ranges_seen ss [] = refl
 ranges_seen ss (r ∷ rs) =
-    map-append (λ (p : SequencePart). p.sequence) (of_range ss r) (of_ranges ss rs)
-    ∙ ap (λ (ms : List Sequence). ms ++ map (λ (p : SequencePart). p.sequence) (of_ranges ss rs)) (range_seen ss r)
+    map-append (λ (p : MovedPart). p.sequence) (of_range ss r) (of_ranges ss rs)
+    ∙ ap (λ (ms : List Sequence). ms ++ map (λ (p : MovedPart). p.sequence) (of_ranges ss rs)) (range_seen ss r)
     ∙ ap (λ (ms : List Sequence). filter_map (λ s. sequence_by s r) ss ++ ms) (ranges_seen ss rs)
+
+-- ---- parts by their places, as what they stand for
+
+abbrev run_before : SequencePart → SequencePart → Bool
+run_before p other = is_before p.range other.range
+
+runs_rank : IsStrictWeakOrder run_before
+runs_rank = ranks_by ranges_ranked (λ (p : SequencePart). p.range)
+
+module _ (ss : List RawSequence) where
+  above_seen : (r : MapRange) (ps : List SequencePart) → AllByRecursion (λ later. is_before later.range r ≡ false) ps → AllByRecursion (λ later. is_before later.range r ≡ false) (map (part_seen ss) ps)
+  above_seen r [] all = tt
+  above_seen r (p ∷ ps) all = (all.0, above_seen r ps all.1)
+
+  rises_seen : (ps : List SequencePart) → Rises run_before ps → Rises part_before (map (part_seen ss) ps)
+  rises_seen [] up = tt
+  rises_seen (p ∷ ps) up = (above_seen p.range ps up.0, rises_seen ps up.1)
+
+  filter_seen : (t : MapRange → Bool) (ps : List SequencePart) → filter (λ (p : MovedPart). t p.range) (map (part_seen ss) ps) ≡ map (part_seen ss) (filter (λ (p : SequencePart). t p.range) ps)
+  filter_seen t [] = refl
+  filter_seen t (p ∷ ps) = elim (cases_Bool (t p.range)) [
+    | inl passes ↦ rw passes (ap (λ (ms : List MovedPart). part_seen ss p ∷ ms) (filter_seen t ps))
+    | inr fails ↦ rw fails (filter_seen t ps)
+  ]
+
+  stable_seen : (parts sorted : List SequencePart) → IsStableBy run_before parts sorted → (r : MapRange)
+      → filter (λ (p : MovedPart). at r p.range) (map (part_seen ss) sorted) ≡ filter (λ (p : MovedPart). at r p.range) (map (part_seen ss) parts)
+  stable_seen parts sorted stable r =
+      filter_seen (at r) sorted ∙ ap (map (part_seen ss)) (stable (record { range = r; sequence = 0; first = 0; count = 0; end = 0 })) ∙ sym (filter_seen (at r) parts)
+
+  sequences_seen : (ps : List SequencePart) → map (λ p. (part_seen ss p).sequence) ps ≡ map (λ (m : MovedPart). m.sequence) (map (part_seen ss) ps)
+  sequences_seen [] = refl
+  sequences_seen (p ∷ ps) = ap (λ (ms : List Sequence). (part_seen ss p).sequence ∷ ms) (sequences_seen ps)
 
 -- parts of all sequences, sorted, are those of all ranges in the order of the linked program
 pub sorted_parts : (ranges : List MapRange) (ss : List RawSequence) (parts sorted : List SequencePart) → All IsSoundRange ranges → AllPairs (λ r later. r.end ≤ later.start) ranges
-    → parts ≡ flat_map (parts_of ranges) ss → IsSortedBy part_before sorted → IsStableBy part_before parts sorted → map (λ p. p.sequence) sorted ≡ sequences_moved ranges ss
+    → map (part_seen ss) parts ≡ flat_map (parts_of ranges) ss → IsSortedBy run_before sorted → IsStableBy run_before parts sorted → map (λ p. (part_seen ss p).sequence) sorted ≡ sequences_moved ranges ss
 sorted_parts ranges ss parts sorted sound apart are up stable =
     let differ = starts_differ ranges sound apart in
-    let whole : sorted ≡ of_ranges ss (by_linked ranges) =
-    only_order part_before parts_rank sorted (of_ranges ss (by_linked ranges)) (rises_from_sorted part_before parts_rank sorted up) (of_ranges_rise ss (by_linked ranges) (by_linked_rises ranges))
-    (λ p. stable p ∙ ap (λ (ps : List SequencePart). filter (λ (q : SequencePart). at p.range q.range) ps) are ∙ of_sequences_filtered (at p.range) ss ranges ∙ sym (either_way p.range ss ranges differ)
+    let seen : List MovedPart = map (part_seen ss) sorted in
+    let whole : seen ≡ of_ranges ss (by_linked ranges) =
+    only_order part_before parts_rank seen (of_ranges ss (by_linked ranges)) (rises_seen ss sorted (rises_from_sorted run_before runs_rank sorted up)) (of_ranges_rise ss (by_linked ranges) (by_linked_rises ranges))
+    (λ p. stable_seen ss parts sorted stable p.range ∙ ap (λ (ps : List MovedPart). filter (λ (q : MovedPart). at p.range q.range) ps) are ∙ of_sequences_filtered (at p.range) ss ranges ∙ sym (either_way p.range ss ranges differ)
     ∙ ap (of_ranges ss) (sym (by_linked_keeps p.range ranges)) ∙ sym (of_ranges_filtered (at p.range) ss (by_linked ranges))) in
-    ap (map (λ (p : SequencePart). p.sequence)) whole ∙ ranges_seen ss (by_linked ranges)
+    sequences_seen ss sorted ∙ ap (map (λ (p : MovedPart). p.sequence)) whole ∙ ranges_seen ss (by_linked ranges)

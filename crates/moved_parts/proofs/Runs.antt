@@ -16,9 +16,8 @@ use Rattle.addr_map.specs.declared.map.MapRange.{MapRange}
 use Rattle.addr_map.specs.Moved.{holds, moved_by}
 use Rattle.addr_map.specs.Sound.{IsSoundRange}
 use Rattle.line_read.specs.Rising.{placed, DoesNotFall}
-use Rattle.moved_parts.specs.declared.lines.SequencePart.{SequencePart}
 use Rattle.moved_parts.specs.Lines.{end_by, linked_end, row_by}
-use Rattle.moved_parts.specs.Parts.{is_behind, parts_of, range_of}
+use Rattle.moved_parts.specs.Parts.{MovedPart, is_behind, parts_of, range_of}
 use Rattle.moved_parts.proofs.Held.{Apart, over, not_begun, held_parts, found_holds, found_has, none_holds}
 use Rattle.moved_parts.proofs.Orders.{all_weaker, all_append}
 
@@ -70,10 +69,10 @@ none_above r rows all = none_of r rows (all_where (λ a. r.end ≤ a) (λ a. hol
 abbrev made : Option Addr → MapRange → List Row → Option Sequence
 made end r rows = if length rows == 0 then None else Some (record { rows = rows; end = unwrap_or (option_and_then (end_by r) end) (linked_end r) })
 
-abbrev part_by : Option Addr → MapRange → List Row → Option SequencePart
+abbrev part_by : Option Addr → MapRange → List Row → Option MovedPart
 part_by end r rows = option_map (λ moved. record { range = r; sequence = moved }) (made end r rows)
 
-abbrev of_rows : Option Addr → List RawRow → List MapRange → List SequencePart
+abbrev of_rows : Option Addr → List RawRow → List MapRange → List MovedPart
 of_rows end rows rs = parts_of rs (record { rows = rows; end = end })
 
 -- ---- a row that no range holds
@@ -90,7 +89,7 @@ skip : (rs : List MapRange) (end : Option Addr) (row : RawRow) (rows : List RawR
 skip [] end row rows all = refl
 skip (r ∷ rs) end row rows all =
     ap (λ (o : Option Row). cons_option (part_by end r (cons_option o (filter_map (row_by r) rows))) (of_rows end (row ∷ rows) rs)) all.0
-    ∙ ap (λ (ps : List SequencePart). cons_option (part_by end r (filter_map (row_by r) rows)) ps) (skip rs end row rows all.1)
+    ∙ ap (λ (ps : List MovedPart). cons_option (part_by end r (filter_map (row_by r) rows)) ps) (skip rs end row rows all.1)
 
 -- ---- rows that one range holds, before those behind it
 
@@ -99,7 +98,7 @@ without : (rs : List MapRange) (end : Option Addr) (xs ys : List RawRow) → All
 without [] end xs ys all = refl
 without (r ∷ rs) end xs ys all =
     ap (λ (rows : List Row). cons_option (part_by end r rows) (of_rows end (xs ++ ys) rs)) (filter_map-append (row_by r) xs ys ∙ ap (λ (rows : List Row). rows ++ filter_map (row_by r) ys) all.0)
-    ∙ ap (λ (ps : List SequencePart). cons_option (part_by end r (filter_map (row_by r) ys)) ps) (without rs end xs ys all.1)
+    ∙ ap (λ (ps : List MovedPart). cons_option (part_by end r (filter_map (row_by r) ys)) ps) (without rs end xs ys all.1)
 
 abbrev Within : MapRange → List RawRow → Type 0
 Within r rows = AllByRecursion (Where (λ a. (r.start ≤ a) × (a < r.end))) rows
@@ -107,7 +106,7 @@ Within r rows = AllByRecursion (Where (λ a. (r.start ≤ a) × (a < r.end))) ro
 abbrev Behind : MapRange → List RawRow → Type 0
 Behind r rows = AllByRecursion (Where (λ a. r.end ≤ a)) rows
 
-first_run : (r : MapRange) (rs : List MapRange) (end : Option Addr) (xs ys : List RawRow) (p : SequencePart) → AllByRecursion (λ later. r.end ≤ later.start) rs → Within r xs → Behind r ys
+first_run : (r : MapRange) (rs : List MapRange) (end : Option Addr) (xs ys : List RawRow) (p : MovedPart) → AllByRecursion (λ later. r.end ≤ later.start) rs → Within r xs → Behind r ys
     → part_by end r (filter_map (row_by r) xs) ≡ Some p → of_rows end (xs ++ ys) (r ∷ rs) ≡ p ∷ of_rows end ys (r ∷ rs)
 first_run r rs end xs ys p apart within behind is =
     let none = none_above r ys behind in
@@ -117,10 +116,10 @@ first_run r rs end xs ys p apart within behind is =
     without rs end xs ys (all_weaker (λ later. r.end ≤ later.start) (λ later. filter_map (row_by later) xs ≡ [])
     (λ later le. none_below later xs (all_where (λ a. (r.start ≤ a) × (a < r.end)) (λ a. a < later.start) (λ a h. omega (arith, h.1)) xs within)) rs apart) in
     ap (λ (rows : List Row). cons_option (part_by end r rows) (of_rows end (xs ++ ys) rs)) whole
-    ∙ ap (λ (o : Option SequencePart). cons_option o (of_rows end (xs ++ ys) rs)) is
-    ∙ ap (λ (ps : List SequencePart). p ∷ ps) (others ∙ sym (ap (λ (rows : List Row). cons_option (part_by end r rows) (of_rows end ys rs)) none))
+    ∙ ap (λ (o : Option MovedPart). cons_option o (of_rows end (xs ++ ys) rs)) is
+    ∙ ap (λ (ps : List MovedPart). p ∷ ps) (others ∙ sym (ap (λ (rows : List Row). cons_option (part_by end r rows) (of_rows end ys rs)) none))
 
-run : (rs : List MapRange) (end : Option Addr) (a : ℕ) (r : MapRange) (xs ys : List RawRow) (p : SequencePart) → r.start < r.end → InOrder rs → find (holds a) rs ≡ Some r → Within r xs → Behind r ys
+run : (rs : List MapRange) (end : Option Addr) (a : ℕ) (r : MapRange) (xs ys : List RawRow) (p : MovedPart) → r.start < r.end → InOrder rs → find (holds a) rs ≡ Some r → Within r xs → Behind r ys
     → part_by end r (filter_map (row_by r) xs) ≡ Some p → of_rows end (xs ++ ys) rs ≡ p ∷ of_rows end ys rs
 run [] end a r xs ys p some order found within behind is = absurd cc
 run (q ∷ qs) end a r xs ys p some order found within behind is = elim (cases_Bool (holds a q)) [
@@ -138,7 +137,7 @@ run (q ∷ qs) end a r xs ys p some order found within behind is = elim (cases_B
       let none_both : filter_map (row_by q) (xs ++ ys) ≡ [] = none_above q (xs ++ ys) (all_append (Where (λ b. q.end ≤ b)) xs ys over_xs over_ys) in
       ap (λ (rows : List Row). cons_option (part_by end q rows) (of_rows end (xs ++ ys) qs)) none_both
       ∙ run qs end a r xs ys p some order.1 later within behind is
-      ∙ ap (λ (ps : List SequencePart). p ∷ ps) (sym (ap (λ (rows : List Row). cons_option (part_by end q rows) (of_rows end ys qs)) none_ys))
+      ∙ ap (λ (ps : List MovedPart). p ∷ ps) (sym (ap (λ (rows : List Row). cons_option (part_by end q rows) (of_rows end ys qs)) none_ys))
 ]
 
 -- ---- rows whose addresses do not fall
@@ -230,7 +229,7 @@ part_with end r None row rows e = absurd cc
 part_with end r (Some x) row rows e = rw (ne_eqb (length (x ∷ rows)) 0 (λ e. omega arith)) refl
 
 -- the part that the next rows make, of the range that holds the first
-abbrev run_part : Option Addr → MapRange → ℕ → List RawRow → SequencePart
+abbrev run_part : Option Addr → MapRange → ℕ → List RawRow → MovedPart
 run_part end r n rows = record { range = r; sequence = record { rows = filter_map (row_by r) (take n rows); end = unwrap_or (option_and_then (end_by r) end) (linked_end r) } }
 
 run_first : (rs : List MapRange) (end : Option Addr) (row : RawRow) (rows : List RawRow) (r : MapRange) (a : ℕ) → r.start < r.end → InOrder rs → Rising (row ∷ rows) → placed row.at ≡ Some a → find (holds a) rs ≡ Some r
@@ -248,7 +247,7 @@ run_first rs end row rows r a some order up is found =
     ∙ run rs end a r (take n (row ∷ rows)) (drop n (row ∷ rows)) (run_part end r n (row ∷ rows)) some order found (within_run r (row ∷ rows) from) (behind_run r (row ∷ rows) up) one
 
 -- the rows from one on
-abbrev pub from_row : RawSequence → ℕ → List MapRange → List SequencePart
+abbrev pub from_row : RawSequence → ℕ → List MapRange → List MovedPart
 from_row s i rs = of_rows s.end (drop i s.rows) rs
 
 next_rows : (rs : List MapRange) (s : RawSequence) (i : ℕ) (r : MapRange) → IsSoundRange r → Apart rs → DoesNotFall s → (d : RawRow) → i < length s.rows → range_of rs (get_or s.rows i d).at ≡ Some r
@@ -265,7 +264,7 @@ next_rows rs s i r sound apart falls d within is =
 -- ---- the loop over the rows: the parts so far, and those of the rows from one on
 
 -- no range holds this row
-pub skip_row : (rs : List MapRange) (s : RawSequence) (rows : List RawRow) (i : ℕ) (before total : List SequencePart) → rows ≡ s.rows → (d : RawRow) → i < length rows → None ≡ range_of rs (get_or rows i d).at
+pub skip_row : (rs : List MapRange) (s : RawSequence) (rows : List RawRow) (i : ℕ) (before total : List MovedPart) → rows ≡ s.rows → (d : RawRow) → i < length rows → None ≡ range_of rs (get_or rows i d).at
     → before ++ from_row s i rs ≡ total → before ++ from_row s (i + 1) rs ≡ total
 skip_row rs s rows i before total are d within none so_far =
     let row = get_or s.rows i d in
@@ -274,10 +273,10 @@ skip_row rs s rows i before total are d within none so_far =
     let one : from_row s i rs ≡ from_row s (i + 1) rs =
     ap (λ (xs : List RawRow). of_rows s.end xs rs) (drop_more s.rows i d long)
     ∙ skip rs s.end row (drop (i + 1) s.rows) (no_range rs row (placed row.at) (sym (none ∙ ap (λ (x : RawRow). range_of rs x.at) same))) in
-    ap (λ (ps : List SequencePart). before ++ ps) (sym one) ∙ so_far
+    ap (λ (ps : List MovedPart). before ++ ps) (sym one) ∙ so_far
 
 -- a range holds this row, and those up to its end
-pub run_rows : (rs : List MapRange) (s : RawSequence) (rows rest : List RawRow) (i n : ℕ) (r : MapRange) (moved : List Row) (end : ℕ) (before after total : List SequencePart) → IsSoundRange r → Apart rs → DoesNotFall s
+pub run_rows : (rs : List MapRange) (s : RawSequence) (rows rest : List RawRow) (i n : ℕ) (r : MapRange) (moved : List Row) (end : ℕ) (before after total : List MovedPart) → IsSoundRange r → Apart rs → DoesNotFall s
     → rows ≡ s.rows → rest ≡ drop i rows → (d : RawRow) → i < length rows → Some r ≡ range_of rs (get_or rows i d).at → n ≡ position_or_len (λ row. is_behind r row.at) rest
     → moved ≡ filter_map (row_by r) (take n rest) → end ≡ unwrap_or (option_and_then (end_by r) s.end) (linked_end r)
     → after ≡ before ++ record { range = r; sequence = record { rows = moved; end = end } } ∷ [] → before ++ from_row s i rs ≡ total → after ++ from_row s (i + n) rs ≡ total
@@ -291,15 +290,15 @@ run_rows rs s rows rest i n r moved end before after total sound apart falls are
     let as_many : n ≡ m = count ∙ ap (before_end r) others in
     let moved_are : moved ≡ filter_map (row_by r) (take m (drop i s.rows)) =
     rows_are ∙ ap (λ (xs : List RawRow). filter_map (row_by r) (take n xs)) others ∙ ap (λ (k : ℕ). filter_map (row_by r) (take k (drop i s.rows))) as_many in
-    let part : SequencePart = record { range = r; sequence = record { rows = moved; end = end } } in
+    let part : MovedPart = record { range = r; sequence = record { rows = moved; end = end } } in
     let made_is : part ≡ run_part s.end r m (drop i s.rows) =
     ap (λ (xs : List Row). record { range = r; sequence = record { rows = xs; end = end } }) moved_are
     ∙ ap (λ (k : ℕ). record { range = r; sequence = record { rows = filter_map (row_by r) (take m (drop i s.rows)); end = k } }) end_is in
-    ap (λ (ps : List SequencePart). ps ++ from_row s (i + n) rs) pushed
+    ap (λ (ps : List MovedPart). ps ++ from_row s (i + n) rs) pushed
     ∙ append_assoc before (part ∷ []) (from_row s (i + n) rs)
-    ∙ ap (λ (p : SequencePart). before ++ p ∷ from_row s (i + n) rs) made_is
+    ∙ ap (λ (p : MovedPart). before ++ p ∷ from_row s (i + n) rs) made_is
     ∙ ap (λ (k : ℕ). before ++ run_part s.end r m (drop i s.rows) ∷ from_row s (i + k) rs) as_many
-    ∙ ap (λ (ps : List SequencePart). before ++ ps) (sym one)
+    ∙ ap (λ (ps : List MovedPart). before ++ ps) (sym one)
     ∙ so_far
 
 no_rows : (rs : List MapRange) (end : Option Addr) → of_rows end [] rs ≡ []
@@ -307,10 +306,10 @@ no_rows [] end = refl
 no_rows (r ∷ rs) end = no_rows rs end
 
 -- no row is left
-pub rows_end : (rs : List MapRange) (s : RawSequence) (rows : List RawRow) (i : ℕ) (before total : List SequencePart) → rows ≡ s.rows → length rows ≤ i → before ++ from_row s i rs ≡ total → before ≡ total
+pub rows_end : (rs : List MapRange) (s : RawSequence) (rows : List RawRow) (i : ℕ) (before total : List MovedPart) → rows ≡ s.rows → length rows ≤ i → before ++ from_row s i rs ≡ total → before ≡ total
 rows_end rs s rows i before total are behind so_far =
     let none : from_row s i rs ≡ [] = ap (λ (xs : List RawRow). of_rows s.end xs rs) (drop_all i s.rows (subst (λ (xs : List RawRow). length xs ≤ i) are behind)) ∙ no_rows rs s.end in
-    sym (append-nil before) ∙ ap (λ (ps : List SequencePart). before ++ ps) (sym none) ∙ so_far
+    sym (append-nil before) ∙ ap (λ (ps : List MovedPart). before ++ ps) (sym none) ∙ so_far
 
 -- a run has a row
 pub run_goes_on : (rs : List MapRange) (rows rest : List RawRow) (i n : ℕ) (r : MapRange) → rest ≡ drop i rows → (d : RawRow) → i < length rows → Some r ≡ range_of rs (get_or rows i d).at
