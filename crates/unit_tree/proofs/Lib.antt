@@ -2,6 +2,7 @@ pub mod AttrLoop
 pub mod AttrLaws
 pub mod ChildLoop
 pub mod InsideLaws
+pub mod Noted
 pub mod Onward
 pub mod Placed
 pub mod Places

@@ -1,4 +1,4 @@
--- Where a reference leads among entries in rising order, and the loop that tries references.
+-- Where a reference leads among entries in rising order, and the loop that resolves references.
 use Rattle.std.proofs.Common.{◌==◌, ◌≡◌, ℕ, zero, suc, ◌+◌, ◌<◌, ◌≤◌, ◌||◌, Bool, true, false, not, cond, List, [], ◌∷◌, length, map, get_or, drop, Option, Some, None, refl, sym, ap, ◌∙◌, drop-cons, inl, inr, arith}
 use Rattle.std.specs.List.{find, list_any, position, position_or_len}
 use Rattle.std.proofs.lemmas.List.{drop_all, get_or-map, length-map}

@@ -8,4 +8,5 @@ pub mod Reference
 pub mod Spelling
 pub mod Sound
 pub mod Table
+pub mod Targets
 pub mod Unit

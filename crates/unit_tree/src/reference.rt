@@ -1,10 +1,11 @@
 //! References between entries.
 
-ghost use Rattle.std.specs.Prelude.{◌≡◌, map};
+ghost use Rattle.std.specs.Prelude.{◌≡◌, ◌<◌, ◌^◌, length, map, Some, is_some, IfOk, IfSome};
 ghost use Rattle.ds_base.specs.Reading.{Gives};
 ghost use Rattle.unit_tree.specs.Reference.{reaches, leads, resolved, IsRising};
+ghost use Rattle.unit_tree.specs.Targets.{number_at};
 
-use ds_base::{Fault, Kind, Part, ReadError};
+use ds_base::{Fault, Kind, List, Part, ReadError};
 use dwarf_types::{PlaceTable, RawEntries};
 use std::alloc::Global;
 
@@ -19,38 +20,60 @@ pub(crate) struct Reference {
     pub(crate) unit: Option<u32>,
 }
 
-/// Tries the references in their order: each leads to the first byte of an entry.
-pub(crate) fn try_references(
+/// Where the references of an object's entries lead.
+#[derive(Drop)]
+pub struct Resolved {
+    /// The places of all entries.
+    pub places: PlaceTable,
+    /// The number of the entry to which each reference leads, in document order of the references.
+    pub numbers: List<u32>,
+}
+
+/// Resolves the references in their order: each leads to the first byte of an entry.
+pub(crate) fn resolve(
     alloc: Global,
     entries: &RawEntries,
     references: &[Reference],
-) -> Result<(), ReadError>
+) -> Result<Resolved, ReadError>
     requires rising { IsRising entries.now }
+    requires few { length entries.now < 2 ^ 32 }
     ensures exact { Gives (λ _. entries.now) result (resolved entries.now references.now) }
+    ensures places { IfOk result (λ found. found.places ≡ map (λ e. e.place) entries.now) }
+    ensures numbers { IfOk result (λ found. map Some found.numbers ≡ map (number_at (map (λ e. e.place) entries.now)) (map (λ r. r.target) references.now)) }
 {
     let places = PlaceTable::of(alloc, entries)?;
+    let mut numbers = List::with_capacity(alloc, references.len())?;
     for reference in references {
-        if !leads_somewhere(&places, entries, reference) {
+        let Some(number) = number_led_to(&places, entries, reference) else {
             return Err(ReadError::Faulty(Fault {
                 kind: Kind::BadReference,
                 section: Part::Info,
                 place: u64::from(reference.place),
             }));
-        }
+        };
+        numbers.push(number)?;
     }
-    Ok(())
+    Ok(Resolved { places, numbers })
 }
 
-/// Whether a reference leads to the first byte of an entry that it may lead to. `places` are those of the
-/// entries.
-fn leads_somewhere(places: &PlaceTable, entries: &RawEntries, reference: &Reference) -> bool
+/// The number of the entry to which a reference leads: one that it may lead to, and whose first byte stands
+/// there. `places` are those of the entries.
+fn number_led_to(places: &PlaceTable, entries: &RawEntries, reference: &Reference) -> Option<u32>
     requires rising { IsRising entries.now }
+    requires few { length entries.now < 2 ^ 32 }
     requires places { places.now ≡ map (λ e. e.place) entries.now }
-    ensures { result ≡ leads entries.now reference.now }
+    ensures leads { is_some result ≡ leads entries.now reference.now }
+    ensures number { IfSome result (λ number. number_at places.now reference.now.target ≡ Some number) }
 {
     match places.find(reference.target) {
-        Some(i) => reaches_unit(reference.unit, entries.entry(i).unit()),
-        None => false,
+        Some(i) => {
+            if reaches_unit(reference.unit, entries.entry(i).unit()) {
+                Some(i as u32)
+            } else {
+                None
+            }
+        }
+        None => None,
     }
 }
 

@@ -1,6 +1,6 @@
 //! The units of an object.
 
-ghost use Rattle.std.specs.Prelude.{◌≡◌, ◌≤◌, ◌<◌, ◌^◌, [], length, IfOk, OnOk};
+ghost use Rattle.std.specs.Prelude.{◌≡◌, ◌≤◌, ◌<◌, ◌^◌, [], length, map, Some, IfOk, OnOk};
 ghost use Rattle.std.specs.List.{list_all};
 ghost use Rattle.ds_base.specs.Reading.{Finds, Gives};
 ghost use Rattle.dwarf_types.specs.SectionBytes.{bytes_in};
@@ -11,12 +11,13 @@ ghost use Rattle.unit_tree.specs.Bounds.{IsReady, parsed_seen};
 ghost use Rattle.unit_tree.specs.Inside.{AreInside};
 ghost use Rattle.unit_tree.specs.Sound.{AreSound};
 ghost use Rattle.unit_tree.specs.Table.{AreRead};
+ghost use Rattle.unit_tree.specs.Targets.{number_at, targets_of};
 ghost use Rattle.unit_tree.specs.Unit.{short_in, language_of, unit_from, is_zero, zeros_at, unit_at, units_at, units_of, nothing};
 
 use crate::attribute::UnitContext;
 use crate::entry::{Parsed, find_bases, read_tree};
 use crate::header::{info_cursor, read_header};
-use crate::reference::try_references;
+use crate::reference::{Resolved, resolve};
 use crate::table::{Tables, add_table, kept_table};
 use ds_base::dwarf::DW_AT_language;
 use ds_base::{Cursor, Fault, Kind, List, ReadError};
@@ -36,8 +37,8 @@ use std::collections::BTreeMap;
 ///
 /// Faults are placed in `__debug_info`, those of an abbreviation table in `__debug_abbrev`. Indices of a
 /// root's values are tried after its last value, since the bases of the unit's tables stand there. References
-/// are tried after all units. The time is linear in the sections, and `n log n` in the references.
-#[tactic(auto, unfolding(crate::specs::Unit::units_of))]
+/// are tried after all units; [`read_resolved_units`] says where they lead. The time is linear in the
+/// sections.
 pub fn read_units(alloc: Global, sections: &Sections) -> Result<RawUnits, ReadError>
     requires info { length sections.now.info.now < 2 ^ 32 }
     ensures exact { Gives (λ units. units) result (units_of (bytes_in sections.now)) }
@@ -49,6 +50,32 @@ pub fn read_units(alloc: Global, sections: &Sections) -> Result<RawUnits, ReadEr
     // of addresses lead to these.
     ensures inside { AreBytes sections.now.info.now → AreBytes sections.now.abbrev.now → IfOk result (λ raw. AreInside (bytes_in sections.now) raw) }
 {
+    let (units, _) = read_resolved_units(alloc, sections)?;
+    Ok(units)
+}
+
+/// The units of an object as [`read_units`] gives them, and where their references lead.
+///
+/// The numbers are those of the entries to which the `Ref` values lead, one for each, in document order.
+#[tactic(auto, unfolding(crate::specs::Unit::units_of))]
+pub fn read_resolved_units(
+    alloc: Global,
+    sections: &Sections,
+) -> Result<(RawUnits, Resolved), ReadError>
+    requires info { length sections.now.info.now < 2 ^ 32 }
+    ensures exact { Gives (λ r. r.0) result (units_of (bytes_in sections.now)) }
+
+    // Units follow one another and are all entries, and each parent stands before its children in the unit.
+    ensures sound { IfOk result (λ r. AreSound r.0) }
+
+    // Values stand before their ends, references lead to entries, offsets are inside their sections, and indices
+    // of addresses lead to these.
+    ensures inside { AreBytes sections.now.info.now → AreBytes sections.now.abbrev.now → IfOk result (λ r. AreInside (bytes_in sections.now) r.0) }
+
+    // Places are those of the entries, and numbers those of the places in `Ref` values.
+    ensures places { IfOk result (λ r. r.1.places ≡ map (λ e. e.place) r.0.entries) }
+    ensures numbers { IfOk result (λ r. map Some r.1.numbers ≡ map (number_at (map (λ e. e.place) r.0.entries)) (targets_of r.0.entries)) }
+{
     let mut parsed = Parsed {
         built: Builder::new(alloc, sections.strings, sections.info.len())?,
         references: List::new(alloc),
@@ -56,8 +83,8 @@ pub fn read_units(alloc: Global, sections: &Sections) -> Result<RawUnits, ReadEr
     let units = read_each(alloc, sections, &mut parsed)?;
     let Parsed { built, references } = parsed;
     let entries = built.finish();
-    try_references(alloc, &entries, references.as_slice())?;
-    Ok(RawUnits { units, entries })
+    let found = resolve(alloc, &entries, references.as_slice())?;
+    Ok((RawUnits { units, entries }, found))
 }
 
 /// Reads the units one after the other, and puts their entries behind those before.

@@ -1,0 +1,9 @@
+use Rattle.std.proofs.Common.{◌≡◌, Some, drop, map, take}
+use Rattle.unit_tree.specs.Targets.{number_at}
+use Rattle.unit_tree.proofs.References.{dangling, places_in}
+use Rattle.unit_tree.proofs.reference.resolve.Given as goal
+
+abbrev pub invariant-loop-reference : goal.invariant-loop-reference
+invariant-loop-reference l =
+    (dangling l.entries (drop l.reference-index l.references) ≡ dangling l.entries l.references)
+    × (map Some l.numbers ≡ map (number_at (places_in l.entries)) (map (λ r. r.target) (take l.reference-index l.references)))
