@@ -8,6 +8,7 @@ pub mod InPlace
 pub mod Items
 pub mod Kept
 pub mod KnownTypes
+pub mod Leading
 pub mod Marking
 pub mod Names
 pub mod Opening

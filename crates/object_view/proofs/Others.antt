@@ -10,6 +10,7 @@ use Rattle.dwarf_types.specs.declared.value.Value.{Value}
 use Rattle.dwarf_types.specs.declared.value.Value.TheVariants as values
 use Rattle.dwarf_types.specs.Plain.{is_offset, is_plain}
 use Rattle.expr_resolve.specs.Context.{Context}
+use Rattle.unit_tree.specs.Targets.{target_in}
 use Rattle.object_view.specs.Attributes.{attr_by, attrs_by, each_of, entry_by, value_meant, with_value}
 use Rattle.object_view.specs.Changes.{making}
 use Rattle.object_view.proofs.InPlace.{set_same}
@@ -29,6 +30,11 @@ plain_meant s places a (values.Ranges spans) e = absurd (let no : ⊥ = cc in no
 plain_meant s places a (values.Locations items) e = absurd (let no : ⊥ = cc in no)
 plain_meant s places a values.Lines e = absurd (let no : ⊥ = cc in no)
 plain_meant s places a (values.Offset n) e = absurd (let no : ⊥ = cc in no)
+
+-- they are no references
+pub plain_alone : (value : Value) → is_plain value ≡ true → target_in value ≡ []
+plain_alone (values.Ref place) e = absurd (let no : ⊥ = cc in no)
+plain_alone value e = refl
 
 -- ---- entries
 

@@ -1,6 +1,6 @@
 -- The attributes of an object's entries with what their values mean, step by step: each step goes over all attributes in document order.
 use Rattle.std.specs.Prelude.{ℕ, ◌-◌, ◌==◌, ◌&&◌, Bool, false, not, List, [], ◌∷◌, ◌++◌, length, map, slice_get, take, Option, Some, None, is_none, is_some, Result, Ok, nat_lt, if◌then◌else◌}
-use Rattle.std.specs.List.{filter_map, find, flat_map, position}
+use Rattle.std.specs.List.{filter_map, find, flat_map}
 use Rattle.std.specs.Option.{option_and_then, option_map, option_map_or, unwrap_or}
 use Rattle.ds_base.specs.declared.dwarf.TheConstants.{DW_AT_comp_dir, DW_AT_low_pc, DW_AT_stmt_list, DW_FORM_exprloc, DW_FORM_sec_offset}
 use Rattle.ds_base.specs.declared.fault.Fault.{Fault}
@@ -43,6 +43,7 @@ use Rattle.expr_resolve.specs.Expressions.{expression_of}
 use Rattle.unit_tree.specs.declared.meaning.Meaning.{Meaning}
 use Rattle.unit_tree.specs.declared.meaning.Meaning.TheVariants as meanings
 use Rattle.unit_tree.specs.Meaning.{is_address_index, table_of}
+pub use Rattle.unit_tree.specs.Targets.{number_at}
 use Rattle.moved_parts.specs.Lines.{lines_moved}
 use Rattle.moved_parts.specs.Places.{place_of}
 use Rattle.moved_parts.specs.Spans.{span_moved, spans_moved}
@@ -98,10 +99,6 @@ raw_entries_by meant entries = each_of (λ e. raw_entry_by (meant e.unit) e) ent
 -- a field of eight bytes that ends at a place of `__debug_info`
 abbrev pub field_address : Context → ℕ → Addr → Addr
 field_address s end stored = address_of s.image s.relocs (end - 8) (number_of stored)
-
--- the number of the entry that stands at a place
-abbrev pub number_at : List ℕ → ℕ → Option ℕ
-number_at places place = position (λ p. p == place) places
 
 -- a reference that leads to no entry; units in which one stands are refused before, so it is never met here
 abbrev pub dangling : RawAttr → Fault

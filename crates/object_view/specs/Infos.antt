@@ -1,5 +1,5 @@
 -- Stations between the code and the definitions: what is needed to understand attributes of `__debug_info`, and what they mean.
-use Rattle.std.specs.Prelude.{ℕ, ◌<◌, ◌^◌, length, Result}
+use Rattle.std.specs.Prelude.{ℕ, Result}
 use Rattle.ds_base.specs.declared.fault.Fault.{Fault}
 use Rattle.dwarf_types.specs.declared.entry.RawAttr.{RawAttr}
 use Rattle.dwarf_types.specs.declared.value.Value.{Value}
@@ -8,13 +8,11 @@ use Rattle.expr_resolve.specs.Context.{AreInOrder}
 use Rattle.object_view.specs.declared.attributes.InfoValues.{InfoValues}
 use Rattle.object_view.specs.Attributes.{value_meant}
 use Rattle.object_view.specs.Opened.{opened_seen}
-use Rattle.object_view.specs.Ready.{IsOpen, IsReadAttr, Rise, info_seen}
+use Rattle.object_view.specs.Ready.{IsOpen, IsReadAttr, info_seen}
 
 pub record IsReadyInfo (s : InfoValues) : Type 0 where
   pub opened : IsOpen (opened_seen s.expressions.object.now) s.expressions.map.now
   pub types : AreInOrder s.expressions.types.now
-  pub rise : Rise s.places.now
-  pub few : length s.places.now < 2 ^ 32
 
 -- an attribute as it was read
 abbrev pub FitsInfo : InfoValues → ℕ → RawAttr → Type 0

@@ -4,6 +4,7 @@ pub mod Changes
 pub mod Code
 pub mod Faults
 pub mod Infos
+pub mod Numbers
 pub mod Opened
 pub mod Parts
 pub mod Ready

@@ -8,6 +8,7 @@ ghost use Rattle.dwarf_types.specs.Sound.{IsSound};
 ghost use Rattle.unit_tree.specs.Inside.{AreInside};
 ghost use Rattle.unit_tree.specs.Sound.{AreSound as AreSoundUnits};
 ghost use Rattle.object_view.specs.Analysis.{analysis_of};
+ghost use Rattle.object_view.specs.Numbers.{AreNumbers};
 ghost use Rattle.object_view.specs.Opened.{opened_seen};
 ghost use Rattle.object_view.specs.Ready.{AllAttrs, AllRawAttrs, IsListAttr, IsOpen, IsReadAttr, IsRooted, context_among};
 ghost use Rattle.object_view.specs.Spelled.{IsOfObject};
@@ -26,12 +27,12 @@ use crate::steps::change_entries;
 use crate::units::{Tables, base_types, unit_contexts};
 use addr_map::{AddrMap, build};
 use ds_base::{List, ReadError};
-use dwarf_types::{Addr, Analysis, Entries, InUnit, PlaceTable, RawEntries, RawUnits};
+use dwarf_types::{Addr, Analysis, Entries, InUnit, RawEntries, RawUnits};
 use frame_table::read_frames;
 use moved_parts::move_frames;
 use stab_map::MapObject;
 use std::alloc::Global;
-use unit_tree::read_units;
+use unit_tree::{Resolved, read_resolved_units};
 
 /// Analyses the object in a file's bytes, for a program of this CPU type: its units, entries, code and frames, with
 /// the addresses that its part of the debug map moves to the linked program.
@@ -58,31 +59,34 @@ pub fn analyse(
     ensures spelled { IfOk result (IsOfObject bytes.now cpu) }
 {
     let opened = open_object(alloc, bytes, cpu)?;
-    let raw = read_units(alloc, &opened.sections)?;
+    let (raw, resolved) = read_resolved_units(alloc, &opened.sections)?;
     let map = build(alloc, object, &opened.image)?;
-    analyse_units(alloc, &opened, &map, raw)
+    analyse_units(alloc, &opened, &map, raw, resolved)
 }
 
-/// What the units mean that were read.
+/// What the units mean that were read, whose references lead where `resolved` says.
 fn analyse_units(
     alloc: Global,
     object: &OpenObject,
     map: &AddrMap,
     raw: RawUnits,
+    resolved: Resolved,
 ) -> Result<Analysis, ReadError>
     requires open { IsOpen (opened_seen object.now) map.now }
     requires raw { AreSoundUnits raw }
     requires inside { AreInside (bytes_in object.now.sections) raw }
     requires rooted { All (IsRooted raw.entries) raw.units }
+    requires places { resolved.places ≡ Units.places_of raw.entries }
+    requires numbers { AreNumbers (Units.places_of raw.entries) raw.entries resolved.numbers }
     ensures { Gives (λ analysis. analysis) result (analysed (opened_seen object.now) map.now raw) }
 {
     let RawUnits { units, entries } = raw;
     let types = base_types(alloc, &entries)?;
-    let places = PlaceTable::of(alloc, &entries)?;
     let contexts = unit_contexts(alloc, units.as_slice(), &entries)?;
     let tables = Tables {
         types: types.as_slice(),
-        places: &places,
+        places: &resolved.places,
+        numbers: resolved.numbers.as_slice(),
         units: contexts.as_slice(),
     };
     analyse_entries(alloc, object, map, &tables, units, entries)
@@ -100,6 +104,7 @@ fn analyse_entries(
     requires open { IsOpen (opened_seen object.now) map.now }
     requires tables { AreInOrderTables (tables_in tables.now) }
     requires places { tables.now.places.now ≡ Units.places_of raw }
+    requires numbers { AreNumbers tables.now.places.now raw tables.now.numbers.now }
     requires units { tables.now.units.now ≡ Units.contexts_of raw units }
     requires inside { AreInside (bytes_in object.now.sections) (record { units = units; entries = raw }) }
     requires rooted { All (IsRooted raw) units }
@@ -123,6 +128,7 @@ fn understand_info(
     requires open { IsOpen (opened_seen object.now) map.now }
     requires tables { AreInOrderTables (tables_in tables.now) }
     requires fits { AllRawAttrs (IsReadAttr (bytes_in object.now.sections) tables.now.units.now tables.now.places.now) raw }
+    requires numbers { AreNumbers tables.now.places.now raw tables.now.numbers.now }
     ensures { Gives (λ entries. entries) result (info_done (opened_seen object.now) map.now (tables_in tables.now) raw) }
 {
     let values = InfoValues {
@@ -134,8 +140,8 @@ fn understand_info(
         },
         places: tables.places,
     };
-    understand_entries(alloc, &values, &mut raw)?;
-    Ok(raw.into_entries(alloc)?)
+    understand_entries(alloc, &values, tables.numbers, &mut raw)?;
+    Ok(raw.into_entries())
 }
 
 /// Reads the range lists and then the location lists that entries name.

@@ -1,14 +1,17 @@
 //! Addresses, references and expressions of `__debug_info`.
 
-ghost use Rattle.std.specs.Prelude.{◌≡◌, ◌<◌, ◌≤◌, ◌^◌, ◌+◌, length, Some, IsSome};
+ghost use Rattle.std.specs.Prelude.{◌≡◌, ◌<◌, ◌≤◌, ◌+◌, ◌∷◌, length, Some, IsSome, OnOk};
+ghost use Rattle.std.specs.Slice.Iter.{iter_rest};
 ghost use Rattle.ds_base.specs.Reading.{Gives};
 ghost use Rattle.dwarf_types.specs.Seen.{raw_attr_seen};
 ghost use Rattle.index_tables.specs.Tables.{address_place, stored};
 ghost use Rattle.list_items.specs.Ends;
 ghost use Rattle.expr_resolve.specs.Context.{context_in};
+ghost use Rattle.unit_tree.specs.Targets.{target_in};
 ghost use Rattle.object_view.specs.Attributes;
 ghost use Rattle.object_view.specs.Changes.{understood_as};
 ghost use Rattle.object_view.specs.Infos.{FitsInfo, IsReadyInfo, info_value};
+ghost use Rattle.object_view.specs.Numbers.{LeadTo, behind};
 ghost use Rattle.object_view.specs.Ready.{IsReady};
 
 use crate::expressions::{ExprRoom, Expressions, info_context};
@@ -20,6 +23,7 @@ use expr_resolve::{ExprContext, read_expression};
 use index_tables::address_at;
 use moved_parts::place;
 use reloc_table::resolve;
+use std::slice::Iter;
 use unit_tree::is_address_index;
 
 /// By what the attributes of `__debug_info` are understood: addresses move, references lead to the numbers of entries,
@@ -27,7 +31,7 @@ use unit_tree::is_address_index;
 #[derive(Clone, Copy)]
 pub(crate) struct InfoValues<'a> {
     pub(crate) expressions: Expressions<'a>,
-    /// The places of all entries.
+    /// The places of all entries, by which contracts tell where references lead.
     pub(crate) places: &'a PlaceTable,
 }
 
@@ -43,16 +47,19 @@ pub(crate) enum Understood {
 }
 
 /// An attribute as it was read, understood. Its entry is of the unit of this number. The operations of an expression are
-/// put into `room`.
+/// put into `room`, and a reference takes the next of `numbers`, the number of the entry to which it leads.
 pub(crate) fn understand_value(
     values: &InfoValues,
     unit: u32,
     attr: &RawAttrRef<'_>,
+    numbers: &mut Iter<'_, u32>,
     room: &mut ExprRoom,
 ) -> Result<Understood, ReadError>
     requires ready { IsReadyInfo values.now }
     requires fits { FitsInfo values.now unit (raw_attr_seen attr.now) }
-    ensures { Gives (understood_as room.new.meant.ops (raw_attr_seen attr.now).value) result (info_value values.now unit (raw_attr_seen attr.now)) }
+    requires numbers { LeadTo values.now.places.now (target_in (raw_attr_seen attr.now).value) (iter_rest numbers.old) }
+    ensures exact { Gives (understood_as room.new.meant.ops (raw_attr_seen attr.now).value) result (info_value values.now unit (raw_attr_seen attr.now)) }
+    ensures taken { OnOk result (iter_rest numbers.new ≡ behind (target_in (raw_attr_seen attr.now).value) (iter_rest numbers.old)) }
 {
     match &attr.value {
         ValueRef::Address(stored) => {
@@ -60,7 +67,7 @@ pub(crate) fn understand_value(
             let at = field_address(&context, attr.end, &stored.at);
             Ok(Understood::Address(place(context.map, at)))
         }
-        ValueRef::Ref(place) => Ok(Understood::Ref(number_at(values.places, *place))),
+        ValueRef::Ref(_) => Ok(Understood::Ref(next_number(numbers))),
         ValueRef::Block { form, bytes } if *form == DW_FORM_exprloc => {
             let context = info_context(&values.expressions, unit);
             let first = u64::from(attr.end) - bytes.len() as u64;
@@ -122,14 +129,13 @@ fn number_of(stored: &Addr) -> u64
     }
 }
 
-/// The number of the entry that stands at a place, by the places of all.
-fn number_at(places: &PlaceTable, place: u32) -> u32
-    requires few { length places.now < 2 ^ 32 }
-    requires there { IsSome (Attributes.number_at places.now place) }
-    ensures { Attributes.number_at places.now place ≡ Some result }
+/// The next of some numbers.
+fn next_number(numbers: &mut Iter<'_, u32>) -> u32
+    requires { 0 < length (iter_rest numbers.old) }
+    ensures { iter_rest numbers.old ≡ result ∷ iter_rest numbers.new }
 {
-    match places.find(place) {
-        Some(i) => i as u32,
+    match numbers.next() {
+        Some(number) => *number,
         None => unreachable!(),
     }
 }

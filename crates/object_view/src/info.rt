@@ -2,12 +2,15 @@
 
 ghost use Rattle.std.specs.Prelude.{◌≡◌, ◌<◌, length, slice_get, slice_set, Some, OnOk};
 ghost use Rattle.std.specs.List.{All};
+ghost use Rattle.std.specs.Slice.Iter.{iter_rest};
 ghost use Rattle.ds_base.specs.Reading.{Gives};
 ghost use Rattle.dwarf_types.specs.declared.entry.RawAttr.{RawAttr as ARawAttr};
 ghost use Rattle.dwarf_types.specs.declared.entry.RawEntry.{RawEntry as ARawEntry};
+ghost use Rattle.unit_tree.specs.Targets.{target_in, targets_in};
 ghost use Rattle.object_view.specs.Attributes.{raw_attr_by, raw_entry_by, raw_entries_by};
 ghost use Rattle.object_view.specs.Changes.{making, understood_as};
 ghost use Rattle.object_view.specs.Infos.{FitsInfo, IsReadyInfo, info_value};
+ghost use Rattle.object_view.specs.Numbers.{AreNumbers, LeadTo, behind};
 ghost use Rattle.object_view.specs.Ready.{AllRawAttrs};
 
 use crate::attributes::{InfoValues, Understood, understand_value};
@@ -15,40 +18,48 @@ use crate::expressions::ExprRoom;
 use ds_base::{NoMemory, ReadError};
 use dwarf_types::{NewValue, Ops, RawEntries};
 use std::alloc::Global;
+use std::slice::Iter;
 
-/// Understands all entries, in place.
+/// Understands all entries, in place. `numbers` are those of the entries to which their references lead, in document
+/// order.
 pub(crate) fn understand_entries(
     alloc: Global,
     values: &InfoValues,
+    numbers: &[u32],
     entries: &mut RawEntries,
 ) -> Result<(), ReadError>
     requires ready { IsReadyInfo values.now }
     requires fits { AllRawAttrs (FitsInfo values.now) entries.old }
+    requires numbers { AreNumbers values.now.places.now entries.old numbers.now }
     ensures { Gives (λ _. entries.new) result (raw_entries_by (info_value values.now) entries.old) }
 {
+    let mut left = numbers.iter();
     let mut room = ExprRoom::new(alloc);
     for i in 0..entries.len() {
-        understand_entry(values, entries, i, &mut room)?;
+        understand_entry(values, entries, i, &mut left, &mut room)?;
     }
     Ok(())
 }
 
-/// Understands the attributes of an entry.
+/// Understands the attributes of an entry. Its references take the first of `numbers`.
 fn understand_entry(
     values: &InfoValues,
     entries: &mut RawEntries,
     i: usize,
+    numbers: &mut Iter<'_, u32>,
     room: &mut ExprRoom,
 ) -> Result<(), ReadError>
     requires ready { IsReadyInfo values.now }
     requires within { i < length entries.old }
     requires fits { (e : ARawEntry) → slice_get entries.old i ≡ Some e → All (FitsInfo values.now e.unit) e.attrs }
-    ensures { (e : ARawEntry) → slice_get entries.old i ≡ Some e
+    requires numbers { (e : ARawEntry) → slice_get entries.old i ≡ Some e → LeadTo values.now.places.now (targets_in e.attrs) (iter_rest numbers.old) }
+    ensures exact { (e : ARawEntry) → slice_get entries.old i ≡ Some e
         → Gives (λ _. entries.new) result (making (raw_entry_by (info_value values.now e.unit) e) (λ made. slice_set entries.old i made)) }
+    ensures taken { (e : ARawEntry) → slice_get entries.old i ≡ Some e → OnOk result (iter_rest numbers.new ≡ behind (targets_in e.attrs) (iter_rest numbers.old)) }
 {
     let count = entries.entry(i).len();
     for j in 0..count {
-        understand_attr(values, entries, i, j, room)?;
+        understand_attr(values, entries, i, j, numbers, room)?;
     }
     Ok(())
 }
@@ -59,38 +70,45 @@ fn understand_attr(
     entries: &mut RawEntries,
     i: usize,
     j: usize,
+    numbers: &mut Iter<'_, u32>,
     room: &mut ExprRoom,
 ) -> Result<(), ReadError>
     requires ready { IsReadyInfo values.now }
     requires within { (e : ARawEntry) × (slice_get entries.old i ≡ Some e) × (j < length e.attrs) }
     requires fits { (e : ARawEntry) (a : ARawAttr) → slice_get entries.old i ≡ Some e → slice_get e.attrs j ≡ Some a → FitsInfo values.now e.unit a }
-    ensures { (e : ARawEntry) (a : ARawAttr) → slice_get entries.old i ≡ Some e → slice_get e.attrs j ≡ Some a
+    requires numbers { (e : ARawEntry) (a : ARawAttr) → slice_get entries.old i ≡ Some e → slice_get e.attrs j ≡ Some a → LeadTo values.now.places.now (target_in a.value) (iter_rest numbers.old) }
+    ensures exact { (e : ARawEntry) (a : ARawAttr) → slice_get entries.old i ≡ Some e → slice_get e.attrs j ≡ Some a
         → Gives (λ _. entries.new) result (making (raw_attr_by (info_value values.now e.unit) a) (λ b. slice_set entries.old i (record e { attrs = slice_set e.attrs j b }))) }
+    ensures taken { (e : ARawEntry) (a : ARawAttr) → slice_get entries.old i ≡ Some e → slice_get e.attrs j ≡ Some a → OnOk result (iter_rest numbers.new ≡ behind (target_in a.value) (iter_rest numbers.old)) }
 {
-    let understood = understood_at(values, entries, i, j, room)?;
+    let understood = understood_at(values, entries, i, j, numbers, room)?;
     put(entries, i, j, understood, &room.meant)?;
     Ok(())
 }
 
-/// What becomes of the value at a place. The operations of an expression are put into `room`.
+/// What becomes of the value at a place. The operations of an expression are put into `room`, and a reference takes the
+/// next of `numbers`.
 fn understood_at(
     values: &InfoValues,
     entries: &RawEntries,
     i: usize,
     j: usize,
+    numbers: &mut Iter<'_, u32>,
     room: &mut ExprRoom,
 ) -> Result<Understood, ReadError>
     requires ready { IsReadyInfo values.now }
     requires within { (e : ARawEntry) × (slice_get entries.now i ≡ Some e) × (j < length e.attrs) }
     requires fits { (e : ARawEntry) (a : ARawAttr) → slice_get entries.now i ≡ Some e → slice_get e.attrs j ≡ Some a → FitsInfo values.now e.unit a }
-    ensures { (e : ARawEntry) (a : ARawAttr) → slice_get entries.now i ≡ Some e → slice_get e.attrs j ≡ Some a
+    requires numbers { (e : ARawEntry) (a : ARawAttr) → slice_get entries.now i ≡ Some e → slice_get e.attrs j ≡ Some a → LeadTo values.now.places.now (target_in a.value) (iter_rest numbers.old) }
+    ensures exact { (e : ARawEntry) (a : ARawAttr) → slice_get entries.now i ≡ Some e → slice_get e.attrs j ≡ Some a
         → Gives (understood_as room.new.meant.ops a.value) result (info_value values.now e.unit a) }
+    ensures taken { (e : ARawEntry) (a : ARawAttr) → slice_get entries.now i ≡ Some e → slice_get e.attrs j ≡ Some a → OnOk result (iter_rest numbers.new ≡ behind (target_in a.value) (iter_rest numbers.old)) }
 {
     let entry = entries.entry(i);
     if entry.is_plain(j) {
         return Ok(Understood::Same);
     }
-    understand_value(values, entry.unit(), &entry.attr(j), room)
+    understand_value(values, entry.unit(), &entry.attr(j), numbers, room)
 }
 
 /// Another value for an attribute, where the operations of an expression are those of `ops`.

@@ -14,9 +14,9 @@ ghost use Rattle.object_view.specs.Ready.{IsFirstList, IsLinesInside, IsMarkedAt
 use crate::open::OpenObject;
 use addr_map::AddrMap;
 use ds_base::dwarf::{DW_AT_comp_dir, DW_AT_stmt_list, DW_FORM_sec_offset, DWARF_5};
-use ds_base::{Bytes, List, NoMemory, ReadError};
+use ds_base::{List, NoMemory, ReadError};
 use dwarf_types::{
-    AttrRef, Entries, EntryRef, FileName, InUnit, NewValue, OutLines, RawLines, ValueRef,
+    AttrRef, Entries, EntryRef, FileNames, InUnit, NewValue, OutLines, Paths, RawLines, ValueRef,
 };
 use line_read::{read_lines, table_version};
 use moved_parts::move_lines;
@@ -142,54 +142,50 @@ fn is_older(version: Option<u16>) -> bool
 fn counted_from_0(alloc: Global, dir: &[u8], lines: RawLines) -> Result<RawLines, NoMemory>
     ensures { IfOk result (λ made. made ≡ Attributes.counted_from_0 dir.now lines) }
 {
+    let RawLines {
+        dirs,
+        files,
+        sequences,
+    } = lines;
     Ok(RawLines {
-        dirs: dirs_behind(Bytes::from_slice(alloc, dir)?, lines.dirs)?,
-        files: files_behind_first(alloc, lines.files)?,
-        sequences: lines.sequences,
+        dirs: dirs_behind(alloc, dir, &dirs)?,
+        files: files_behind_first(alloc, &files)?,
+        sequences,
     })
 }
 
 /// A directory before others.
-fn dirs_behind(dir: Bytes, mut dirs: List<Bytes>) -> Result<List<Bytes>, NoMemory>
-    ensures { IfOk result (λ all. all ≡ dir ∷ dirs) }
+fn dirs_behind(alloc: Global, dir: &[u8], dirs: &Paths) -> Result<Paths, NoMemory>
+    ensures { IfOk result (λ all. all ≡ dir.now ∷ dirs.now) }
 {
-    dirs.push(dir)?;
-    dirs.as_mut_slice().rotate_right(1);
-    Ok(dirs)
+    let mut all = Paths::new(alloc);
+    all.push(dir)?;
+    for i in 0..dirs.len() {
+        all.push(dirs.path(i))?;
+    }
+    Ok(all)
 }
 
 /// Files behind a copy of the first, where there is one.
-fn files_behind_first(alloc: Global, mut files: List<FileName>) -> Result<List<FileName>, NoMemory>
-    ensures { IfOk result (λ all. all ≡ take 1 files ++ files) }
+fn files_behind_first(alloc: Global, files: &FileNames) -> Result<FileNames, NoMemory>
+    ensures { IfOk result (λ all. all ≡ take 1 files.now ++ files.now) }
 {
-    let first = match files.get(0) {
-        Some(file) => copy_of_file(alloc, file)?,
-        None => return Ok(files),
-    };
-    files.push(first)?;
-    files.as_mut_slice().rotate_right(1);
-    Ok(files)
-}
-
-fn copy_of_file(alloc: Global, file: &FileName) -> Result<FileName, NoMemory>
-    ensures { IfOk result (λ copy. copy ≡ file.now) }
-{
-    Ok(FileName {
-        name: file.name.copy(alloc)?,
-        dir: file.dir,
-        time: file.time,
-        size: file.size,
-        digest: copy_of_digest(alloc, &file.digest)?,
-    })
-}
-
-fn copy_of_digest(alloc: Global, digest: &Option<Bytes>) -> Result<Option<Bytes>, NoMemory>
-    ensures { IfOk result (λ copy. copy ≡ digest.now) }
-{
-    match digest {
-        Some(bytes) => Ok(Some(bytes.copy(alloc)?)),
-        None => Ok(None),
+    let mut all = first_file(alloc, files)?;
+    for i in 0..files.len() {
+        all.push(&files.file(i))?;
     }
+    Ok(all)
+}
+
+/// A copy of the first file, where there is one.
+fn first_file(alloc: Global, files: &FileNames) -> Result<FileNames, NoMemory>
+    ensures { IfOk result (λ first. first ≡ take 1 files.now) }
+{
+    let mut first = FileNames::new(alloc);
+    if let Some(file) = files.get(0) {
+        first.push(&file)?;
+    }
+    Ok(first)
 }
 
 /// The place of the line table of the unit whose root has this number.

@@ -21,13 +21,16 @@ pub(crate) struct UnitContext {
     pub(crate) addr_base: u64,
 }
 
-/// What is made once of the units and entries of an object, so that a look-up is one by an index or by halves.
+/// What is made once of the units and entries of an object, so that a look-up is one by an index or by halves, and
+/// references need none.
 #[derive(Clone, Copy)]
 pub(crate) struct Tables<'a> {
     /// The base types of the object, in the order of their places.
     pub(crate) types: &'a [BaseType],
-    /// The places of all entries.
+    /// The places of all entries, by which contracts tell where references lead.
     pub(crate) places: &'a PlaceTable,
+    /// The number of the entry to which each reference leads, in document order.
+    pub(crate) numbers: &'a [u32],
     /// Of each unit, what its values are understood by.
     pub(crate) units: &'a [UnitContext],
 }
