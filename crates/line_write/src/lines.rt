@@ -9,12 +9,26 @@ ghost use Rattle.patches.specs.Filling.{Filling, filled};
 use crate::names::append_entries;
 use crate::sequences::append_sequences;
 use crate::tables::append_tables;
-use ds_base::dwarf::{ADDRESS_SIZE, DWARF_4, DWARF_5, LINE_BASE, LINE_RANGE, OPCODE_BASE};
+use ds_base::dwarf::{
+    ADDRESS_SIZE, DWARF_4, DWARF_5, LINE_BASE, LINE_RANGE, OFFSET_SIZE, OPCODE_BASE,
+};
 use ds_base::{Bytes, NoMemory};
 use dwarf_types::OutLines;
 use patches::Buffer;
 use std::alloc::Global;
 use text_pool::Naming;
+
+/// How many bytes a length has.
+const LENGTH_SIZE: usize = OFFSET_SIZE as usize;
+
+/// How many bytes the version has.
+const VERSION_SIZE: u128 = 2;
+
+/// How many bytes the version has in version 5 with address_size and segment_selector_size.
+const VERSION_5_SIZE: u128 = VERSION_SIZE + 2;
+
+/// The segment_selector_size of targets without segments.
+const NO_SEGMENT_SELECTOR: u8 = 0;
 
 /// How many operands each standard operation has, from `DW_LNS_copy` on.
 const STANDARD_OPCODE_LENGTHS: [u8; 12] = [0, 1, 1, 1, 1, 0, 0, 0, 1, 0, 0, 1];
@@ -39,7 +53,7 @@ pub fn append_lines<'a>(
     let mut fields = Buffer::new(alloc);
     append_fields(&mut fields, names, version, lines)?;
     let mut program = Bytes::new(alloc);
-    append_sequences(&mut program, lines.sequences.as_slice())?;
+    append_sequences(&mut program, &lines.sequences)?;
     append_parts(out, version, &fields, program.as_slice())?;
     Ok(())
 }
@@ -55,7 +69,10 @@ fn append_parts(
     ensures size { (f g : Filling) → length (filled fields.now f) ≡ length (filled fields.now g) }
 {
     let header_length = fields.len() as u128;
-    let unit_length = version_len(version) + 4 + header_length + program.len() as u128;
+    let unit_length = version_len(version)
+        + LENGTH_SIZE as u128
+        + header_length
+        + program.len() as u128;
     append_length(out, unit_length)?;
     append_version(out, version)?;
     append_length(out, header_length)?;
@@ -68,7 +85,7 @@ fn append_parts(
 fn append_length(out: &mut Buffer, n: u128) -> Result<(), NoMemory>
     ensures { OnOk result ((f : Filling) → filled out.new f ≡ filled out.old f ++ little_bytes 4 n) }
 {
-    out.extend(&n.to_le_bytes()[..4])?;
+    out.extend(&n.to_le_bytes()[..LENGTH_SIZE])?;
     Ok(())
 }
 
@@ -76,7 +93,11 @@ fn append_length(out: &mut Buffer, n: u128) -> Result<(), NoMemory>
 fn version_len(version: u16) -> u128
     ensures { result ≡ length (version_bytes version) }
 {
-    if version == DWARF_5 { 4 } else { 2 }
+    if version == DWARF_5 {
+        VERSION_5_SIZE
+    } else {
+        VERSION_SIZE
+    }
 }
 
 /// Puts the version last, and in version 5 address_size and segment_selector_size.
@@ -85,7 +106,7 @@ fn append_version(out: &mut Buffer, version: u16) -> Result<(), NoMemory>
 {
     if version == DWARF_5 {
         out.extend(&DWARF_5.to_le_bytes())?;
-        out.extend(&[ADDRESS_SIZE, 0])?;
+        out.extend(&[ADDRESS_SIZE, NO_SEGMENT_SELECTOR])?;
     } else {
         out.extend(&DWARF_4.to_le_bytes())?;
     }

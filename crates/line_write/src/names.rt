@@ -2,21 +2,31 @@
 
 ghost use Rattle.std.specs.Prelude.{◌≡◌, ◌++◌, ◌∷◌, [], if◌then◌else◌, is_some, map, OnOk};
 ghost use Rattle.std.specs.List.{flat_map, list_all};
-ghost use Rattle.std.specs.Option.{unwrap_or};
+ghost use Rattle.std.specs.Option.{option_copied, unwrap_or};
 ghost use Rattle.byteorder.specs.Endian.{little_bytes};
 ghost use Rattle.ds_base.specs.Leb.{uleb};
 ghost use Rattle.dwarf_types.specs.LineTable.{digest_bytes, digest_format, directories_bytes, directory_entry, directory_format, entries_bytes, file_entry, file_format, files_bytes, format, have_digests};
+ghost use Rattle.dwarf_types.specs.SeenLines.{file_seen};
 ghost use Rattle.line_write.specs.Named.{AppendsNamed};
 ghost use Rattle.patches.specs.Filling.{Filling, filled};
 
+use ds_base::NoMemory;
 use ds_base::dwarf::{
     DW_FORM_data16, DW_FORM_line_strp, DW_FORM_udata, DW_LNCT_MD5, DW_LNCT_directory_index,
     DW_LNCT_path, DW_LNCT_size, DW_LNCT_timestamp,
 };
-use ds_base::{Bytes, NoMemory};
-use dwarf_types::{FileName, OutLines};
+use dwarf_types::{FileNameRef, FileNames, OutLines, Paths};
 use patches::{Buffer, Outer};
 use text_pool::Naming;
+
+/// How many content types a directory has.
+const DIRECTORY_CONTENT_TYPES: u8 = 1;
+
+/// How many content types a file has without a digest.
+const FILE_CONTENT_TYPES: u8 = 4;
+
+/// How many content types a file has with its digest.
+const DIGESTED_FILE_CONTENT_TYPES: u8 = FILE_CONTENT_TYPES + 1;
 
 /// Puts the directories and the files last, and their texts among those with numbers.
 pub(crate) fn append_entries<'a>(
@@ -26,8 +36,8 @@ pub(crate) fn append_entries<'a>(
 ) -> Result<(), NoMemory>
     ensures { OnOk result (AppendsNamed out.old out.new names.old names.new (λ text. entries_bytes text lines.now) (lines.now.dirs ++ map (λ file. file.name) lines.now.files)) }
 {
-    append_directories(out, names, lines.dirs.as_slice())?;
-    append_files(out, names, lines.files.as_slice())?;
+    append_directories(out, names, &lines.dirs)?;
+    append_files(out, names, &lines.files)?;
     Ok(())
 }
 
@@ -37,7 +47,7 @@ pub(crate) fn append_entries<'a>(
 fn append_directories<'a>(
     out: &mut Buffer,
     names: &mut Naming<'a>,
-    dirs: &'a [Bytes],
+    dirs: &'a Paths,
 ) -> Result<(), NoMemory>
     ensures { OnOk result (AppendsNamed out.old out.new names.old names.new (λ text. directories_bytes text dirs.now) dirs.now) }
 {
@@ -51,7 +61,7 @@ fn append_directories<'a>(
 fn append_directory_format(out: &mut Buffer) -> Result<(), NoMemory>
     ensures { OnOk result ((f : Filling) → filled out.new f ≡ filled out.old f ++ directory_format) }
 {
-    out.push(1)?;
+    out.push(DIRECTORY_CONTENT_TYPES)?;
     append_format(out, DW_LNCT_path, DW_FORM_line_strp)?;
     Ok(())
 }
@@ -60,12 +70,12 @@ fn append_directory_format(out: &mut Buffer) -> Result<(), NoMemory>
 fn append_each_directory<'a>(
     out: &mut Buffer,
     names: &mut Naming<'a>,
-    dirs: &'a [Bytes],
+    dirs: &'a Paths,
 ) -> Result<(), NoMemory>
     ensures { OnOk result (AppendsNamed out.old out.new names.old names.new (λ text. flat_map (directory_entry text) dirs.now) dirs.now) }
 {
-    for dir in dirs {
-        append_place(out, names, dir)?;
+    for i in 0..dirs.len() {
+        append_place(out, names, dirs.path(i))?;
     }
     Ok(())
 }
@@ -76,7 +86,7 @@ fn append_each_directory<'a>(
 fn append_files<'a>(
     out: &mut Buffer,
     names: &mut Naming<'a>,
-    files: &'a [FileName],
+    files: &'a FileNames,
 ) -> Result<(), NoMemory>
     ensures { OnOk result (AppendsNamed out.old out.new names.old names.new (λ text. files_bytes text files.now) (map (λ file. file.name) files.now)) }
 {
@@ -88,18 +98,18 @@ fn append_files<'a>(
 }
 
 /// Whether digests are written: there is a file, and each has one.
-fn are_with_digests(files: &[FileName]) -> bool
+fn are_with_digests(files: &FileNames) -> bool
     ensures { result ≡ have_digests files.now }
 {
-    !files.is_empty() && each_has_digest(files)
+    files.len() != 0 && each_has_digest(files)
 }
 
 /// Whether no file is without a digest.
-fn each_has_digest(files: &[FileName]) -> bool
+fn each_has_digest(files: &FileNames) -> bool
     ensures { result ≡ list_all (λ file. is_some file.digest) files.now }
 {
-    for file in files {
-        if file.digest.is_none() {
+    for i in 0..files.len() {
+        if files.file(i).digest.is_none() {
             return false;
         }
     }
@@ -123,7 +133,11 @@ fn append_file_format(out: &mut Buffer, digests: bool) -> Result<(), NoMemory>
 fn pairs_in(digests: bool) -> u8
     ensures { result ≡ (if digests then 5 else 4) }
 {
-    if digests { 5 } else { 4 }
+    if digests {
+        DIGESTED_FILE_CONTENT_TYPES
+    } else {
+        FILE_CONTENT_TYPES
+    }
 }
 
 /// Puts last that a file has its digest, where digests are written.
@@ -141,12 +155,12 @@ fn append_each_file<'a>(
     out: &mut Buffer,
     names: &mut Naming<'a>,
     digests: bool,
-    files: &'a [FileName],
+    files: &'a FileNames,
 ) -> Result<(), NoMemory>
     ensures { OnOk result (AppendsNamed out.old out.new names.old names.new (λ text. flat_map (file_entry text digests) files.now) (map (λ file. file.name) files.now)) }
 {
-    for file in files {
-        append_file(out, names, digests, file)?;
+    for i in 0..files.len() {
+        append_file(out, names, digests, files.file(i))?;
     }
     Ok(())
 }
@@ -156,35 +170,35 @@ fn append_file<'a>(
     out: &mut Buffer,
     names: &mut Naming<'a>,
     digests: bool,
-    file: &'a FileName,
+    file: FileNameRef<'a>,
 ) -> Result<(), NoMemory>
-    ensures { OnOk result (AppendsNamed out.old out.new names.old names.new (λ text. file_entry text digests file.now) (file.now.name ∷ [])) }
+    ensures { OnOk result (AppendsNamed out.old out.new names.old names.new (λ text. file_entry text digests (file_seen file.entry)) (file.entry.name.now ∷ [])) }
 {
-    append_place(out, names, &file.name)?;
+    append_place(out, names, file.name)?;
     append_numbers(out, digests, file)?;
     Ok(())
 }
 
 /// Puts last what follows the path of a file.
-fn append_numbers(out: &mut Buffer, digests: bool, file: &FileName) -> Result<(), NoMemory>
-    ensures { OnOk result ((f : Filling) → filled out.new f ≡ filled out.old f ++ (uleb file.now.dir ++ (uleb file.now.time ++ (uleb file.now.size ++ digest_bytes digests file.now)))) }
+fn append_numbers(out: &mut Buffer, digests: bool, file: FileNameRef<'_>) -> Result<(), NoMemory>
+    ensures { OnOk result ((f : Filling) → filled out.new f ≡ filled out.old f ++ (uleb file.entry.dir ++ (uleb file.entry.time ++ (uleb file.entry.size ++ digest_bytes digests (file_seen file.entry))))) }
 {
     out.extend_uleb(file.dir)?;
     out.extend_uleb(file.time)?;
     out.extend_uleb(file.size)?;
-    append_digest(out, digests, &file.digest)?;
+    append_digest(out, digests, file.digest)?;
     Ok(())
 }
 
 /// Puts a digest last, where digests are written.
-fn append_digest(out: &mut Buffer, digests: bool, digest: &Option<Bytes>) -> Result<(), NoMemory>
-    ensures { OnOk result ((f : Filling) → filled out.new f ≡ filled out.old f ++ (if digests then unwrap_or digest.now [] else [])) }
+fn append_digest(out: &mut Buffer, digests: bool, digest: Option<&[u8]>) -> Result<(), NoMemory>
+    ensures { OnOk result ((f : Filling) → filled out.new f ≡ filled out.old f ++ (if digests then unwrap_or (option_copied digest.entry) [] else [])) }
 {
     if !digests {
         return Ok(());
     }
     match digest {
-        Some(bytes) => out.extend(bytes.as_slice()),
+        Some(bytes) => out.extend(bytes),
         None => Ok(()),
     }
 }
@@ -204,11 +218,11 @@ fn append_format(out: &mut Buffer, content: u16, form: u16) -> Result<(), NoMemo
 fn append_place<'a>(
     out: &mut Buffer,
     names: &mut Naming<'a>,
-    text: &'a Bytes,
+    text: &'a [u8],
 ) -> Result<(), NoMemory>
     ensures { OnOk result (AppendsNamed out.old out.new names.old names.new (λ place. little_bytes 4 (place text.now)) (text.now ∷ [])) }
 {
-    let number = names.number_of(text.as_slice())?;
+    let number = names.number_of(text)?;
     out.leave(Outer::LineText(number))?;
     Ok(())
 }

@@ -3,37 +3,37 @@
 ghost use Rattle.std.specs.Prelude.{◌≡◌, ◌++◌, [], OnOk};
 ghost use Rattle.std.specs.List.{flat_map};
 ghost use Rattle.dwarf_types.specs.LineProgram.{first_address, registers_after, registers_at, rows_bytes, sequence_bytes, set_address};
+ghost use Rattle.dwarf_types.specs.SeenLines.{sequence_seen};
 
 use crate::row_ops::{append_extended, append_row, append_step};
 use appending::append_u64;
-use ds_base::dwarf::{DW_LNE_end_sequence, DW_LNE_set_address};
+use ds_base::dwarf::{ADDRESS_SIZE, DW_LNE_end_sequence, DW_LNE_set_address};
 use ds_base::{Bytes, NoMemory};
-use dwarf_types::{Row, Sequence};
+use dwarf_types::{Row, SequenceRef, Sequences};
 
 /// How many bytes `DW_LNE_set_address` has: its code and an address.
-const SET_ADDRESS_SIZE: u64 = 9;
+const SET_ADDRESS_SIZE: u64 = 1 + ADDRESS_SIZE as u64;
 
 /// How many bytes `DW_LNE_end_sequence` has: its code.
 const END_SEQUENCE_SIZE: u64 = 1;
 
 /// Puts the program of a table last: its sequences.
-pub(crate) fn append_sequences(out: &mut Bytes, sequences: &[Sequence]) -> Result<(), NoMemory>
+pub(crate) fn append_sequences(out: &mut Bytes, sequences: &Sequences) -> Result<(), NoMemory>
     ensures { OnOk result (out.new ≡ out.old ++ flat_map sequence_bytes sequences.now) }
 {
-    for sequence in sequences {
-        append_sequence(out, sequence)?;
+    for i in 0..sequences.len() {
+        append_sequence(out, sequences.sequence(i))?;
     }
     Ok(())
 }
 
 /// Puts a sequence last: it sets the address, appends the rows and ends.
-fn append_sequence(out: &mut Bytes, sequence: &Sequence) -> Result<(), NoMemory>
-    ensures { OnOk result (out.new ≡ out.old ++ sequence_bytes sequence.now) }
+fn append_sequence(out: &mut Bytes, sequence: SequenceRef<'_>) -> Result<(), NoMemory>
+    ensures { OnOk result (out.new ≡ out.old ++ sequence_bytes (sequence_seen sequence.entry)) }
 {
-    let rows = sequence.rows.as_slice();
-    let first = first_of(rows);
+    let first = first_of(sequence.rows);
     append_set_address(out, first)?;
-    append_rows(out, first, rows, sequence.end)?;
+    append_rows(out, first, sequence.rows, sequence.end)?;
     Ok(())
 }
 

@@ -17,12 +17,11 @@ pub returns-clause-table : goal.returns-clause-table
 returns-clause-table c =
     let version = c.args.version in
     let lines = c.args.lines.now in
-    let program = c.as_slice-2.ensures ∙ c.in_ok-append_sequences.ensures ∙ ap (λ (front : List ℕ). front ++ flat_map sequence_bytes c.as_slice.result.now) c.new-program.ensures
-    ∙ ap (flat_map sequence_bytes) c.as_slice.ensures in
+    let program = c.as_slice.ensures ∙ c.in_ok-append_sequences.ensures ∙ ap (λ (front : List ℕ). front ++ flat_map sequence_bytes lines.sequences) c.new-program.ensures in
     record {
       bytes = λ f text tells.
           let fields = c.in_ok-append_fields.ensures.bytes f text tells ∙ ap (λ (front : List ℕ). front ++ fields_bytes version text lines) (c.new-fields.ensures f) in
-          c.in_ok-append_parts.ensures.table f ∙ ap (λ (fs : List ℕ). filled c.args.out.now f ++ table_of version fs c.as_slice-2.result.now) fields
+          c.in_ok-append_parts.ensures.table f ∙ ap (λ (fs : List ℕ). filled c.args.out.now f ++ table_of version fs c.as_slice.result.now) fields
           ∙ ap (λ (ps : List ℕ). filled c.args.out.now f ++ table_of version (fields_bytes version text lines) ps) program;
       names = c.in_ok-append_fields.ensures.names;
     }
@@ -31,8 +30,7 @@ pub returns-clause-size : goal.returns-clause-size
 returns-clause-size c = λ f.
     let version = c.args.version in
     let lines = c.args.lines.now in
-    let program = c.as_slice-2.ensures ∙ c.in_ok-append_sequences.ensures ∙ ap (λ (front : List ℕ). front ++ flat_map sequence_bytes c.as_slice.result.now) c.new-program.ensures
-    ∙ ap (flat_map sequence_bytes) c.as_slice.ensures in
+    let program = c.as_slice.ensures ∙ c.in_ok-append_sequences.ensures ∙ ap (λ (front : List ℕ). front ++ flat_map sequence_bytes lines.sequences) c.new-program.ensures in
     let fields = c.in_ok-append_fields.ensures.bytes zeros nowhere (λ i t at. refl) ∙ ap (λ (front : List ℕ). front ++ fields_bytes version nowhere lines) (c.new-fields.ensures zeros) in
     let now = c.in_ok-append_parts.ensures.table f ∙ ap (λ (ps : List ℕ). filled c.args.out.now f ++ table_of version (filled c.append_fields.new.out f) ps) program in
     same_length version (filled c.args.out.now f) (filled c.append_fields.new.out f) (fields_bytes version nowhere lines) _ _ now (c.in_ok-append_parts.ensures.size f zeros ∙ ap length fields)

@@ -1,7 +1,8 @@
-use Rattle.std.proofs.Common.{◌++◌, length}
+use Rattle.std.proofs.Common.{ℕ, ◌++◌, ◌∙◌, ap, length}
 use Rattle.std.specs.List.{flat_map}
 use Rattle.ds_base.specs.Leb.{uleb}
 use Rattle.dwarf_types.specs.LineTable.{directory_entry, directory_format}
+use Rattle.patches.specs.Filling.{filled}
 use Rattle.line_write.proofs.Naming.{named_behind}
 use Rattle.line_write.proofs.names.append_directories.Goals as goal
 
@@ -11,5 +12,7 @@ returns c =
     let names = c.args.names.now in
     let new = c.append_each_directory.new.out in
     let after = c.append_each_directory.new.names in
-    named_behind c.args.out.now c.append_directory_format.new.out new names after dirs (λ text. uleb (length dirs) ++ flat_map (directory_entry text) dirs) directory_format c.in_ok-append_directory_format.ensures
-    (named_behind c.append_directory_format.new.out c.extend_uleb.new.self new names after dirs (λ text. flat_map (directory_entry text) dirs) (uleb (length dirs)) c.in_ok-extend_uleb.ensures c.in_ok-append_each_directory.ensures)
+    let front = c.append_directory_format.new.out in
+    named_behind c.args.out.now front new names after dirs (λ text. uleb (length dirs) ++ flat_map (directory_entry text) dirs) directory_format c.in_ok-append_directory_format.ensures
+    (named_behind front c.extend_uleb.new.self new names after dirs (λ text. flat_map (directory_entry text) dirs) (uleb (length dirs))
+    (λ f. c.in_ok-extend_uleb.ensures f ∙ ap (λ (n : ℕ). filled front f ++ uleb n) c.len.ensures) c.in_ok-append_each_directory.ensures)

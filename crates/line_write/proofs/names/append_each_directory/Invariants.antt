@@ -6,7 +6,7 @@ use Rattle.line_write.specs.Named.{AppendsNamed}
 use Rattle.line_write.proofs.names.append_each_directory.Given as goal
 
 -- what is left makes the rest
-abbrev pub invariant-loop-dir : goal.invariant-loop-dir
-invariant-loop-dir l = (new : Holey) (after : List (List ℕ))
-    → AppendsNamed l.out new l.names after (λ text. flat_map (directory_entry text) (drop l.dir-index l.dirs)) ((drop l.dir-index l.dirs))
+abbrev pub invariant-loop-i : goal.invariant-loop-i
+invariant-loop-i l = (new : Holey) (after : List (List ℕ))
+    → AppendsNamed l.out new l.names after (λ text. flat_map (directory_entry text) (drop l.i l.dirs)) ((drop l.i l.dirs))
     → AppendsNamed l.fn.out new l.fn.names after (λ text. flat_map (directory_entry text) l.dirs) (l.dirs)

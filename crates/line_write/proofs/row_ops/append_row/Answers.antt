@@ -1,4 +1,4 @@
-use Rattle.std.proofs.Common.{append_assoc, refl}
+use Rattle.std.proofs.Common.{append_assoc}
 use Rattle.line_write.proofs.row_ops.append_row.Goals as goal
 
 pub returns : goal.returns

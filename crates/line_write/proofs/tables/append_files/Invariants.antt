@@ -4,5 +4,5 @@ use Rattle.dwarf_types.specs.LineTable.{file_bytes}
 use Rattle.patches.specs.Filling.{Filling, filled}
 use Rattle.line_write.proofs.tables.append_files.Given as goal
 
-abbrev pub invariant-loop-file : goal.invariant-loop-file
-invariant-loop-file l = (f : Filling) → filled l.out f ++ flat_map file_bytes (drop l.file-index l.files) ≡ filled l.fn.out f ++ flat_map file_bytes l.files
+abbrev pub invariant-loop-i : goal.invariant-loop-i
+invariant-loop-i l = (f : Filling) → filled l.out f ++ flat_map file_bytes (drop l.i l.files) ≡ filled l.fn.out f ++ flat_map file_bytes l.files
