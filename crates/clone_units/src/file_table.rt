@@ -2,14 +2,15 @@
 
 ghost use Rattle.std.specs.Prelude.{◌≡◌, ◌++◌, map, take, OnOk, IfOk};
 ghost use Rattle.std.specs.Str.{bytes_eq};
+ghost use Rattle.dwarf_types.specs.SeenLines.{file_seen as file_name_seen};
 ghost use Rattle.clone_units.specs.Sourced.{dirs_seen, file_seen, files_seen};
 ghost use Rattle.indexmap.specs.IndexSet.{insert_key};
 ghost use Rattle.link_graph.specs.PoolFiles.{directories, file_written, first_directory, first_file, number_of_directory, table_of};
 
 use crate::source_files::FileRef;
+use ds_base::NoMemory;
 use ds_base::dwarf::DWARF_5;
-use ds_base::{Bytes, List, NoMemory};
-use dwarf_types::{FileName, OutLines};
+use dwarf_types::{FileNameRef, FileNames, OutLines, Paths, Sequences};
 use indexmap::IndexSet;
 use std::alloc::Global;
 
@@ -27,23 +28,19 @@ pub(crate) fn table_of(
     Ok(OutLines {
         dirs: dirs_written(alloc, version, &dirs)?,
         files: files_written(alloc, version, &dirs, files)?,
-        sequences: List::new(alloc),
+        sequences: Sequences::new(alloc),
     })
 }
 
 /// The directories as they are written in a version.
-fn dirs_written(
-    alloc: Global,
-    version: u16,
-    dirs: &IndexSet<&[u8]>,
-) -> Result<List<Bytes>, NoMemory>
+fn dirs_written(alloc: Global, version: u16, dirs: &IndexSet<&[u8]>) -> Result<Paths, NoMemory>
     ensures { IfOk result (λ written. written ≡ first_directory version ++ dirs_seen dirs.now) }
 {
-    let mut written = List::new(alloc);
+    let mut written = Paths::new(alloc);
     if version == DWARF_5 {
-        written.push(Bytes::new(alloc))?;
+        written.push(b"")?;
     }
-    add_texts(alloc, &mut written, dirs)?;
+    add_texts(&mut written, dirs)?;
     Ok(written)
 }
 
@@ -53,14 +50,14 @@ fn files_written<'a>(
     version: u16,
     dirs: &IndexSet<&'a [u8]>,
     files: &IndexSet<FileRef<'a>>,
-) -> Result<List<FileName>, NoMemory>
+) -> Result<FileNames, NoMemory>
     ensures { IfOk result (λ written. written ≡ map (file_written (dirs_seen dirs.now)) (first_file version (files_seen files.now) ++ files_seen files.now)) }
 {
-    let mut written = List::new(alloc);
+    let mut written = FileNames::new(alloc);
     if version == DWARF_5 {
-        add_first(alloc, &mut written, dirs, files)?;
+        add_first(&mut written, dirs, files)?;
     }
-    add_files(alloc, &mut written, dirs, files)?;
+    add_files(&mut written, dirs, files)?;
     Ok(written)
 }
 
@@ -89,60 +86,54 @@ fn add_dir<'a>(dirs: &mut IndexSet<&'a [u8]>, dir: &'a [u8]) -> Result<(), NoMem
 }
 
 /// Puts the names of directories last.
-fn add_texts(alloc: Global, texts: &mut List<Bytes>, dirs: &IndexSet<&[u8]>) -> Result<(), NoMemory>
+fn add_texts(texts: &mut Paths, dirs: &IndexSet<&[u8]>) -> Result<(), NoMemory>
     ensures { OnOk result (texts.new ≡ texts.old ++ dirs_seen dirs.now) }
 {
     for dir in dirs.as_slice() {
-        texts.push(Bytes::from_slice(alloc, dir)?)?;
+        texts.push(dir)?;
     }
     Ok(())
 }
 
 /// Puts the first file last, if there is one.
 fn add_first<'a>(
-    alloc: Global,
-    written: &mut List<FileName>,
+    written: &mut FileNames,
     dirs: &IndexSet<&'a [u8]>,
     files: &IndexSet<FileRef<'a>>,
 ) -> Result<(), NoMemory>
     ensures { OnOk result (written.new ≡ written.old ++ map (file_written (dirs_seen dirs.now)) (take 1 (files_seen files.now))) }
 {
     if let Some(file) = files.as_slice().first() {
-        written.push(file_written(alloc, dirs, *file)?)?;
+        written.push(&file_written(dirs, *file))?;
     }
     Ok(())
 }
 
 /// Puts files last.
 fn add_files<'a>(
-    alloc: Global,
-    written: &mut List<FileName>,
+    written: &mut FileNames,
     dirs: &IndexSet<&'a [u8]>,
     files: &IndexSet<FileRef<'a>>,
 ) -> Result<(), NoMemory>
     ensures { OnOk result (written.new ≡ written.old ++ map (file_written (dirs_seen dirs.now)) (files_seen files.now)) }
 {
     for file in files.as_slice() {
-        written.push(file_written(alloc, dirs, *file)?)?;
+        written.push(&file_written(dirs, *file))?;
     }
     Ok(())
 }
 
 /// A file as it is written.
-fn file_written<'a>(
-    alloc: Global,
-    dirs: &IndexSet<&'a [u8]>,
-    file: FileRef<'a>,
-) -> Result<FileName, NoMemory>
-    ensures { IfOk result (λ written. written ≡ file_written (dirs_seen dirs.now) (file_seen file.entry)) }
+fn file_written<'a>(dirs: &IndexSet<&'a [u8]>, file: FileRef<'a>) -> FileNameRef<'a>
+    ensures { file_name_seen result ≡ file_written (dirs_seen dirs.now) (file_seen file.entry) }
 {
-    Ok(FileName {
-        name: Bytes::from_slice(alloc, file.name)?,
+    FileNameRef {
+        name: file.name,
         dir: number_of_directory(dirs, file.dir),
         time: 0,
         size: 0,
         digest: None,
-    })
+    }
 }
 
 /// The number of a directory. Directories are counted from 1, and the empty one has 0.

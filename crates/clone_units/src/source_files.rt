@@ -9,6 +9,7 @@ ghost use Rattle.std.specs.Option.{option_and_then, option_map, option_map_or};
 ghost use Rattle.clone_units.specs.Sourced.{file_seen, files_seen, uses_of};
 ghost use Rattle.dwarf_types.specs.Moves.{value_of};
 ghost use Rattle.dwarf_types.specs.Seen.{attr_seen, value_seen};
+ghost use Rattle.dwarf_types.specs.SeenLines.{file_seen as file_name_seen};
 ghost use Rattle.indexmap.specs.IndexSet.{insert_all, insert_key};
 ghost use Rattle.link_graph.specs.Graph.{files_of};
 ghost use Rattle.link_graph.specs.PoolFiles.{directory_in, directory_of_unit, file_at, file_in, file_named, files_named, listed_directory, listed_file, number_of, place_of_number, same_file, text_or_empty};
@@ -16,7 +17,7 @@ ghost use Rattle.link_graph.specs.PoolFiles.{directory_in, directory_of_unit, fi
 use crate::entry_sources::source_of;
 use ds_base::NoMemory;
 use ds_base::dwarf::{DW_AT_comp_dir, DW_AT_decl_file, DWARF_5};
-use dwarf_types::{Analysis, AttrRef, EntryRef, FileName, InUnit, Origin, OutLines, ValueRef};
+use dwarf_types::{Analysis, AttrRef, EntryRef, FileNameRef, InUnit, Origin, OutLines, ValueRef};
 use indexmap::IndexSet;
 use std::alloc::Global;
 use std::hash::{Hash, Hasher};
@@ -172,13 +173,13 @@ pub(crate) fn listed_file<'a>(
     seen: &'a Analysis,
     unit: &InUnit,
     lines: &'a OutLines,
-    file: &'a FileName,
+    file: FileNameRef<'a>,
 ) -> FileRef<'a>
-    ensures { file_seen result ≡ listed_file seen.now unit.now lines.now file.now }
+    ensures { file_seen result ≡ listed_file seen.now unit.now lines.now (file_name_seen file.entry) }
 {
     FileRef {
         dir: directory_in(seen, unit, lines, file.dir),
-        name: file.name.as_slice(),
+        name: file.name,
     }
 }
 
@@ -197,7 +198,7 @@ fn listed_directory(lines: &OutLines, i: u64) -> &[u8]
     ensures { result.now ≡ listed_directory lines.now i }
 {
     match lines.dirs.get(i as usize) {
-        Some(dir) => dir.as_slice(),
+        Some(dir) => dir,
         None => b"",
     }
 }

@@ -82,8 +82,8 @@ fn add_numbers<'a>(
 ) -> Result<(), NoMemory>
     ensures { OnOk result (numbers.new ≡ numbers.old ++ numbers_listed (files_seen files.now) seen.now unit.now lines.now) }
 {
-    for file in lines.files.as_slice() {
-        let number = number_of(files, listed_file(seen, unit, lines, file));
+    for i in 0..lines.files.len() {
+        let number = number_of(files, listed_file(seen, unit, lines, lines.files.file(i)));
         numbers.push(number)?;
     }
     Ok(())

@@ -4,7 +4,7 @@ use Rattle.link_graph.specs.PoolFiles.{listed_file, number_of}
 use Rattle.clone_units.proofs.source_numbers.add_numbers.Given as goal
 
 -- the numbers so far and those that are left
-abbrev pub invariant-loop-file : goal.invariant-loop-file
-invariant-loop-file l =
-    l.numbers ++ map (λ file. number_of (files_seen l.files) (listed_file l.seen l.unit l.lines file)) (drop l.file-index l.file-items)
-    ≡ l.fn.numbers ++ map (λ file. number_of (files_seen l.files) (listed_file l.seen l.unit l.lines file)) l.file-items
+abbrev pub invariant-loop-i : goal.invariant-loop-i
+invariant-loop-i l =
+    l.numbers ++ map (λ file. number_of (files_seen l.files) (listed_file l.seen l.unit l.lines file)) (drop l.i l.lines.files)
+    ≡ l.fn.numbers ++ map (λ file. number_of (files_seen l.files) (listed_file l.seen l.unit l.lines file)) l.lines.files
