@@ -1,9 +1,10 @@
 //! The relocations of a line table.
 
-ghost use Rattle.std.specs.Prelude.{◌≡◌, ◌≤◌, ◌<◌, ◌+◌, ◌^◌, [], ◌∷◌, length, map, IfOk};
+ghost use Rattle.std.specs.Prelude.{◌≡◌, ◌≤◌, ◌<◌, ◌+◌, ◌^◌, ◌++◌, [], ◌∷◌, length, map, IfOk, OnOk};
 ghost use Rattle.std.specs.List.{All, sum_by};
 ghost use Rattle.dwarf_types.specs.LineProgram.{sequence_bytes};
 ghost use Rattle.dwarf_types.specs.LineTable.{line_table_bytes};
+ghost use Rattle.dwarf_types.specs.SeenLines.{sequence_seen};
 ghost use Rattle.sample_objects.specs.Lines.{places_by};
 ghost use Rattle.sample_objects.specs.ObjectFile;
 ghost use Rattle.sample_objects.specs.ObjectFile.{counts_from_text, operands_of};
@@ -12,7 +13,9 @@ ghost use Rattle.unit_draft.specs.Drafted.{lines_len};
 use crate::file::TEXT_SECTION;
 use crate::sums::plus;
 use ds_base::{List, NoMemory};
-use dwarf_types::{OutLines, OutUnit, Row, Sequence};
+use dwarf_types::{
+    FileNames, OutLines, OutUnit, Paths, Row, SequenceBuilder, SequenceRef, Sequences,
+};
 use line_write::append_lines;
 use patches::Buffer;
 use reloc_table::Reloc;
@@ -50,27 +53,27 @@ fn relocs_of_table(
     requires small { size < 2 ^ 32 }
     ensures { IfOk result (λ relocs. relocs ≡ map counts_from_text (operands_of version lines.now)) }
 {
-    let sizes = sizes_of(alloc, lines.sequences.as_slice())?;
+    let sizes = sizes_of(alloc, &lines.sequences)?;
     let program = total(sizes.as_slice())?;
     let relocs = relocs_from(alloc, sizes.as_slice(), size - program)?;
     Ok(relocs)
 }
 
 /// The sizes of sequences in bytes.
-fn sizes_of(alloc: Global, sequences: &[Sequence]) -> Result<List<u64>, NoMemory>
+fn sizes_of(alloc: Global, sequences: &Sequences) -> Result<List<u64>, NoMemory>
     ensures { IfOk result (λ sizes. sizes ≡ map (λ s. length (sequence_bytes s)) sequences.now) }
 {
     let mut sizes = List::new(alloc);
-    for sequence in sequences {
-        let size = size_of(alloc, sequence)?;
+    for i in 0..sequences.len() {
+        let size = size_of(alloc, sequences.sequence(i))?;
         sizes.push(size)?;
     }
     Ok(sizes)
 }
 
 /// The size of a sequence: that of a table which has it alone, but for the header.
-fn size_of(alloc: Global, sequence: &Sequence) -> Result<u64, NoMemory>
-    ensures { IfOk result (λ size. size ≡ length (sequence_bytes sequence.now)) }
+fn size_of(alloc: Global, sequence: SequenceRef<'_>) -> Result<u64, NoMemory>
+    ensures { IfOk result (λ size. size ≡ length (sequence_bytes (sequence_seen sequence.entry))) }
 {
     let table = table_of(alloc, sequence)?;
     let mut bytes = Buffer::new(alloc);
@@ -81,33 +84,27 @@ fn size_of(alloc: Global, sequence: &Sequence) -> Result<u64, NoMemory>
 }
 
 /// A table of a copy of one sequence.
-fn table_of(alloc: Global, sequence: &Sequence) -> Result<OutLines, NoMemory>
-    ensures { IfOk result (λ lines. lines ≡ record { dirs = []; files = []; sequences = sequence.now ∷ [] }) }
+fn table_of(alloc: Global, sequence: SequenceRef<'_>) -> Result<OutLines, NoMemory>
+    ensures { IfOk result (λ lines. lines ≡ record { dirs = []; files = []; sequences = sequence_seen sequence.entry ∷ [] }) }
 {
-    let rows = copy_of(alloc, sequence.rows.as_slice())?;
-    let copy = Sequence {
-        rows,
-        end: sequence.end,
-    };
-    let mut sequences = List::new(alloc);
-    sequences.push(copy)?;
-    let dirs = List::new(alloc);
-    let files = List::new(alloc);
+    let mut sequences = SequenceBuilder::new(alloc);
+    add_rows(&mut sequences, sequence.rows)?;
+    sequences.close(sequence.end)?;
     Ok(OutLines {
-        dirs,
-        files,
-        sequences,
+        dirs: Paths::new(alloc),
+        files: FileNames::new(alloc),
+        sequences: sequences.finish(),
     })
 }
 
-fn copy_of(alloc: Global, rows: &[Row]) -> Result<List<Row>, NoMemory>
-    ensures { IfOk result (λ copy. copy ≡ rows.now) }
+/// Puts rows behind those of the next sequence.
+fn add_rows(sequences: &mut SequenceBuilder, rows: &[Row]) -> Result<(), NoMemory>
+    ensures { OnOk result (sequences.new ≡ record sequences.old { rows = sequences.old.rows ++ rows.now }) }
 {
-    let mut copy = List::new(alloc);
     for row in rows {
-        copy.push(*row)?;
+        sequences.push(*row)?;
     }
-    Ok(copy)
+    Ok(())
 }
 
 fn total(sizes: &[u64]) -> Result<u64, NoMemory>

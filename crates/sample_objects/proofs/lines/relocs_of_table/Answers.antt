@@ -8,26 +8,26 @@ use Rattle.sample_objects.proofs.lines.relocs_of_table.Goals as goal
 
 pub overflow_sub-size : goal.overflow_sub-size
 overflow_sub-size c =
-    program_within c.args.version c.args.lines.now c.in_ok-sizes.sizes c.args.size c.in_ok-program.program (c.in_ok-sizes.ensures ∙ ap (map size_in_bytes) c.as_slice.ensures)
-    (c.in_ok-program.ensures ∙ ap (sum_by (λ (n : ℕ). n)) c.as_slice-2.ensures) c.requires.size
+    program_within c.args.version c.args.lines.now c.in_ok-sizes.sizes c.args.size c.in_ok-program.program c.in_ok-sizes.ensures
+    (c.in_ok-program.ensures ∙ ap (sum_by (λ (n : ℕ). n)) c.as_slice.ensures) c.requires.size
 
 pub relocs_from-requires-clause-each : goal.relocs_from-requires-clause-each
 relocs_from-requires-clause-each c =
-    All-same (λ (n : ℕ). 11 ≤ n) c.as_slice-3.result.now (map size_in_bytes c.args.lines.now.sequences) (c.as_slice-3.ensures ∙ c.in_ok-sizes.ensures ∙ ap (map size_in_bytes) c.as_slice.ensures)
+    All-same (λ (n : ℕ). 11 ≤ n) c.as_slice-2.result.now (map size_in_bytes c.args.lines.now.sequences) (c.as_slice-2.ensures ∙ c.in_ok-sizes.ensures)
     (sizes_some c.args.lines.now.sequences)
 
 pub relocs_from-requires-clause-small : goal.relocs_from-requires-clause-small
 relocs_from-requires-clause-small c =
     omega (
       arith,
-      ap (sum_by (λ (n : ℕ). n)) c.as_slice-3.ensures,
-      sum_small c.args.version c.args.lines.now c.in_ok-sizes.sizes c.args.size c.in_ok-program.program (c.in_ok-sizes.ensures ∙ ap (map size_in_bytes) c.as_slice.ensures)
-          (c.in_ok-program.ensures ∙ ap (sum_by (λ (n : ℕ). n)) c.as_slice-2.ensures) c.requires.size c.requires.small,
+      ap (sum_by (λ (n : ℕ). n)) c.as_slice-2.ensures,
+      sum_small c.args.version c.args.lines.now c.in_ok-sizes.sizes c.args.size c.in_ok-program.program c.in_ok-sizes.ensures
+          (c.in_ok-program.ensures ∙ ap (sum_by (λ (n : ℕ). n)) c.as_slice.ensures) c.requires.size c.requires.small,
     )
 
 pub returns : goal.returns
 returns c =
     c.in_ok-relocs.ensures
-    ∙ ap (λ (l : List ℕ). map counts_from_text (places_by (c.args.size - c.in_ok-program.program) l)) c.as_slice-3.ensures
-    ∙ operands_are c.args.version c.args.lines.now c.in_ok-sizes.sizes c.args.size c.in_ok-program.program (c.in_ok-sizes.ensures ∙ ap (map size_in_bytes) c.as_slice.ensures)
-    (c.in_ok-program.ensures ∙ ap (sum_by (λ (n : ℕ). n)) c.as_slice-2.ensures) c.requires.size
+    ∙ ap (λ (l : List ℕ). map counts_from_text (places_by (c.args.size - c.in_ok-program.program) l)) c.as_slice-2.ensures
+    ∙ operands_are c.args.version c.args.lines.now c.in_ok-sizes.sizes c.args.size c.in_ok-program.program c.in_ok-sizes.ensures
+    (c.in_ok-program.ensures ∙ ap (sum_by (λ (n : ℕ). n)) c.as_slice.ensures) c.requires.size

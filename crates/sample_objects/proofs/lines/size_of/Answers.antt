@@ -1,5 +1,6 @@
 use Rattle.std.proofs.Common.{ap, length, arith}
 use Rattle.dwarf_types.specs.LineTable.{line_table_bytes}
+use Rattle.dwarf_types.specs.SeenLines.{sequence_seen}
 use Rattle.layout.specs.Pass.{nothing}
 use Rattle.sample_objects.proofs.LineSizes.{measured}
 use Rattle.sample_objects.proofs.lines.size_of.Goals as goal
@@ -12,7 +13,7 @@ overflow_sub-result c =
       c.in_ok-append_lines.ensures.size nothing,
       ap length (c.new-bytes.ensures nothing),
       ap (λ t. length (line_table_bytes 4 (λ text. 0) t)) c.in_ok-table.ensures,
-      measured c.args.sequence.now,
+      measured (sequence_seen c.args.sequence),
     )
 
 pub returns : goal.returns
@@ -23,5 +24,5 @@ returns c =
       c.in_ok-append_lines.ensures.size nothing,
       ap length (c.new-bytes.ensures nothing),
       ap (λ t. length (line_table_bytes 4 (λ text. 0) t)) c.in_ok-table.ensures,
-      measured c.args.sequence.now,
+      measured (sequence_seen c.args.sequence),
     )
