@@ -2,15 +2,18 @@
 
 ghost use Rattle.std.specs.Bool.{OnTrue};
 ghost use Rattle.std.specs.List.{All};
+ghost use Rattle.std.specs.Option.{option_copied};
 ghost use Rattle.std.specs.Prelude.{◌≡◌, None, IfSome};
 ghost use Rattle.dwarf_types.specs.SeenFrames.{frame_seen};
+ghost use Rattle.dwarf_types.specs.SeenLines.{file_seen, sequence_seen};
 ghost use Rattle.dwarf_types.specs.WellLines.{HaveDigests, IsDigest, IsFile, IsFrame, IsLineTable, IsPath, IsRow, IsSequence, NeverFall};
 
 use crate::numbers::is_number;
 use crate::texts::{are_bytes, are_text_bytes};
-use ds_base::Bytes;
 use ds_base::dwarf::{DWARF_4, DWARF_5};
-use dwarf_types::{FileName, FrameRef, OutFrames, OutLines, Row, Sequence};
+use dwarf_types::{
+    FileNameRef, FileNames, FrameRef, OutFrames, OutLines, Paths, Row, SequenceRef, Sequences,
+};
 
 /// Whether this is the line table of a unit of a version, or there is none.
 pub(crate) fn are_lines(version: u16, lines: &Option<OutLines>) -> bool
@@ -26,18 +29,18 @@ pub(crate) fn are_lines(version: u16, lines: &Option<OutLines>) -> bool
 fn is_line_table(version: u16, lines: &OutLines) -> bool
     ensures { OnTrue result (IsLineTable version lines.now) }
 {
-    are_paths(version, lines.dirs.as_slice())
-        && are_files(version, lines.files.as_slice())
-        && have_digests(version, lines.files.as_slice())
-        && are_sequences(lines.sequences.as_slice())
+    are_paths(version, &lines.dirs)
+        && are_files(version, &lines.files)
+        && have_digests(version, &lines.files)
+        && are_sequences(&lines.sequences)
 }
 
 /// Whether these are names of directories.
-fn are_paths(version: u16, names: &[Bytes]) -> bool
+fn are_paths(version: u16, names: &Paths) -> bool
     ensures { OnTrue result (All (IsPath version) names.now) }
 {
-    for name in names {
-        if !is_path(version, name) {
+    for i in 0..names.len() {
+        if !is_path(version, names.path(i)) {
             return false;
         }
     }
@@ -45,21 +48,21 @@ fn are_paths(version: u16, names: &[Bytes]) -> bool
 }
 
 /// Whether a name has no zero byte, and in version 4 is not empty.
-fn is_path(version: u16, name: &Bytes) -> bool
+fn is_path(version: u16, name: &[u8]) -> bool
     ensures { OnTrue result (IsPath version name.now) }
 {
     if version == DWARF_4 && name.is_empty() {
         return false;
     }
-    are_text_bytes(name.as_slice())
+    are_text_bytes(name)
 }
 
 /// Whether these are files.
-fn are_files(version: u16, files: &[FileName]) -> bool
+fn are_files(version: u16, files: &FileNames) -> bool
     ensures { OnTrue result (All (IsFile version) files.now) }
 {
-    for file in files {
-        if !is_file(version, file) {
+    for i in 0..files.len() {
+        if !is_file(version, files.file(i)) {
             return false;
         }
     }
@@ -67,17 +70,17 @@ fn are_files(version: u16, files: &[FileName]) -> bool
 }
 
 /// Whether this is a file, whatever its digest.
-fn is_file(version: u16, file: &FileName) -> bool
-    ensures { OnTrue result (IsFile version file.now) }
+fn is_file(version: u16, file: FileNameRef<'_>) -> bool
+    ensures { OnTrue result (IsFile version (file_seen file.entry)) }
 {
     is_number(file.dir);
     is_number(file.time);
     is_number(file.size);
-    is_path(version, &file.name)
+    is_path(version, file.name)
 }
 
 /// Whether no file has a digest, or in version 5 each has one.
-fn have_digests(version: u16, files: &[FileName]) -> bool
+fn have_digests(version: u16, files: &FileNames) -> bool
     ensures { OnTrue result (HaveDigests version files.now) }
 {
     if version == DWARF_5 && all_have_digests(files) {
@@ -87,11 +90,11 @@ fn have_digests(version: u16, files: &[FileName]) -> bool
 }
 
 /// Whether each file has a digest.
-fn all_have_digests(files: &[FileName]) -> bool
+fn all_have_digests(files: &FileNames) -> bool
     ensures { OnTrue result (All (λ file. IsDigest file.digest) files.now) }
 {
-    for file in files {
-        if !is_digest(&file.digest) {
+    for i in 0..files.len() {
+        if !is_digest(files.file(i).digest) {
             return false;
         }
     }
@@ -99,12 +102,12 @@ fn all_have_digests(files: &[FileName]) -> bool
 }
 
 /// Whether this is a digest.
-fn is_digest(digest: &Option<Bytes>) -> bool
-    ensures { OnTrue result (IsDigest digest.now) }
+fn is_digest(digest: Option<&[u8]>) -> bool
+    ensures { OnTrue result (IsDigest (option_copied digest.entry)) }
 {
     match digest {
         Some(bytes) => {
-            are_bytes(bytes.as_slice());
+            are_bytes(bytes);
             bytes.len() == 16
         }
         None => false,
@@ -112,11 +115,11 @@ fn is_digest(digest: &Option<Bytes>) -> bool
 }
 
 /// Whether no file has a digest.
-fn none_has_digest(files: &[FileName]) -> bool
+fn none_has_digest(files: &FileNames) -> bool
     ensures { OnTrue result (All (λ file. file.digest ≡ None) files.now) }
 {
-    for file in files {
-        if !has_no_digest(file) {
+    for i in 0..files.len() {
+        if !has_no_digest(files.file(i)) {
             return false;
         }
     }
@@ -124,18 +127,18 @@ fn none_has_digest(files: &[FileName]) -> bool
 }
 
 /// Whether a file has no digest.
-fn has_no_digest(file: &FileName) -> bool
-    ensures { OnTrue result (file.now.digest ≡ None) }
+fn has_no_digest(file: FileNameRef<'_>) -> bool
+    ensures { OnTrue result ((file_seen file.entry).digest ≡ None) }
 {
     file.digest.is_none()
 }
 
 /// Whether these are sequences.
-fn are_sequences(sequences: &[Sequence]) -> bool
+fn are_sequences(sequences: &Sequences) -> bool
     ensures { OnTrue result (All IsSequence sequences.now) }
 {
-    for sequence in sequences {
-        if !is_sequence(sequence) {
+    for i in 0..sequences.len() {
+        if !is_sequence(sequences.sequence(i)) {
             return false;
         }
     }
@@ -143,12 +146,11 @@ fn are_sequences(sequences: &[Sequence]) -> bool
 }
 
 /// Whether this is a sequence.
-fn is_sequence(sequence: &Sequence) -> bool
-    ensures { OnTrue result (IsSequence sequence.now) }
+fn is_sequence(sequence: SequenceRef<'_>) -> bool
+    ensures { OnTrue result (IsSequence (sequence_seen sequence.entry)) }
 {
-    let rows = sequence.rows.as_slice();
-    are_rows(rows);
-    !rows.is_empty() && never_fall(rows, sequence.end)
+    are_rows(sequence.rows);
+    !sequence.rows.is_empty() && never_fall(sequence.rows, sequence.end)
 }
 
 /// What rows keep to but for their order, their types tell.

@@ -45,7 +45,7 @@ module _ (version : ℕ) (image : Image) (relocs : Relocs) (none : relocs.list �
       run_at
       (op_at (record { version = version; minimum_instruction_length = 1; default_is_stmt = true; line_base = negsuc 4; line_range = 14; opcode_base = 13; standard_opcode_lengths = standard_opcode_lengths }) image relocs)
       (record { version = version; minimum_instruction_length = 1; default_is_stmt = true; line_base = negsuc 4; line_range = 14; opcode_base = 13; standard_opcode_lengths = standard_opcode_lengths })
-      count (record { files = files; sequences = sequences; rows = rows; registers = registers; last = None }) s >>= λ m. Ok (finished dirs m)
+      count (record { files = files; built = record { ended = sequences; rows = rows }; registers = registers; last = None }) s >>= λ m. Ok (finished dirs m)
 
   -- bytes are an operation that leads from some sequences, rows and registers to others
   abbrev pub Steps : List ℕ → List RawSequence → List RawRow → RawRow → List RawSequence → List RawRow → RawRow → Type 0

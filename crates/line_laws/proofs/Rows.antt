@@ -307,10 +307,10 @@ module _ (version : ℕ) (image : Image) (relocs : Relocs) (none : relocs.list �
   all_done : (k : ℕ) (ss : List RawSequence) (s : Spot) → At s [] → going version image relocs none dirs files k ss [] start s ≡ Ok (record { dirs = dirs; files = files; sequences = ss })
   all_done zero ss s h =
       let done : s.end - s.place ≡ 0 = omega (arith, h.end_is) in
-      rw done refl
+      rw (done, append-nil ss) refl
   all_done (suc k) ss s h =
       let done : s.end - s.place ≡ 0 = omega (arith, h.end_is) in
-      rw done refl
+      rw (done, append-nil ss) refl
 
   -- a program is read from its first byte to its last
   pub program_again : (sequences : List Sequence) (s : Spot) → All IsSequence sequences → At s (flat_map sequence_bytes sequences)

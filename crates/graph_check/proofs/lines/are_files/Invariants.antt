@@ -4,5 +4,5 @@ use Rattle.dwarf_types.specs.declared.lines.FileName.{FileName}
 use Rattle.dwarf_types.specs.WellLines.{IsFile}
 use Rattle.graph_check.proofs.lines.are_files.Given as goal
 
-abbrev pub invariant-loop-file : goal.invariant-loop-file
-invariant-loop-file l = (k : ℕ) (d : FileName) → k < l.file-index → IsFile l.version (slice_index_or l.files k d)
+abbrev pub invariant-loop-i : goal.invariant-loop-i
+invariant-loop-i l = (k : ℕ) (d : FileName) → k < l.i → IsFile l.version (slice_index_or l.files k d)

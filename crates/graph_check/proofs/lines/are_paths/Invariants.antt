@@ -4,5 +4,5 @@ use Rattle.std.proofs.Common.{List}
 use Rattle.dwarf_types.specs.WellLines.{IsPath}
 use Rattle.graph_check.proofs.lines.are_paths.Given as goal
 
-abbrev pub invariant-loop-name : goal.invariant-loop-name
-invariant-loop-name l = (k : ℕ) (d : List ℕ) → k < l.name-index → IsPath l.version (slice_index_or l.names k d)
+abbrev pub invariant-loop-i : goal.invariant-loop-i
+invariant-loop-i l = (k : ℕ) (d : List ℕ) → k < l.i → IsPath l.version (slice_index_or l.names k d)

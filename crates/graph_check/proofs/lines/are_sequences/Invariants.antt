@@ -4,5 +4,5 @@ use Rattle.dwarf_types.specs.declared.lines.Sequence.{Sequence}
 use Rattle.dwarf_types.specs.WellLines.{IsSequence}
 use Rattle.graph_check.proofs.lines.are_sequences.Given as goal
 
-abbrev pub invariant-loop-sequence : goal.invariant-loop-sequence
-invariant-loop-sequence l = (k : ℕ) (d : Sequence) → k < l.sequence-index → IsSequence (slice_index_or l.sequences k d)
+abbrev pub invariant-loop-i : goal.invariant-loop-i
+invariant-loop-i l = (k : ℕ) (d : Sequence) → k < l.i → IsSequence (slice_index_or l.sequences k d)
