@@ -25,13 +25,14 @@ use unit_source::{OutAttrRef, OutValueRef, UnitSource};
 // ---- words
 
 fn put_table(line: &mut Vec<u8>, lines: &OutLines) -> Result<(), NoMemory> {
-    for dir in lines.dirs.as_slice() {
-        line.extend_from_slice(dir.as_slice())?;
+    for i in 0..lines.dirs.len() {
+        line.extend_from_slice(lines.dirs.path(i))?;
         line.push(b';')?;
     }
-    for file in lines.files.as_slice() {
+    for i in 0..lines.files.len() {
+        let file = lines.files.file(i);
         line.push(b' ')?;
-        line.extend_from_slice(file.name.as_slice())?;
+        line.extend_from_slice(file.name)?;
         line.push(b'@')?;
         put_number(line, file.dir)?;
     }

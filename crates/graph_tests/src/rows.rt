@@ -8,10 +8,11 @@ use ds_base::dwarf::{
     DW_AT_location, DW_AT_ranges, DW_AT_stmt_list, DW_FORM_addr, DW_FORM_exprloc, DW_FORM_ref4,
     DW_FORM_sec_offset, DW_FORM_string, DW_LANG_C_plus_plus, DW_OP_addr, DW_TAG_compile_unit,
 };
-use ds_base::{BitRow, Bytes, List, NoMemory};
+use ds_base::{BitRow, List, NoMemory};
 use dwarf_types::{
-    Addr, Analysis, Builder, CodeRange, Entries, FileName, InUnit, InnerOpRef, LocationList,
-    NewValue, Ops, OutFrames, OutLines, Place, RawValue, Sequence, Span,
+    Addr, Analysis, Builder, CodeRange, Entries, FileNameRef, FileNames, InUnit, InnerOpRef,
+    LocationList, NewValue, Ops, OutFrames, OutLines, Paths, Place, RawValue, SequenceBuilder,
+    Span,
 };
 use std::alloc::Global;
 
@@ -236,29 +237,31 @@ fn has_attr(entries: &Entries, i: usize, j: usize) -> bool
 
 /// A line table of directories and files, each with a name of one letter, and one sequence without rows.
 fn lines(alloc: Global, letters: &[u8], named: &[(u8, u64)]) -> Result<OutLines, NoMemory> {
-    let mut dirs = List::new(alloc);
+    let mut dirs = Paths::new(alloc);
     for letter in letters {
-        dirs.push(Bytes::from_slice(alloc, &[*letter])?)?;
+        dirs.push(&[*letter])?;
     }
-    let mut files = List::new(alloc);
+    let mut files = FileNames::new(alloc);
     for file in named {
-        files.push(FileName {
-            name: Bytes::from_slice(alloc, &[file.0])?,
-            dir: file.1,
-            time: 2,
-            size: 3,
-            digest: None,
-        })?;
+        push_file(&mut files, file.0, file.1)?;
     }
-    let mut sequences = List::new(alloc);
-    sequences.push(Sequence {
-        rows: List::new(alloc),
-        end: 4,
-    })?;
+    let mut sequences = SequenceBuilder::new(alloc);
+    sequences.close(4)?;
     Ok(OutLines {
         dirs,
         files,
-        sequences,
+        sequences: sequences.finish(),
+    })
+}
+
+/// Puts a file with a name of one letter last, and the number of its directory.
+fn push_file(files: &mut FileNames, letter: u8, dir: u64) -> Result<(), NoMemory> {
+    files.push(&FileNameRef {
+        name: &[letter],
+        dir,
+        time: 2,
+        size: 3,
+        digest: None,
     })
 }
 
@@ -326,7 +329,7 @@ fn analysis_with(
         push_row(&mut built, row, in_unit)?;
         number = number.wrapping_add(1);
     }
-    let mut entries = built.finish().into_entries(alloc)?;
+    let mut entries = built.finish().into_entries();
     understand(alloc, &mut entries, rows)?;
     Ok(Analysis {
         units: List::from_vec(units),

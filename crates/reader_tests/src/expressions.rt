@@ -7,7 +7,9 @@ ghost use Rattle.addr_map.specs.Sound.{IsSound};
 use crate::parts::{ADDRESSES, assert_refused, lists_5, no_symbols, two_relocs};
 use addr_map::{AddrMap, MapRange};
 use ds_base::{Kind, List, NoMemory, Part, ReadError};
-use dwarf_types::{Addr, Base, OpRef, Ops, RawFrames, RawLines, RawSpan, Span};
+use dwarf_types::{
+    Addr, Base, FileNames, OpRef, Ops, Paths, RawFrames, RawLines, RawSequences, RawSpan, Span,
+};
 use expr_resolve::{BaseType, ExprContext, read_expression};
 use expr_walk::{new_length, walk};
 use moved_parts::{move_frames, move_lines, move_spans, place, span_pieces};
@@ -209,9 +211,9 @@ fn moved(rt: &impl Abort, alloc: Global) -> Result<(), NoMemory> {
         assert_eq!(rt; (frame.address, frame.length), (0x1_0000_2000, 8));
     }
     let lines = RawLines {
-        dirs: List::new(alloc),
-        files: List::new(alloc),
-        sequences: List::new(alloc),
+        dirs: Paths::new(alloc),
+        files: FileNames::new(alloc),
+        sequences: RawSequences::new(alloc),
     };
     assert_eq!(rt; move_lines(alloc, &map, lines)?.sequences.len(), 0);
     Ok(())

@@ -61,10 +61,9 @@ fn printed(at: u64, line: u32, column: u64, is_stmt: bool, prologue_end: bool) -
 
 /// A sequence of a table has these rows, and ends at an address of the object.
 fn assert_sequence(rt: &impl Abort, lines: &RawLines, index: usize, want: &[RawRow], end: u64) {
-    let Some(sequence) = lines.sequences.get(index) else {
-        panic!(rt; "no sequence {index}")
-    };
-    assert_eq!(rt; sequence.rows.as_slice(), want, "{index}");
+    assert!(rt; index < lines.sequences.len());
+    let sequence = lines.sequences.sequence(index);
+    assert_eq!(rt; sequence.rows, want, "{index}");
     assert_eq!(rt; sequence.end, Some(Addr::Placed(end)), "{index}");
 }
 
@@ -122,11 +121,12 @@ fn a_table_of_version_5_has_its_directories_and_files(rt: HostRuntime) {
     match read_5(&rt, rt.alloc(), TABLE_5) {
         Ok(lines) => {
             assert_eq!(rt; (lines.dirs.len(), lines.files.len(), lines.sequences.len()), (1, 2, 0));
-            for dir in lines.dirs.as_slice() {
-                assert_eq!(rt; dir.as_slice(), b"/src".as_slice());
+            for i in 0..lines.dirs.len() {
+                assert_eq!(rt; lines.dirs.path(i), b"/src".as_slice());
             }
-            for file in lines.files.as_slice() {
-                assert_eq!(rt; (file.name.as_slice(), file.dir, file.time, file.size), (b"a.c".as_slice(), 0, 0, 0));
+            for i in 0..lines.files.len() {
+                let file = lines.files.file(i);
+                assert_eq!(rt; (file.name, file.dir, file.time, file.size), (b"a.c".as_slice(), 0, 0, 0));
                 assert!(rt; file.digest.is_none());
             }
         }

@@ -306,10 +306,10 @@ fn indices_of_version_5_lead_to_texts_and_addresses(rt: HostRuntime) {
 
 /// The directory of a number in a line table.
 fn assert_dir(rt: &impl Abort, lines: &OutLines, i: usize, want: &[u8]) {
-    let Some(dir) = lines.dirs.as_slice().get(i) else {
+    let Some(dir) = lines.dirs.get(i) else {
         panic!(rt; "no directory {i}")
     };
-    assert_eq!(rt; dir.as_slice(), want);
+    assert_eq!(rt; dir, want);
 }
 
 /// Directory 0 is that of the unit, and file 0 is a second file 1.
@@ -326,8 +326,9 @@ fn an_older_table_counts_from_0_in_a_unit_of_version_5(rt: HostRuntime) {
                 assert_eq!(rt; (lines.dirs.len(), lines.files.len(), lines.sequences.len()), (2, 2, 0));
                 assert_dir(&rt, lines, 0, b"/d");
                 assert_dir(&rt, lines, 1, b"inc");
-                for file in lines.files.as_slice() {
-                    assert_eq!(rt; (file.name.as_slice(), file.dir), (b"m.c".as_slice(), 1));
+                for i in 0..lines.files.len() {
+                    let file = lines.files.file(i);
+                    assert_eq!(rt; (file.name, file.dir), (b"m.c".as_slice(), 1));
                 }
             }
         }

@@ -2,7 +2,7 @@
 
 ghost use Rattle.macho_read.specs.Sound.{IsSound};
 
-use crate::samples::made;
+use crate::samples::{add_file, made, one_sequence, row};
 use ds_base::dwarf::{
     DW_AT_high_pc, DW_AT_language, DW_AT_location, DW_AT_low_pc, DW_AT_name, DW_AT_ranges,
     DW_AT_stmt_list, DW_FORM_data2, DW_FORM_data4, DW_OP_dup, DW_OP_stack_value,
@@ -11,8 +11,8 @@ use ds_base::dwarf::{
 use ds_base::{Bytes, List};
 use dsym_write::{image_from, plist_text};
 use dwarf_types::{
-    ExprPart, FileName, Graph, Node, OutAttr, OutFrames, OutLines, OutLocation, OutUnit, OutValue,
-    Row, Sequence, Span,
+    ExprPart, FileNames, Graph, Node, OutAttr, OutFrames, OutLines, OutLocation, OutUnit, OutValue,
+    Paths, Sequences, Span,
 };
 use layout::measure;
 use macho_read::{Image, read_image};
@@ -323,51 +323,24 @@ fn full_unit(rt: &impl Abort, alloc: Global, version: u16, lines: OutLines) -> O
 
 fn no_lines(alloc: Global) -> OutLines {
     OutLines {
-        dirs: List::new(alloc),
-        files: List::new(alloc),
-        sequences: List::new(alloc),
-    }
-}
-
-fn file(rt: &impl Abort, alloc: Global) -> FileName {
-    FileName {
-        name: bytes(rt, alloc, b"a.c"),
-        dir: 0,
-        time: 0,
-        size: 0,
-        digest: None,
-    }
-}
-
-fn row(address: u64, line: u32) -> Row {
-    Row {
-        address,
-        file: 1,
-        line,
-        column: 0,
-        discriminator: 0,
-        isa: 0,
-        is_stmt: true,
-        basic_block: false,
-        prologue_end: false,
-        epilogue_begin: false,
+        dirs: Paths::new(alloc),
+        files: FileNames::new(alloc),
+        sequences: Sequences::new(alloc),
     }
 }
 
 // Two files of one name in one directory, and two rows.
 fn lines(rt: &impl Abort, alloc: Global) -> OutLines {
-    let mut files = one(rt, alloc, file(rt, alloc));
-    add(rt, &mut files, file(rt, alloc));
-    let mut rows = one(rt, alloc, row(0x1_0000_2000, 11));
-    add(rt, &mut rows, row(0x1_0000_2010, 12));
-    let sequence = Sequence {
-        rows,
-        end: 0x1_0000_2020,
-    };
+    let mut dirs = Paths::new(alloc);
+    assert!(rt; dirs.push(b"/src").is_ok());
+    let mut files = FileNames::new(alloc);
+    add_file(rt, &mut files);
+    add_file(rt, &mut files);
+    let rows = [row(0x1_0000_2000, 11), row(0x1_0000_2010, 12)];
     OutLines {
-        dirs: one(rt, alloc, bytes(rt, alloc, b"/src")),
+        dirs,
         files,
-        sequences: one(rt, alloc, sequence),
+        sequences: one_sequence(rt, alloc, &rows, 0x1_0000_2020),
     }
 }
 

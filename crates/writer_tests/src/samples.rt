@@ -5,7 +5,10 @@ ghost use Rattle.macho_read.specs.Sound.{IsSound};
 use ds_base::dwarf::{DW_AT_stmt_list, DW_TAG_compile_unit};
 use ds_base::macho::{CPU_TYPE_ARM64, CPU_TYPE_X86_64, MH_OBJECT};
 use ds_base::{Bytes, List};
-use dwarf_types::{FileName, Node, OutAttr, OutLines, OutUnit, OutValue, Row, Sequence};
+use dwarf_types::{
+    FileNameRef, FileNames, Node, OutAttr, OutLines, OutUnit, OutValue, Paths, Row,
+    SequenceBuilder, Sequences,
+};
 use macho_read::{Symbols, read_image};
 use sample_objects::{Generated, ObjectSpec, generated, is_within_limits, object};
 use stab_map::{MapEntry, MapObject, debug_map};
@@ -113,7 +116,7 @@ fn one<T: Drop>(rt: &impl Abort, alloc: Global, item: T) -> List<T> {
     items
 }
 
-fn row(address: u64, line: u32) -> Row {
+pub(crate) fn row(address: u64, line: u32) -> Row {
     Row {
         address,
         file: 1,
@@ -128,23 +131,35 @@ fn row(address: u64, line: u32) -> Row {
     }
 }
 
-// One file, and a sequence of one row.
-fn table(rt: &impl Abort, alloc: Global) -> OutLines {
-    let file = FileName {
-        name: Bytes::from_slice(alloc, b"a.c").expect(rt, "memory"),
+// Puts a file in the directory of the compilation last.
+pub(crate) fn add_file(rt: &impl Abort, files: &mut FileNames) {
+    let file = FileNameRef {
+        name: b"a.c",
         dir: 0,
         time: 0,
         size: 0,
         digest: None,
     };
-    let sequence = Sequence {
-        rows: one(rt, alloc, row(0x10, 3)),
-        end: 0x18,
-    };
+    assert!(rt; files.push(&file).is_ok());
+}
+
+pub(crate) fn one_sequence(rt: &impl Abort, alloc: Global, rows: &[Row], end: u64) -> Sequences {
+    let mut sequences = SequenceBuilder::new(alloc);
+    for row in rows {
+        assert!(rt; sequences.push(*row).is_ok());
+    }
+    assert!(rt; sequences.close(end).is_ok());
+    sequences.finish()
+}
+
+// One file, and a sequence of one row.
+fn table(rt: &impl Abort, alloc: Global) -> OutLines {
+    let mut files = FileNames::new(alloc);
+    add_file(rt, &mut files);
     OutLines {
-        dirs: List::new(alloc),
-        files: one(rt, alloc, file),
-        sequences: one(rt, alloc, sequence),
+        dirs: Paths::new(alloc),
+        files,
+        sequences: one_sequence(rt, alloc, &[row(0x10, 3)], 0x18),
     }
 }
 
