@@ -13,6 +13,7 @@ use crate::fields::emit_words;
 use crate::places::Places;
 use crate::protection::{VM_PROT_ALL, VM_PROT_DEFAULT};
 use crate::segments::{SegmentNumbers, emit_segment_numbers, emit_segments};
+use crate::sums::PAGE_SIZE;
 use crate::symbols::{emit_strings, emit_symbols};
 use ds_base::emit_bytes;
 use ds_base::macho::{
@@ -55,6 +56,7 @@ fn header_words(program: &Image, places: Places) -> [u32; 8]
         Some(_) => 1,
         None => 0,
     };
+    // The symbol table's and segment `__DWARF`'s stand beside the program's own.
     let count = uuids + 2 + program.segments.len();
     [
         MH_MAGIC_64,
@@ -129,7 +131,7 @@ fn dwarf_numbers(places: Places) -> SegmentNumbers
 {
     SegmentNumbers {
         vmaddr: places.vmaddr,
-        vmsize: (places.contents + 0xfff) / 0x1000 * 0x1000,
+        vmsize: (places.contents + (PAGE_SIZE - 1)) / PAGE_SIZE * PAGE_SIZE,
         fileoff: places.offset,
         filesize: places.contents,
         maxprot: VM_PROT_ALL,

@@ -29,7 +29,7 @@ pub(crate) fn emit_name(room: &mut [u8], at: usize, name: &[u8]) -> usize
     ensures { Adds room.old at (padded name.now) room.new result }
 {
     let at = emit_bytes(room, at, name);
-    if name.len() >= 16 {
+    if name.len() >= PADDING.len() {
         return at;
     }
     emit_bytes(room, at, bytes_from(&PADDING, name.len()))

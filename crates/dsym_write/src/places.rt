@@ -17,6 +17,9 @@ use ds_base::{NoMemory, Part};
 use layout::{Layout, section_size};
 use macho_read::{Image, Segment};
 
+/// The size of what all load commands begin with (`load_command`): the command, and its own size.
+const LOAD_COMMAND_SIZE: u64 = 8;
+
 /// The parts of an image file; sizes, and offsets from its start, in bytes.
 #[derive(Clone, Copy)]
 pub(crate) struct Places {
@@ -123,7 +126,7 @@ fn uuid_command_len(uuid: &[u8; 16]) -> u64
     ensures size { result ≡ uuid_command_size }
     ensures len { length uuid.now ≡ 16 }
 {
-    8 + uuid.len() as u64
+    LOAD_COMMAND_SIZE + uuid.len() as u64
 }
 
 /// The place behind the last address of segments.

@@ -5,6 +5,9 @@ ghost use Rattle.dsym_write.specs.Bundle;
 
 use ds_base::NoMemory;
 
+/// The size of a page in bytes.
+pub(crate) const PAGE_SIZE: u64 = 0x1000;
+
 /// A sum of sizes, which 64 bits hold of all that memory holds.
 pub(crate) fn plus(a: u64, b: u64) -> Result<u64, NoMemory>
     ensures { IfOk result (λ sum. sum ≡ a + b) }
@@ -29,6 +32,6 @@ pub(crate) fn times(a: u64, b: u64) -> Result<u64, NoMemory>
 pub(crate) fn page_end(n: u64) -> Result<u64, NoMemory>
     ensures { IfOk result (λ end. end ≡ Bundle.page_end n) }
 {
-    let over = plus(n, 0xfff)?;
-    times(over / 0x1000, 0x1000)
+    let over = plus(n, PAGE_SIZE - 1)?;
+    times(over / PAGE_SIZE, PAGE_SIZE)
 }

@@ -7,9 +7,14 @@ ghost use Rattle.frame_write.specs.Known.{described_bytes, fde_bytes, frame_byte
 
 use crate::known_cies::{KnownCies, append_cie, no_cies};
 use appending::{append_offset, append_u64};
+use ds_base::dwarf::{ADDRESS_SIZE, OFFSET_SIZE};
 use ds_base::{Bytes, NoMemory};
 use dwarf_types::{FrameRef, OutFrames};
 use std::alloc::Global;
+
+/// How many bytes of an FDE stand between its length and its instructions: the place of its CIE, the first address, and
+/// how many bytes it describes.
+const DESCRIBED_LEN: usize = OFFSET_SIZE as usize + 2 * ADDRESS_SIZE as usize;
 
 /// Puts the frames of a graph last: each CIE once, before the first FDE that names it.
 ///
@@ -46,7 +51,7 @@ fn append_frame(
 fn append_description(out: &mut Bytes, cie: usize, frame: &FrameRef<'_>) -> Result<(), NoMemory>
     ensures { OnOk result (out.new ≡ out.old ++ fde_bytes cie (frame_seen frame.now)) }
 {
-    append_offset(out, 20 + frame.code.len())?;
+    append_offset(out, DESCRIBED_LEN + frame.code.len())?;
     append_offset(out, cie)?;
     append_described(out, frame)?;
     Ok(())

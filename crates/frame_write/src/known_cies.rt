@@ -4,11 +4,14 @@ ghost use Rattle.std.specs.Prelude.{◌≡◌, ◌++◌, ◌∷◌, [], None, If
 ghost use Rattle.frame_write.specs.Known.{cie_bytes, new_bytes, place_in, told, with_cie};
 
 use appending::{append_offset, append_u32};
-use ds_base::dwarf::DW_CIE_ID;
+use ds_base::dwarf::{DW_CIE_ID, OFFSET_SIZE};
 use ds_base::{Bytes, NoMemory};
 use indexmap::IndexMap;
 use std::alloc::Global;
 use std::marker::Model;
+
+/// How many bytes of a CIE stand between its length and its content: its id.
+const CIE_ID_LEN: usize = OFFSET_SIZE as usize;
 
 /// The common information entries so far, looked up by content.
 ///
@@ -75,7 +78,7 @@ fn add(known: &mut KnownCies, cie: &[u8], place: usize) -> Result<(), NoMemory>
 fn append_entry(out: &mut Bytes, cie: &[u8]) -> Result<(), NoMemory>
     ensures { OnOk result (out.new ≡ out.old ++ cie_bytes cie.now) }
 {
-    append_offset(out, 4 + cie.len())?;
+    append_offset(out, CIE_ID_LEN + cie.len())?;
     append_u32(out, DW_CIE_ID)?;
     out.extend(cie)?;
     Ok(())

@@ -6,9 +6,7 @@ ghost use Rattle.layout.specs.Pass.{AreBelow, is_long, lists_size, long_back, lo
 
 use crate::starts::Starts;
 use ds_base::Part;
-
-/// The first size of a section that is too long.
-const SECTION_LIMIT: u128 = (1 << 32) - 1;
+use ds_base::limits::SECTION_BYTES;
 
 /// How many bytes stand before the lists of a section of version 5 (DWARF 5, sections 7.28 and 7.29).
 pub const LISTS_HEADER_LEN: u32 = 12;
@@ -68,7 +66,7 @@ pub(crate) fn size_of_lists(lists: u128) -> u128
 fn is_too_long(size: u128) -> bool
     ensures { result ≡ is_long size }
 {
-    size >= SECTION_LIMIT
+    size >= u128::from(SECTION_BYTES)
 }
 
 /// A section that is too long, of those up to the line tables: the string section, else the first in the order of the

@@ -8,11 +8,14 @@ ghost use Rattle.patches.specs.Filling.{Filling, filled, own_behind, own_bytes, 
 ghost use Rattle.patches.specs.Numbers.{patched, settled};
 
 use crate::fill::{fill_all_outer, fill_all_own};
-use crate::hole::{Outer, OuterPatch, Own, OwnPatch};
+use crate::hole::{OFFSET_LEN, Outer, OuterPatch, Own, OwnPatch};
 use crate::outside::Outside;
 use ds_base::{Bytes, NoMemory, put_sleb, put_uleb, sleb_len, uleb_len};
 use std::alloc::Global;
 use std::marker::Model;
+
+/// The most bytes of a LEB number of 64 bits.
+const MOST_DIGITS: usize = 10;
 
 /// Bytes with holes. A contract sees what they are, once each hole has its number. Places count from the first byte.
 #[derive(Drop)]
@@ -89,7 +92,7 @@ impl Buffer {
     pub fn extend_uleb(&mut self, n: u64) -> Result<(), NoMemory>
         ensures { OnOk result ((f : Filling) → filled self.new f ≡ filled self.old f ++ uleb n) }
     {
-        let mut room = [0; 10];
+        let mut room = [0; MOST_DIGITS];
         put_uleb(&mut room, 0, n);
         self.extend(&room[..uleb_len(n) as usize])?;
         Ok(())
@@ -99,7 +102,7 @@ impl Buffer {
     pub fn extend_sleb(&mut self, n: i64) -> Result<(), NoMemory>
         ensures { OnOk result ((f : Filling) → filled self.new f ≡ filled self.old f ++ sleb n) }
     {
-        let mut room = [0; 10];
+        let mut room = [0; MOST_DIGITS];
         put_sleb(&mut room, 0, n);
         self.extend(&room[..sleb_len(n) as usize])?;
         Ok(())
@@ -110,7 +113,7 @@ impl Buffer {
         ensures { OnOk result ((f : Filling) → filled self.new f ≡ filled self.old f ++ outer_bytes f.outer hole) }
     {
         let at = self.bytes.len();
-        self.bytes.extend_from_slice(&[0; 4])?;
+        self.bytes.extend_from_slice(&[0; OFFSET_LEN])?;
         self.outer.push(OuterPatch { at, hole })?;
         Ok(())
     }
@@ -120,7 +123,7 @@ impl Buffer {
         ensures { OnOk result ((f : Filling) → filled self.new f ≡ filled self.old f ++ own_bytes f.own hole) }
     {
         let at = self.bytes.len();
-        self.bytes.extend_from_slice(&[0; 4])?;
+        self.bytes.extend_from_slice(&[0; OFFSET_LEN])?;
         self.own.push(OwnPatch { at, hole })?;
         Ok(())
     }

@@ -6,7 +6,7 @@ ghost use Rattle.ds_base.specs.Room.{put};
 ghost use Rattle.patches.specs.Filling.{fill_outer, fill_own, outer_bytes, own_bytes};
 ghost use Rattle.patches.specs.Numbers.{outer_number, own_number};
 
-use crate::hole::{Outer, OuterPatch, Own, OwnPatch};
+use crate::hole::{OFFSET_LEN, Outer, OuterPatch, Own, OwnPatch};
 use crate::outside::{Outside, outer_in, own_in};
 use ds_base::{put_bytes, put_u32, put_uleb4};
 
@@ -50,5 +50,9 @@ fn fill_one_outer(room: &mut [u8], at: usize, hole: Outer, outside: &Outside)
     requires inside { at + 4 ≤ length room.old }
     ensures { room.new ≡ put room.old at (outer_bytes (outer_number outside.now) hole) }
 {
-    put_bytes(room, at, &outer_in(outside, hole).to_le_bytes()[..4]);
+    put_bytes(
+        room,
+        at,
+        &outer_in(outside, hole).to_le_bytes()[..OFFSET_LEN],
+    );
 }

@@ -1,6 +1,10 @@
 //! Holes of four bytes, and where each stands.
 
+use ds_base::dwarf::OFFSET_SIZE;
 use dwarf_types::Target;
+
+/// So many bytes has a hole.
+pub(crate) const OFFSET_LEN: usize = OFFSET_SIZE as usize;
 
 /// What the unit itself tells, once all of it is there. Places count from the unit's header.
 #[derive(Clone, Copy, Debug, PartialEq, Eq)]

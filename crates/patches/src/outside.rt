@@ -5,6 +5,7 @@ ghost use Rattle.patches.specs.Numbers.{entry_number, outer_number, own_number};
 
 use crate::hole::{Outer, Own};
 use ds_base::List;
+use ds_base::dwarf::OFFSET_SIZE;
 use dwarf_types::Target;
 
 /// A unit that has its place.
@@ -76,7 +77,7 @@ pub(crate) fn own_in(len: u32, places: &[u32], hole: Own) -> u32
     ensures { result ≡ own_number len places.now hole }
 {
     match hole {
-        Own::Size => len.saturating_sub(4),
+        Own::Size => len.saturating_sub(u32::from(OFFSET_SIZE)),
         Own::Node(k) => at_or(places, k as usize, len),
         Own::Base(k) => at_or(places, k as usize, len),
     }
