@@ -19,6 +19,7 @@ mod list;
 pub mod macho;
 mod pieces;
 mod put;
+mod sums;
 
 pub use bit_row::BitRow;
 pub use bytes::Bytes;
@@ -34,6 +35,7 @@ pub use leb::{
 pub use list::List;
 pub use pieces::{bytes_from, cut};
 pub use put::{put_bytes, put_sleb, put_u8, put_u16, put_u32, put_u64, put_uleb, put_uleb4};
+pub use sums::{plus, times};
 
 #[cfg(test)]
 mod tests;

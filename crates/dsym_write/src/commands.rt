@@ -10,10 +10,10 @@ ghost use Rattle.dsym_write.specs.Pieces.{ArePlaces, commands_count, commands_te
 
 use crate::dwarf::{WRITTEN_PARTS, emit_records};
 use crate::fields::emit_words;
+use crate::page::PAGE_SIZE;
 use crate::places::Places;
 use crate::protection::{VM_PROT_ALL, VM_PROT_DEFAULT};
 use crate::segments::{SegmentNumbers, emit_segment_numbers, emit_segments};
-use crate::sums::PAGE_SIZE;
 use crate::symbols::{emit_strings, emit_symbols};
 use ds_base::emit_bytes;
 use ds_base::macho::{

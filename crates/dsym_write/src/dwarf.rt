@@ -17,7 +17,7 @@ use ds_base::{Part, emit_bytes};
 use layout::{Layout, section_size};
 
 /// The parts that have a section, in the order of the output.
-pub(crate) const WRITTEN_PARTS: [Part; 11] = [
+pub const WRITTEN_PARTS: [Part; 11] = [
     Part::Abbrev,
     Part::Info,
     Part::Str,
@@ -65,7 +65,7 @@ fn emit_sized(part: Part, size: u64, addr: u64, offset: u32, room: &mut [u8], at
     if size == 0 {
         return at;
     }
-    let at = emit_bytes(room, at, &name_field(part));
+    let at = emit_bytes(room, at, &section_name(part));
     let at = emit_bytes(room, at, &SEG_DWARF);
     let numbers = SectionNumbers {
         addr,
@@ -80,8 +80,8 @@ fn emit_sized(part: Part, size: u64, addr: u64, offset: u32, room: &mut [u8], at
     emit_section_numbers(room, at, numbers)
 }
 
-/// The name of a section, padded with zeros.
-fn name_field(part: Part) -> [u8; 16]
+/// The name of a part's section, padded with zeros; zeros for a part that isn't written.
+pub fn section_name(part: Part) -> [u8; 16]
     ensures { result ≡ padded (name_of_part part) }
 {
     match part {

@@ -11,13 +11,14 @@ mod dwarf;
 mod error;
 mod fields;
 mod image;
+mod page;
 mod places;
 mod plist;
 mod protection;
 mod segments;
-mod sums;
 mod symbols;
 
+pub use dwarf::{WRITTEN_PARTS, section_name};
 pub use error::WriteError;
 pub use image::image_from;
 pub use plist::plist_text;

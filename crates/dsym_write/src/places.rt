@@ -7,13 +7,13 @@ ghost use Rattle.dsym_write.specs.Bundle.{end_of};
 ghost use Rattle.dsym_write.specs.Pieces.{ArePlaces, IsUuidLen, commands_size, count_of, total, with_size};
 
 use crate::dwarf::WRITTEN_PARTS;
-use crate::sums::{page_end, plus, times};
+use crate::page::page_end;
 use crate::symbols::{count_kept, texts_size};
 use ds_base::macho::{
     MACH_HEADER_64_SIZE, NLIST_64_SIZE, SECTION_64_SIZE, SEGMENT_COMMAND_64_SIZE,
     SYMTAB_COMMAND_SIZE,
 };
-use ds_base::{NoMemory, Part};
+use ds_base::{NoMemory, Part, plus, times};
 use layout::{Layout, section_size};
 use macho_read::{Image, Segment};
 

@@ -1,6 +1,6 @@
 //! Segment commands and their section records (mach-o/loader.h, `segment_command_64` and `section_64`).
 
-ghost use Rattle.std.specs.Prelude.{◌≡◌, ◌+◌, ◌*◌, ◌<◌, ◌≤◌, ◌^◌, [], length, map, take, drop};
+ghost use Rattle.std.specs.Prelude.{◌≡◌, ◌+◌, ◌*◌, ◌<◌, ◌≤◌, ◌^◌, [], length, map};
 ghost use Rattle.std.specs.List.{All, flat_map};
 ghost use Rattle.ds_base.specs.Room.{Adds};
 ghost use Rattle.macho_read.specs.ImageSpelling.{SegmentCommand, command_of};
@@ -12,7 +12,7 @@ ghost use Rattle.dsym_write.specs.Pieces.{commands_text, section_with, segment_w
 use crate::fields::{emit_name, emit_words};
 use ds_base::emit_u64;
 use ds_base::macho::{LC_SEGMENT_64, SECTION_64_SIZE, SEGMENT_COMMAND_64_SIZE};
-use macho_read::{Section, Segment};
+use macho_read::{Section, Segment, split_sections};
 
 /// The numbers of a segment command behind its name.
 #[derive(Clone, Copy)]
@@ -157,21 +157,9 @@ pub(crate) fn emit_segments(
     let mut at = start;
     let mut left = sections;
     for segment in segments {
-        let (own, others) = split(left, segment.sections as usize);
+        let (own, others) = split_sections(left, segment.sections as usize);
         at = emit_segment(segment, own, room, at);
         left = others;
     }
     at
-}
-
-/// So many sections from the front, and the others; all and none where there are fewer.
-fn split(sections: &[Section], count: usize) -> (&[Section], &[Section])
-    ensures own { result.0.now ≡ take count sections.now }
-    ensures others { result.1.now ≡ drop count sections.now }
-{
-    if count < sections.len() {
-        sections.split_at(count)
-    } else {
-        (sections, &[])
-    }
 }

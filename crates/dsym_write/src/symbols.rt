@@ -9,8 +9,7 @@ ghost use Rattle.macho_read.specs.Seen.{symbol_seen};
 ghost use Rattle.macho_read.specs.Standings;
 
 use crate::fields::emit_byte;
-use crate::sums::plus;
-use ds_base::{NoMemory, emit_bytes, emit_u8, emit_u16, emit_u32, emit_u64};
+use ds_base::{NoMemory, emit_bytes, emit_u8, emit_u16, emit_u32, emit_u64, plus};
 use macho_read::{SymbolRef, Symbols, is_stab};
 
 /// How many symbols are not stabs.

@@ -66,7 +66,7 @@ fn check_not_linked(segments: &[Segment], sections: &[Section]) -> Result<(), Fa
 {
     let mut rest = sections;
     for (k, segment) in segments.iter().enumerate() {
-        let (own, others) = split(rest, segment.sections as usize);
+        let (own, others) = split_sections(rest, segment.sections as usize);
         if is_named(&SEG_DWARF, segment.name.as_slice()) || has_dwarf(own) {
             return Err(already_linked(k));
         }
@@ -75,8 +75,9 @@ fn check_not_linked(segments: &[Segment], sections: &[Section]) -> Result<(), Fa
     Ok(())
 }
 
-/// So many sections from the front, and the others; all and none where there are fewer.
-fn split(sections: &[Section], count: usize) -> (&[Section], &[Section])
+/// So many sections from the front, and the others; all and none where there are fewer. The sections of an image stand in
+/// the order of its segments, each of which tells how many are its own.
+pub fn split_sections(sections: &[Section], count: usize) -> (&[Section], &[Section])
     ensures own { result.0.now ≡ take count sections.now }
     ensures others { result.1.now ≡ drop count sections.now }
 {

@@ -24,7 +24,7 @@ mod symbols;
 
 pub use debug::{debug_part, is_debug, section_bytes};
 pub use image::{Image, Section, Segment, Symbol, read_image};
-pub use kind::{Role, check_kind};
+pub use kind::{Role, check_kind, split_sections};
 pub use law::{
     commands_read_back, images_read_back, kinds_of_image_faults, kinds_of_role_faults,
     kinds_of_section_faults, records_read_back, segments_have_all_sections,

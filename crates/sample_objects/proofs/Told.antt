@@ -10,7 +10,7 @@ use Rattle.dwarf_types.specs.declared.graph.Written.{Written}
 use Rattle.dwarf_types.specs.Encode.{abbrev_section, aranges_section, encode, frame_section, has_bytes, info_section, line_section, line_str_section, loc_section, loclists_section, ranges_section, rnglists_section, str_section}
 use Rattle.layout.specs.declared.sizes.Sizes.{Sizes}
 use Rattle.layout.specs.Laid.{sizes_of}
-use Rattle.sample_objects.specs.declared.sections.TheConstants.{PARTS}
+use Rattle.dsym_write.specs.declared.dwarf.TheConstants.{WRITTEN_PARTS}
 use Rattle.sample_objects.specs.ObjectFile.{sized_of}
 use Rattle.sample_objects.specs.Sized.{has_size, with_size}
 
@@ -33,7 +33,7 @@ kept_told (s ∷ ws) = by (has_bytes s) (filter has_size (sized_of ws)) (filter 
     by false some rest e = e
 
 -- the parts that have bytes, by the sizes of a graph's sections
-pub parts_told : (graph : Graph) (sizes : Sizes) → sizes ≡ sizes_of graph → filter has_size (map (with_size sizes) PARTS) ≡ sized_of (encode graph)
+pub parts_told : (graph : Graph) (sizes : Sizes) → sizes ≡ sizes_of graph → filter has_size (map (with_size sizes) WRITTEN_PARTS) ≡ sized_of (encode graph)
 parts_told graph sizes told =
     let all : List Written =
     record { part = parts.Abbrev; bytes = abbrev_section graph }
@@ -47,8 +47,8 @@ parts_told graph sizes told =
     ∷ record { part = parts.Loclists; bytes = loclists_section graph }
     ∷ record { part = parts.Aranges; bytes = aranges_section graph }
     ∷ record { part = parts.Frame; bytes = frame_section graph } ∷ [] in
-    let same : map (with_size (sizes_of graph)) PARTS ≡ sized_of all = refl in
-    ap (λ (it : Sizes). filter has_size (map (with_size it) PARTS)) told ∙ ap (filter has_size) same ∙ kept_told all
+    let same : map (with_size (sizes_of graph)) WRITTEN_PARTS ≡ sized_of all = refl in
+    ap (λ (it : Sizes). filter has_size (map (with_size it) WRITTEN_PARTS)) told ∙ ap (filter has_size) same ∙ kept_told all
 
 pub not_both : {A : Type 0} (o : Option A) (x : A) → o ≡ None → o ≡ Some x → ⊥
 not_both None x none some = cc

@@ -4,24 +4,20 @@ ghost use Rattle.std.specs.Prelude.{◌≡◌, ◌∷◌, ◌++◌, [], ◌+◌,
 ghost use Rattle.std.specs.List.{flat_map};
 ghost use Rattle.byteorder.specs.Endian.{little_bytes};
 ghost use Rattle.ds_base.specs.declared.macho.TheConstants.{MH_MAGIC_64 as magic, MH_OBJECT as object_type};
-ghost use Rattle.dsym_write.specs.Bundle.{name_of_part};
 ghost use Rattle.macho_read.specs.ImageSpelling.{command_of};
-ghost use Rattle.macho_read.specs.Spelling.{command_bytes, padded, section_bytes};
+ghost use Rattle.macho_read.specs.Spelling.{command_bytes, section_bytes};
 ghost use Rattle.sample_objects.specs.ObjectFile;
 ghost use Rattle.sample_objects.specs.ObjectFile.{commands_len, debug_section, debug_sections, segment_command, symtab_command, text_section};
 
 use crate::fields::{append_longs, append_words};
 use crate::file::TEXT_SIZE;
 use crate::places::Places;
-use crate::sums::plus;
 use ds_base::macho::{
-    LC_SEGMENT_64, LC_SYMTAB, MH_MAGIC_64, MH_OBJECT, S_ATTR_DEBUG, SECT_DEBUG_ABBREV,
-    SECT_DEBUG_ARANGES, SECT_DEBUG_FRAME, SECT_DEBUG_INFO, SECT_DEBUG_LINE, SECT_DEBUG_LINE_STR,
-    SECT_DEBUG_LOC, SECT_DEBUG_LOCLISTS, SECT_DEBUG_RANGES, SECT_DEBUG_RNGLISTS, SECT_DEBUG_STR,
-    SECT_TEXT, SEG_DWARF, SEG_TEXT, SYMTAB_COMMAND_SIZE, VM_PROT_EXECUTE, VM_PROT_READ,
-    VM_PROT_WRITE,
+    LC_SEGMENT_64, LC_SYMTAB, MH_MAGIC_64, MH_OBJECT, S_ATTR_DEBUG, SECT_TEXT, SEG_DWARF, SEG_TEXT,
+    SYMTAB_COMMAND_SIZE, VM_PROT_EXECUTE, VM_PROT_READ, VM_PROT_WRITE,
 };
-use ds_base::{Bytes, NoMemory, Part};
+use ds_base::{Bytes, NoMemory, Part, plus};
+use dsym_write::section_name;
 
 /// Reading, writing and running (mach/vm_prot.h).
 const ALL_PROTECTIONS: u64 = (VM_PROT_READ + VM_PROT_WRITE + VM_PROT_EXECUTE) as u64;
@@ -102,7 +98,7 @@ fn append_debug_section(
 ) -> Result<(), NoMemory>
     ensures { OnOk result (out.new ≡ out.old ++ section_bytes (debug_section places offset part size)) }
 {
-    out.extend(&name_field(part))?;
+    out.extend(&section_name(part))?;
     out.extend(&SEG_DWARF)?;
     append_longs(out, &[0, size])?;
     append_words(
@@ -140,26 +136,6 @@ fn nreloc_in(places: Places, part: Part) -> u64
         Part::Info => places.nreloc,
         Part::Line => places.line_nreloc,
         _ => 0,
-    }
-}
-
-/// The name of a section, padded with zeros.
-fn name_field(part: Part) -> [u8; 16]
-    ensures { result ≡ padded (name_of_part part) }
-{
-    match part {
-        Part::Abbrev => SECT_DEBUG_ABBREV,
-        Part::Info => SECT_DEBUG_INFO,
-        Part::Str => SECT_DEBUG_STR,
-        Part::Line => SECT_DEBUG_LINE,
-        Part::LineStr => SECT_DEBUG_LINE_STR,
-        Part::Ranges => SECT_DEBUG_RANGES,
-        Part::Rnglists => SECT_DEBUG_RNGLISTS,
-        Part::Loc => SECT_DEBUG_LOC,
-        Part::Loclists => SECT_DEBUG_LOCLISTS,
-        Part::Aranges => SECT_DEBUG_ARANGES,
-        Part::Frame => SECT_DEBUG_FRAME,
-        _ => [0; 16],
     }
 }
 

@@ -23,7 +23,6 @@ mod relocation;
 mod sections;
 mod spec;
 mod structures;
-mod sums;
 mod symbols;
 mod texts;
 mod unit;

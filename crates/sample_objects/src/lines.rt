@@ -11,8 +11,7 @@ ghost use Rattle.sample_objects.specs.ObjectFile.{counts_from_text, operands_of}
 ghost use Rattle.unit_draft.specs.Drafted.{lines_len};
 
 use crate::file::TEXT_SECTION;
-use crate::sums::plus;
-use ds_base::{List, NoMemory};
+use ds_base::{List, NoMemory, plus};
 use dwarf_types::{
     FileNames, OutLines, OutUnit, Paths, Row, SequenceBuilder, SequenceRef, Sequences,
 };

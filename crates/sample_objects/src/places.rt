@@ -6,12 +6,11 @@ ghost use Rattle.sample_objects.specs.ObjectFile;
 ghost use Rattle.sample_objects.specs.ObjectFile.{commands_len, line_relocs, sections_of};
 
 use crate::spec::ObjectSpec;
-use crate::sums::{plus, times};
-use ds_base::NoMemory;
 use ds_base::macho::{
     MACH_HEADER_64_SIZE, NLIST_64_SIZE, RELOCATION_INFO_SIZE, SECTION_64_SIZE,
     SEGMENT_COMMAND_64_SIZE, SYMTAB_COMMAND_SIZE,
 };
+use ds_base::{NoMemory, plus, times};
 
 /// The parts of an object file; sizes, and offsets from its start, in bytes.
 #[derive(Clone, Copy)]

@@ -9,28 +9,13 @@ ghost use Rattle.sample_objects.specs.ObjectFile.{graph_of, sections_in, sized_o
 ghost use Rattle.sample_objects.specs.Sized.{has_size, with_size};
 ghost use Rattle.unit_draft.specs.Drafted.{IsDraft};
 
-use crate::sums::plus;
-use ds_base::{Bytes, List, NoMemory, Part};
+use ds_base::{Bytes, List, NoMemory, Part, plus};
+use dsym_write::WRITTEN_PARTS;
 use dwarf_types::{OutFrames, OutUnit};
 use layout::{Layout, LayoutError, place_drafts, section_size};
 use section_write::emit_sections;
 use std::alloc::Global;
 use unit_draft::{Draft, DraftError, draft_unit};
-
-/// The parts that may have a section, in the order of the file.
-pub const PARTS: [Part; 11] = [
-    Part::Abbrev,
-    Part::Info,
-    Part::Str,
-    Part::Line,
-    Part::LineStr,
-    Part::Ranges,
-    Part::Rnglists,
-    Part::Loc,
-    Part::Loclists,
-    Part::Aranges,
-    Part::Frame,
-];
 
 /// Whether a unit and its sections are short enough for a file.
 ///
@@ -89,7 +74,7 @@ fn drafts_of(alloc: Global, unit: &OutUnit, draft: Draft) -> Result<List<Draft>,
 pub(crate) fn sized_sections(alloc: Global, layout: &Layout) -> Result<List<(Part, u64)>, NoMemory>
     ensures { IfOk result (λ sized. (graph : Graph) → Measures graph (Ok layout.now) → sized ≡ sized_of (sections_in graph)) }
 {
-    let sized = with_bytes(alloc, layout, &PARTS)?;
+    let sized = with_bytes(alloc, layout, &WRITTEN_PARTS)?;
     Ok(sized)
 }
 

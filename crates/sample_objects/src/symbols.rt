@@ -7,9 +7,8 @@ ghost use Rattle.macho_read.specs.Seen.{symbol_seen};
 ghost use Rattle.sample_objects.specs.Symbols.{behind_name, name_place, text_of};
 
 use crate::fields::{append_byte, append_longs, append_words};
-use crate::sums::plus;
 use appending::append_u16;
-use ds_base::{Bytes, NoMemory};
+use ds_base::{Bytes, NoMemory, plus};
 use macho_read::{SymbolRef, Symbols};
 use std::alloc::Global;
 

@@ -13,7 +13,7 @@ pub returns : goal.returns
 returns c =
     let part = c.args.part in
     let places = c.args.places in
-    rw (c.in_ok-append_words.ensures, c.in_ok-append_longs.ensures, c.in_ok-extend-2.ensures.ok, c.in_ok-extend.ensures.ok, c.name_field.ensures, c.reloff_in.ensures, c.nreloc_in.ensures, c.from.ensures)
+    rw (c.in_ok-append_words.ensures, c.in_ok-append_longs.ensures, c.in_ok-extend-2.ensures.ok, c.in_ok-extend.ensures.ok, c.section_name.ensures, c.reloff_in.ensures, c.nreloc_in.ensures, c.from.ensures)
     (
     four_in_turn c.args.out.now (padded (name_of_part part)) SEG_DWARF (flat_map (little_bytes 8) (0 ∷ c.args.size ∷ []))
     (flat_map (little_bytes 4) (c.args.offset ∷ 0 ∷ reloff_in places part ∷ nreloc_in places part ∷ S_ATTR_DEBUG ∷ 0 ∷ 0 ∷ 0 ∷ []))

@@ -1,11 +1,11 @@
-//! Sums of sizes.
+//! Sums and products of sizes.
 
 ghost use Rattle.std.specs.Prelude.{◌≡◌, ◌+◌, ◌*◌, IfOk};
 
-use ds_base::NoMemory;
+use crate::fault::NoMemory;
 
 /// A sum of sizes, which 64 bits hold of all that memory holds.
-pub(crate) fn plus(a: u64, b: u64) -> Result<u64, NoMemory>
+pub fn plus(a: u64, b: u64) -> Result<u64, NoMemory>
     ensures { IfOk result (λ sum. sum ≡ a + b) }
 {
     match a.checked_add(b) {
@@ -15,7 +15,7 @@ pub(crate) fn plus(a: u64, b: u64) -> Result<u64, NoMemory>
 }
 
 /// A product of sizes, the same.
-pub(crate) fn times(a: u64, b: u64) -> Result<u64, NoMemory>
+pub fn times(a: u64, b: u64) -> Result<u64, NoMemory>
     ensures { IfOk result (λ product. product ≡ a * b) }
 {
     match a.checked_mul(b) {
