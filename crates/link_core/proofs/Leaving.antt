@@ -17,9 +17,9 @@ pub left_from : (from to : ℕ) (all left : List Analysis) → from ≤ to → A
 left_from from to all left le h i le' = h i (omega (arith, le, le'))
 
 -- a list whose items were all lent has what they became
-pub lent_all : (became was : List Analysis) → length became ≡ length was → take (length was) (became ++ drop (length became) was) ≡ became
-lent_all became was same =
-    ap (λ (rest : List Analysis). take (length was) (became ++ rest)) (drop_all (length became) was (omega (arith, same)))
+pub lent_all : {X : Type 0} (became was : List X) → length became ≡ length was → take (length was) (became ++ drop (length became) was) ≡ became
+lent_all {X} became was same =
+    ap (λ (rest : List X). take (length was) (became ++ rest)) (drop_all (length became) was (omega (arith, same)))
     ∙ ap (take (length was)) (append-nil became) ∙ take_all (length was) became (omega (arith, same))
 
 some_is_not_none : {A : Type 0} (o : Option A) (x : A) → o ≡ Some x → o ≡ None → ⊥

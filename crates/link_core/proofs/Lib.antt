@@ -5,6 +5,7 @@ pub mod Leaving
 pub mod Marking
 pub mod Members
 pub mod Graphs
+pub mod Holding
 pub mod ShapesMade
 pub mod Turns
 pub mod ObjectsRead

@@ -1,5 +1,5 @@
 -- What the passes of a link answer, each to the next. Want of memory says nothing.
-use Rattle.std.specs.Prelude.{◌≡◌, ◌<◌, ◌≤◌, ◌+◌, ◌-◌, ℕ, ◌^◌, Bool, List, ◌++◌, length, slice_get, Option, Some, None, Result, Ok, Err, IfSome}
+use Rattle.std.specs.Prelude.{◌≡◌, ◌<◌, ◌≤◌, ◌+◌, ◌-◌, ℕ, ◌^◌, Bool, List, [], ◌++◌, length, slice_get, slice_index_or, Option, Some, None, Result, Ok, Err, IfSome}
 use Rattle.std.specs.List.{All}
 use Rattle.std.specs.Option.{option_map_or}
 use Rattle.clone_units.specs.Units.{AreThere, Holds}
@@ -67,6 +67,14 @@ pub record MayRead (objects : List MapObject) (files archives : List (List ℕ))
 -- what is read of the object at a place, for a program of this CPU type
 abbrev pub ReadsAt : ℕ → List Source → ℕ → Result ReadObject Refusal → Type 0
 ReadsAt cpu sources item out = (s : Source) → slice_get sources item ≡ Some s → ReadsObject (item + 1) (analysis_from cpu s.object s.file) out
+
+-- of each file no object stands behind its last
+abbrev pub AreLast : List (Option ℕ) → List ℕ → Type 0
+AreLast source last = (k n : ℕ) → slice_get source k ≡ Some (Some n) → k ≤ slice_index_or last n k
+
+-- the files of the objects from a number on are held as they were
+abbrev pub AreHeld : ℕ → List (Option ℕ) → List (List ℕ) → List (List ℕ) → Type 0
+AreHeld from source files held = (k n : ℕ) → from ≤ k → slice_get source k ≡ Some (Some n) → slice_index_or held n [] ≡ slice_index_or files n []
 
 -- all objects with the marks of their live entries, where none has a fault
 pub record AreRead (cpu : ℕ) (sources : List Source) (it : ReadObjects) : Type 0 where

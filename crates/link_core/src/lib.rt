@@ -1,9 +1,9 @@
 //! The objects of a program linked to its bundle, and how a link ends.
 //!
 //! Layer: top. [`link_objects`] goes over the objects in passes: it reads each and marks its live entries (`reading`,
-//! `objects`), has their names made and bid for and gives the output its shape (`graph`, `shaping`), makes each unit and
-//! drafts its bytes (`drafting`, `batches`), gives the drafts their places and writes the image (`image`), and counts
-//! (`counts`). Several threads share the objects, their names and shapes, and then the units, by `work_share` and
+//! `objects`, `files`), has their names made and bid for and gives the output its shape (`graph`, `shaping`), makes each
+//! unit and drafts its bytes (`drafting`, `batches`), gives the drafts their places and writes the image (`image`), and
+//! counts (`counts`). Several threads share the objects, their names and shapes, and then the units, by `work_share` and
 //! `name_bids`. What it answers is `specs/Linked.antt`, which knows of no threads; what the passes answer, each to the
 //! next, `specs/Passes.antt`.
 #![tactic(auto)]
@@ -12,6 +12,7 @@ mod batches;
 mod bundle;
 mod counts;
 mod drafting;
+mod files;
 mod graph;
 mod image;
 mod link;

@@ -7,14 +7,14 @@ ghost use Rattle.macho_read.specs.Kind.{kind_of};
 ghost use Rattle.macho_read.specs.Sound.{IsSound as IsSoundImage};
 ghost use Rattle.dwarf_types.specs.Sound.{IsSound};
 ghost use Rattle.link_core.specs.Linked.{Bundles, MarkLive, sources_of};
-ghost use Rattle.link_core.specs.Passes.{Links, Reads};
+ghost use Rattle.link_core.specs.Passes.{Links};
 
 use crate::bundle::{Counts, Linked, Options};
 use crate::counts::{count_entries, count_live, count_nodes};
 use crate::drafting::drafts_of;
 use crate::graph::{Shaped, frames_of, shape_of};
 use crate::image::image_of;
-use crate::reading::{ReadObjects, read_objects};
+use crate::reading::{ReadObjects, read_files, read_objects};
 use crate::refusal::Refusal;
 use ds_base::{BitRow, Bytes, List};
 use ds_files::Gate;
@@ -77,7 +77,7 @@ pub fn link_objects<R: Threads + Sync, G: Gate + Sync>(
     )
 }
 
-/// Links the objects of a program to its bundle, as [`link_objects`] does, and lets their files go once all are read.
+/// Links the objects of a program to its bundle, as [`link_objects`] does, and lets each file go once the objects of it are read.
 pub fn link_files<R: Threads + Sync, G: Gate + Sync>(
     rt: &R,
     alloc: Global,
@@ -118,36 +118,6 @@ pub fn link_files<R: Threads + Sync, G: Gate + Sync>(
         name,
         seen,
         marks.as_slice(),
-    )
-}
-
-/// The analyses of the objects in files, which are let go.
-fn read_files<R: Threads + Sync, G: Gate + Sync>(
-    rt: &R,
-    alloc: Global,
-    workers: u32,
-    gate: &G,
-    cpu: u32,
-    objects: &[MapObject],
-    files: List<Bytes>,
-    source: &[Option<u32>],
-) -> Result<ReadObjects, Refusal>
-    requires workers { (1 ≤ workers) × (workers ≤ 64) }
-    requires few { length objects.now < 2 ^ 16 }
-    requires each { length source.now ≡ length objects.now }
-    requires held { All (λ k. IfSome k (λ n. n < length files)) source.now }
-    requires small { All (λ file. length file < 2 ^ 32) files }
-    ensures { Reads cpu (sources_of objects.now files source.now) result }
-{
-    read_objects(
-        rt,
-        alloc,
-        workers,
-        gate,
-        cpu,
-        objects,
-        files.as_slice(),
-        source,
     )
 }
 

@@ -1,17 +1,18 @@
 //! All objects of a program, read by several threads.
 
-ghost use Rattle.std.specs.Prelude.{◌≡◌, ◌<◌, ◌≤◌, ◌^◌, ℕ, List as Listed, IfSome, length};
+ghost use Rattle.std.specs.Prelude.{◌≡◌, ◌<◌, ◌≤◌, ◌+◌, ◌-◌, ◌^◌, ℕ, List as Listed, IfOk, IfSome, length};
 ghost use Rattle.std.specs.List.{All};
 ghost use Rattle.work_share.specs.Results.{GivesAll};
 ghost use Rattle.link_core.specs.Linked.{Source, sources_of};
 ghost use Rattle.link_core.specs.Passes.{MayRead, Reads, ReadsAt};
 
+use crate::files::{batch_end, drop_files, last_objects, least_batch};
 use crate::objects::{ReadObject, members_of, read_object};
 use crate::refusal::Refusal;
-use crate::results::in_turn;
+use crate::results::{in_turn, put_behind};
 use ar_read::Members;
-use ds_base::{BitRow, Bytes, List};
-use ds_files::Gate;
+use ds_base::{BitRow, Bytes, List, NoMemory};
+use ds_files::{Gate, OpenGate};
 use dwarf_types::Analysis;
 use stab_map::MapObject;
 use std::alloc::Global;
@@ -29,33 +30,38 @@ pub(crate) struct ReadObjects {
     pub marks: List<BitRow>,
 }
 
-/// Each object of a program is read.
+/// Each object of a batch is read.
 #[derive(Drop)]
-struct Reading<'a> {
+struct Reading<'a, G> {
     alloc: Global,
     cpu: u32,
     objects: &'a [MapObject],
     files: &'a [Bytes],
     archives: &'a [Members<'a>],
     source: &'a [Option<u32>],
+    /// The first object of the batch.
+    first: u32,
+    gate: &'a G,
 }
 
-impl<'a> Job for Reading<'a> {
+impl<'a, G: Gate> Job for Reading<'a, G> {
     type Out = Result<ReadObject, Refusal>;
 
-    ghost takes = { λ job item. MayRead job.objects.now job.files.now job.archives.now job.source.now item };
+    ghost takes = { λ job item. MayRead job.objects.now job.files.now job.archives.now job.source.now (job.first + item) };
 
-    ghost gives = { λ job item out. ReadsAt job.cpu (sources_of job.objects.now job.files.now job.source.now) item out };
+    ghost gives = { λ job item out. ReadsAt job.cpu (sources_of job.objects.now job.files.now job.source.now) (job.first + item) out };
 
     fn run(&self, item: u32) -> Result<ReadObject, Refusal> {
+        let object = self.first + item;
+        self.gate.pass(ANALYSE, object);
         read_object(
             self.alloc,
             self.cpu,
-            item + 1,
-            &self.objects[item as usize],
+            object + 1,
+            &self.objects[object as usize],
             self.files,
             self.archives,
-            self.source[item as usize],
+            self.source[object as usize],
         )
     }
 }
@@ -83,6 +89,89 @@ pub(crate) fn read_objects<R: Threads + Sync, G: Gate + Sync>(
     requires small { All (λ file. length file < 2 ^ 32) files.now }
     ensures { Reads cpu (sources_of objects.now files.now source.now) result }
 {
+    let outs = read_batch(
+        rt,
+        alloc,
+        workers,
+        gate,
+        cpu,
+        objects,
+        files,
+        source,
+        0,
+        objects.len() as u32,
+    )?;
+    all_read(alloc, outs)
+}
+
+/// The same by files that go, each once the last object of it is read.
+///
+/// Objects are read in batches, behind each of which files go. Archives are walked once for each batch, of which there
+/// are few.
+pub(crate) fn read_files<R: Threads + Sync, G: Gate + Sync>(
+    rt: &R,
+    alloc: Global,
+    workers: u32,
+    gate: &G,
+    cpu: u32,
+    objects: &[MapObject],
+    files: List<Bytes>,
+    source: &[Option<u32>],
+) -> Result<ReadObjects, Refusal>
+    requires workers { (1 ≤ workers) × (workers ≤ 64) }
+    requires few { length objects.now < 2 ^ 16 }
+    requires each { length source.now ≡ length objects.now }
+    requires held { All (λ k. IfSome k (λ n. n < length files)) source.now }
+    requires small { All (λ file. length file < 2 ^ 32) files }
+    ensures { Reads cpu (sources_of objects.now files source.now) result }
+{
+    let last = last_objects(alloc, source, files.len())?;
+    let least = least_batch(files.as_slice(), workers);
+    let mut left = files;
+    let mut outs = Vec::new(alloc);
+    let mut first = 0;
+    while (first as usize) < objects.len() {
+        let end = batch_end(left.as_slice(), source, &last, first, least);
+        let more = read_batch(
+            rt,
+            alloc,
+            workers,
+            gate,
+            cpu,
+            objects,
+            left.as_slice(),
+            source,
+            first,
+            end,
+        )?;
+        put_behind(&mut outs, more)?;
+        drop_files(alloc, left.as_mut_slice(), source, &last, first, end);
+        first = end;
+    }
+    all_read(alloc, outs)
+}
+
+/// What is read of the objects from one up to another.
+fn read_batch<R: Threads + Sync, G: Gate + Sync>(
+    rt: &R,
+    alloc: Global,
+    workers: u32,
+    gate: &G,
+    cpu: u32,
+    objects: &[MapObject],
+    files: &[Bytes],
+    source: &[Option<u32>],
+    first: u32,
+    end: u32,
+) -> Result<Vec<Result<ReadObject, Refusal>>, NoMemory>
+    requires workers { (1 ≤ workers) × (workers ≤ 64) }
+    requires few { length objects.now < 2 ^ 16 }
+    requires each { length source.now ≡ length objects.now }
+    requires held { All (λ k. IfSome k (λ n. n < length files.now)) source.now }
+    requires small { All (λ file. length file < 2 ^ 32) files.now }
+    requires order { (first ≤ end) × (end ≤ length objects.now) }
+    ensures { IfOk result (λ outs. GivesAll (λ k out. ReadsAt cpu (sources_of objects.now files.now source.now) (first + k) out) (end - first) outs.items) }
+{
     let archives = members_of(alloc, files)?;
     let job = Reading {
         alloc,
@@ -91,17 +180,12 @@ pub(crate) fn read_objects<R: Threads + Sync, G: Gate + Sync>(
         files,
         archives: archives.as_slice(),
         source,
-    };
-    let outs = each(
-        rt,
-        alloc,
-        workers,
-        objects.len() as u32,
-        ANALYSE,
+        first,
         gate,
-        &job,
-    )?;
-    all_read(alloc, in_turn(alloc, outs)?)
+    };
+    let open = OpenGate::new();
+    let outs = each(rt, alloc, workers, end - first, ANALYSE, &open, &job)?;
+    in_turn(alloc, outs)
 }
 
 /// The objects that were read, or the first fault of the first that has one.

@@ -1,5 +1,4 @@
-use Rattle.std.proofs.Common.{ℕ, length, sym, subst}
-use Rattle.work_share.specs.Results.{GivesAll}
+use Rattle.std.proofs.Common.{◌≡◌, ◌+◌, ℕ, length, ap, sym, subst, ◌∙◌, arith}
 use Rattle.link_core.specs.Linked.{sources_of}
 use Rattle.link_core.specs.Passes.{ReadsAt}
 use Rattle.link_core.proofs.Analysing.{sources_long}
@@ -11,5 +10,8 @@ returns g c =
     let files = c.args.files.now in
     let numbers = c.args.source.now in
     let sources = sources_of objects files numbers in
-    let whole = subst (λ (n : ℕ). GivesAll (ReadsAt c.args.cpu sources) n c.in_ok-outs.outs) (sym (sources_long objects files numbers c.requires.each)) c.in_ok-outs.ensures in
-    c.all_read.ensures c.args.cpu sources (subst (GivesAll (ReadsAt c.args.cpu sources) (length sources)) (sym c.in_ok-in_turn.ensures) whole)
+    let long = sources_long objects files numbers c.requires.each in
+    c.all_read.ensures c.args.cpu sources (
+      omega (arith, c.in_ok-outs.ensures.0, long),
+      λ k o at. subst (λ (i : ℕ). ReadsAt c.args.cpu sources i o) (let same : 0 + k ≡ k = omega arith in same) (c.in_ok-outs.ensures.1 k o at),
+    )

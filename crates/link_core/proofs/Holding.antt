@@ -1,0 +1,44 @@
+-- Which files are held while objects are read in their order.
+use Rattle.std.proofs.Common.{◌≡◌, ◌<◌, ◌≤◌, ◌+◌, ◌-◌, ℕ, zero, suc, List, [], ◌∷◌, ◌++◌, length, get_or, set, slice_get, Option, Some, None, Result, refl, ap, subst, ◌∙◌, arith, get_or-set_other}
+use Rattle.std.proofs.lemmas.List.{get_or_default}
+use Rattle.stab_map.specs.declared.object.MapObject.{MapObject}
+use Rattle.work_share.specs.Results.{GivesAll}
+use Rattle.link_core.specs.declared.objects.ReadObject.{ReadObject}
+use Rattle.link_core.specs.declared.refusal.Refusal.{Refusal}
+use Rattle.link_core.specs.Linked.{Source, sources_of}
+use Rattle.link_core.specs.Passes.{AreHeld, AreLast, ReadsAt}
+use Rattle.link_core.proofs.Turns.{given_as, given_more}
+
+pub held_all : (source : List (Option ℕ)) (files : List (List ℕ)) → AreHeld 0 source files files
+held_all source files k n le at = refl
+
+pub held_from : (from to : ℕ) (source : List (Option ℕ)) (files held : List (List ℕ)) → from ≤ to → AreHeld from source files held → AreHeld to source files held
+held_from from to source files held le are k n le' at = are k n (omega (arith, le, le')) at
+
+-- a file whose last object stands before a number is not needed from there on
+pub held_without : (source : List (Option ℕ)) (files held : List (List ℕ)) (last : List ℕ) (n end d : ℕ) → AreLast source last → n < length last → get_or last n d < end → AreHeld end source files held → AreHeld end source files (set held n [])
+held_without source files held last n end d lasts inside lt are k m le at =
+    get_or-set_other held n m [] [] (λ same. absurd (
+    let behind : k ≤ get_or last n k = subst (λ (i : ℕ). k ≤ get_or last i k) same (lasts k m at) in
+    omega (arith, behind, get_or_default last n k d inside, lt, le)
+    )) ∙ are k m le at
+
+module _ (files held : List (List ℕ)) where
+  -- an object whose file is held is read as before
+  same_at : (objects : List MapObject) (source : List (Option ℕ)) (k : ℕ) → ((n : ℕ) → slice_get source k ≡ Some (Some n) → get_or held n [] ≡ get_or files n []) → slice_get (sources_of objects held source) k ≡ slice_get (sources_of objects files source) k
+  same_at [] source k same = refl
+  same_at (o ∷ objects) [] k same = refl
+  same_at (o ∷ objects) (None ∷ source) zero same = refl
+  same_at (o ∷ objects) (Some n ∷ source) zero same = ap (λ (file : List ℕ). Some (record { object = o; file = Some file })) (same n refl)
+  same_at (o ∷ objects) (n ∷ source) (suc k) same = same_at objects source k same
+
+  read_as : (cpu from k : ℕ) (objects : List MapObject) (source : List (Option ℕ)) (out : Result ReadObject Refusal) → from ≤ k → AreHeld from source files held → ReadsAt cpu (sources_of objects held source) k out → ReadsAt cpu (sources_of objects files source) k out
+  read_as cpu from k objects source out le are reads s at = reads s (same_at objects source k (λ n here. are k n le here) ∙ at)
+
+  -- what is read of a batch by the files that are held goes behind what was read before
+  pub read_more : (cpu first end : ℕ) (objects : List MapObject) (source : List (Option ℕ)) (outs more : List (Result ReadObject Refusal)) → first ≤ end → AreHeld first source files held → GivesAll (ReadsAt cpu (sources_of objects files source)) first outs
+      → GivesAll (λ k out. ReadsAt cpu (sources_of objects held source) (first + k) out) (end - first) more → GivesAll (ReadsAt cpu (sources_of objects files source)) end (outs ++ more)
+  read_more cpu first end objects source outs more le are before here =
+      given_more (ReadsAt cpu (sources_of objects files source)) first end outs more le before
+      (given_as (λ k out. ReadsAt cpu (sources_of objects held source) (first + k) out) (λ k out. ReadsAt cpu (sources_of objects files source) (first + k) out) (end - first) more
+      (λ k out lt reads. read_as cpu first (first + k) objects source out (omega arith) are reads) here)
