@@ -1,10 +1,10 @@
-//! A program, its object and its bundle, byte by byte (mach-o/loader.h, mach-o/nlist.h; DWARF 4).
+//! A program and its bundle, byte by byte (mach-o/loader.h, mach-o/nlist.h; DWARF 4).
 
 use ds_base::{Bytes, NoMemory};
 use std::alloc::Global;
 
 /// Parts of a file, one after the other.
-pub(crate) fn joined(alloc: Global, parts: &[&[u8]]) -> Result<Bytes, NoMemory> {
+fn joined(alloc: Global, parts: &[&[u8]]) -> Result<Bytes, NoMemory> {
     let mut bytes = Bytes::new(alloc);
     for part in parts {
         bytes.extend(part)?;
@@ -60,37 +60,6 @@ pub(crate) fn program(alloc: Global) -> Result<Bytes, NoMemory> {
 pub(crate) fn program_of_two(alloc: Global) -> Result<Bytes, NoMemory> {
     program_with(alloc, SECOND_OBJECT)
 }
-
-/// An object with `main` of 0x2a bytes at 0, of 457 bytes.
-#[rattlefmt::skip]
-pub(crate) const OBJECT: &[&[u8]] = &[
-    // magic, cputype, cpusubtype, filetype, ncmds, sizeofcmds, flags, reserved
-    b"\xcf\xfa\xed\xfe\x0c\0\0\x01\0\0\0\0\x01\0\0\0\x02\0\0\0\x50\x01\0\0\0\0\0\0\0\0\0\0",
-    // cmd, cmdsize, segname
-    b"\x19\0\0\0\x38\x01\0\0\0\0\0\0\0\0\0\0\0\0\0\0\0\0\0\0",
-    // vmaddr, vmsize, fileoff, filesize
-    b"\0\0\0\0\0\0\0\0\x64\0\0\0\0\0\0\0\x70\x01\0\0\0\0\0\0\x3a\0\0\0\0\0\0\0",
-    // maxprot, initprot, nsects, flags
-    b"\x07\0\0\0\x07\0\0\0\x03\0\0\0\0\0\0\0",
-    // sectname, segname, addr, size, and offset, align, reloff, nreloc, flags, reserved1 to 3
-    b"__text\0\0\0\0\0\0\0\0\0\0__TEXT\0\0\0\0\0\0\0\0\0\0\0\0\0\0\0\0\0\0\x2a\0\0\0\0\0\0\0\0\0\0\0\x02\0\0\0\0\0\0\0\0\0\0\0\0\x04\0\x80\0\0\0\0\0\0\0\0\0\0\0\0__debug_abbrev\0\0__DWARF\0\0\0\0\0\0\0\0\0\x2a\0\0\0\0\0\0\0\x15\0\0\0\0\0\0\0\x70\x01\0\0\0\0\0\0\0\0\0\0\0\0\0\0\0\0\0\x02\0\0\0\0\0\0\0\0\0\0\0\0__debug_info\0\0\0\0__DWARF\0\0\0\0\0\0\0\0\0\x3f\0\0\0\0\0\0\0\x25\0\0\0\0\0\0\0\x85\x01\0\0\0\0\0\0\xaa\x01\0\0\x01\0\0\0\0\0\0\x02\0\0\0\0\0\0\0\0\0\0\0\0",
-    // cmd, cmdsize, symoff, nsyms, stroff, strsize
-    b"\x02\0\0\0\x18\0\0\0\xb2\x01\0\0\x01\0\0\0\xc2\x01\0\0\x07\0\0\0",
-    // abbreviations: a unit with a name and a language; a function with low_pc, high_pc and a name
-    b"\x01\x11\x01\x03\x08\x13\x05\0\0\x02\x2e\0\x11\x01\x12\x06\x03\x08\0\0\0",
-    // unit_length, version, debug_abbrev_offset, address_size
-    b"\x21\0\0\0\x04\0\0\0\0\0\x08",
-    // code, name, language
-    b"\x01m.c\0\x0c\0",
-    // code, low_pc, high_pc, name
-    b"\x02\0\0\0\0\0\0\0\0\x2a\0\0\0main\0\0",
-    // r_address, r_symbolnum, and type 0, length 3
-    b"\x13\0\0\0\x01\0\0\x06",
-    // n_strx, n_type, n_sect, n_desc, n_value
-    b"\x01\0\0\0\x0f\x01\0\0\0\0\0\0\0\0\0\0",
-    // strings
-    b"\0_main\0",
-];
 
 /// The commands, symbols and strings of the image, of 727 bytes: the UUID, the symbols, and two segments.
 #[rattlefmt::skip]

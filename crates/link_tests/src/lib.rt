@@ -6,6 +6,8 @@
 #[cfg(test)]
 mod bytes;
 #[cfg(test)]
+mod main_object;
+#[cfg(test)]
 mod objects;
 #[cfg(test)]
 mod tests;

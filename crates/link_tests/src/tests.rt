@@ -1,4 +1,5 @@
-use crate::bytes::{OBJECT, PLIST_TEXT, image, joined, program, program_of_two};
+use crate::bytes::{PLIST_TEXT, image, program, program_of_two};
+use crate::main_object::main_object;
 use ds_base::{Fault, Kind, List, NoMemory, Part};
 use ds_files::{MemoryFiles, MemorySink, OpenGate};
 use link_cli::link_main;
@@ -145,7 +146,7 @@ fn a_program_is_linked_again_where_the_image_was_not_written(
 ) -> Result<(), NoMemory> {
     let alloc = rt.alloc();
     let program = program(alloc)?;
-    let object = joined(alloc, OBJECT)?;
+    let object = main_object(&rt, alloc)?;
     let image = image(alloc)?;
     assert_eq!(rt; image.len(), 4258);
     let mut files = files(alloc, program.as_slice(), object.as_slice(), 4)?;
@@ -190,7 +191,7 @@ fn a_program_is_linked_again_where_the_image_was_not_written(
 fn a_message_that_fails_leaves_the_bundle(rt: HostRuntime) -> Result<(), NoMemory> {
     let alloc = rt.alloc();
     let program = program(alloc)?;
-    let object = joined(alloc, OBJECT)?;
+    let object = main_object(&rt, alloc)?;
     let image = image(alloc)?;
     let mut files = files(alloc, program.as_slice(), object.as_slice(), 0)?;
     let words = &["--statistics", "a.out"];
@@ -306,7 +307,7 @@ fn a_missing_object_is_told_or_let_go(rt: HostRuntime) -> Result<(), NoMemory> {
 fn a_link_that_is_refused_writes_nothing(rt: HostRuntime) -> Result<(), NoMemory> {
     let alloc = rt.alloc();
     let program = program(alloc)?;
-    let object = joined(alloc, OBJECT)?;
+    let object = main_object(&rt, alloc)?;
     let (a, o) = (program.as_slice(), object.as_slice());
     let words = &["a.out"];
     let unread = Status::ReadFault { file: 0 };
