@@ -1,15 +1,18 @@
 -- An expression cut from its front: the parts so far, and a stretch of bytes that may go on.
-use Rattle.std.specs.Prelude.{ℕ, Bool, true, false, List, [], ◌∷◌, ◌++◌, Option, Some, None}
+use Rattle.std.specs.Prelude.{ℕ, Bool, true, false, List, [], ◌∷◌, ◌++◌, Option, Some, None, if◌then◌else◌}
 use Rattle.std.specs.Option.{option_map_or, unwrap_or}
 use Rattle.byteorder.specs.Endian.{little_bytes}
+use Rattle.clone_values.specs.declared.cutting.Cutting.{Cutting}
 use Rattle.dwarf_types.specs.declared.address.Place.{Place}
+use Rattle.dwarf_types.specs.declared.expr.Op.{Op}
+use Rattle.dwarf_types.specs.declared.graph.Target.{Target}
 use Rattle.dwarf_types.specs.declared.operands.Operands.{Operands}
 use Rattle.dwarf_types.specs.declared.operands.Operands.TheVariants as operands
 use Rattle.dwarf_types.specs.declared.parts.ExprPart.{ExprPart}
 use Rattle.dwarf_types.specs.declared.parts.ExprPart.TheVariants as parts
 use Rattle.dwarf_types.specs.declared.parts.PlainPart.{PlainPart}
 use Rattle.dwarf_types.specs.declared.parts.PlainPart.TheVariants as plain
-use Rattle.dwarf_types.specs.LinkedExpressions.{joined, joined_plain}
+use Rattle.dwarf_types.specs.LinkedExpressions.{as_part, outside, plain_part, plain_parts}
 
 -- an entry value
 abbrev pub is_nested : Option Operands → Bool
@@ -20,43 +23,24 @@ is_nested row = false
 abbrev pub bytes_moved : ℕ → List ℕ → Option Place → List ℕ
 bytes_moved code bytes address = option_map_or (λ place. code ∷ little_bytes 8 (unwrap_or place.linked 0)) address bytes
 
--- ---- inside an entry value
+-- by what a plain part is among the parts
+module _ {P : Type 0} (of_plain : PlainPart → P) where
+  -- the stretch so far, as a part
+  abbrev pub ended : Option (List ℕ) → List P
+  ended None = []
+  ended (Some bytes) = of_plain (plain.Plain bytes) ∷ []
 
--- the stretch so far, before what follows
-abbrev pub with_plain : Option (List ℕ) → List PlainPart → List PlainPart
-with_plain None more = more
-with_plain (Some bytes) more = joined_plain (plain.Plain bytes) more
+  -- with a part more that is no stretch
+  abbrev pub with_part : P → Cutting P → Cutting P
+  with_part part cutting = record { parts = cutting.parts ++ (ended cutting.stretch ++ part ∷ []); stretch = None }
 
--- the stretch so far, as a part
-abbrev pub ended_plain : Option (List ℕ) → List PlainPart
-ended_plain None = []
-ended_plain (Some bytes) = plain.Plain bytes ∷ []
+  -- with a plain part more: a stretch goes on
+  abbrev pub with_plain : PlainPart → Cutting P → Cutting P
+  with_plain (plain.Plain bytes) cutting = record { parts = cutting.parts; stretch = Some (unwrap_or cutting.stretch [] ++ bytes) }
+  with_plain part cutting = with_part (of_plain part) cutting
 
--- with one part more: the parts that are done, and the stretch that may go on
-abbrev pub plain_done : PlainPart → List PlainPart → Option (List ℕ) → List PlainPart
-plain_done (plain.Plain bytes) done stretch = done
-plain_done (plain.Typed code before base after) done stretch = done ++ (ended_plain stretch ++ plain.Typed code before base after ∷ [])
-
-abbrev pub plain_open : PlainPart → Option (List ℕ) → Option (List ℕ)
-plain_open (plain.Plain bytes) stretch = Some (unwrap_or stretch [] ++ bytes)
-plain_open (plain.Typed code before base after) stretch = None
-
--- ---- the same of the whole expression
-
-abbrev pub with_open : Option (List ℕ) → List ExprPart → List ExprPart
-with_open None more = more
-with_open (Some bytes) more = joined (parts.Plain bytes) more
-
-abbrev pub ended : Option (List ℕ) → List ExprPart
-ended None = []
-ended (Some bytes) = parts.Plain bytes ∷ []
-
-abbrev pub part_done : ExprPart → List ExprPart → Option (List ℕ) → List ExprPart
-part_done (parts.Plain bytes) done stretch = done
-part_done (parts.Typed code before base after) done stretch = done ++ (ended stretch ++ parts.Typed code before base after ∷ [])
-part_done (parts.Nested code inner) done stretch = done ++ (ended stretch ++ parts.Nested code inner ∷ [])
-
-abbrev pub part_open : ExprPart → Option (List ℕ) → Option (List ℕ)
-part_open (parts.Plain bytes) stretch = Some (unwrap_or stretch [] ++ bytes)
-part_open (parts.Typed code before base after) stretch = None
-part_open (parts.Nested code inner) stretch = None
+-- with an operation more
+abbrev pub with_op : (ℕ → Option Target) → Option Operands → Op → Cutting ExprPart → Cutting ExprPart
+with_op image row op cutting =
+    if is_nested row then with_part as_part (parts.Nested op.code (plain_parts image op.inner)) cutting
+    else with_plain as_part (plain_part image (outside op)) cutting

@@ -79,26 +79,9 @@ fn said<'a>(
 ) -> Result<Option<OutValueRef<'a>>, NoMemory>
     ensures { IfOk result (λ it. option_map value_given it ≡ (if attr.now.name == DW_AT_decl_file then file_written (image_at images.now) (numbers_of files.now) entry.now (attr_seen attr.now) (attr_seen attr.now).value else value_written (image_at images.now) entry.now (attr_seen attr.now) (attr_seen attr.now).value)) }
 {
-    if attr.name == DW_AT_decl_file {
-        file_said(alloc, images, files, entry, attr)
-    } else {
-        value_written(alloc, images, entry, attr)
-    }
-}
-
-/// What the number of a source file is in the output.
-fn file_said<'a>(
-    alloc: Global,
-    images: &[Option<Target>],
-    files: &Files,
-    entry: &EntryRef<'a>,
-    attr: &AttrRef<'a>,
-) -> Result<Option<OutValueRef<'a>>, NoMemory>
-    ensures { IfOk result (λ it. option_map value_given it ≡ file_written (image_at images.now) (numbers_of files.now) entry.now (attr_seen attr.now) (attr_seen attr.now).value) }
-{
     match files {
-        Files::Own => value_written(alloc, images, entry, attr),
-        Files::Others(numbers) => Ok(file_written(numbers, attr)),
+        Files::Others(numbers) if attr.name == DW_AT_decl_file => Ok(file_written(numbers, attr)),
+        _ => value_written(alloc, images, entry, attr),
     }
 }
 
