@@ -1,8 +1,8 @@
 -- What rows of line tables stand for, as their columns grow.
-use Rattle.std.proofs.Common.{◌≡◌, ℕ, ◌+◌, ◌-◌, ◌≤◌, List, [], ◌∷◌, ◌++◌, Option, Some, None, map, length, drop, All, refl, ap, ap₂, ◌∙◌, arith}
+use Rattle.std.proofs.Common.{◌≡◌, ℕ, ◌≤◌, List, [], ◌∷◌, ◌++◌, Option, Some, None, map, length, drop, All, refl, ap, ap₂, ◌∙◌, arith}
 use Rattle.std.specs.Prelude.{IfSome}
 use Rattle.std.specs.Option.{option_map}
-use Rattle.std.proofs.lemmas.List.{drop-append-le, drop_at, length-append, map_push, take_all}
+use Rattle.std.proofs.lemmas.List.{drop-append-le, map_push}
 use Rattle.std.proofs.lemmas.List.Elements.{All-push, All-weaker}
 use Rattle.dwarf_types.specs.declared.files.FileRow.{FileRow}
 use Rattle.dwarf_types.specs.declared.lines.FileName.{FileName}
@@ -11,11 +11,13 @@ use Rattle.dwarf_types.specs.declared.lines.RawSequence.{RawSequence}
 use Rattle.dwarf_types.specs.declared.lines.Row.{Row}
 use Rattle.dwarf_types.specs.declared.lines.Sequence.{Sequence}
 use Rattle.dwarf_types.specs.declared.runs.Run.{Run}
+use Rattle.dwarf_types.specs.declared.runs.TextRun.{TextRun}
+use Rattle.dwarf_types.specs.declared.runs.TextRun.TheVariants as texts
 use Rattle.dwarf_types.specs.declared.sequences.RawSequenceRow.{RawSequenceRow}
 use Rattle.dwarf_types.specs.declared.sequences.SequenceRow.{SequenceRow}
 use Rattle.dwarf_types.specs.Cells.{Begins}
 use Rattle.dwarf_types.specs.LineColumns.{FileWithin, RawSequenceWithin, SequenceWithin, built_of, file_of, raw_built_of, raw_sequence_of, sequence_of}
-use Rattle.dwarf_types.specs.Runs.{InRun, run_of}
+use Rattle.dwarf_types.specs.Runs.{InRun, InTexts, run_of, text_of}
 use Rattle.dwarf_types.proofs.Heads.{maps_same}
 use Rattle.dwarf_types.proofs.Kept.{longer, range_begins}
 
@@ -40,7 +42,7 @@ module _ {T R A : Type 0} (mean : List T → R → A) (Within : List T → R →
   pub within_put : (r : R) → Within new r → All (Within new) (rows ++ r ∷ [])
   within_put r is = All-push (Within new) rows r within_kept is
 
--- ---- runs, files and sequences
+-- ---- runs, texts, files and sequences
 
 pub runs_keep : {T : Type 0} → Keeps {T = T} run_of InRun
 runs_keep = record {
@@ -51,6 +53,18 @@ runs_keep = record {
       let inside : r.to ≤ length old = w.1 in
       (up, omega arith);
 }
+
+text_kept : (shared old new : List ℕ) → Begins old new → (t : TextRun) → InTexts shared old t → text_of shared new t ≡ text_of shared old t
+text_kept shared old new b (texts.Own r) w = runs_keep.same old new b r w
+text_kept shared old new b (texts.Shared r) w = refl
+
+text_within : (shared old new : List ℕ) → Begins old new → (t : TextRun) → InTexts shared old t → InTexts shared new t
+text_within shared old new b (texts.Own r) w = runs_keep.within old new b r w
+text_within shared old new b (texts.Shared r) w = w
+
+-- shared texts stay
+pub texts_keep : (shared : List ℕ) → Keeps (text_of shared) (InTexts shared)
+texts_keep shared = record { same = text_kept shared; within = text_within shared }
 
 digest_kept : (old new : List ℕ) → Begins old new → (d : Option Run) → IfSome d (InRun old) → option_map (run_of new) d ≡ option_map (run_of old) d
 digest_kept old new b None w = refl
@@ -63,10 +77,10 @@ digest_within old new b (Some r) w = runs_keep.within old new b r w
 abbrev pub file_with : FileRow → List ℕ → Option (List ℕ) → FileName
 file_with r name digest = record { name = name; dir = r.dir; time = r.time; size = r.size; digest = digest }
 
-pub files_keep : Keeps file_of FileWithin
-files_keep = record {
-  same = λ old new b r w. ap₂ (file_with r) (runs_keep.same old new b r.name w.0) (digest_kept old new b r.digest w.1);
-  within = λ old new b r w. (runs_keep.within old new b r.name w.0, digest_within old new b r.digest w.1);
+pub files_keep : (shared : List ℕ) → Keeps (file_of shared) (FileWithin shared)
+files_keep shared = record {
+  same = λ old new b r w. ap₂ (file_with r) ((texts_keep shared).same old new b r.name w.0) (digest_kept old new b r.digest w.1);
+  within = λ old new b r w. ((texts_keep shared).within old new b r.name w.0, digest_within old new b r.digest w.1);
 }
 
 abbrev sequence_with : SequenceRow → List Row → Sequence
@@ -86,21 +100,6 @@ raw_sequences_keep = record {
   same = λ old new b s w. ap (raw_sequence_with s) (runs_keep.same old new b s.rows w);
   within = λ old new b s w. runs_keep.within old new b s.rows w;
 }
-
--- items that are put last lie in a run
-
-module _ {T : Type 0} (old new more : List T) (r : Run) (put : new ≡ old ++ more) (at : (r.from ≡ length old) × (r.to ≡ length old + length more)) where
-  pub put_within : InRun new r
-  put_within =
-      let long = length-append old more in
-      let from : r.from ≡ length old = at.0 in
-      let to : r.to ≡ length old + length more = at.1 in
-      rw put (omega (arith, from, to), omega (arith, long, to))
-
-  pub put_is : run_of new r ≡ more
-  put_is =
-      let fits : length more ≤ (length old + length more) - length old = omega arith in
-      rw (put, at.0, at.1) (search (drop_at, take_all))
 
 -- ---- a row of the next sequence, behind its others
 

@@ -9,15 +9,15 @@ use Rattle.dwarf_types.specs.declared.lines.Row.{Row}
 use Rattle.dwarf_types.specs.declared.lines.Sequence.{Sequence}
 use Rattle.dwarf_types.specs.declared.sequences.RawSequenceRow.{RawSequenceRow}
 use Rattle.dwarf_types.specs.declared.sequences.SequenceRow.{SequenceRow}
-use Rattle.dwarf_types.specs.Runs.{InRun, run_of}
+use Rattle.dwarf_types.specs.Runs.{InRun, InTexts, run_of, text_of}
 use Rattle.dwarf_types.specs.SeenLines.{RawSequencesBuilt, SequencesBuilt}
 
--- a file, whose texts are runs of bytes
-abbrev pub file_of : List ℕ → FileRow → FileName
-file_of bytes r = record { name = run_of bytes r.name; dir = r.dir; time = r.time; size = r.size; digest = option_map (run_of bytes) r.digest }
+-- a file, whose name is a text and whose digest is a run of the table's own bytes
+abbrev pub file_of : List ℕ → List ℕ → FileRow → FileName
+file_of shared own r = record { name = text_of shared own r.name; dir = r.dir; time = r.time; size = r.size; digest = option_map (run_of own) r.digest }
 
-abbrev pub FileWithin : List ℕ → FileRow → Type 0
-FileWithin bytes r = InRun bytes r.name × IfSome r.digest (InRun bytes)
+abbrev pub FileWithin : List ℕ → List ℕ → FileRow → Type 0
+FileWithin shared own r = InTexts shared own r.name × IfSome r.digest (InRun own)
 
 -- a sequence, whose rows are a run of all rows
 abbrev pub sequence_of : List Row → SequenceRow → Sequence

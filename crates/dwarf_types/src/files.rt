@@ -7,7 +7,8 @@ ghost use Rattle.dwarf_types.specs.LineColumns.{FileWithin, file_of};
 ghost use Rattle.dwarf_types.specs.Runs.{InRun, run_of};
 ghost use Rattle.dwarf_types.specs.SeenLines.{file_seen};
 
-use crate::runs::{Run, append, part_of};
+use crate::runs::{Run, TextRun, append, keep_text, part_of, text_in};
+use crate::shared_texts::SharedTexts;
 use ds_base::NoMemory;
 use std::alloc::Global;
 use std::marker::Model;
@@ -15,7 +16,8 @@ use std::marker::Model;
 /// Files in the order of their numbers.
 #[derive(Drop)]
 pub struct FileNames {
-    /// The names and digests, one behind the other.
+    texts: SharedTexts,
+    /// The digests, and the names that do not stand in the shared texts, one behind the other.
     bytes: Vec<u8>,
     rows: Vec<FileRow>,
 }
@@ -23,7 +25,7 @@ pub struct FileNames {
 /// A file whose texts are runs of bytes.
 #[derive(Clone, Copy, Debug, PartialEq, Eq)]
 pub(crate) struct FileRow {
-    pub(crate) name: Run,
+    pub(crate) name: TextRun,
     pub(crate) dir: u64,
     pub(crate) time: u64,
     pub(crate) size: u64,
@@ -39,9 +41,9 @@ impl Model for FileNames {
     ghost use Rattle.std.specs.Prelude.{All, map};
     ghost use Rattle.dwarf_types.specs.LineColumns.{FileWithin, file_of};
 
-    ghost view = { λ f. map (file_of f.bytes.items) f.rows.items };
+    ghost view = { λ f. map (file_of f.texts f.bytes.items) f.rows.items };
 
-    ghost invariant = { λ f. All (FileWithin f.bytes.items) f.rows.items };
+    ghost invariant = { λ f. All (FileWithin f.texts f.bytes.items) f.rows.items };
 }
 
 /// A file where it stands.
@@ -63,7 +65,15 @@ impl FileNames {
     pub fn new(alloc: Global) -> FileNames
         ensures { result ≡ [] }
     {
+        FileNames::over(alloc, SharedTexts::none())
+    }
+
+    /// No files yet; names that stand in shared texts are not copied.
+    pub fn over(alloc: Global, texts: SharedTexts) -> FileNames
+        ensures { result ≡ [] }
+    {
         FileNames {
+            texts,
             bytes: Vec::new(alloc),
             rows: Vec::new(alloc),
         }
@@ -92,7 +102,7 @@ impl FileNames {
         ensures stands { slice_get self.now i ≡ Some (file_seen result) }
         ensures item { file_seen result ≡ slice_index_or self.now i (file_seen result) }
     {
-        file_in(&self.bytes, self.rows[i])
+        file_in(self.texts.as_slice(), &self.bytes, self.rows[i])
     }
 
     /// Puts a copy of a file last.
@@ -100,7 +110,16 @@ impl FileNames {
         ensures ok { OnOk result (self.new ≡ self.old ++ file_seen file.now ∷ []) }
         ensures unchanged { OnErr result (self.new ≡ self.old) }
     {
-        let name = append(&mut self.bytes, file.name)?;
+        self.push_at(file, None)
+    }
+
+    /// Puts a file last. `place` is where its name stands in the shared texts, if it stands there: it helps to keep the
+    /// name without a copy, and means nothing more.
+    pub fn push_at(&mut self, file: &FileNameRef<'_>, place: Option<u32>) -> Result<(), NoMemory>
+        ensures ok { OnOk result (self.new ≡ self.old ++ file_seen file.now ∷ []) }
+        ensures unchanged { OnErr result (self.new ≡ self.old) }
+    {
+        let name = keep_text(self.texts.as_slice(), &mut self.bytes, file.name, place)?;
         let digest = append_digest(&mut self.bytes, file.digest)?;
         self.rows.push(FileRow {
             name,
@@ -114,16 +133,16 @@ impl FileNames {
 }
 
 /// The file of a row.
-fn file_in(bytes: &[u8], row: FileRow) -> FileNameRef<'_>
-    requires { FileWithin bytes.now row }
-    ensures { file_seen result ≡ file_of bytes.now row }
+fn file_in<'a>(shared: &'a [u8], own: &'a [u8], row: FileRow) -> FileNameRef<'a>
+    requires { FileWithin shared.now own.now row }
+    ensures { file_seen result ≡ file_of shared.now own.now row }
 {
     FileNameRef {
-        name: part_of(bytes, row.name),
+        name: text_in(shared, own, row.name),
         dir: row.dir,
         time: row.time,
         size: row.size,
-        digest: digest_in(bytes, row.digest),
+        digest: digest_in(own, row.digest),
     }
 }
 

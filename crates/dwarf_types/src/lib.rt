@@ -37,6 +37,7 @@ mod sections;
 mod seen;
 mod sequences;
 mod shape;
+mod shared_texts;
 mod sides;
 mod value;
 
@@ -69,4 +70,5 @@ pub use sequences::{
     RawSequenceBuilder, RawSequenceRef, RawSequences, SequenceBuilder, SequenceRef, Sequences,
 };
 pub use shape::{Origin, Shape, ShapeUnit};
+pub use shared_texts::SharedTexts;
 pub use value::Value;

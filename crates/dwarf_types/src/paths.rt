@@ -3,7 +3,8 @@
 ghost use Rattle.std.specs.Prelude.{◌≡◌, ◌<◌, [], ◌∷◌, ◌++◌, length, slice_get, slice_index_or, Some, OnOk, OnErr};
 ghost use Rattle.std.specs.Option.{option_copied};
 
-use crate::runs::{Run, append, part_of};
+use crate::runs::{TextRun, keep_text, text_in};
+use crate::shared_texts::SharedTexts;
 use ds_base::NoMemory;
 use std::alloc::Global;
 use std::marker::Model;
@@ -11,9 +12,10 @@ use std::marker::Model;
 /// Names of directories in the order of their numbers.
 #[derive(Drop)]
 pub struct Paths {
-    /// The names, one behind the other.
+    texts: SharedTexts,
+    /// The names that do not stand in the shared texts, one behind the other.
     bytes: Vec<u8>,
-    runs: Vec<Run>,
+    runs: Vec<TextRun>,
 }
 
 impl Model for Paths {
@@ -22,11 +24,11 @@ impl Model for Paths {
     ghost Value = { List (List ℕ) };
 
     ghost use Rattle.std.specs.Prelude.{All, map};
-    ghost use Rattle.dwarf_types.specs.Runs.{InRun, run_of};
+    ghost use Rattle.dwarf_types.specs.Runs.{InTexts, text_of};
 
-    ghost view = { λ p. map (run_of p.bytes.items) p.runs.items };
+    ghost view = { λ p. map (text_of p.texts p.bytes.items) p.runs.items };
 
-    ghost invariant = { λ p. All (InRun p.bytes.items) p.runs.items };
+    ghost invariant = { λ p. All (InTexts p.texts p.bytes.items) p.runs.items };
 }
 
 impl Paths {
@@ -34,7 +36,15 @@ impl Paths {
     pub fn new(alloc: Global) -> Paths
         ensures { result ≡ [] }
     {
+        Paths::over(alloc, SharedTexts::none())
+    }
+
+    /// No names yet; those that stand in shared texts are not copied.
+    pub fn over(alloc: Global, texts: SharedTexts) -> Paths
+        ensures { result ≡ [] }
+    {
         Paths {
+            texts,
             bytes: Vec::new(alloc),
             runs: Vec::new(alloc),
         }
@@ -63,7 +73,7 @@ impl Paths {
         ensures stands { slice_get self.now i ≡ Some result.now }
         ensures item { result.now ≡ slice_index_or self.now i result.now }
     {
-        part_of(&self.bytes, self.runs[i])
+        text_in(self.texts.as_slice(), &self.bytes, self.runs[i])
     }
 
     /// Puts a copy of a name last.
@@ -71,7 +81,16 @@ impl Paths {
         ensures ok { OnOk result (self.new ≡ self.old ++ path.now ∷ []) }
         ensures unchanged { OnErr result (self.new ≡ self.old) }
     {
-        let run = append(&mut self.bytes, path)?;
+        self.push_at(path, None)
+    }
+
+    /// Puts a name last. `place` is where it stands in the shared texts, if it stands there: it helps to keep the name
+    /// without a copy, and means nothing more.
+    pub fn push_at(&mut self, path: &[u8], place: Option<u32>) -> Result<(), NoMemory>
+        ensures ok { OnOk result (self.new ≡ self.old ++ path.now ∷ []) }
+        ensures unchanged { OnErr result (self.new ≡ self.old) }
+    {
+        let run = keep_text(self.texts.as_slice(), &mut self.bytes, path, place)?;
         self.runs.push(run)?;
         Ok(())
     }

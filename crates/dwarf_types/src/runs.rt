@@ -1,7 +1,8 @@
 //! Runs of items of a column.
 
-ghost use Rattle.std.specs.Prelude.{◌≡◌, ◌+◌, ◌++◌, length, IfOk, OnOk, OnErr};
-ghost use Rattle.dwarf_types.specs.Runs.{InRun, run_of};
+ghost use Rattle.std.specs.Prelude.{◌≡◌, ◌+◌, ◌++◌, length, IfOk, IfSome, OnOk, OnErr};
+ghost use Rattle.dwarf_types.specs.Cells.{Begins};
+ghost use Rattle.dwarf_types.specs.Runs.{InRun, InTexts, run_of, text_of};
 
 use ds_base::NoMemory;
 
@@ -10,6 +11,13 @@ use ds_base::NoMemory;
 pub(crate) struct Run {
     pub(crate) from: usize,
     pub(crate) to: usize,
+}
+
+/// A text: a run of a table's own bytes, or of a section of texts that tables share.
+#[derive(Clone, Copy, Debug, PartialEq, Eq)]
+pub(crate) enum TextRun {
+    Own(Run),
+    Shared(Run),
 }
 
 /// The items of a run.
@@ -32,4 +40,51 @@ pub(crate) fn append<T: Copy>(column: &mut Vec<T>, items: &[T]) -> Result<Run, N
         from,
         to: column.len(),
     })
+}
+
+/// The bytes of a text.
+pub(crate) fn text_in<'a>(shared: &'a [u8], own: &'a [u8], text: TextRun) -> &'a [u8]
+    requires { InTexts shared.now own.now text }
+    ensures { result.now ≡ text_of shared.now own.now text }
+{
+    match text {
+        TextRun::Own(run) => part_of(own, run),
+        TextRun::Shared(run) => part_of(shared, run),
+    }
+}
+
+/// Keeps a text, and answers where it lies: where it stands in the shared texts, else last among the own bytes.
+///
+/// `place` is where it is likely to stand in the shared texts.
+pub(crate) fn keep_text(
+    shared: &[u8],
+    own: &mut Vec<u8>,
+    text: &[u8],
+    place: Option<u32>,
+) -> Result<TextRun, NoMemory>
+    ensures within { IfOk result (λ kept. InTexts shared.now own.new.items kept) }
+    ensures is { IfOk result (λ kept. text_of shared.now own.new.items kept ≡ text.now) }
+    ensures grows { Begins own.old.items own.new.items }
+    ensures unchanged { OnErr result (own.new.items ≡ own.old.items) }
+{
+    if let Some(place) = place {
+        if let Some(run) = run_at(shared, place, text) {
+            return Ok(TextRun::Shared(run));
+        }
+    }
+    Ok(TextRun::Own(append(own, text)?))
+}
+
+/// The run of a text that stands at a place.
+fn run_at(texts: &[u8], place: u32, text: &[u8]) -> Option<Run>
+    ensures within { IfSome result (λ run. InRun texts.now run) }
+    ensures is { IfSome result (λ run. run_of texts.now run ≡ text.now) }
+{
+    let from = place as usize;
+    let to = from.checked_add(text.len())?;
+    if to <= texts.len() && &texts[from..to] == text {
+        Some(Run { from, to })
+    } else {
+        None
+    }
 }

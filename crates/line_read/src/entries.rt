@@ -2,7 +2,7 @@
 
 ghost use Rattle.std.specs.Prelude.{◌≡◌, [], Some};
 ghost use Rattle.std.specs.List.{list_any};
-ghost use Rattle.std.specs.Option.{option_copied};
+ghost use Rattle.std.specs.Option.{option_copied, option_map};
 ghost use Rattle.ds_base.specs.Reading.{Reads, ReadsUnlessFull, bytes_at, items_at, number_at};
 ghost use Rattle.dwarf_types.specs.SectionBytes.{bytes_in};
 ghost use Rattle.dwarf_types.specs.SeenLines.{file_seen};
@@ -13,7 +13,7 @@ ghost use Rattle.line_read.specs.Names.{within};
 use crate::formats::{EntryForm, EntryItem, NumberForm, TextForm, is_path, item_of};
 use crate::names::{HeaderEnd, read_number};
 use ds_base::{Cursor, Fault, Kind, List, Part, ReadError};
-use dwarf_types::{FileNameRef, FileNames, Paths, Sections};
+use dwarf_types::{FileNameRef, FileNames, Paths, Sections, SharedTexts};
 use std::alloc::Global;
 use std::marker::Model;
 
@@ -27,10 +27,25 @@ pub(crate) struct EntryFormat {
     pub(crate) count: u64,
 }
 
+/// A text, and where it stands in `__debug_line_str` if it is there. The place helps to keep it without a copy, and means
+/// nothing more.
+#[derive(Clone, Copy)]
+pub(crate) struct PlacedText<'a> {
+    pub(crate) bytes: &'a [u8],
+    pub(crate) place: Option<u32>,
+}
+
+/// A file, and where its name stands in `__debug_line_str` if it is there.
+#[derive(Clone, Copy)]
+pub(crate) struct PlacedFile<'a> {
+    pub(crate) file: FileNameRef<'a>,
+    pub(crate) place: Option<u32>,
+}
+
 /// What an entry tells; of two values of one content the first counts.
 #[derive(Drop)]
 pub(crate) struct EntryParts<'a> {
-    pub(crate) path: Option<&'a [u8]>,
+    pub(crate) path: Option<PlacedText<'a>>,
     pub(crate) dir: Option<u64>,
     pub(crate) time: Option<u64>,
     pub(crate) size: Option<u64>,
@@ -38,40 +53,60 @@ pub(crate) struct EntryParts<'a> {
 }
 
 impl<'a> Model for EntryParts<'a> {
-    ghost use Rattle.std.specs.Option.{option_copied};
+    ghost use Rattle.std.specs.Option.{option_copied, option_map};
     ghost use Rattle.line_read.specs.Entries.{EntryParts as Told};
 
     ghost Value = { Told };
 
-    ghost view = { λ p. record { path = option_copied p.path; dir = p.dir; time = p.time; size = p.size; digest = option_copied p.digest } };
+    ghost view = { λ p. record { path = option_map (λ t. t.bytes.now) p.path; dir = p.dir; time = p.time; size = p.size; digest = option_copied p.digest } };
 }
 
-/// The directories (DWARF 5, section 6.2.4, from directory_entry_format_count to directories).
+/// The directories (DWARF 5, section 6.2.4, from directory_entry_format_count to directories). `texts` are likely to be the
+/// bytes of `__debug_line_str`: paths that stand there are not copied.
 pub(crate) fn read_dir_entries<'a>(
     alloc: Global,
     cursor: &mut Cursor<'a>,
     sections: &Sections<'a>,
+    texts: &SharedTexts,
     header: HeaderEnd,
 ) -> Result<Paths, ReadError>
     ensures { ReadsUnlessFull (λ dirs. dirs) result cursor.new (entries_of (dir_entry_at header (bytes_in sections.now)) header cursor.old) }
 {
     let format = read_format(alloc, cursor, header)?;
     let EntryFormat { items, count } = format;
-    read_dirs_in(alloc, cursor, sections, header, items.as_slice(), count)
+    read_dirs_in(
+        alloc,
+        cursor,
+        sections,
+        texts,
+        header,
+        items.as_slice(),
+        count,
+    )
 }
 
-/// The files (DWARF 5, section 6.2.4, from file_name_entry_format_count to file_names).
+/// The files (DWARF 5, section 6.2.4, from file_name_entry_format_count to file_names). `texts` are likely to be the bytes of
+/// `__debug_line_str`: names that stand there are not copied.
 pub(crate) fn read_file_entries<'a>(
     alloc: Global,
     cursor: &mut Cursor<'a>,
     sections: &Sections<'a>,
+    texts: &SharedTexts,
     header: HeaderEnd,
 ) -> Result<FileNames, ReadError>
     ensures { ReadsUnlessFull (λ files. files) result cursor.new (entries_of (file_entry_at header (bytes_in sections.now)) header cursor.old) }
 {
     let format = read_format(alloc, cursor, header)?;
     let EntryFormat { items, count } = format;
-    read_files_in(alloc, cursor, sections, header, items.as_slice(), count)
+    read_files_in(
+        alloc,
+        cursor,
+        sections,
+        texts,
+        header,
+        items.as_slice(),
+        count,
+    )
 }
 
 /// So many directories, whose entries are of this format.
@@ -79,16 +114,17 @@ fn read_dirs_in<'a>(
     alloc: Global,
     cursor: &mut Cursor<'a>,
     sections: &Sections<'a>,
+    texts: &SharedTexts,
     header: HeaderEnd,
     format: &[EntryItem],
     count: u64,
 ) -> Result<Paths, ReadError>
     ensures { ReadsUnlessFull (λ dirs. dirs) result cursor.new (items_at (dir_entry_at header (bytes_in sections.now) format.now) count [] cursor.old) }
 {
-    let mut dirs = Paths::new(alloc);
+    let mut dirs = Paths::over(alloc, texts.share()?);
     for _ in 0..count {
         let dir = read_dir_entry(cursor, sections, header, format)?;
-        dirs.push(dir)?;
+        dirs.push_at(dir.bytes, dir.place)?;
     }
     Ok(dirs)
 }
@@ -98,16 +134,17 @@ fn read_files_in<'a>(
     alloc: Global,
     cursor: &mut Cursor<'a>,
     sections: &Sections<'a>,
+    texts: &SharedTexts,
     header: HeaderEnd,
     format: &[EntryItem],
     count: u64,
 ) -> Result<FileNames, ReadError>
     ensures { ReadsUnlessFull (λ files. files) result cursor.new (items_at (file_entry_at header (bytes_in sections.now) format.now) count [] cursor.old) }
 {
-    let mut files = FileNames::new(alloc);
+    let mut files = FileNames::over(alloc, texts.share()?);
     for _ in 0..count {
-        let file = read_file_entry(cursor, sections, header, format)?;
-        files.push(&file)?;
+        let placed = read_file_entry(cursor, sections, header, format)?;
+        files.push_at(&placed.file, placed.place)?;
     }
     Ok(files)
 }
@@ -173,8 +210,8 @@ fn read_dir_entry<'a>(
     sections: &Sections<'a>,
     header: HeaderEnd,
     format: &[EntryItem],
-) -> Result<&'a [u8], Fault>
-    ensures { Reads (λ dir. dir.now) result cursor.new (dir_entry_at header (bytes_in sections.now) format.now cursor.old) }
+) -> Result<PlacedText<'a>, Fault>
+    ensures { Reads (λ dir. dir.bytes.now) result cursor.new (dir_entry_at header (bytes_in sections.now) format.now cursor.old) }
 {
     let EntryParts {
         path,
@@ -196,8 +233,8 @@ fn read_file_entry<'a>(
     sections: &Sections<'a>,
     header: HeaderEnd,
     format: &[EntryItem],
-) -> Result<FileNameRef<'a>, Fault>
-    ensures { Reads file_seen result cursor.new (file_entry_at header (bytes_in sections.now) format.now cursor.old) }
+) -> Result<PlacedFile<'a>, Fault>
+    ensures { Reads (λ placed. file_seen placed.file) result cursor.new (file_entry_at header (bytes_in sections.now) format.now cursor.old) }
 {
     let EntryParts {
         path,
@@ -207,12 +244,15 @@ fn read_file_entry<'a>(
         digest,
     } = read_parts(cursor, sections, header, format)?;
     match path {
-        Some(name) => Ok(FileNameRef {
-            name,
-            dir: dir.unwrap_or(0),
-            time: time.unwrap_or(0),
-            size: size.unwrap_or(0),
-            digest,
+        Some(name) => Ok(PlacedFile {
+            file: FileNameRef {
+                name: name.bytes,
+                dir: dir.unwrap_or(0),
+                time: time.unwrap_or(0),
+                size: size.unwrap_or(0),
+                digest,
+            },
+            place: name.place,
         }),
         None => Err(header.bad_format),
     }
@@ -254,7 +294,7 @@ fn read_item<'a>(
     match item {
         EntryItem::Path(form) => {
             let text = read_text(cursor, sections, header, *form)?;
-            keep_bytes(&mut parts.path, text);
+            keep_text(&mut parts.path, text);
             Ok(())
         }
         EntryItem::Directory(form) => {
@@ -283,6 +323,15 @@ fn read_item<'a>(
             Ok(())
         }
         EntryItem::Other(form) => skip_value(cursor, sections, header, *form),
+    }
+}
+
+/// Keeps the first text of its content.
+fn keep_text<'a>(so_far: &mut Option<PlacedText<'a>>, text: PlacedText<'a>)
+    ensures { option_map (λ t. t.bytes.now) so_far.new ≡ Some (first (option_map (λ t. t.bytes.now) so_far.old) text.entry.bytes.now) }
+{
+    if so_far.is_none() {
+        *so_far = Some(text);
     }
 }
 
@@ -347,8 +396,8 @@ fn read_text<'a>(
     sections: &Sections<'a>,
     header: HeaderEnd,
     form: TextForm,
-) -> Result<&'a [u8], Fault>
-    ensures { Reads (λ text. text.now) result cursor.new (within header (form_text_at (bytes_in sections.now) form cursor.old)) }
+) -> Result<PlacedText<'a>, Fault>
+    ensures { Reads (λ text. text.bytes.now) result cursor.new (within header (form_text_at (bytes_in sections.now) form cursor.old)) }
 {
     let text = read_any_text(cursor, sections, form)?;
     if cursor.place() > header.place {
@@ -396,25 +445,37 @@ fn read_any_text<'a>(
     cursor: &mut Cursor<'a>,
     sections: &Sections<'a>,
     form: TextForm,
-) -> Result<&'a [u8], Fault>
-    ensures { Reads (λ text. text.now) result cursor.new (form_text_at (bytes_in sections.now) form cursor.old) }
+) -> Result<PlacedText<'a>, Fault>
+    ensures { Reads (λ text. text.bytes.now) result cursor.new (form_text_at (bytes_in sections.now) form cursor.old) }
 {
     match form {
-        TextForm::Inline => cursor.text(),
-        TextForm::Str => read_placed_text(cursor, sections.strings),
+        TextForm::Inline => Ok(PlacedText {
+            bytes: cursor.text()?,
+            place: None,
+        }),
+        TextForm::Str => {
+            let text = read_placed_text(cursor, sections.strings)?;
+            Ok(PlacedText {
+                bytes: text.bytes,
+                place: None,
+            })
+        }
         TextForm::LineStr => read_placed_text(cursor, sections.line_str),
     }
 }
 
-/// The text of a section whose place stands next.
+/// The text of a section whose place stands next, with that place.
 #[tactic(auto, unfolding(crate::specs::Entries::placed_text_at))]
-fn read_placed_text<'a>(cursor: &mut Cursor, section: &'a [u8]) -> Result<&'a [u8], Fault>
-    ensures { Reads (λ text. text.now) result cursor.new (placed_text_at section.now cursor.old) }
+fn read_placed_text<'a>(cursor: &mut Cursor, section: &'a [u8]) -> Result<PlacedText<'a>, Fault>
+    ensures { Reads (λ text. text.bytes.now) result cursor.new (placed_text_at section.now cursor.old) }
 {
     let first = cursor.fork();
     let place = cursor.u32()?;
     match text_in(section, place) {
-        Some(text) => Ok(text),
+        Some(bytes) => Ok(PlacedText {
+            bytes,
+            place: Some(place),
+        }),
         None => Err(first.fault(Kind::BadOffset)),
     }
 }

@@ -18,7 +18,7 @@ use crate::header::{
 use crate::names::{HeaderEnd, read_dirs, read_files};
 use crate::program::read_sequences;
 use ds_base::{Cursor, Kind, ReadError};
-use dwarf_types::{FileNames, Paths, RawLines, Sections};
+use dwarf_types::{FileNames, Paths, RawLines, Sections, SharedTexts};
 use macho_read::Image;
 use reloc_table::Relocs;
 use std::alloc::Global;
@@ -31,6 +31,9 @@ use std::alloc::Global;
 /// 2^64, and lines modulo 2^32. Of each row `row.address` is 0. "At the beginning of each sequence" the registers are set
 /// anew; a sequence that the program ends before `DW_LNE_end_sequence` is there where it has a row, and has no end.
 ///
+/// `texts` are likely to be the bytes of `__debug_line_str`: a table of version 5 names what stands there by its place, and
+/// copies the rest. They change nothing of what is read.
+///
 /// Before version 5 files that operations define stand behind those of the header, and no file has a digest. In version
 /// 5 directories and files are numbered from 0; their numbers are passed on as they stand. A time that is a block counts
 /// as 0, and so does each number that an entry doesn't have.
@@ -41,6 +44,7 @@ use std::alloc::Global;
 pub fn read_lines(
     alloc: Global,
     sections: &Sections,
+    texts: &SharedTexts,
     relocs: &Relocs,
     image: &Image,
     offset: u32,
@@ -68,8 +72,8 @@ pub fn read_lines(
         passed: first.fault(Kind::BadLineHeader),
         bad_format: first.fault(Kind::BadEntryFormat),
     };
-    let dirs = read_dir_table(alloc, &mut cursor, sections, end, table_version)?;
-    let files = read_file_table(alloc, &mut cursor, sections, end, table_version)?;
+    let dirs = read_dir_table(alloc, &mut cursor, sections, texts, end, table_version)?;
+    let files = read_file_table(alloc, &mut cursor, sections, texts, end, table_version)?;
     read_sequences(alloc, &header, bytes, relocs, image, program, dirs, files)
 }
 
@@ -90,13 +94,14 @@ fn read_dir_table<'a>(
     alloc: Global,
     cursor: &mut Cursor<'a>,
     sections: &Sections<'a>,
+    texts: &SharedTexts,
     header: HeaderEnd,
     version: u16,
 ) -> Result<Paths, ReadError>
     ensures { ReadsUnlessFull (λ dirs. dirs) result cursor.new (dirs_at header (bytes_in sections.now) version cursor.old) }
 {
     if version >= FORMATS_SINCE {
-        return read_dir_entries(alloc, cursor, sections, header);
+        return read_dir_entries(alloc, cursor, sections, texts, header);
     }
     read_dirs(alloc, cursor, header)
 }
@@ -107,13 +112,14 @@ fn read_file_table<'a>(
     alloc: Global,
     cursor: &mut Cursor<'a>,
     sections: &Sections<'a>,
+    texts: &SharedTexts,
     header: HeaderEnd,
     version: u16,
 ) -> Result<FileNames, ReadError>
     ensures { ReadsUnlessFull (λ files. files) result cursor.new (files_at header (bytes_in sections.now) version cursor.old) }
 {
     if version >= FORMATS_SINCE {
-        return read_file_entries(alloc, cursor, sections, header);
+        return read_file_entries(alloc, cursor, sections, texts, header);
     }
     read_files(alloc, cursor, header)
 }

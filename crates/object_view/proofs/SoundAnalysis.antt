@@ -18,10 +18,8 @@ use Rattle.dwarf_types.specs.declared.analysis.CodeRange.{CodeRange}
 use Rattle.dwarf_types.specs.declared.entry.Attr.{Attr}
 use Rattle.dwarf_types.specs.declared.entry.Entry.{Entry}
 use Rattle.dwarf_types.specs.declared.entry.InUnit.{InUnit}
-use Rattle.dwarf_types.specs.declared.entry.RawAttr.{RawAttr}
 use Rattle.dwarf_types.specs.declared.entry.RawEntry.{RawEntry}
 use Rattle.dwarf_types.specs.declared.entry.RawUnits.{RawUnits}
-use Rattle.dwarf_types.specs.declared.value.Value.{Value}
 use Rattle.dwarf_types.specs.declared.lines.OutLines.{OutLines}
 use Rattle.dwarf_types.specs.Live.{Stands, bases_of, op_bases, operations_of}
 use Rattle.dwarf_types.specs.Sound.{AreCodeRanges, AreUnits, IsBaseType, IsParent, IsSound, IsSoundEntry}

@@ -16,13 +16,14 @@ use addr_map::AddrMap;
 use ds_base::dwarf::{DW_AT_comp_dir, DW_AT_stmt_list, DW_FORM_sec_offset, DWARF_5};
 use ds_base::{List, NoMemory, ReadError};
 use dwarf_types::{
-    AttrRef, Entries, EntryRef, FileNames, InUnit, NewValue, OutLines, Paths, RawLines, ValueRef,
+    AttrRef, Entries, EntryRef, FileNames, InUnit, NewValue, OutLines, Paths, RawLines,
+    SharedTexts, ValueRef,
 };
 use line_read::{read_lines, table_version};
 use moved_parts::move_lines;
 use std::alloc::Global;
 
-/// Reads the line tables of the units, one unit after the other.
+/// Reads the line tables of the units, one unit after the other. They share one copy of `__debug_line_str`.
 pub(crate) fn read_line_tables(
     alloc: Global,
     object: &OpenObject,
@@ -34,7 +35,8 @@ pub(crate) fn read_line_tables(
     requires inside { All (IsLinesInside (bytes_in object.now.sections) entries.now) units }
     ensures { Gives (λ units. units) result (Attributes.units_meant (opened_seen object.now) map.now entries.now units) }
 {
-    read_each(alloc, object, map, entries, units.as_mut_slice())?;
+    let texts = SharedTexts::of(alloc, object.sections.line_str)?;
+    read_each(alloc, object, &texts, map, entries, units.as_mut_slice())?;
     Ok(units)
 }
 
@@ -42,6 +44,7 @@ pub(crate) fn read_line_tables(
 fn read_each(
     alloc: Global,
     object: &OpenObject,
+    texts: &SharedTexts,
     map: &AddrMap,
     entries: &Entries,
     units: &mut [InUnit],
@@ -51,7 +54,7 @@ fn read_each(
     ensures { Gives (λ _. units.new) result (Attributes.units_meant (opened_seen object.now) map.now entries.now units.old) }
 {
     for unit in units.iter_mut() {
-        read_unit_lines(alloc, object, map, entries, unit)?;
+        read_unit_lines(alloc, object, texts, map, entries, unit)?;
     }
     Ok(())
 }
@@ -60,6 +63,7 @@ fn read_each(
 fn read_unit_lines(
     alloc: Global,
     object: &OpenObject,
+    texts: &SharedTexts,
     map: &AddrMap,
     entries: &Entries,
     unit: &mut InUnit,
@@ -72,7 +76,7 @@ fn read_unit_lines(
         return Ok(());
     };
     let dir = dir_of_unit(entries, unit.first);
-    unit.lines = Some(lines_at(alloc, object, map, unit.version, dir, place)?);
+    unit.lines = Some(lines_at(alloc, object, texts, map, unit.version, dir, place)?);
     Ok(())
 }
 
@@ -80,6 +84,7 @@ fn read_unit_lines(
 fn lines_at(
     alloc: Global,
     object: &OpenObject,
+    texts: &SharedTexts,
     map: &AddrMap,
     version: u16,
     dir: &[u8],
@@ -92,6 +97,7 @@ fn lines_at(
     let lines = read_lines(
         alloc,
         &object.sections,
+        texts,
         &object.relocs.line,
         &object.image,
         place as u32,

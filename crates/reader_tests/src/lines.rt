@@ -2,7 +2,7 @@
 
 use crate::parts::{assert_refused, lines_5, no_symbols, sections, two_relocs};
 use ds_base::{Kind, Part, ReadError};
-use dwarf_types::{Addr, RawLines, RawRow, Row};
+use dwarf_types::{Addr, RawLines, RawRow, Row, SharedTexts};
 use line_read::{read_lines, table_version};
 use std::alloc::Global;
 use std::process::Abort;
@@ -13,7 +13,8 @@ fn read(rt: &impl Abort, alloc: Global, line: &[u8]) -> Result<RawLines, ReadErr
     let relocs = two_relocs(alloc, 0x28, 0x57)?;
     let image = no_symbols(alloc);
     let sections = sections(line, b"", b"", b"");
-    read_lines(alloc, &sections, &relocs, &image, 0, 4)
+    let texts = SharedTexts::none();
+    read_lines(alloc, &sections, &texts, &relocs, &image, 0, 4)
 }
 
 /// A table is refused so.
@@ -106,19 +107,28 @@ const TABLE_5: &[u8; 62] = b"\x3a\0\0\0\x05\0\x08\0\x32\0\0\0\x01\x01\x01\xfb\x0
     \x04\x01\x1f\x02\x0f\x03\x0f\x04\x0f\
     \x02\x05\0\0\0\0\0\0\x05\0\0\0\0\0\0";
 
-/// The line table at the start of a section, of a unit of version 5.
-fn read_5(rt: &impl Abort, alloc: Global, line: &[u8]) -> Result<RawLines, ReadError> {
+/// Its texts.
+const LINE_STR: &[u8; 9] = b"/src\0a.c\0";
+
+/// The line table at the start of a section, of a unit of version 5, with these texts to share.
+fn read_5(
+    rt: &impl Abort,
+    alloc: Global,
+    line: &[u8],
+    shared: &[u8],
+) -> Result<RawLines, ReadError> {
     assert!(rt; !line.is_empty() && line.len() < 1000);
     let relocs = two_relocs(alloc, 0x100, 0x108)?;
     let image = no_symbols(alloc);
-    let sections = lines_5(line, b"/src\0a.c\0");
-    read_lines(alloc, &sections, &relocs, &image, 0, 5)
+    let sections = lines_5(line, LINE_STR);
+    let texts = SharedTexts::of(alloc, shared)?;
+    read_lines(alloc, &sections, &texts, &relocs, &image, 0, 5)
 }
 
-#[test]
+/// The table of version 5 has its directory and files, with these texts to share.
 #[rattlefmt::skip]
-fn a_table_of_version_5_has_its_directories_and_files(rt: HostRuntime) {
-    match read_5(&rt, rt.alloc(), TABLE_5) {
+fn assert_table_5(rt: &impl Abort, alloc: Global, shared: &[u8]) {
+    match read_5(rt, alloc, TABLE_5, shared) {
         Ok(lines) => {
             assert_eq!(rt; (lines.dirs.len(), lines.files.len(), lines.sequences.len()), (1, 2, 0));
             for i in 0..lines.dirs.len() {
@@ -132,6 +142,15 @@ fn a_table_of_version_5_has_its_directories_and_files(rt: HostRuntime) {
         }
         Err(error) => panic!(rt; "{error:?}"),
     }
+}
+
+#[test]
+fn a_table_of_version_5_has_its_directories_and_files(rt: HostRuntime) {
+    let alloc = rt.alloc();
+    assert_table_5(&rt, alloc, LINE_STR);
+    // Where other texts are shared, or none, names are copied.
+    assert_table_5(&rt, alloc, b"/src\0a.b\0");
+    assert_table_5(&rt, alloc, b"");
     assert_eq!(rt; table_version(&lines_5(TABLE_5, b""), 0), Some(5));
 }
 
@@ -143,7 +162,7 @@ fn refused_5(rt: &impl Abort, alloc: Global, at: usize, byte: u8, kind: Kind, pl
     assert_refused(
         rt,
         "a byte",
-        read_5(rt, alloc, &bytes).err(),
+        read_5(rt, alloc, &bytes, LINE_STR).err(),
         Part::Line,
         kind,
         place,

@@ -1,4 +1,4 @@
-use Rattle.std.proofs.Common.{◌<◌, length, arith, subst, sym}
+use Rattle.std.proofs.Common.{◌<◌, length, arith}
 use Rattle.std.specs.List.{All}
 use Rattle.std.specs.Slice.Iter.{iter_rest}
 use Rattle.std.proofs.lemmas.Result.{err_from_is_err_and}
@@ -9,7 +9,7 @@ use Rattle.object_view.specs.Infos.{FitsInfo, info_value}
 use Rattle.object_view.proofs.EachOf.{changed_all, changed_none}
 use Rattle.object_view.proofs.Fitting.{one_of}
 use Rattle.object_view.proofs.InPlace.{raw_turn, get_some, item_more, item_refused, item_was, turned}
-use Rattle.object_view.proofs.Leading.{Left, entry_targets, led_all, left_leads, left_more, left_none}
+use Rattle.object_view.proofs.Leading.{entry_targets, led_all, left_leads, left_more, left_none}
 use Rattle.object_view.proofs.info.understand_entries.Goals as goal
 
 pub loop-i-init : goal.loop-i-init
