@@ -49,6 +49,21 @@ all_before places place before =
 
 -- ---- the table as it grows
 
+rank_le : (places : List ℕ) → AllPairs (λ p later. p < later) places → (i : ℕ) → i < length places → i ≤ get_or places i 0
+rank_le places rise zero lt = omega arith
+rank_le places rise (suc i) lt =
+    let le = rank_le places rise i (omega arith) in
+    let up : get_or places i 0 < get_or places (suc i) 0 = rise i (suc i) 0 (omega arith) lt in
+    omega arith
+
+-- no more of them lie before a place than its number tells
+pub few_before : (places : List ℕ) (place n : ℕ) → AllPairs (λ p later. p < later) places → ((i : ℕ) → i < length places → get_or places i 0 < place) → n ≤ length places → n ≤ place
+few_before places place zero rise before le = omega arith
+few_before places place (suc n) rise before le =
+    let rank = rank_le places rise n (omega arith) in
+    let low = before n (omega arith) in
+    omega arith
+
 count_there : (before : List ℕ) (k count b : ℕ) → length before ≤ b → b < length (before ++ replicate k count) → get_or (before ++ replicate k count) b 0 ≡ count
 count_there before k count b behind lt =
     get_or-append_right before (replicate k count) (length before) b 0 refl behind ∙ get_or-replicate k (b - length before) count 0 (omega (arith, length-append before (replicate k count), length-replicate k count))

@@ -44,16 +44,22 @@ impl Model for Builder {
 }
 
 impl Builder {
-    /// No entries. `strings` is the section in which places of texts are. `size` is that of the section of the entries
-    /// in bytes, and memory is set aside for as many as such a section mostly has.
-    pub fn new(alloc: Global, strings: &[u8], size: usize) -> Result<Builder, NoMemory>
+    /// No entries. Places of texts are in `strings` and, behind it, in `line_strings`: `__debug_str` and
+    /// `__debug_line_str`. `size` is that of the section of the entries in bytes, and memory is set aside for as many as
+    /// such a section mostly has.
+    pub fn new(
+        alloc: Global,
+        strings: &[u8],
+        line_strings: &[u8],
+        size: usize,
+    ) -> Result<Builder, NoMemory>
         ensures { IfOk result (λ built. built ≡ record { entries = []; attrs = [] }) }
     {
         Ok(Builder {
             heads: Vec::with_capacity(alloc, size / BYTES_AN_ENTRY)?,
             cells: Vec::with_capacity(alloc, size / BYTES_AN_ATTRIBUTE)?,
             ends: Vec::with_capacity(alloc, size / BYTES_AN_ATTRIBUTE)?,
-            sides: Sides::with_texts(alloc, strings)?,
+            sides: Sides::with_texts(alloc, strings, line_strings)?,
             open_from: 0,
         })
     }

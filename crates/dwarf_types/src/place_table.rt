@@ -16,7 +16,7 @@ const STEP: u32 = 32;
 pub struct PlaceTable {
     places: Vec<u32>,
     /// Of each step, a number of places that lie before it.
-    before: Vec<usize>,
+    before: Vec<u32>,
 }
 
 impl Model for PlaceTable {
@@ -61,7 +61,7 @@ impl PlaceTable {
         if step >= self.before.len() {
             return None;
         }
-        find_from(&self.places, self.before[step], place)
+        find_from(&self.places, self.before[step] as usize, place)
     }
 
     /// Puts a place behind those before.
@@ -70,14 +70,16 @@ impl PlaceTable {
         ensures { OnOk result (self.new ≡ self.old ++ place ∷ []) }
     {
         let steps = (place / STEP) as usize + 1;
-        add_steps(&mut self.before, steps, self.places.len())?;
+        // The places before are different numbers below this one.
+        let count = self.places.len() as u32;
+        add_steps(&mut self.before, steps, count)?;
         self.places.push(place)?;
         Ok(())
     }
 }
 
 /// Puts steps that have so many places before them, until there are enough.
-fn add_steps(before: &mut Vec<usize>, enough: usize, count: usize) -> Result<(), NoMemory>
+fn add_steps(before: &mut Vec<u32>, enough: usize, count: u32) -> Result<(), NoMemory>
     ensures more { (k : ℕ) × (before.new.items ≡ before.old.items ++ replicate k count) }
     ensures enough { OnOk result (enough ≤ length before.new.items) }
 {

@@ -8,8 +8,9 @@ use crate::seen::{LocationsRef, OpsRef};
 pub enum RawValue<'a> {
     /// Class address: the stored number, which no relocation has changed.
     Address(u64),
-    /// Class string, without the zero byte that ends it, and its place in `__debug_str` if it is there. The place helps
-    /// to keep it without a copy, and means nothing more.
+    /// Class string, without the zero byte that ends it, and if it is there its place among the texts of the sections,
+    /// those of `__debug_str` and behind them those of `__debug_line_str`. The place helps to keep it without a copy, and
+    /// means nothing more.
     Text { bytes: &'a [u8], place: Option<u32> },
     /// Classes constant and flag, up to 64 bits.
     Number(u64),

@@ -102,7 +102,7 @@ pub(crate) struct Held {
 pub(crate) struct Sides {
     /// Numbers that 32 bits do not hold.
     pub(crate) large: Vec<u64>,
-    /// The section of texts, and behind it all other bytes.
+    /// The sections of texts, one behind the other, and behind them all other bytes.
     pub(crate) bytes: Vec<u8>,
     pub(crate) stretches: Vec<Stretch>,
     pub(crate) places: Vec<Place>,
@@ -129,10 +129,18 @@ impl Sides {
         }
     }
 
-    /// Columns that are empty but for the section of texts.
-    pub(crate) fn with_texts(alloc: Global, strings: &[u8]) -> Result<Sides, NoMemory> {
+    /// Columns that are empty but for the sections of texts.
+    pub(crate) fn with_texts(
+        alloc: Global,
+        strings: &[u8],
+        line_strings: &[u8],
+    ) -> Result<Sides, NoMemory> {
         let mut sides = Sides::new(alloc);
+        sides
+            .bytes
+            .reserve(strings.len().saturating_add(line_strings.len()))?;
         sides.bytes.extend_from_slice(strings)?;
+        sides.bytes.extend_from_slice(line_strings)?;
         Ok(sides)
     }
 
@@ -231,7 +239,7 @@ impl Sides {
         })
     }
 
-    /// A text: where it stands in the section of texts, else as bytes of its own.
+    /// A text: where it stands in the sections of texts, else as bytes of its own.
     fn store_text(&mut self, text: &[u8], place: Option<u32>) -> Result<Held, NoMemory>
         ensures value { IfOk result (λ h. (form : ℕ) → held_value self.new h.kind form h.payload ≡ values.Text text.now) }
         ensures within { IfOk result (λ h. IsWithin self.new h.kind h.payload) }

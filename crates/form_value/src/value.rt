@@ -19,8 +19,7 @@ use dwarf_types::{Field, RawValue, Sections};
 /// An address is the stored number. An expression is a `Block`. References, offsets into sections and
 /// indices into tables are `Offset` of the stored number; whether it leads anywhere is not tried. A flag
 /// that is only present is 1. Texts of `DW_FORM_strp` and `DW_FORM_line_strp` are those of their section,
-/// and the place of the former is told. Faults are placed in the cursor's part; on a refusal the cursor
-/// stays.
+/// and their places are told. Faults are placed in the cursor's part; on a refusal the cursor stays.
 #[tactic(auto, unfolding(crate::specs::Reading::value_at))]
 pub fn read_value<'a>(
     cursor: &mut Cursor<'a>,
@@ -65,8 +64,9 @@ fn read_row<'a>(
             })
         }
         FormClass::LineStrText => {
-            let (_, bytes) = read_placed_text(cursor, sections.line_str)?;
-            Ok(RawValue::Text { bytes, place: None })
+            let (place, bytes) = read_placed_text(cursor, sections.line_str)?;
+            let place = place_behind(sections.strings, place);
+            Ok(RawValue::Text { bytes, place })
         }
         FormClass::Number(coding) => Ok(RawValue::Number(read_coded(cursor, coding)?)),
         FormClass::Signed => Ok(RawValue::Number(cursor.sleb()?.cast_unsigned())),
@@ -91,6 +91,14 @@ fn read_placed_text<'a>(cursor: &mut Cursor, section: &'a [u8]) -> Result<(u32, 
     };
     *cursor = next;
     Ok((place, text))
+}
+
+/// A place of `__debug_line_str` among the texts of the sections, behind those of `__debug_str`, if 32 bits hold it.
+fn place_behind(strings: &[u8], place: u32) -> Option<u32> {
+    let Ok(before) = u32::try_from(strings.len()) else {
+        return None;
+    };
+    before.checked_add(place)
 }
 
 /// The text that begins at a place of a section, if it ends there.

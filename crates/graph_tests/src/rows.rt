@@ -309,7 +309,7 @@ fn analysis_with(
 ) -> Result<Analysis, NoMemory> {
     let mut first = Some(table);
     let mut units: Vec<InUnit> = Vec::new(alloc);
-    let mut built = Builder::new(alloc, &[], 0)?;
+    let mut built = Builder::new(alloc, &[], &[], 0)?;
     let mut number: u32 = 0;
     let mut in_unit: u32 = u32::MAX;
     for row in rows {

@@ -66,7 +66,7 @@ fn numbers_are_read_by_their_forms(rt: HostRuntime) {
     assert_number(&rt, 0x17, b"\x2a\0\0\0", (true, 0x2a));
 }
 
-/// The bytes that a value lends, and their place in `__debug_str`.
+/// The bytes that a value lends, and their place among the texts of the sections.
 fn lent(value: RawValue<'_>) -> Option<(&[u8], Option<u32>)> {
     match value {
         RawValue::Text { bytes, place } => Some((bytes, place)),
@@ -89,7 +89,7 @@ fn assert_lent(rt: &impl Abort, form: u16, bytes: &[u8], want: (&[u8], Option<u3
 fn texts_and_blocks_are_lent(rt: HostRuntime) {
     assert_lent(&rt, 0x08, b"ab\0c", (b"ab", None));
     assert_lent(&rt, 0x0e, b"\x04\0\0\0", (b"main", Some(4)));
-    assert_lent(&rt, 0x1f, b"\0\0\0\0", (b"a", None));
+    assert_lent(&rt, 0x1f, b"\0\0\0\0", (b"a", Some(9)));
     assert_lent(&rt, 0x0a, b"\x02\x07\x08\x09", (b"\x07\x08", None));
     assert_lent(&rt, 0x18, b"\x01\x9c", (b"\x9c", None));
     assert_lent(&rt, 0x1e, b"0123456789abcdef", (b"0123456789abcdef", None));

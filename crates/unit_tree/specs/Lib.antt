@@ -4,6 +4,7 @@ pub mod Entry
 pub mod Header
 pub mod Inside
 pub mod Meaning
+pub mod Packed
 pub mod Reference
 pub mod Spelling
 pub mod Sound

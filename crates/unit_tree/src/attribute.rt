@@ -1,6 +1,6 @@
 //! The attributes of an entry.
 
-ghost use Rattle.std.specs.Prelude.{◌≡◌, ◌<◌, ◌++◌, not, length, Some, IfOk, OnOk, nat_lt};
+ghost use Rattle.std.specs.Prelude.{◌≡◌, ◌<◌, ◌++◌, not, length, Some, None, IfOk, IfSome, OnOk, nat_lt};
 ghost use Rattle.std.specs.Option.{option_to_list};
 ghost use Rattle.ds_base.specs.declared.fault.Kind.TheVariants.{BadIndex, BadOffset};
 ghost use Rattle.ds_base.specs.Reading.{Finds, Reads, ReadsUnlessFull, refuse_if};
@@ -8,10 +8,13 @@ ghost use Rattle.ds_base.specs.Spot.{IsSmall, fault_at};
 ghost use Rattle.dwarf_types.specs.Put.{value_read};
 ghost use Rattle.dwarf_types.specs.SectionBytes.{bytes_in};
 ghost use Rattle.dwarf_types.specs.declared.value.Value.TheVariants.{Ref};
+ghost use Rattle.unit_tree.specs.declared.packed.TheConstants.{ANY_UNIT};
+ghost use Rattle.unit_tree.specs.Bounds.{IsOf};
 ghost use Rattle.unit_tree.specs.Meaning.{meaning_of};
 ghost use Rattle.unit_tree.specs.Attribute.{number_in, names_lines, offset_in, reference_to, ranges_of, locations_of, text_named, address_named, list_named, meant_at, value_meant_at, attr_at, attrs_at};
 
 use crate::meaning::{Meaning, meaning_of_value};
+use crate::packed::PackedReference;
 use crate::reference::Reference;
 use ds_base::dwarf::{DW_AT_stmt_list, DWARF_5};
 use ds_base::{Cursor, Fault, Kind, List, NoMemory, ReadError};
@@ -41,9 +44,10 @@ pub(crate) fn read_attrs<'a>(
     root: bool,
     fields: &[Field],
     built: &mut Builder,
-    references: &mut List<Reference>,
+    references: &mut List<PackedReference>,
 ) -> Result<(), ReadError>
-    requires { IsSmall cursor.old }
+    requires unit { context.unit < ANY_UNIT }
+    requires small { IsSmall cursor.old }
     ensures read { ReadsUnlessFull (λ _. (built.new.attrs, references.new)) result cursor.new (attrs_at (bytes_in sections.now) context root fields.now (built.old.attrs, references.old) cursor.old) }
     ensures entries { built.new.entries ≡ built.old.entries }
 {
@@ -56,11 +60,15 @@ pub(crate) fn read_attrs<'a>(
 }
 
 /// Puts a reference to the others, if there is one.
-fn keep(references: &mut List<Reference>, reference: Option<Reference>) -> Result<(), NoMemory>
+fn keep(
+    references: &mut List<PackedReference>,
+    reference: Option<Reference>,
+) -> Result<(), NoMemory>
+    requires { IfSome reference (λ r. IfSome r.unit (λ unit. unit < ANY_UNIT)) }
     ensures { OnOk result (references.new ≡ references.old ++ option_to_list reference) }
 {
     if let Some(reference) = reference {
-        references.push(reference)?;
+        references.push(PackedReference::new(reference))?;
     }
     Ok(())
 }
@@ -79,6 +87,7 @@ fn read_attr<'a>(
     requires { IsSmall cursor.old }
     ensures read { Reads (λ read. (record { name = field.now.name; form = field.now.form; end = read.0; value = value_read field.now.form read.1 }, read.2)) result cursor.new (attr_at (bytes_in sections.now) context root field.now before.now.attrs cursor.old) }
     ensures known { IfOk result (λ _. field.now.form < 256) }
+    ensures own { IfOk result (λ read. IsOf context.unit read.2) }
 {
     let first = cursor.fork();
     let value = read_value(cursor, field, context.version, sections)?;
@@ -99,7 +108,8 @@ fn understand<'a>(
     value: RawValue<'a>,
 ) -> Result<(RawValue<'a>, Option<Reference>), Fault>
     requires { IsSmall first.now }
-    ensures { Finds (λ meant. (value_read field.now.form meant.0, meant.1)) result (value_meant_at (bytes_in sections.now) context root field.now before.now.attrs (value_read field.now.form value.entry) first.now) }
+    ensures read { Finds (λ meant. (value_read field.now.form meant.0, meant.1)) result (value_meant_at (bytes_in sections.now) context root field.now before.now.attrs (value_read field.now.form value.entry) first.now) }
+    ensures own { IfOk result (λ meant. IsOf context.unit meant.1) }
 {
     match number_of(field.form, &value) {
         None => Ok((value, None)),
@@ -142,7 +152,8 @@ fn value_of_number<'a>(
     n: u64,
 ) -> Result<(RawValue<'a>, Option<Reference>), Fault>
     requires { IsSmall first.now }
-    ensures { Finds (λ meant. (value_read field.now.form meant.0, meant.1)) result (meant_at (bytes_in sections.now) context lines (meaning_of field.now.form field.now.name) n first.now) }
+    ensures read { Finds (λ meant. (value_read field.now.form meant.0, meant.1)) result (meant_at (bytes_in sections.now) context lines (meaning_of field.now.form field.now.name) n first.now) }
+    ensures own { IfOk result (λ meant. IsOf context.unit meant.1) }
 {
     match meaning_of_value(field.form, field.name) {
         Meaning::InUnit => {
@@ -203,7 +214,8 @@ fn find_text<'a>(
     field: &Field,
     n: u64,
 ) -> Result<(RawValue<'a>, Option<Reference>), Fault>
-    ensures { Finds (λ meant. (value_read field.now.form meant.0, meant.1)) result (text_named (bytes_in sections.now) bases n first.now) }
+    ensures read { Finds (λ meant. (value_read field.now.form meant.0, meant.1)) result (text_named (bytes_in sections.now) bases n first.now) }
+    ensures none { IfOk result (λ meant. meant.1 ≡ None) }
 {
     let Some(bases) = bases else {
         return Ok((RawValue::Offset(n), None));
@@ -228,7 +240,8 @@ fn find_address<'a>(
     field: &Field,
     n: u64,
 ) -> Result<(RawValue<'a>, Option<Reference>), Fault>
-    ensures { Finds (λ meant. (value_read field.now.form meant.0, meant.1)) result (address_named (bytes_in sections.now) bases n first.now) }
+    ensures read { Finds (λ meant. (value_read field.now.form meant.0, meant.1)) result (address_named (bytes_in sections.now) bases n first.now) }
+    ensures none { IfOk result (λ meant. meant.1 ≡ None) }
 {
     if let Some(bases) = bases
         && !has_address(sections, bases.addresses, n)
@@ -247,7 +260,8 @@ fn find_list<'a>(
     field: &Field,
     n: u64,
 ) -> Result<(RawValue<'a>, Option<Reference>), Fault>
-    ensures { Finds (λ meant. (value_read field.now.form meant.0, meant.1)) result (list_named section.now base n first.now) }
+    ensures read { Finds (λ meant. (value_read field.now.form meant.0, meant.1)) result (list_named section.now base n first.now) }
+    ensures none { IfOk result (λ meant. meant.1 ≡ None) }
 {
     let Some(base) = base else {
         return Ok((RawValue::Offset(n), None));
@@ -273,7 +287,8 @@ fn try_offset(first: &Cursor, section: &[u8], n: u64) -> Result<(), Fault>
 /// A reference to a place, from a value that stands at the cursor.
 fn refer(first: &Cursor, place: u64, unit: Option<u32>) -> Reference
     requires { IsSmall first.now }
-    ensures { (Ref result.target, Some result) ≡ reference_to place unit first.now }
+    ensures is { (Ref result.target, Some result) ≡ reference_to place unit first.now }
+    ensures own { result.unit ≡ unit }
 {
     Reference {
         place: first.place() as u32,

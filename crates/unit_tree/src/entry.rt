@@ -5,12 +5,13 @@ ghost use Rattle.std.specs.List.{list_any};
 ghost use Rattle.ds_base.specs.Reading.{Finds, Gives, Moves, Reads, ReadsUnlessFull, uleb_at};
 ghost use Rattle.ds_base.specs.Spot.{IsSmall};
 ghost use Rattle.dwarf_types.specs.SectionBytes.{bytes_in};
+ghost use Rattle.unit_tree.specs.declared.packed.TheConstants.{ANY_UNIT};
 ghost use Rattle.unit_tree.specs.Entry.{is_dwo_name, entry_at, first_at, bases_at, root_at, innermost, closed, opened, listed_at, child_at, children_at, tree_at};
 ghost use Rattle.index_tables.specs.Bases.{bases_in};
 ghost use Rattle.unit_tree.specs.Bounds.{AreNumbers, IsReady, NumbersNext, parsed_seen};
 
 use crate::attribute::{UnitContext, read_attrs};
-use crate::reference::Reference;
+use crate::packed::PackedReference;
 use crate::table::Table;
 use ds_base::dwarf::{DW_AT_GNU_dwo_name, DW_AT_dwo_name, DW_TAG_compile_unit};
 use ds_base::{Cursor, Fault, Kind, List, NoMemory, ReadError};
@@ -30,7 +31,7 @@ pub(crate) struct Parsed {
     /// The entries in document order.
     pub(crate) built: Builder,
     /// The references of their values, in document order.
-    pub(crate) references: List<Reference>,
+    pub(crate) references: List<PackedReference>,
 }
 
 /// Reads the tree of the unit that begins at `start`, and puts its entries behind those before. Answers
@@ -45,6 +46,7 @@ pub(crate) fn read_tree<'a>(
     table: &Table,
     parsed: &mut Parsed,
 ) -> Result<u32, ReadError>
+    requires unit { context.unit < ANY_UNIT }
     requires ready { IsReady parsed.old }
     requires small { IsSmall cursor.old }
     ensures read { ReadsUnlessFull (λ _. parsed_seen parsed.new) result cursor.new (tree_at start.now (bytes_in sections.now) context table.now (parsed_seen parsed.old) cursor.old) }
@@ -69,6 +71,7 @@ fn read_root<'a>(
     table: &Table,
     parsed: &mut Parsed,
 ) -> Result<(u32, bool), ReadError>
+    requires unit { context.unit < ANY_UNIT }
     requires ready { IsReady parsed.old }
     requires small { IsSmall cursor.old }
     ensures read { ReadsUnlessFull (λ root. (root.1, parsed_seen parsed.new)) result cursor.new (root_at start.now (bytes_in sections.now) context table.now (parsed_seen parsed.old) cursor.old) }
@@ -127,14 +130,14 @@ pub(crate) fn find_bases<'a>(
     table: &Table,
     parsed: &Parsed,
 ) -> Result<Bases, ReadError>
+    requires unit { context.unit < ANY_UNIT }
     requires small { IsSmall cursor.now }
     ensures { Gives (λ bases. bases) result (bases_at start.now (bytes_in sections.now) context table.now (parsed_seen parsed.now) cursor.now) }
 {
     let mut cursor = cursor.fork();
     let declared = read_first(start, &mut cursor, table, parsed)?;
     let fields = declared.fields.as_slice();
-    let strings: &[u8] = &[];
-    let mut built = Builder::new(alloc, strings, 0)?;
+    let mut built = Builder::new(alloc, &[], &[], 0)?;
     let mut references = List::new(alloc);
     read_attrs(
         &mut cursor,
@@ -170,6 +173,7 @@ fn read_children<'a>(
     parsed: &mut Parsed,
     lists: &mut List<u32>,
 ) -> Result<(), ReadError>
+    requires unit { context.unit < ANY_UNIT }
     requires ready { IsReady parsed.old }
     requires numbers { AreNumbers lists.old }
     requires small { IsSmall cursor.old }
@@ -209,6 +213,7 @@ fn read_child<'a>(
     parsed: &mut Parsed,
     lists: &mut List<u32>,
 ) -> Result<(), ReadError>
+    requires unit { context.unit < ANY_UNIT }
     requires ready { IsReady parsed.old }
     requires numbers { AreNumbers lists.old }
     requires small { IsSmall cursor.old }
@@ -239,6 +244,7 @@ fn read_listed<'a>(
     parsed: &mut Parsed,
     lists: &mut List<u32>,
 ) -> Result<(), ReadError>
+    requires unit { context.unit < ANY_UNIT }
     requires ready { IsReady parsed.old }
     requires numbers { AreNumbers lists.old }
     requires first { IsSmall first.now }
@@ -269,6 +275,7 @@ fn read_entry<'a>(
     declared: &Abbrev,
     parsed: &mut Parsed,
 ) -> Result<(), ReadError>
+    requires unit { context.unit < ANY_UNIT }
     requires ready { IsReady parsed.old }
     requires room { length parsed.old.built.entries < MOST_ENTRIES }
     requires parent { IfSome parent (λ p. p < MOST_ENTRIES) }

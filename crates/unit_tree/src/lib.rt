@@ -17,6 +17,7 @@ mod entry;
 mod header;
 mod laws;
 mod meaning;
+mod packed;
 mod reference;
 mod table;
 mod unit;

@@ -5,6 +5,7 @@ ghost use Rattle.ds_base.specs.Reading.{Gives};
 ghost use Rattle.unit_tree.specs.Reference.{reaches, leads, resolved, IsRising};
 ghost use Rattle.unit_tree.specs.Targets.{number_at};
 
+use crate::packed::PackedReference;
 use ds_base::{Fault, Kind, List, Part, ReadError};
 use dwarf_types::{PlaceTable, RawEntries};
 use std::alloc::Global;
@@ -33,7 +34,7 @@ pub struct Resolved {
 pub(crate) fn resolve(
     alloc: Global,
     entries: &RawEntries,
-    references: &[Reference],
+    references: &[PackedReference],
 ) -> Result<Resolved, ReadError>
     requires rising { IsRising entries.now }
     requires few { length entries.now < 2 ^ 32 }
@@ -43,8 +44,9 @@ pub(crate) fn resolve(
 {
     let places = PlaceTable::of(alloc, entries)?;
     let mut numbers = List::with_capacity(alloc, references.len())?;
-    for reference in references {
-        let Some(number) = number_led_to(&places, entries, reference) else {
+    for packed in references {
+        let reference = packed.unpacked();
+        let Some(number) = number_led_to(&places, entries, &reference) else {
             return Err(ReadError::Faulty(Fault {
                 kind: Kind::BadReference,
                 section: Part::Info,

@@ -7,6 +7,7 @@ ghost use Rattle.dwarf_types.specs.SectionBytes.{bytes_in};
 ghost use Rattle.dwarf_types.specs.Seen.{value_seen};
 ghost use Rattle.dwarf_types.specs.Spelled.{AreBytes};
 ghost use Rattle.unit_tree.specs.declared.entry.TheConstants.{MOST_ENTRIES};
+ghost use Rattle.unit_tree.specs.declared.packed.TheConstants.{ANY_UNIT};
 ghost use Rattle.unit_tree.specs.Bounds.{IsReady, parsed_seen};
 ghost use Rattle.unit_tree.specs.Inside.{AreInside};
 ghost use Rattle.unit_tree.specs.Sound.{AreSound};
@@ -24,6 +25,9 @@ use ds_base::{Cursor, Fault, Kind, List, ReadError};
 use dwarf_types::{Builder, InUnit, RawEntryRef, RawUnits, Sections, ValueRef, is_flag};
 use std::alloc::Global;
 use std::collections::BTreeMap;
+
+/// Entries of C++ as compilers write them have one reference in so many bytes, or in a few more.
+const BYTES_A_REFERENCE: usize = 8;
 
 /// The units of an object and their entries, in document order (DWARF 4, section 7.5; DWARF 5, section
 /// 7.5).
@@ -77,8 +81,13 @@ pub fn read_resolved_units(
     ensures numbers { IfOk result (λ r. map Some r.1.numbers ≡ map (number_at (map (λ e. e.place) r.0.entries)) (targets_of r.0.entries)) }
 {
     let mut parsed = Parsed {
-        built: Builder::new(alloc, sections.strings, sections.info.len())?,
-        references: List::new(alloc),
+        built: Builder::new(
+            alloc,
+            sections.strings,
+            sections.line_str,
+            sections.info.len(),
+        )?,
+        references: List::with_capacity(alloc, sections.info.len() / BYTES_A_REFERENCE)?,
     };
     let units = read_each(alloc, sections, &mut parsed)?;
     let Parsed { built, references } = parsed;
@@ -125,6 +134,7 @@ fn read_unit(
     parsed: &mut Parsed,
 ) -> Result<(InUnit, u64), ReadError>
     requires info { length sections.now.info.now < 2 ^ 32 }
+    requires number { number < ANY_UNIT }
     requires inside { place ≤ length sections.now.info.now }
     requires ready { IsReady parsed.old }
     requires tables { AreRead sections.now.abbrev.now tables.old }

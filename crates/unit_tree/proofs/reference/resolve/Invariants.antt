@@ -3,7 +3,7 @@ use Rattle.unit_tree.specs.Targets.{number_at}
 use Rattle.unit_tree.proofs.References.{dangling, places_in}
 use Rattle.unit_tree.proofs.reference.resolve.Given as goal
 
-abbrev pub invariant-loop-reference : goal.invariant-loop-reference
-invariant-loop-reference l =
-    (dangling l.entries (drop l.reference-index l.references) ≡ dangling l.entries l.references)
-    × (map Some l.numbers ≡ map (number_at (places_in l.entries)) (map (λ r. r.target) (take l.reference-index l.references)))
+abbrev pub invariant-loop-packed : goal.invariant-loop-packed
+invariant-loop-packed l =
+    (dangling l.entries (drop l.packed-index l.references) ≡ dangling l.entries l.references)
+    × (map Some l.numbers ≡ map (number_at (places_in l.entries)) (map (λ r. r.target) (take l.packed-index l.references)))
