@@ -2,7 +2,7 @@
 use Rattle.std.proofs.Common.{◌≡◌, ℕ, zero, suc, ◌+◌, ◌-◌, ◌<◌, ◌≤◌, ◌||◌, List, [], ◌∷◌, ◌++◌, Bool, None, Some, map, length, drop, take, get_or, set, slice_get, All, cond, not, nat_lt, refl, ap, ap₂, sym, ◌∙◌, arith}
 use Rattle.std.specs.List.{list_any, position, prefix_len, zip}
 use Rattle.std.specs.Option.{option_map}
-use Rattle.std.proofs.lemmas.List.{get_or_default, length-drop, length-map, length-set, length_push}
+use Rattle.std.proofs.lemmas.List.{get_or-map, get_or_default, length-drop, length-map, length-set, length_push}
 use Rattle.std.proofs.lemmas.List.Elements.{All-cons, All-head, All-nil, All-tail}
 use Rattle.std.proofs.lemmas.Option.{slice_get-get_or, slice_get-map, slice_get_within}
 use Rattle.std.proofs.lemmas.Slice.Zip.{get_or-zip, length-zip}
@@ -14,6 +14,7 @@ use Rattle.dwarf_types.specs.declared.sides.Kind.{Kind}
 use Rattle.dwarf_types.specs.declared.sides.Sides.{Sides}
 use Rattle.dwarf_types.specs.Cells.{held_value}
 use Rattle.dwarf_types.specs.Columns.{CellWithin, IsFlat, IsRaw, cells_of, raw_attr_of, raw_attrs_of, raw_entries_of, raw_entry_with, row}
+use Rattle.dwarf_types.specs.PlaceSteps.{places_of}
 use Rattle.dwarf_types.proofs.Heads.{flat_cell, row_read}
 use Rattle.dwarf_types.proofs.Setting.{cell_place, flat_set, row_set}
 
@@ -107,6 +108,14 @@ raw_push s heads cells ends at c e w r =
 pub raw_row_read : (s : Sides) (heads : List Head) (cells : List Cell) (ends : List ℕ) (i : ℕ) (h : Head) → i < length heads → h ≡ get_or heads i h → slice_get (raw_entries_of s heads cells ends) i ≡ Some (raw_entry_with h (raw_attrs_of s (cells_of cells h) (cells_of ends h)))
 raw_row_read s heads cells ends i h lt is =
     row_read (RawWithin s) raw_entry_with (raw_attr_of s) heads (zip cells ends) i h lt is ∙ ap (λ (cs : List (Cell × ℕ)). Some (raw_entry_with h (map (raw_attr_of s) cs))) (cells_beside cells ends h)
+
+-- an entry begins where its head says
+pub place_read : (s : Sides) (heads : List Head) (cells : List Cell) (ends : List ℕ) (i : ℕ) (h : Head) → i < length heads → h ≡ get_or heads i h → get_or (places_of (raw_entries_of s heads cells ends)) i 0 ≡ h.place
+place_read s heads cells ends i h lt is =
+    let entry : Head → RawEntry = row (raw_attr_of s) raw_entry_with (zip cells ends) in
+    get_or-map (λ (e : RawEntry). e.place) (raw_entries_of s heads cells ends) i (entry h) 0 (omega (arith, length-map heads entry))
+    ∙ ap (λ (e : RawEntry). e.place) (get_or-map entry heads i h (entry h) lt)
+    ∙ ap (λ (x : Head). x.place) (sym is)
 
 -- as many as the cells
 pub raw_attrs_long : (s : Sides) (cells : List Cell) (ends : List ℕ) → length ends ≡ length cells → length (raw_attrs_of s cells ends) ≡ length cells

@@ -1,13 +1,13 @@
--- Places by steps.
-use Rattle.std.proofs.Common.{inl, inr, map, take, subst, length-take-le, ap, append_assoc, ◌≡◌, ◌∙◌, ◌-◌, ℕ, zero, suc, ◌*◌, ◌<◌, ◌≤◌, ◌==◌, List, [], ◌∷◌, ◌++◌, length, get_or, replicate, refl, sym, arith, Some, None, Bool, false}
+-- Places by steps, and a table of them as it grows.
+use Rattle.std.proofs.Common.{inl, inr, take, length-take-le, ap, append_assoc, ◌≡◌, ◌∙◌, ◌+◌, ◌-◌, ℕ, zero, suc, ◌*◌, ◌<◌, ◌≤◌, ◌==◌, List, [], ◌∷◌, ◌++◌, length, get_or, replicate, refl, arith, Some, None, Bool, false}
 use Rattle.std.specs.List.{AllPairs, position, position_or_len}
 use Rattle.std.proofs.lemmas.Bool.{cases_lt, eq-eqb, le-ltb, lt-ltb, ne_eqb}
-use Rattle.std.proofs.lemmas.List.{get_or_append_left, get_or-append_right, get_or_default, get_or_push, get_or-map, get_or-replicate, get_or-take, length-append, length-map, length_push, length-replicate}
+use Rattle.std.proofs.lemmas.List.{get_or_append_left, get_or-append_right, get_or_default, get_or_push, get_or-map, get_or-replicate, get_or-take, length-append, length-map, length_push, length-replicate, take_more}
 use Rattle.std.proofs.lemmas.List.Quantifiers.{all_pairs_push}
 use Rattle.std.proofs.lemmas.List.Sums.{position_or_len_is}
 use Rattle.dwarf_types.specs.declared.entry.RawEntry.{RawEntry}
 use Rattle.dwarf_types.specs.declared.place_table.TheConstants.{STEP}
-use Rattle.dwarf_types.specs.PlaceSteps.{IsTable}
+use Rattle.dwarf_types.specs.PlaceSteps.{IsTable, places_of}
 
 abbrev is_at : ℕ → ℕ → Bool
 is_at place p = p == place
@@ -49,26 +49,18 @@ all_before places place before =
 
 -- ---- the table as it grows
 
-rank_le : (places : List ℕ) → AllPairs (λ p later. p < later) places → (i : ℕ) → i < length places → i ≤ get_or places i 0
+pub rank_le : (places : List ℕ) → AllPairs (λ p later. p < later) places → (i : ℕ) → i < length places → i ≤ get_or places i 0
 rank_le places rise zero lt = omega arith
 rank_le places rise (suc i) lt =
     let le = rank_le places rise i (omega arith) in
     let up : get_or places i 0 < get_or places (suc i) 0 = rise i (suc i) 0 (omega arith) lt in
     omega arith
 
--- no more of them lie before a place than its number tells
-pub few_before : (places : List ℕ) (place n : ℕ) → AllPairs (λ p later. p < later) places → ((i : ℕ) → i < length places → get_or places i 0 < place) → n ≤ length places → n ≤ place
-few_before places place zero rise before le = omega arith
-few_before places place (suc n) rise before le =
-    let rank = rank_le places rise n (omega arith) in
-    let low = before n (omega arith) in
-    omega arith
-
 count_there : (before : List ℕ) (k count b : ℕ) → length before ≤ b → b < length (before ++ replicate k count) → get_or (before ++ replicate k count) b 0 ≡ count
 count_there before k count b behind lt =
     get_or-append_right before (replicate k count) (length before) b 0 refl behind ∙ get_or-replicate k (b - length before) count 0 (omega (arith, length-append before (replicate k count), length-replicate k count))
 
-pub steps_more : (places before : List ℕ) (k count : ℕ) → count ≤ length places → IsTable places before → IsTable places (before ++ replicate k count)
+steps_more : (places before : List ℕ) (k count : ℕ) → count ≤ length places → IsTable places before → IsTable places (before ++ replicate k count)
 steps_more places before k count le t = record {
   rise = t.rise;
   low = λ i lt. let low = t.low i lt in omega (arith, length-append before (replicate k count));
@@ -85,7 +77,7 @@ steps_more places before k count le t = record {
   ];
 }
 
-pub place_more : (places before : List ℕ) (place : ℕ) → ((i : ℕ) → i < length places → get_or places i 0 < place) → place < STEP * length before → IsTable places before → IsTable (places ++ place ∷ []) before
+place_more : (places before : List ℕ) (place : ℕ) → ((i : ℕ) → i < length places → get_or places i 0 < place) → place < STEP * length before → IsTable places before → IsTable (places ++ place ∷ []) before
 place_more places before place rising low t = record {
   rise = all_pairs_push (λ p later. p < later) places place t.rise (λ i d lt. rw (get_or_default places i d 0 lt) (rising i lt));
   low = λ i lt. elim (cases_lt i (length places)) [
@@ -103,12 +95,20 @@ replicate_more (suc k) count = ap (λ (xs : List ℕ). count ∷ xs) (replicate_
 pub one_step_more : (old now : List ℕ) (k count : ℕ) → now ≡ old ++ replicate k count → now ++ count ∷ [] ≡ old ++ replicate (suc k) count
 one_step_more old now k count is = ap (λ (xs : List ℕ). xs ++ count ∷ []) is ∙ (append_assoc old (replicate k count) (count ∷ []) ∙ ap (λ (xs : List ℕ). old ++ xs) (replicate_more k count))
 
--- an entry stands behind those before it
-pub behind_those : (entries : List RawEntry) (places : List ℕ) (i : ℕ) (e : RawEntry) → AllPairs (λ x later. x.place < later.place) entries → places ≡ map (λ x. x.place) (take i entries) → e ≡ get_or entries i e → i < length entries → (k : ℕ) → k < length places → get_or places k 0 < e.place
-behind_those entries places i e rise are is lt k inside =
-    let count : length (take i entries) ≡ i = length-take-le i entries (omega arith) in
-    let few : length places ≡ i = rw (are, length-map) count in
-    let less : k < i = omega arith in
-    let there : get_or places k 0 ≡ (get_or entries k e).place = ap (λ (xs : List ℕ). get_or xs k 0) are ∙ (get_or-map (λ (x : RawEntry). x.place) (take i entries) k e 0 (omega arith) ∙ ap (λ (x : RawEntry). x.place) (get_or-take i entries k e less)) in
-    let P : RawEntry → Type 0 = λ x. (get_or entries k e).place < x.place in
-    rw there (subst P (sym is) (rise k i e less lt))
+-- the steps up to a place are put before that place is counted
+pub table_more : (places before : List ℕ) (i k : ℕ) → AllPairs (λ p later. p < later) places → i < length places → get_or places i 0 < STEP * length (before ++ replicate k i)
+    → IsTable (take i places) before → IsTable (take (i + 1) places) (before ++ replicate k i)
+table_more places before i k rise lt low so_far =
+    let place = get_or places i 0 in
+    let count : length (take i places) ≡ i = length-take-le i places (omega arith) in
+    let behind : (j : ℕ) → j < length (take i places) → get_or (take i places) j 0 < place = λ j inside. rw (get_or-take i places j 0 (omega arith)) (rise j i 0 (omega arith) lt) in
+    rw (take_more places i 0 lt) (place_more (take i places) (before ++ replicate k i) place behind low (steps_more (take i places) before k i (omega arith) so_far))
+
+-- the places of entries, each of which stands behind those before it
+pub places_rise : (entries : List RawEntry) → AllPairs (λ (e later : RawEntry). e.place < later.place) entries → AllPairs (λ p later. p < later) (places_of entries)
+places_rise entries rising i j d lt within =
+    let inside : j < length entries = omega (arith, length-map entries (λ (e : RawEntry). e.place)) in
+    let none : RawEntry = record { parent = None; unit = 0; place = d; tag = 0; attrs = [] } in
+    let first : get_or (places_of entries) i d ≡ (get_or entries i none).place = get_or-map (λ (e : RawEntry). e.place) entries i none d (omega arith) in
+    let second : get_or (places_of entries) j d ≡ (get_or entries j none).place = get_or-map (λ (e : RawEntry). e.place) entries j none d inside in
+    rw (first, second) (rising i j none lt inside)

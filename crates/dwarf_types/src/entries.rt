@@ -6,6 +6,7 @@ ghost use Rattle.dwarf_types.specs.declared.entry.Entry.{Entry as AnEntry};
 ghost use Rattle.dwarf_types.specs.declared.entry.RawAttr.{RawAttr as ARawAttr};
 ghost use Rattle.dwarf_types.specs.declared.entry.RawEntry.{RawEntry as ARawEntry};
 ghost use Rattle.dwarf_types.specs.Columns.{CellWithin, IsFlat, IsRaw, raw_entries_of};
+ghost use Rattle.dwarf_types.specs.PlaceSteps.{places_of};
 ghost use Rattle.dwarf_types.specs.Put.{value_put};
 ghost use Rattle.dwarf_types.specs.Raw.{attr_of, entry_of};
 
@@ -182,6 +183,14 @@ impl RawEntries {
         let cells = cells_in(&self.cells, &head);
         let ends = cells_in(&self.ends, &head);
         RawEntryRef::new(&self.sides, cells, ends, head)
+    }
+
+    /// The place in `__debug_info` of the entry of a number.
+    pub(crate) fn place_of(&self, i: usize) -> u32
+        requires { i < length self.now }
+        ensures { result ≡ slice_index_or (places_of self.now) i 0 }
+    {
+        self.heads[i].place
     }
 
     /// Another value for the attribute at place `j` of entry `i`.

@@ -16,6 +16,7 @@ use Rattle.dwarf_types.specs.declared.entry.InUnit.{InUnit}
 use Rattle.dwarf_types.specs.declared.entry.RawAttr.{RawAttr}
 use Rattle.dwarf_types.specs.declared.entry.RawUnits.{RawUnits}
 use Rattle.dwarf_types.specs.declared.value.Value.{Value}
+use Rattle.dwarf_types.specs.PlaceSteps.{places_of}
 use Rattle.dwarf_types.specs.Raw.{entry_of}
 use Rattle.dwarf_types.specs.SectionBytes.{SectionBytes}
 use Rattle.dwarf_types.specs.Spelled.{AreBytes, AreTextBytes}
@@ -40,7 +41,7 @@ use Rattle.object_view.specs.Parts.{all_tried, content_of, section_of}
 use Rattle.macho_read.specs.declared.kind.Role.TheVariants as roles
 use Rattle.macho_read.specs.Image.{image_of}
 use Rattle.macho_read.specs.Kind.{kind_of}
-use Rattle.object_view.specs.Units.{base_types, places_of, unit_context}
+use Rattle.object_view.specs.Units.{base_types, unit_context}
 use Rattle.object_view.proofs.FileBytes.{AreOf}
 use Rattle.object_view.proofs.Kept.{Kept, all_kept, bare, entries_kept, given_kept, stood}
 use Rattle.object_view.proofs.Understood.{entries_given, given_is}

@@ -13,6 +13,7 @@ use Rattle.dwarf_types.specs.declared.entry.Entry.{Entry}
 use Rattle.dwarf_types.specs.declared.entry.InUnit.{InUnit}
 use Rattle.dwarf_types.specs.declared.entry.RawEntry.{RawEntry}
 use Rattle.dwarf_types.specs.declared.entry.RawUnits.{RawUnits}
+use Rattle.dwarf_types.specs.PlaceSteps.{places_of}
 use Rattle.dwarf_types.specs.Raw.{attr_of}
 use Rattle.stab_map.specs.declared.object.MapObject.{MapObject}
 use Rattle.addr_map.specs.declared.map.AddrMap.{AddrMap}
@@ -49,16 +50,16 @@ module _ (o : Opened) (m : AddrMap) (t : MadeOnce) (raw : List RawEntry) (now : 
   context unit = info_context o m t.types unit (context_among t.units unit)
 
   pub done_lines : (units : List InUnit) → AreInside o.sections (record { units = units; entries = raw }) → All (IsRooted raw) units → All (IsLinesInside o.sections now) units
-  done_lines units inside rooted = units_lines o.sections context t.places raw now units (given_is (info_meant o m t) raw now done) inside.lines rooted
+  done_lines units inside rooted = units_lines o.sections context (places_of raw) raw now units (given_is (info_meant o m t (places_of raw)) raw now done) inside.lines rooted
 
   abbrev IsListed : ℕ → Attr → Type 0
   IsListed unit a = IsListAttr o.sections (context_among t.units unit).version a
 
   pub done_listed : AllRawAttrs (λ unit a. is_address_index a.form ≡ false → IsListed unit (attr_of a)) raw → AllAttrs IsListed now
-  done_listed listed = info_listed o.sections (λ unit. (context_among t.units unit).version) context t.places raw now (given_is (info_meant o m t) raw now done) listed
+  done_listed listed = info_listed o.sections (λ unit. (context_among t.units unit).version) context (places_of raw) raw now (given_is (info_meant o m t (places_of raw)) raw now done) listed
 
   pub done_count : length now ≡ length raw
-  done_count = info_count context t.places raw now (given_is (info_meant o m t) raw now done)
+  done_count = info_count context (places_of raw) raw now (given_is (info_meant o m t (places_of raw)) raw now done)
 
 -- an object that was opened, with its units and its map
 pub opened_gives : (bytes : List ℕ) (object : MapObject) (cpu : ℕ) (o : Opened) (m : AddrMap) (raw : RawUnits) (r : Result Analysis ReadError) → opened_of bytes cpu ≡ Ok o → units_of o.sections ≡ Ok raw

@@ -15,6 +15,7 @@ use Rattle.dwarf_types.specs.declared.entry.RawUnits.{RawUnits}
 use Rattle.dwarf_types.specs.declared.entry.RawAttr.{RawAttr}
 use Rattle.dwarf_types.specs.declared.entry.RawEntry.{RawEntry}
 use Rattle.dwarf_types.specs.declared.value.Value.{Value}
+use Rattle.dwarf_types.specs.PlaceSteps.{places_of}
 use Rattle.dwarf_types.specs.Raw.{entry_of}
 use Rattle.addr_map.specs.declared.map.AddrMap.{AddrMap}
 use Rattle.object_view.specs.Analysis.{units_analysed}
@@ -23,7 +24,7 @@ use Rattle.object_view.specs.Opened.{Opened}
 use Rattle.object_view.specs.Ready.{base_at, context_among}
 use Rattle.object_view.specs.Stages.{MadeOnce, analysed, bases_of, finished, info_done, info_meant, lists_meant, location_meant, made_of, range_meant}
 use Rattle.object_view.specs.declared.units.UnitContext.{UnitContext}
-use Rattle.object_view.specs.Units.{base_types, context_of, contexts_of, no_unit, places_of, unit_context}
+use Rattle.object_view.specs.Units.{base_types, context_of, contexts_of, no_unit, unit_context}
 
 -- ---- look-ups in lists
 
@@ -76,7 +77,7 @@ module _ (o : Opened) (m : AddrMap) (raw : RawUnits) where
 
   info_same : info_done o m made raw.entries ≡ entries_meant o m raw
   info_same = ap (λ (step : ℕ → RawAttr → Result Value Fault). raw_entries_by step raw.entries >>= λ done. Ok (map entry_of done))
-      (same_step (info_meant o m made) (info_step o m raw) (λ unit a. ap (λ (u : UnitContext). info_in u unit a) (known_same unit)))
+      (same_step (info_meant o m made (places_of raw.entries)) (info_step o m raw) (λ unit a. ap (λ (u : UnitContext). info_in u unit a) (known_same unit)))
 
   module _ (meant : List Entry) where
     abbrev bases : List Addr

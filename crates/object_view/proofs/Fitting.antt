@@ -21,6 +21,7 @@ use Rattle.dwarf_types.specs.declared.entry.RawUnits.{RawUnits}
 use Rattle.dwarf_types.specs.declared.lists.RawSpan.{RawSpan}
 use Rattle.dwarf_types.specs.declared.value.Value.{Value}
 use Rattle.dwarf_types.specs.declared.value.Value.TheVariants as values
+use Rattle.dwarf_types.specs.PlaceSteps.{places_of}
 use Rattle.dwarf_types.specs.Raw.{attr_of}
 use Rattle.dwarf_types.specs.SectionBytes.{SectionBytes}
 use Rattle.addr_map.specs.declared.map.AddrMap.{AddrMap}
@@ -40,7 +41,7 @@ use Rattle.object_view.specs.Attributes.{address_named, all_marked, attr_by, att
 use Rattle.object_view.specs.Opened.{Opened}
 use Rattle.object_view.specs.Ready.{AllAttrs, AllRawAttrs, IsLinesInside, IsListAttr, IsReadAttr, IsReadValue, IsRooted, context_among}
 use Rattle.object_view.specs.Stages.{MadeOnce, lists_meant, location_meant, range_meant}
-use Rattle.object_view.specs.Units.{addr_base_of, context_of, contexts_of, no_unit, places_of}
+use Rattle.object_view.specs.Units.{addr_base_of, context_of, contexts_of, no_unit}
 use Rattle.object_view.proofs.Definitions.{context_same}
 use Rattle.object_view.proofs.Kept.{Kept, all_kept, bare, entries_kept, given_kept, kept_length}
 use Rattle.object_view.proofs.Names.{each_all}

@@ -1,27 +1,14 @@
--- The tables that are made of entries in order are in order.
-use Rattle.std.proofs.Common.{◌≡◌, ℕ, suc, ◌+◌, ◌<◌, ◌^◌, ◌==◌, Bool, true, false, List, [], ◌∷◌, length, get_or, refl, arith}
-use Rattle.std.specs.Prelude.{None}
+-- The base types of entries in order are in order.
+use Rattle.std.proofs.Common.{◌≡◌, ℕ, suc, ◌+◌, ◌<◌, ◌==◌, Bool, true, false, List, [], ◌∷◌, refl, arith}
 use Rattle.std.specs.List.{All, enumerate_from, filter_map}
-use Rattle.std.proofs.lemmas.List.{get_or-map, length-map}
 use Rattle.std.proofs.lemmas.List.Elements.{All-cons}
 use Rattle.std.proofs.lemmas.List.Kept.{AllPairs-cons}
 use Rattle.ds_base.specs.declared.dwarf.TheConstants.{DW_TAG_base_type}
 use Rattle.dwarf_types.specs.declared.entry.RawEntry.{RawEntry}
-use Rattle.dwarf_types.specs.declared.entry.InUnit.{InUnit}
 use Rattle.unit_tree.specs.Reference.{IsRising}
 use Rattle.expr_resolve.specs.declared.context.BaseType.{BaseType}
 use Rattle.expr_resolve.specs.Context.{AreInOrder}
-use Rattle.object_view.specs.Ready.{Rise}
-use Rattle.object_view.specs.Stages.{made_of, AreInOrder as AreInOrderTables}
-use Rattle.object_view.specs.Units.{base_type_in, places_of}
-
-pub places_rise : (entries : List RawEntry) → IsRising entries → Rise (places_of entries)
-places_rise entries rising i j d lt within =
-    let inside : j < length entries = omega (arith, length-map entries (λ (e : RawEntry). e.place)) in
-    let none : RawEntry = record { parent = None; unit = 0; place = d; tag = 0; attrs = [] } in
-    let first : get_or (places_of entries) i d ≡ (get_or entries i none).place = get_or-map (λ (e : RawEntry). e.place) entries i none d (omega arith) in
-    let second : get_or (places_of entries) j d ≡ (get_or entries j none).place = get_or-map (λ (e : RawEntry). e.place) entries j none d inside in
-    rw (first, second) (rising i j none lt inside)
+use Rattle.object_view.specs.Units.{base_type_in}
 
 abbrev pub types_from : ℕ → List RawEntry → List BaseType
 types_from k entries = filter_map base_type_in (enumerate_from k entries)
@@ -62,10 +49,3 @@ types_in_order k (e ∷ entries) rising =
     let others : AreInOrder (types_from (k + 1) entries) = types_in_order (k + 1) entries (λ i j d lt within. rising (suc i) (suc j) d (omega arith) (omega arith)) in
     let behind : All (λ (b : BaseType). e.place < b.place) (types_from (k + 1) entries) = behind_place e.place (k + 1) entries (λ i d lt. rising 0 (suc i) d (omega arith) (omega arith)) in
     rw (types_step k e entries (e.tag == DW_TAG_base_type) refl) (pairs_with (e.tag == DW_TAG_base_type) (as_type k e) (types_from (k + 1) entries) behind others)
-
-pub made_in_order : (units : List InUnit) (entries : List RawEntry) → IsRising entries → length entries < 2 ^ 32 → AreInOrderTables (made_of units entries)
-made_in_order units entries rising few = record {
-  types = types_in_order 0 entries rising;
-  places = places_rise entries rising;
-  few = omega (arith, few, length-map entries (λ (e : RawEntry). e.place));
-}

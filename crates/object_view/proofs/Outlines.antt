@@ -24,6 +24,7 @@ use Rattle.dwarf_types.specs.declared.lists.RawSpan.{RawSpan}
 use Rattle.dwarf_types.specs.declared.value.Value.{Value}
 use Rattle.dwarf_types.specs.declared.value.Value.TheVariants as values
 use Rattle.dwarf_types.specs.Live.{Stands, target_in}
+use Rattle.dwarf_types.specs.PlaceSteps.{places_of}
 use Rattle.dwarf_types.specs.SectionBytes.{SectionBytes}
 use Rattle.addr_map.specs.declared.map.AddrMap.{AddrMap}
 use Rattle.frame_table.specs.Frames.{frames_of}
@@ -42,7 +43,7 @@ use Rattle.object_view.specs.Code.{code_of}
 use Rattle.object_view.specs.Opened.{Opened}
 use Rattle.object_view.specs.Ready.{IsReadAttr, IsReadValue, context_among}
 use Rattle.object_view.specs.Spelled.{ByItem, IsAttr, IsEntry, IsUnit, LeadsAs}
-use Rattle.object_view.specs.Units.{base_types, contexts_of, places_of, unit_context}
+use Rattle.object_view.specs.Units.{base_types, contexts_of, unit_context}
 use Rattle.object_view.proofs.Fitting.{all_read}
 use Rattle.object_view.proofs.InPlace.{got}
 use Rattle.object_view.proofs.Kept.{bare, each_seen, raw_bare}

@@ -22,6 +22,7 @@ use Rattle.dwarf_types.specs.declared.entry.RawEntry.{RawEntry}
 use Rattle.dwarf_types.specs.declared.entry.RawUnits.{RawUnits}
 use Rattle.dwarf_types.specs.declared.lines.OutLines.{OutLines}
 use Rattle.dwarf_types.specs.Live.{Stands, bases_of, op_bases, operations_of}
+use Rattle.dwarf_types.specs.PlaceSteps.{places_of}
 use Rattle.dwarf_types.specs.Sound.{AreCodeRanges, AreUnits, IsBaseType, IsParent, IsSound, IsSoundEntry}
 use Rattle.ds_base.proofs.Passing.{bind_ok, ok_is}
 use Rattle.addr_map.specs.declared.map.AddrMap.{AddrMap}
@@ -35,7 +36,7 @@ use Rattle.object_view.specs.Attributes.{all_marked, entries_by, entries_meant, 
 use Rattle.object_view.specs.Code.{code_of, code_ranges, low_high_pieces, ranges_pieces}
 use Rattle.object_view.specs.Opened.{Opened}
 use Rattle.object_view.specs.Stages.{analysed}
-use Rattle.object_view.specs.Units.{base_types, places_of, unit_context}
+use Rattle.object_view.specs.Units.{base_types, unit_context}
 use Rattle.object_view.proofs.Definitions.{analysed_same}
 use Rattle.object_view.proofs.Kept.{Kept, KeptRaw, all_kept, bare, each_seen, entries_kept, given_kept, kept_length, raw_bare, stood}
 use Rattle.object_view.proofs.KnownTypes.{IsTypeOf}

@@ -26,6 +26,7 @@ use Rattle.dwarf_types.specs.declared.lists.RawSpan.{RawSpan}
 use Rattle.dwarf_types.specs.declared.value.Value.{Value}
 use Rattle.dwarf_types.specs.declared.value.Value.TheVariants as values
 use Rattle.dwarf_types.specs.Moves.{place_in, value_of}
+use Rattle.dwarf_types.specs.PlaceSteps.{places_of}
 use Rattle.dwarf_types.specs.Raw.{entry_of}
 use Rattle.reloc_table.specs.declared.relocation.Relocs.{Relocs}
 use Rattle.reloc_table.specs.Address.{address_of}
@@ -52,7 +53,7 @@ use Rattle.object_view.specs.declared.open.DebugRelocs.{DebugRelocs}
 use Rattle.ds_base.specs.declared.dwarf.TheConstants.{DWARF_5}
 use Rattle.object_view.specs.declared.units.UnitContext.{UnitContext}
 use Rattle.object_view.specs.Opened.{Opened}
-use Rattle.object_view.specs.Units.{base_types, places_of, unit_context}
+use Rattle.object_view.specs.Units.{base_types, unit_context}
 
 -- ---- steps over all attributes
 

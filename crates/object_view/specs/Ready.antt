@@ -1,6 +1,6 @@
 -- Stations between the code and the definitions: the contexts of an object's expressions, and what must hold of them.
 use Rattle.std.specs.Prelude.{◌≡◌, ℕ, true, ◌+◌, ◌^◌, ◌<◌, ◌≤◌, List, ◌++◌, length, slice_get, slice_set, Option, None, Some, IsSome, IfSome, Result, Ok}
-use Rattle.std.specs.List.{All, AllPairs, flat_map}
+use Rattle.std.specs.List.{All, flat_map}
 use Rattle.std.specs.Option.{option_and_then, unwrap_or}
 use Rattle.ds_base.specs.declared.fault.Fault.{Fault}
 use Rattle.ds_base.specs.Reading.{◌>>=◌}
@@ -62,10 +62,6 @@ pub record IsOpen (o : Opened) (map : AddrMap) : Type 0 where
 -- the address from which the lists of a unit count
 abbrev pub base_at : List Addr → ℕ → Addr
 base_at bases unit = unwrap_or (slice_get bases unit) (addrs.Fixed 0)
-
--- the places of entries rise
-abbrev pub Rise : List ℕ → Type 0
-Rise places = AllPairs (λ p later. p < later) places
 
 -- ---- what an attribute keeps to, so that a step can be taken
 

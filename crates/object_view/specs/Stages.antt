@@ -1,5 +1,5 @@
 -- Stations between the code and the definition of an analysis: its last steps, over lists that are made once.
-use Rattle.std.specs.Prelude.{ℕ, ◌<◌, ◌^◌, List, length, map, slice_get, Result, Ok}
+use Rattle.std.specs.Prelude.{ℕ, List, map, slice_get, Result, Ok}
 use Rattle.std.specs.Option.{option_map_or}
 use Rattle.ds_base.specs.declared.fault.Fault.{Fault}
 use Rattle.ds_base.specs.Reading.{◌>>=◌}
@@ -13,44 +13,38 @@ use Rattle.dwarf_types.specs.declared.entry.RawAttr.{RawAttr}
 use Rattle.dwarf_types.specs.declared.entry.RawEntry.{RawEntry}
 use Rattle.dwarf_types.specs.declared.entry.RawUnits.{RawUnits}
 use Rattle.dwarf_types.specs.declared.value.Value.{Value}
+use Rattle.dwarf_types.specs.PlaceSteps.{places_of}
 use Rattle.dwarf_types.specs.Raw.{entry_of}
 use Rattle.addr_map.specs.declared.map.AddrMap.{AddrMap}
 use Rattle.frame_table.specs.Frames.{frames_of}
 use Rattle.moved_parts.specs.Frames.{frames_moved}
 use Rattle.expr_resolve.specs.declared.context.BaseType.{BaseType}
-use Rattle.expr_resolve.specs.Context.{AreInOrder as AreInOrderTypes}
 use Rattle.object_view.specs.Attributes.{all_marked, base_of, entries_by, info_context, locations_context, locations_meant, ranges_meant, raw_entries_by, units_meant, value_meant}
 use Rattle.object_view.specs.Code.{code_of}
 use Rattle.object_view.specs.Opened.{Opened}
-use Rattle.object_view.specs.Ready.{Rise, base_at, context_among}
-use Rattle.object_view.specs.Units.{base_types, contexts_of, places_of}
+use Rattle.object_view.specs.Ready.{base_at, context_among}
+use Rattle.object_view.specs.Units.{base_types, contexts_of}
 use Rattle.object_view.specs.declared.units.Tables.{Tables}
 use Rattle.object_view.specs.declared.units.UnitContext.{UnitContext}
 
 -- what is made of units and entries once
 pub record MadeOnce : Type 0 where
   pub types : List BaseType
-  pub places : List ℕ
   pub units : List UnitContext
 
 abbrev pub tables_in : Tables → MadeOnce
-tables_in t = record { types = t.types.now; places = t.places.now; units = t.units.now }
+tables_in t = record { types = t.types.now; units = t.units.now }
 
 abbrev pub made_of : List InUnit → List RawEntry → MadeOnce
-made_of units entries = record { types = base_types entries; places = places_of entries; units = contexts_of entries units }
+made_of units entries = record { types = base_types entries; units = contexts_of entries units }
 
-pub record AreInOrder (t : MadeOnce) : Type 0 where
-  pub types : AreInOrderTypes t.types
-  pub places : Rise t.places
-  pub few : length t.places < 2 ^ 32
-
--- an attribute of `__debug_info`
-abbrev pub info_meant : Opened → AddrMap → MadeOnce → ℕ → RawAttr → Result Value Fault
-info_meant o m t unit a = value_meant (info_context o m t.types unit (context_among t.units unit)) t.places a a.value
+-- an attribute of `__debug_info`, among entries at these places
+abbrev pub info_meant : Opened → AddrMap → MadeOnce → List ℕ → ℕ → RawAttr → Result Value Fault
+info_meant o m t places unit a = value_meant (info_context o m t.types unit (context_among t.units unit)) places a a.value
 
 -- entries as they are read, understood
 abbrev pub info_done : Opened → AddrMap → MadeOnce → List RawEntry → Result (List Entry) Fault
-info_done o m t raw = raw_entries_by (info_meant o m t) raw >>= λ meant. Ok (map entry_of meant)
+info_done o m t raw = raw_entries_by (info_meant o m t (places_of raw)) raw >>= λ meant. Ok (map entry_of meant)
 
 -- attributes that may name a range list, and then those that may name a location list
 abbrev pub range_meant : Opened → AddrMap → MadeOnce → List Addr → ℕ → Attr → Result Value Fault

@@ -18,10 +18,6 @@ base_type_in e = if e.1.tag == DW_TAG_base_type then Some (record { entry = e.0;
 abbrev pub base_types : List RawEntry → List BaseType
 base_types entries = filter_map base_type_in (enumerate_from 0 entries)
 
--- the places of all entries
-abbrev pub places_of : List RawEntry → List ℕ
-places_of entries = map (λ e. e.place) entries
-
 -- the place of a unit's first byte: its root stands behind the header
 abbrev pub start_of : List RawEntry → InUnit → ℕ
 start_of entries unit = option_map_or (λ root. root.place - header_size unit.version) (slice_get entries unit.first) 0

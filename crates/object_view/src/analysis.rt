@@ -3,19 +3,20 @@
 ghost use Rattle.std.specs.Prelude.{◌≡◌, ◌^◌, ◌<◌, length, IfOk};
 ghost use Rattle.std.specs.List.{All};
 ghost use Rattle.ds_base.specs.Reading.{Gives};
+ghost use Rattle.dwarf_types.specs.PlaceSteps.{places_of};
 ghost use Rattle.dwarf_types.specs.SectionBytes.{bytes_in};
 ghost use Rattle.dwarf_types.specs.Sound.{IsSound};
 ghost use Rattle.unit_tree.specs.Inside.{AreInside};
 ghost use Rattle.unit_tree.specs.Sound.{AreSound as AreSoundUnits};
+ghost use Rattle.expr_resolve.specs.Context.{AreInOrder};
 ghost use Rattle.object_view.specs.Analysis.{analysis_of};
 ghost use Rattle.object_view.specs.Numbers.{AreNumbers};
 ghost use Rattle.object_view.specs.Opened.{opened_seen};
 ghost use Rattle.object_view.specs.Ready.{AllAttrs, AllRawAttrs, IsListAttr, IsOpen, IsReadAttr, IsRooted, context_among};
 ghost use Rattle.object_view.specs.Spelled.{IsOfObject};
-ghost use Rattle.object_view.specs.Stages.{AreInOrder as AreInOrderTables, analysed, entries_analysed, finished, info_done, lists_meant, tables_in};
+ghost use Rattle.object_view.specs.Stages.{analysed, entries_analysed, finished, info_done, lists_meant, tables_in};
 ghost use Rattle.object_view.specs.Units;
 
-use crate::attributes::InfoValues;
 use crate::code::code_of;
 use crate::expressions::Expressions;
 use crate::info::understand_entries;
@@ -32,7 +33,7 @@ use frame_table::read_frames;
 use moved_parts::move_frames;
 use stab_map::MapObject;
 use std::alloc::Global;
-use unit_tree::{Resolved, read_resolved_units};
+use unit_tree::read_resolved_units;
 
 /// Analyses the object in a file's bytes, for a program of this CPU type: its units, entries, code and frames, with
 /// the addresses that its part of the debug map moves to the linked program.
@@ -59,25 +60,24 @@ pub fn analyse(
     ensures spelled { IfOk result (IsOfObject bytes.now cpu) }
 {
     let opened = open_object(alloc, bytes, cpu)?;
-    let (raw, resolved) = read_resolved_units(alloc, &opened.sections)?;
+    let (raw, numbers) = read_resolved_units(alloc, &opened.sections)?;
     let map = build(alloc, object, &opened.image)?;
-    analyse_units(alloc, &opened, &map, raw, resolved)
+    analyse_units(alloc, &opened, &map, raw, numbers.as_slice())
 }
 
-/// What the units mean that were read, whose references lead where `resolved` says.
+/// What the units mean that were read, whose references lead to the entries of these numbers, in document order.
 fn analyse_units(
     alloc: Global,
     object: &OpenObject,
     map: &AddrMap,
     raw: RawUnits,
-    resolved: Resolved,
+    numbers: &[u32],
 ) -> Result<Analysis, ReadError>
     requires open { IsOpen (opened_seen object.now) map.now }
     requires raw { AreSoundUnits raw }
     requires inside { AreInside (bytes_in object.now.sections) raw }
     requires rooted { All (IsRooted raw.entries) raw.units }
-    requires places { resolved.places ≡ Units.places_of raw.entries }
-    requires numbers { AreNumbers (Units.places_of raw.entries) raw.entries resolved.numbers }
+    requires numbers { AreNumbers (places_of raw.entries) raw.entries numbers.now }
     ensures { Gives (λ analysis. analysis) result (analysed (opened_seen object.now) map.now raw) }
 {
     let RawUnits { units, entries } = raw;
@@ -85,8 +85,7 @@ fn analyse_units(
     let contexts = unit_contexts(alloc, units.as_slice(), &entries)?;
     let tables = Tables {
         types: types.as_slice(),
-        places: &resolved.places,
-        numbers: resolved.numbers.as_slice(),
+        numbers,
         units: contexts.as_slice(),
     };
     analyse_entries(alloc, object, map, &tables, units, entries)
@@ -102,9 +101,9 @@ fn analyse_entries(
     raw: RawEntries,
 ) -> Result<Analysis, ReadError>
     requires open { IsOpen (opened_seen object.now) map.now }
-    requires tables { AreInOrderTables (tables_in tables.now) }
-    requires places { tables.now.places.now ≡ Units.places_of raw }
-    requires numbers { AreNumbers tables.now.places.now raw tables.now.numbers.now }
+    requires order { AreInOrder tables.now.types.now }
+    requires few { length raw < 2 ^ 32 }
+    requires numbers { AreNumbers (places_of raw) raw tables.now.numbers.now }
     requires units { tables.now.units.now ≡ Units.contexts_of raw units }
     requires inside { AreInside (bytes_in object.now.sections) (record { units = units; entries = raw }) }
     requires rooted { All (IsRooted raw) units }
@@ -126,21 +125,18 @@ fn understand_info(
     mut raw: RawEntries,
 ) -> Result<Entries, ReadError>
     requires open { IsOpen (opened_seen object.now) map.now }
-    requires tables { AreInOrderTables (tables_in tables.now) }
-    requires fits { AllRawAttrs (IsReadAttr (bytes_in object.now.sections) tables.now.units.now tables.now.places.now) raw }
-    requires numbers { AreNumbers tables.now.places.now raw tables.now.numbers.now }
+    requires order { AreInOrder tables.now.types.now }
+    requires fits { AllRawAttrs (IsReadAttr (bytes_in object.now.sections) tables.now.units.now (places_of raw)) raw }
+    requires numbers { AreNumbers (places_of raw) raw tables.now.numbers.now }
     ensures { Gives (λ entries. entries) result (info_done (opened_seen object.now) map.now (tables_in tables.now) raw) }
 {
-    let values = InfoValues {
-        expressions: Expressions {
-            object,
-            map,
-            types: tables.types,
-            units: tables.units,
-        },
-        places: tables.places,
+    let expressions = Expressions {
+        object,
+        map,
+        types: tables.types,
+        units: tables.units,
     };
-    understand_entries(alloc, &values, tables.numbers, &mut raw)?;
+    understand_entries(alloc, &expressions, tables.numbers, &mut raw)?;
     Ok(raw.into_entries())
 }
 
@@ -154,7 +150,7 @@ fn read_lists(
     mut entries: Entries,
 ) -> Result<Entries, ReadError>
     requires open { IsOpen (opened_seen object.now) map.now }
-    requires tables { AreInOrderTables (tables_in tables.now) }
+    requires order { AreInOrder tables.now.types.now }
     requires fits { AllAttrs (λ unit. IsListAttr (bytes_in object.now.sections) (context_among tables.now.units.now unit).version) entries }
     ensures { Gives (λ entries. entries) result (lists_meant (opened_seen object.now) map.now (tables_in tables.now) bases.now entries) }
 {

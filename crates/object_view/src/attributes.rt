@@ -1,6 +1,6 @@
 //! Addresses, references and expressions of `__debug_info`.
 
-ghost use Rattle.std.specs.Prelude.{◌≡◌, ◌<◌, ◌≤◌, ◌+◌, ◌∷◌, length, Some, IsSome, OnOk};
+ghost use Rattle.std.specs.Prelude.{◌≡◌, ◌<◌, ◌≤◌, ◌+◌, ◌∷◌, ℕ, List, length, Some, IsSome, OnOk};
 ghost use Rattle.std.specs.Slice.Iter.{iter_rest};
 ghost use Rattle.ds_base.specs.Reading.{Gives};
 ghost use Rattle.dwarf_types.specs.Seen.{raw_attr_seen};
@@ -18,22 +18,13 @@ use crate::expressions::{ExprRoom, Expressions, info_context};
 use byteorder::{ByteOrder, LittleEndian};
 use ds_base::dwarf::{ADDRESS_SIZE, DW_FORM_exprloc};
 use ds_base::{ReadError, bytes_from};
-use dwarf_types::{Addr, Place, PlaceTable, RawAttrRef, ValueRef};
+use dwarf_types::{Addr, Place, RawAttrRef, ValueRef};
 use expr_resolve::{ExprContext, read_expression};
 use index_tables::address_at;
 use moved_parts::place;
 use reloc_table::resolve;
 use std::slice::Iter;
 use unit_tree::is_address_index;
-
-/// By what the attributes of `__debug_info` are understood: addresses move, references lead to the numbers of entries,
-/// and expressions become operations.
-#[derive(Clone, Copy)]
-pub(crate) struct InfoValues<'a> {
-    pub(crate) expressions: Expressions<'a>,
-    /// The places of all entries, by which contracts tell where references lead.
-    pub(crate) places: &'a PlaceTable,
-}
 
 /// What becomes of a value that was read.
 #[derive(Clone, Copy)]
@@ -46,36 +37,38 @@ pub(crate) enum Understood {
     Expr,
 }
 
-/// An attribute as it was read, understood. Its entry is of the unit of this number. The operations of an expression are
-/// put into `room`, and a reference takes the next of `numbers`, the number of the entry to which it leads.
+/// An attribute as it was read, understood: addresses move, references lead to the numbers of entries, and expressions
+/// become operations. Its entry is of the unit of this number. The operations of an expression are put into `room`, and a
+/// reference takes the next of `numbers`, the number of the entry to which it leads. `places` are those of all entries.
 pub(crate) fn understand_value(
-    values: &InfoValues,
+    expressions: &Expressions,
     unit: u32,
     attr: &RawAttrRef<'_>,
     numbers: &mut Iter<'_, u32>,
     room: &mut ExprRoom,
 ) -> Result<Understood, ReadError>
-    requires ready { IsReadyInfo values.now }
-    requires fits { FitsInfo values.now unit (raw_attr_seen attr.now) }
-    requires numbers { LeadTo values.now.places.now (target_in (raw_attr_seen attr.now).value) (iter_rest numbers.old) }
-    ensures exact { Gives (understood_as room.new.meant.ops (raw_attr_seen attr.now).value) result (info_value values.now unit (raw_attr_seen attr.now)) }
+    ghost places: { List ℕ }
+    requires ready { IsReadyInfo expressions.now }
+    requires fits { FitsInfo expressions.now places unit (raw_attr_seen attr.now) }
+    requires numbers { LeadTo places (target_in (raw_attr_seen attr.now).value) (iter_rest numbers.old) }
+    ensures exact { Gives (understood_as room.new.meant.ops (raw_attr_seen attr.now).value) result (info_value expressions.now places unit (raw_attr_seen attr.now)) }
     ensures taken { OnOk result (iter_rest numbers.new ≡ behind (target_in (raw_attr_seen attr.now).value) (iter_rest numbers.old)) }
 {
     match &attr.value {
         ValueRef::Address(stored) => {
-            let context = info_context(&values.expressions, unit);
+            let context = info_context(expressions, unit);
             let at = field_address(&context, attr.end, &stored.at);
             Ok(Understood::Address(place(context.map, at)))
         }
         ValueRef::Ref(_) => Ok(Understood::Ref(next_number(numbers))),
         ValueRef::Block { form, bytes } if *form == DW_FORM_exprloc => {
-            let context = info_context(&values.expressions, unit);
+            let context = info_context(expressions, unit);
             let first = u64::from(attr.end) - bytes.len() as u64;
             read_expression(&context, bytes, first, &mut room.stored, &mut room.meant)?;
             Ok(Understood::Expr)
         }
         ValueRef::Offset(index) if is_address_index(attr.form) => {
-            let context = info_context(&values.expressions, unit);
+            let context = info_context(expressions, unit);
             Ok(Understood::Address(address_named(&context, *index)))
         }
         _ => Ok(Understood::Same),

@@ -5,7 +5,7 @@ ghost use Rattle.object_view.specs.Units;
 
 use ds_base::dwarf::DW_TAG_base_type;
 use ds_base::{List, NoMemory};
-use dwarf_types::{InUnit, PlaceTable, RawEntries};
+use dwarf_types::{InUnit, RawEntries};
 use expr_resolve::BaseType;
 use index_tables::bases_of;
 use std::alloc::Global;
@@ -27,8 +27,6 @@ pub(crate) struct UnitContext {
 pub(crate) struct Tables<'a> {
     /// The base types of the object, in the order of their places.
     pub(crate) types: &'a [BaseType],
-    /// The places of all entries, by which contracts tell where references lead.
-    pub(crate) places: &'a PlaceTable,
     /// The number of the entry to which each reference leads, in document order.
     pub(crate) numbers: &'a [u32],
     /// Of each unit, what its values are understood by.

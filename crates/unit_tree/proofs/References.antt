@@ -1,10 +1,11 @@
 -- Where a reference leads among entries in rising order, and the loop that resolves references.
-use Rattle.std.proofs.Common.{◌==◌, ◌≡◌, ℕ, zero, suc, ◌+◌, ◌<◌, ◌≤◌, ◌||◌, Bool, true, false, not, cond, List, [], ◌∷◌, length, map, get_or, drop, Option, Some, None, refl, sym, ap, ◌∙◌, drop-cons, inl, inr, arith}
+use Rattle.std.proofs.Common.{◌==◌, ◌≡◌, ℕ, zero, suc, ◌+◌, ◌<◌, ◌≤◌, ◌||◌, Bool, true, false, not, cond, List, [], ◌∷◌, length, get_or, drop, Option, Some, None, refl, sym, ap, ◌∙◌, drop-cons, inl, inr, arith}
 use Rattle.std.specs.List.{find, list_any, position, position_or_len}
 use Rattle.std.proofs.lemmas.List.{drop_all, get_or-map, length-map}
 use Rattle.std.proofs.lemmas.List.Quantifiers.{position-Some}
 use Rattle.std.proofs.lemmas.Bool.{cases_lt, eq-eqb, eqb-true, ltb-false, ne_eqb}
 use Rattle.dwarf_types.specs.declared.entry.RawEntry.{RawEntry}
+use Rattle.dwarf_types.specs.PlaceSteps.{places_of}
 use Rattle.unit_tree.specs.declared.reference.Reference.{Reference}
 use Rattle.unit_tree.specs.Reference.{reaches, leads_to, leads, IsRising}
 
@@ -26,10 +27,7 @@ any_one p (x ∷ xs) (suc i) d lt fails = rw (fails 0 (omega arith) (λ e. omega
 abbrev none : RawEntry
 none = record { parent = None; unit = 0; place = 0; tag = 0; attrs = [] }
 
-abbrev pub places_in : List RawEntry → List ℕ
-places_in entries = map (λ (e : RawEntry). e.place) entries
-
-place_at : (entries : List RawEntry) (i : ℕ) (d : RawEntry) → i < length entries → get_or (places_in entries) i 0 ≡ (get_or entries i d).place
+place_at : (entries : List RawEntry) (i : ℕ) (d : RawEntry) → i < length entries → get_or (places_of entries) i 0 ≡ (get_or entries i d).place
 place_at entries i d lt = get_or-map (λ (e : RawEntry). e.place) entries i d 0 lt
 
 -- an entry that begins elsewhere is none to which a reference leads
@@ -39,9 +37,9 @@ elsewhere r e ne = rw (ne_eqb e.place r.target ne) refl
 abbrev is_there : Reference → ℕ → Bool
 is_there r p = p == r.target
 
-pub leads_there : (entries : List RawEntry) (r : Reference) (i : ℕ) (d : RawEntry) → IsRising entries → position (is_there r) (places_in entries) ≡ Some i → leads entries r ≡ reaches r.unit (get_or entries i d).unit
+pub leads_there : (entries : List RawEntry) (r : Reference) (i : ℕ) (d : RawEntry) → IsRising entries → position (is_there r) (places_of entries) ≡ Some i → leads entries r ≡ reaches r.unit (get_or entries i d).unit
 leads_there entries r i d rising found =
-    let at = position-Some (is_there r) (places_in entries) i 0 found in
+    let at = position-Some (is_there r) (places_of entries) i 0 found in
     let within : i < length entries = omega (arith, at.0, length-map entries (λ (e : RawEntry). e.place)) in
     let here : (get_or entries i d).place ≡ r.target = sym (place_at entries i d within) ∙ eqb-true _ _ at.1 in
     let others : (j : ℕ) → j < length entries → (j ≡ i → ⊥) → leads_to r (get_or entries j d) ≡ false = λ j lt ne. elsewhere r (get_or entries j d) (λ e.
@@ -69,11 +67,11 @@ none_found false n e = refl
 position-None : (p : ℕ → Bool) (xs : List ℕ) → position p xs ≡ None → (j : ℕ) → j < length xs → p (get_or xs j 0) ≡ false
 position-None p xs none = none_passes p xs (ltb-false _ _ (none_found _ (position_or_len p xs) none))
 
-pub leads_nowhere : (entries : List RawEntry) (r : Reference) → position (is_there r) (places_in entries) ≡ None → leads entries r ≡ false
+pub leads_nowhere : (entries : List RawEntry) (r : Reference) → position (is_there r) (places_of entries) ≡ None → leads entries r ≡ false
 leads_nowhere entries r none_there =
     any_none (leads_to r) entries none (λ j lt. elsewhere r (get_or entries j none) (λ e.
-    let passed = position-None (is_there r) (places_in entries) none_there j (omega (arith, lt, length-map entries (λ (x : RawEntry). x.place))) in
-    let here : is_there r (get_or (places_in entries) j 0) ≡ true = eq-eqb _ _ (place_at entries j none lt ∙ e) in
+    let passed = position-None (is_there r) (places_of entries) none_there j (omega (arith, lt, length-map entries (λ (x : RawEntry). x.place))) in
+    let here : is_there r (get_or (places_of entries) j 0) ≡ true = eq-eqb _ _ (place_at entries j none lt ∙ e) in
     let no : ⊥ = cc in
     no))
 

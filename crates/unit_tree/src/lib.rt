@@ -25,5 +25,4 @@ mod unit;
 pub use header::header_size;
 pub use laws::{kinds_of_unit_faults, units_are_read_as_spelled};
 pub use meaning::{Meaning, is_address_index, meaning_of_offset};
-pub use reference::Resolved;
 pub use unit::{read_resolved_units, read_units};

@@ -2,6 +2,7 @@
 
 ghost use Rattle.std.specs.Prelude.{◌≡◌, ◌<◌, ◌^◌, length, map, Some, is_some, IfOk, IfSome};
 ghost use Rattle.ds_base.specs.Reading.{Gives};
+ghost use Rattle.dwarf_types.specs.PlaceSteps.{IsTable, places_of};
 ghost use Rattle.unit_tree.specs.Reference.{reaches, leads, resolved, IsRising};
 ghost use Rattle.unit_tree.specs.Targets.{number_at};
 
@@ -21,32 +22,22 @@ pub(crate) struct Reference {
     pub(crate) unit: Option<u32>,
 }
 
-/// Where the references of an object's entries lead.
-#[derive(Drop)]
-pub struct Resolved {
-    /// The places of all entries.
-    pub places: PlaceTable,
-    /// The number of the entry to which each reference leads, in document order of the references.
-    pub numbers: List<u32>,
-}
-
-/// Resolves the references in their order: each leads to the first byte of an entry.
+/// The numbers of the entries to which the references lead, in their order: each leads to the first byte of one.
 pub(crate) fn resolve(
     alloc: Global,
     entries: &RawEntries,
     references: &[PackedReference],
-) -> Result<Resolved, ReadError>
+) -> Result<List<u32>, ReadError>
     requires rising { IsRising entries.now }
     requires few { length entries.now < 2 ^ 32 }
     ensures exact { Gives (λ _. entries.now) result (resolved entries.now references.now) }
-    ensures places { IfOk result (λ found. found.places ≡ map (λ e. e.place) entries.now) }
-    ensures numbers { IfOk result (λ found. map Some found.numbers ≡ map (number_at (map (λ e. e.place) entries.now)) (map (λ r. r.target) references.now)) }
+    ensures numbers { IfOk result (λ numbers. map Some numbers ≡ map (number_at (places_of entries.now)) (map (λ r. r.target) references.now)) }
 {
-    let places = PlaceTable::of(alloc, entries)?;
+    let table = PlaceTable::of(alloc, entries)?;
     let mut numbers = List::with_capacity(alloc, references.len())?;
     for packed in references {
         let reference = packed.unpacked();
-        let Some(number) = number_led_to(&places, entries, &reference) else {
+        let Some(number) = number_led_to(&table, entries, &reference) else {
             return Err(ReadError::Faulty(Fault {
                 kind: Kind::BadReference,
                 section: Part::Info,
@@ -55,19 +46,19 @@ pub(crate) fn resolve(
         };
         numbers.push(number)?;
     }
-    Ok(Resolved { places, numbers })
+    Ok(numbers)
 }
 
 /// The number of the entry to which a reference leads: one that it may lead to, and whose first byte stands
-/// there. `places` are those of the entries.
-fn number_led_to(places: &PlaceTable, entries: &RawEntries, reference: &Reference) -> Option<u32>
+/// there. The table is that of the entries.
+fn number_led_to(table: &PlaceTable, entries: &RawEntries, reference: &Reference) -> Option<u32>
     requires rising { IsRising entries.now }
     requires few { length entries.now < 2 ^ 32 }
-    requires places { places.now ≡ map (λ e. e.place) entries.now }
+    requires table { IsTable (places_of entries.now) table.now }
     ensures leads { is_some result ≡ leads entries.now reference.now }
-    ensures number { IfSome result (λ number. number_at places.now reference.now.target ≡ Some number) }
+    ensures number { IfSome result (λ number. number_at (places_of entries.now) reference.now.target ≡ Some number) }
 {
-    match places.find(reference.target) {
+    match table.find(entries, reference.target) {
         Some(i) => {
             if reaches_unit(reference.unit, entries.entry(i).unit()) {
                 Some(i as u32)

@@ -3,6 +3,7 @@
 ghost use Rattle.std.specs.Prelude.{◌≡◌, ◌≤◌, ◌<◌, ◌^◌, [], length, map, Some, IfOk, OnOk};
 ghost use Rattle.std.specs.List.{list_all};
 ghost use Rattle.ds_base.specs.Reading.{Finds, Gives};
+ghost use Rattle.dwarf_types.specs.PlaceSteps.{places_of};
 ghost use Rattle.dwarf_types.specs.SectionBytes.{bytes_in};
 ghost use Rattle.dwarf_types.specs.Seen.{value_seen};
 ghost use Rattle.dwarf_types.specs.Spelled.{AreBytes};
@@ -18,7 +19,7 @@ ghost use Rattle.unit_tree.specs.Unit.{short_in, language_of, unit_from, is_zero
 use crate::attribute::UnitContext;
 use crate::entry::{Parsed, find_bases, read_tree};
 use crate::header::{info_cursor, read_header};
-use crate::reference::{Resolved, resolve};
+use crate::reference::resolve;
 use crate::table::{Tables, add_table, kept_table};
 use ds_base::dwarf::DW_AT_language;
 use ds_base::{Cursor, Fault, Kind, List, ReadError};
@@ -58,14 +59,13 @@ pub fn read_units(alloc: Global, sections: &Sections) -> Result<RawUnits, ReadEr
     Ok(units)
 }
 
-/// The units of an object as [`read_units`] gives them, and where their references lead.
-///
-/// The numbers are those of the entries to which the `Ref` values lead, one for each, in document order.
+/// The units of an object as [`read_units`] gives them, and the numbers of the entries to which their references lead,
+/// one for each `Ref` value, in document order.
 #[tactic(auto, unfolding(crate::specs::Unit::units_of))]
 pub fn read_resolved_units(
     alloc: Global,
     sections: &Sections,
-) -> Result<(RawUnits, Resolved), ReadError>
+) -> Result<(RawUnits, List<u32>), ReadError>
     requires info { length sections.now.info.now < 2 ^ 32 }
     ensures exact { Gives (λ r. r.0) result (units_of (bytes_in sections.now)) }
 
@@ -76,9 +76,8 @@ pub fn read_resolved_units(
     // of addresses lead to these.
     ensures inside { AreBytes sections.now.info.now → AreBytes sections.now.abbrev.now → IfOk result (λ r. AreInside (bytes_in sections.now) r.0) }
 
-    // Places are those of the entries, and numbers those of the places in `Ref` values.
-    ensures places { IfOk result (λ r. r.1.places ≡ map (λ e. e.place) r.0.entries) }
-    ensures numbers { IfOk result (λ r. map Some r.1.numbers ≡ map (number_at (map (λ e. e.place) r.0.entries)) (targets_of r.0.entries)) }
+    // The numbers are those of the entries at the places in `Ref` values.
+    ensures numbers { IfOk result (λ r. map Some r.1 ≡ map (number_at (places_of r.0.entries)) (targets_of r.0.entries)) }
 {
     let mut parsed = Parsed {
         built: Builder::new(
@@ -92,8 +91,8 @@ pub fn read_resolved_units(
     let units = read_each(alloc, sections, &mut parsed)?;
     let Parsed { built, references } = parsed;
     let entries = built.finish();
-    let found = resolve(alloc, &entries, references.as_slice())?;
-    Ok((RawUnits { units, entries }, found))
+    let numbers = resolve(alloc, &entries, references.as_slice())?;
+    Ok((RawUnits { units, entries }, numbers))
 }
 
 /// Reads the units one after the other, and puts their entries behind those before.

@@ -1,12 +1,21 @@
-use Rattle.std.proofs.Common.{arith, sym}
+use Rattle.std.proofs.Common.{◌<◌, arith, length, sym}
+use Rattle.std.proofs.lemmas.List.{length-map}
+use Rattle.dwarf_types.specs.declared.entry.RawEntry.{RawEntry}
+use Rattle.dwarf_types.specs.PlaceSteps.{places_of}
 use Rattle.dwarf_types.proofs.Placing.{all_before, found_there, passed_over}
 use Rattle.dwarf_types.proofs.place_table.find_from.Goals as goal
 
-pub returns-then-places-i-2 : goal.returns-then-places-i-2
-returns-then-places-i-2 c = sym (found_there c.args.places.now c.args.place c.loop-i.i c.loop-i.invariant (omega arith) (omega arith))
+pub returns-then-there-place-2 : goal.returns-then-there-place-2
+returns-then-there-place-2 c =
+    let lt : c.loop-i.i < length (places_of c.args.entries.now) = omega (arith, c.loop-i-test.true, c.len-i-end.ensures, length-map c.args.entries.now (λ (e : RawEntry). e.place)) in
+    sym (found_there (places_of c.args.entries.now) c.args.place c.loop-i.i c.loop-i.invariant lt (omega (arith, c.place_of-there.ensures)))
 
-pub returns-else-places-i-2 : goal.returns-else-places-i-2
-returns-else-places-i-2 c = sym (passed_over c.args.places.now c.args.place c.loop-i.i c.requires.rise c.loop-i.invariant (omega arith) (omega arith))
+pub returns-else-there-place-2 : goal.returns-else-there-place-2
+returns-else-there-place-2 c =
+    let lt : c.loop-i.i < length (places_of c.args.entries.now) = omega (arith, c.loop-i-test.true, c.len-i-end.ensures, length-map c.args.entries.now (λ (e : RawEntry). e.place)) in
+    sym (passed_over (places_of c.args.entries.now) c.args.place c.loop-i.i c.requires.rise c.loop-i.invariant lt (omega (arith, c.place_of-there.ensures)))
 
 pub returns : goal.returns
-returns c = sym (all_before c.args.places.now c.args.place (λ k lt. c.loop-i.invariant k (omega arith) lt))
+returns c =
+    let count = length-map c.args.entries.now (λ (e : RawEntry). e.place) in
+    sym (all_before (places_of c.args.entries.now) c.args.place (λ k lt. c.loop-i.invariant k (omega (arith, count, lt)) lt))

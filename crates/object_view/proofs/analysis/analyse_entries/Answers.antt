@@ -1,9 +1,8 @@
-use Rattle.std.proofs.Common.{◌≡◌, ◌∙◌, ℕ, false, List, ap, arith, length, refl, subst, sym}
-use Rattle.std.proofs.lemmas.List.{length-map}
+use Rattle.std.proofs.Common.{◌≡◌, false, List, arith, refl, subst, sym}
 use Rattle.std.proofs.lemmas.Result.{err_from_is_err_and}
 use Rattle.ds_base.proofs.Refusals.{refused_from_gives, refused_gives}
 use Rattle.dwarf_types.specs.declared.entry.Entry.{Entry}
-use Rattle.dwarf_types.specs.declared.entry.RawEntry.{RawEntry}
+use Rattle.dwarf_types.specs.PlaceSteps.{places_of}
 use Rattle.dwarf_types.specs.Raw.{attr_of}
 use Rattle.dwarf_types.specs.SectionBytes.{bytes_in}
 use Rattle.unit_tree.specs.Meaning.{is_address_index}
@@ -11,7 +10,6 @@ use Rattle.object_view.specs.declared.units.UnitContext.{UnitContext}
 use Rattle.object_view.specs.Opened.{opened_seen}
 use Rattle.object_view.specs.Ready.{AllRawAttrs, IsListAttr, IsReadAttr, context_among}
 use Rattle.object_view.specs.Stages.{bases_of, tables_in}
-use Rattle.object_view.specs.Units.{contexts_of}
 use Rattle.object_view.proofs.Fitting.{all_listed, all_read, lists_count}
 use Rattle.object_view.proofs.Assembling.{done_count, done_lines, done_listed, listed_gives, unlisted_gives}
 use Rattle.object_view.proofs.analysis.analyse_entries.Goals as goal
@@ -34,8 +32,7 @@ returns c =
 pub understand_info-requires-clause-fits : goal.understand_info-requires-clause-fits
 understand_info-requires-clause-fits c =
     let sections = bytes_in c.args.object.now.sections in
-    subst (λ (units : List UnitContext). AllRawAttrs (IsReadAttr sections units c.args.tables.now.places.now) c.args.raw) (sym c.requires.units)
-    (subst (λ (places : List ℕ). AllRawAttrs (IsReadAttr sections (contexts_of c.args.raw c.args.units) places) c.args.raw) (sym c.requires.places) (all_read sections c.args.units c.args.raw c.requires.inside))
+    subst (λ (units : List UnitContext). AllRawAttrs (IsReadAttr sections units (places_of c.args.raw)) c.args.raw) (sym c.requires.units) (all_read sections c.args.units c.args.raw c.requires.inside)
 
 pub read_line_tables-requires-clause-inside : goal.read_line_tables-requires-clause-inside
 read_line_tables-requires-clause-inside c =
@@ -49,8 +46,6 @@ read_lists-requires-clause-fits c =
 
 pub finish-requires-clause-few : goal.finish-requires-clause-few
 finish-requires-clause-few c =
-    let few = c.requires.tables.few in
     let listed = lists_count (opened_seen c.args.object.now) c.args.map.now (tables_in c.args.tables.now) c.as_slice-2.result.now c.in_ok-entries.entries c.in_ok-entries-2.entries c.in_ok-entries-2.ensures in
     let understood = done_count (opened_seen c.args.object.now) c.args.map.now (tables_in c.args.tables.now) c.args.raw c.in_ok-entries.entries c.in_ok-entries.ensures in
-    let places = ap (λ (ps : List ℕ). length ps) c.requires.places ∙ length-map c.args.raw (λ (e : RawEntry). e.place) in
-    omega (arith, few, listed, understood, places)
+    omega (arith, c.requires.few, listed, understood)

@@ -6,4 +6,7 @@ use Rattle.object_view.proofs.Leading.{Left, entry_targets}
 use Rattle.object_view.proofs.info.understand_entries.Given as goal
 
 abbrev pub invariant-loop-i : goal.invariant-loop-i
-invariant-loop-i l = Changed (turned (raw_turn (info_value l.values))) l.fn.entries l.entries l.i × Left entry_targets l.values.places.now l.fn.entries l.i l.numbers (iter_rest l.left)
+invariant-loop-i g l = Changed (turned (raw_turn (info_value l.expressions g.places))) l.fn.entries l.entries l.i × Left entry_targets g.places l.fn.entries l.i l.numbers (iter_rest l.left)
+
+abbrev pub ghost-understand_entry : goal.ghost-understand_entry
+ghost-understand_entry g a = g.places

@@ -1,0 +1,5 @@
+use Rattle.dwarf_types.specs.PlaceSteps.{places_of}
+use Rattle.object_view.proofs.analysis.understand_info.Given as goal
+
+abbrev pub ghost-understand_entries : goal.ghost-understand_entries
+ghost-understand_entries a = places_of a.entries.now
