@@ -1,8 +1,8 @@
 -- What rows of line tables stand for, as their columns grow.
-use Rattle.std.proofs.Common.{◌≡◌, ℕ, ◌≤◌, List, [], ◌∷◌, ◌++◌, Option, Some, None, map, length, drop, All, refl, ap, ap₂, ◌∙◌, arith}
-use Rattle.std.specs.Prelude.{IfSome}
+use Rattle.std.proofs.Common.{◌≡◌, ℕ, ◌-◌, ◌<◌, ◌≤◌, Bool, true, false, List, [], ◌∷◌, ◌++◌, Option, Some, None, map, length, drop, take, get_or, All, refl, ap, ap₂, sym, ◌∙◌, arith}
+use Rattle.std.specs.Prelude.{IfSome, if◌then◌else◌}
 use Rattle.std.specs.Option.{option_map}
-use Rattle.std.proofs.lemmas.List.{drop-append-le, map_push}
+use Rattle.std.proofs.lemmas.List.{drop-append-le, drop-map, get_or_push, map_push, take-map}
 use Rattle.std.proofs.lemmas.List.Elements.{All-push, All-weaker}
 use Rattle.dwarf_types.specs.declared.files.FileRow.{FileRow}
 use Rattle.dwarf_types.specs.declared.lines.FileName.{FileName}
@@ -10,6 +10,7 @@ use Rattle.dwarf_types.specs.declared.lines.RawRow.{RawRow}
 use Rattle.dwarf_types.specs.declared.lines.RawSequence.{RawSequence}
 use Rattle.dwarf_types.specs.declared.lines.Row.{Row}
 use Rattle.dwarf_types.specs.declared.lines.Sequence.{Sequence}
+use Rattle.dwarf_types.specs.declared.packed_row.PackedRow.{PackedRow}
 use Rattle.dwarf_types.specs.declared.runs.Run.{Run}
 use Rattle.dwarf_types.specs.declared.runs.TextRun.{TextRun}
 use Rattle.dwarf_types.specs.declared.runs.TextRun.TheVariants as texts
@@ -17,9 +18,10 @@ use Rattle.dwarf_types.specs.declared.sequences.RawSequenceRow.{RawSequenceRow}
 use Rattle.dwarf_types.specs.declared.sequences.SequenceRow.{SequenceRow}
 use Rattle.dwarf_types.specs.Cells.{Begins}
 use Rattle.dwarf_types.specs.LineColumns.{FileWithin, RawSequenceWithin, SequenceWithin, built_of, file_of, raw_built_of, raw_sequence_of, sequence_of}
+use Rattle.dwarf_types.specs.Packed.{RowWithin, own_row, row_of, wide_at}
 use Rattle.dwarf_types.specs.Runs.{InRun, InTexts, run_of, text_of}
 use Rattle.dwarf_types.proofs.Heads.{maps_same}
-use Rattle.dwarf_types.proofs.Kept.{longer, range_begins}
+use Rattle.dwarf_types.proofs.Kept.{get_begins, longer, range_begins}
 
 -- ---- rows whose column grows
 
@@ -100,6 +102,30 @@ raw_sequences_keep = record {
   same = λ old new b s w. ap (raw_sequence_with s) (runs_keep.same old new b s.rows w);
   within = λ old new b s w. runs_keep.within old new b s.rows w;
 }
+
+-- ---- packed rows
+
+row_kept : (old new : List Row) → Begins old new → (p : PackedRow) → RowWithin old p → row_of new p ≡ row_of old p
+row_kept old new b p w = kept p.is_wide w where
+  kept : (wide : Bool) → (wide ≡ true → p.address < length old)
+      → (if wide then get_or new p.address (own_row p) else own_row p) ≡ (if wide then get_or old p.address (own_row p) else own_row p)
+  kept true lt = get_begins old new p.address (own_row p) b (lt refl)
+  kept false lt = refl
+
+pub packed_keep : Keeps row_of RowWithin
+packed_keep = record {
+  same = row_kept;
+  within = λ old new b p w is. let more = longer old new b in let lt : p.address < length old = w is in omega arith;
+}
+
+-- a wide row, behind the others, and what stands for it
+module _ (wide : List Row) (row : Row) (packed : List PackedRow) (are : All (RowWithin wide) packed) where
+  pub wide_put : map (row_of (wide ++ row ∷ [])) (packed ++ wide_at (length wide) ∷ []) ≡ map (row_of wide) packed ++ row ∷ []
+  wide_put = means_put row_of RowWithin packed_keep wide (wide ++ row ∷ []) (row ∷ [], refl) packed are (wide_at (length wide)) row (get_or_push wide row (own_row (wide_at (length wide))) (length wide) refl)
+
+-- the rows of a run
+pub run_mapped : {A B : Type 0} (f : A → B) (items : List A) (r : Run) → map f (run_of items r) ≡ run_of (map f items) r
+run_mapped f items r = sym (ap (take (r.to - r.from)) (drop-map f r.from items) ∙ take-map f (r.to - r.from) (drop r.from items))
 
 -- ---- a row of the next sequence, behind its others
 

@@ -24,6 +24,7 @@ pub mod Lists
 pub mod Live
 pub mod Moves
 pub mod Operations
+pub mod Packed
 pub mod Places
 pub mod PlaceSteps
 pub mod Plain

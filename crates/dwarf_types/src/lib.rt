@@ -28,10 +28,12 @@ mod lines;
 mod lists;
 mod operands;
 mod ops;
+mod packed_row;
 mod parts;
 mod paths;
 mod place_table;
 mod put;
+mod rows;
 mod runs;
 mod sections;
 mod seen;
@@ -61,6 +63,7 @@ pub use parts::{ExprPart, PlainPart};
 pub use paths::Paths;
 pub use place_table::PlaceTable;
 pub use put::{NewValue, RawValue};
+pub use rows::Rows;
 pub use sections::Sections;
 pub use seen::{
     AttrRef, InnerOpRef, InnerOpsRef, LocationRef, LocationsRef, OpRef, OpsRef, RawAttrRef,

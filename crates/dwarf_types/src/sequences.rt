@@ -5,6 +5,7 @@ ghost use Rattle.dwarf_types.specs.SeenLines.{last_of, raw_sequence_seen, sequen
 
 use crate::address::Addr;
 use crate::lines::{RawRow, Row};
+use crate::rows::{PackedRows, Rows};
 use crate::runs::{Run, part_of};
 use ds_base::NoMemory;
 use std::alloc::Global;
@@ -13,7 +14,7 @@ use std::marker::Model;
 /// Sequences of a line table, as they are written.
 #[derive(Drop)]
 pub struct Sequences {
-    rows: Vec<Row>,
+    rows: PackedRows,
     runs: Vec<SequenceRow>,
 }
 
@@ -26,9 +27,9 @@ impl Model for Sequences {
     ghost use Rattle.std.specs.Prelude.{All, map};
     ghost use Rattle.dwarf_types.specs.LineColumns.{SequenceWithin, sequence_of};
 
-    ghost view = { λ s. map (sequence_of s.rows.items) s.runs.items };
+    ghost view = { λ s. map (sequence_of s.rows) s.runs.items };
 
-    ghost invariant = { λ s. All (SequenceWithin s.rows.items) s.runs.items };
+    ghost invariant = { λ s. All (SequenceWithin s.rows) s.runs.items };
 }
 
 /// A sequence, whose rows are a run of all rows.
@@ -41,7 +42,7 @@ pub(crate) struct SequenceRow {
 /// A sequence where it stands.
 #[derive(Clone, Copy)]
 pub struct SequenceRef<'a> {
-    pub rows: &'a [Row],
+    pub rows: Rows<'a>,
     /// The address behind the last instruction.
     pub end: u64,
 }
@@ -49,7 +50,7 @@ pub struct SequenceRef<'a> {
 /// Sequences, and the rows of the next one.
 #[derive(Drop)]
 pub struct SequenceBuilder {
-    rows: Vec<Row>,
+    rows: PackedRows,
     ended: Vec<SequenceRow>,
     /// The place of the first row that is no sequence's yet.
     open_from: usize,
@@ -62,9 +63,9 @@ impl Model for SequenceBuilder {
 
     ghost use Rattle.dwarf_types.specs.LineColumns.{IsBuilt, built_of};
 
-    ghost view = { λ b. built_of b.rows.items b.ended.items b.open_from };
+    ghost view = { λ b. built_of b.rows b.ended.items b.open_from };
 
-    ghost invariant = { λ b. IsBuilt b.rows.items b.ended.items b.open_from };
+    ghost invariant = { λ b. IsBuilt b.rows b.ended.items b.open_from };
 }
 
 /// Sequences of a line table, as they are read.
@@ -130,7 +131,7 @@ impl Sequences {
         ensures { result ≡ [] }
     {
         Sequences {
-            rows: Vec::new(alloc),
+            rows: PackedRows::new(alloc),
             runs: Vec::new(alloc),
         }
     }
@@ -150,7 +151,7 @@ impl Sequences {
     {
         let run = self.runs[i];
         SequenceRef {
-            rows: part_of(&self.rows, run.rows),
+            rows: self.rows.part(run.rows),
             end: run.end,
         }
     }
@@ -162,7 +163,7 @@ impl SequenceBuilder {
         ensures { result ≡ record { ended = []; rows = [] } }
     {
         SequenceBuilder {
-            rows: Vec::new(alloc),
+            rows: PackedRows::new(alloc),
             ended: Vec::new(alloc),
             open_from: 0,
         }

@@ -5,14 +5,14 @@ ghost use Rattle.std.specs.List.{All};
 ghost use Rattle.std.specs.Option.{option_copied};
 ghost use Rattle.std.specs.Prelude.{◌≡◌, None, IfSome};
 ghost use Rattle.dwarf_types.specs.SeenFrames.{frame_seen};
-ghost use Rattle.dwarf_types.specs.SeenLines.{file_seen, sequence_seen};
+ghost use Rattle.dwarf_types.specs.SeenLines.{file_seen, rows_seen, sequence_seen};
 ghost use Rattle.dwarf_types.specs.WellLines.{HaveDigests, IsDigest, IsFile, IsFrame, IsLineTable, IsPath, IsRow, IsSequence, NeverFall};
 
 use crate::numbers::is_number;
 use crate::texts::{are_bytes, are_text_bytes};
 use ds_base::dwarf::{DWARF_4, DWARF_5};
 use dwarf_types::{
-    FileNameRef, FileNames, FrameRef, OutFrames, OutLines, Paths, Row, SequenceRef, Sequences,
+    FileNameRef, FileNames, FrameRef, OutFrames, OutLines, Paths, Row, Rows, SequenceRef, Sequences,
 };
 
 /// Whether this is the line table of a unit of a version, or there is none.
@@ -154,11 +154,11 @@ fn is_sequence(sequence: SequenceRef<'_>) -> bool
 }
 
 /// What rows keep to but for their order, their types tell.
-fn are_rows(rows: &[Row])
-    ensures { All IsRow rows.now }
+fn are_rows(rows: Rows<'_>)
+    ensures { All IsRow (rows_seen rows.entry) }
 {
-    for row in rows {
-        is_row(*row);
+    for i in 0..rows.len() {
+        is_row(rows.row(i));
     }
 }
 
@@ -168,11 +168,12 @@ fn is_row(row: Row)
 {}
 
 /// Whether the addresses of rows never fall, and neither does the end.
-fn never_fall(rows: &[Row], end: u64) -> bool
-    ensures { OnTrue result (NeverFall 0 rows.now end) }
+fn never_fall(rows: Rows<'_>, end: u64) -> bool
+    ensures { OnTrue result (NeverFall 0 (rows_seen rows.entry) end) }
 {
     let mut from = 0;
-    for row in rows {
+    for i in 0..rows.len() {
+        let row = rows.row(i);
         if row.address < from {
             return false;
         }

@@ -3,13 +3,13 @@
 ghost use Rattle.std.specs.Prelude.{◌≡◌, ◌++◌, [], OnOk};
 ghost use Rattle.std.specs.List.{flat_map};
 ghost use Rattle.dwarf_types.specs.LineProgram.{first_address, registers_after, registers_at, rows_bytes, sequence_bytes, set_address};
-ghost use Rattle.dwarf_types.specs.SeenLines.{sequence_seen};
+ghost use Rattle.dwarf_types.specs.SeenLines.{rows_seen, sequence_seen};
 
 use crate::row_ops::{append_extended, append_row, append_step};
 use appending::append_u64;
 use ds_base::dwarf::{ADDRESS_SIZE, DW_LNE_end_sequence, DW_LNE_set_address};
 use ds_base::{Bytes, NoMemory};
-use dwarf_types::{Row, SequenceRef, Sequences};
+use dwarf_types::{Row, Rows, SequenceRef, Sequences};
 
 /// How many bytes `DW_LNE_set_address` has: its code and an address.
 const SET_ADDRESS_SIZE: u64 = 1 + ADDRESS_SIZE as u64;
@@ -38,8 +38,8 @@ fn append_sequence(out: &mut Bytes, sequence: SequenceRef<'_>) -> Result<(), NoM
 }
 
 /// The address of the first row.
-fn first_of(rows: &[Row]) -> u64
-    ensures { result ≡ first_address rows.now }
+fn first_of(rows: Rows<'_>) -> u64
+    ensures { result ≡ first_address (rows_seen rows.entry) }
 {
     match rows.first() {
         Some(row) => row.address,
@@ -57,13 +57,14 @@ fn append_set_address(out: &mut Bytes, address: u64) -> Result<(), NoMemory>
 }
 
 /// Puts last what appends the rows and ends their sequence at an address, from the registers at a first address.
-fn append_rows(out: &mut Bytes, first: u64, rows: &[Row], end: u64) -> Result<(), NoMemory>
-    ensures { OnOk result (out.new ≡ out.old ++ rows_bytes (registers_at first) rows.now end) }
+fn append_rows(out: &mut Bytes, first: u64, rows: Rows<'_>, end: u64) -> Result<(), NoMemory>
+    ensures { OnOk result (out.new ≡ out.old ++ rows_bytes (registers_at first) (rows_seen rows.entry) end) }
 {
     let mut before = start_at(first);
-    for row in rows {
-        append_row(out, &before, row)?;
-        before = behind(row);
+    for i in 0..rows.len() {
+        let row = rows.row(i);
+        append_row(out, &before, &row)?;
+        before = behind(&row);
     }
     append_end(out, &before, end)?;
     Ok(())

@@ -4,7 +4,7 @@ ghost use Rattle.std.specs.Prelude.{◌≡◌, ◌≤◌, ◌<◌, ◌+◌, ◌^
 ghost use Rattle.std.specs.List.{All, sum_by};
 ghost use Rattle.dwarf_types.specs.LineProgram.{sequence_bytes};
 ghost use Rattle.dwarf_types.specs.LineTable.{line_table_bytes};
-ghost use Rattle.dwarf_types.specs.SeenLines.{sequence_seen};
+ghost use Rattle.dwarf_types.specs.SeenLines.{rows_seen, sequence_seen};
 ghost use Rattle.sample_objects.specs.Lines.{places_by};
 ghost use Rattle.sample_objects.specs.ObjectFile;
 ghost use Rattle.sample_objects.specs.ObjectFile.{counts_from_text, operands_of};
@@ -13,7 +13,7 @@ ghost use Rattle.unit_draft.specs.Drafted.{lines_len};
 use crate::file::TEXT_SECTION;
 use ds_base::{List, NoMemory, plus};
 use dwarf_types::{
-    FileNames, OutLines, OutUnit, Paths, Row, SequenceBuilder, SequenceRef, Sequences,
+    FileNames, OutLines, OutUnit, Paths, Rows, SequenceBuilder, SequenceRef, Sequences,
 };
 use line_write::append_lines;
 use patches::Buffer;
@@ -97,11 +97,11 @@ fn table_of(alloc: Global, sequence: SequenceRef<'_>) -> Result<OutLines, NoMemo
 }
 
 /// Puts rows behind those of the next sequence.
-fn add_rows(sequences: &mut SequenceBuilder, rows: &[Row]) -> Result<(), NoMemory>
-    ensures { OnOk result (sequences.new ≡ record sequences.old { rows = sequences.old.rows ++ rows.now }) }
+fn add_rows(sequences: &mut SequenceBuilder, rows: Rows<'_>) -> Result<(), NoMemory>
+    ensures { OnOk result (sequences.new ≡ record sequences.old { rows = sequences.old.rows ++ rows_seen rows.entry }) }
 {
-    for row in rows {
-        sequences.push(*row)?;
+    for i in 0..rows.len() {
+        sequences.push(rows.row(i))?;
     }
     Ok(())
 }

@@ -1,4 +1,4 @@
-use Rattle.std.proofs.Common.{◌∙◌, ap, arith}
+use Rattle.std.proofs.Common.{◌∙◌, ap}
 use Rattle.layout.specs.Laid.{Laid}
 use Rattle.layout.proofs.Limits.{line_short}
 use Rattle.sample_objects.proofs.LineSizes.{below_limit, one_table}

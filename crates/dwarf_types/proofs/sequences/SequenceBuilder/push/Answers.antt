@@ -3,4 +3,4 @@ use Rattle.dwarf_types.proofs.sequences.SequenceBuilder.push.Goals as goal
 
 pub returns-clause-ok : goal.returns-clause-ok
 returns-clause-ok c =
-    rw (c.in_ok-push.ensures.items, ← c.self.view_is) (row_put c.self.inside.rows.items c.args.row c.self.inside.open_from c.self.invariant.1 c.self.inside.ended.items c.self.invariant.0)
+    rw (c.in_ok-push.ensures.ok, ← c.self.view_is) (row_put c.self.inside.rows c.args.row c.self.inside.open_from c.self.invariant.1 c.self.inside.ended.items c.self.invariant.0)
