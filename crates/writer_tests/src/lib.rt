@@ -12,6 +12,8 @@ mod holes;
 #[cfg(test)]
 mod images;
 #[cfg(test)]
+mod rows;
+#[cfg(test)]
 mod samples;
 #[cfg(test)]
 mod texts;
