@@ -41,7 +41,7 @@ use Rattle.link_graph.proofs.Gathered.{All-flat_map, enumerate_at, enumerate_mor
 use Rattle.link_graph.proofs.KeptRows.{kept_is, kept_length}
 use Rattle.link_graph.proofs.Merging.{AreBetween, IsNameOf, are_names_of, named_in, names_begin, one_on, own_entries, own_names, put_length, put_named}
 use Rattle.link_graph.proofs.Objects.{images_length}
-use Rattle.link_graph.proofs.Placed.{images_few, images_placed, images_within}
+use Rattle.link_graph.proofs.Placed.{images_placed, own_few}
 use Rattle.link_graph.proofs.Shapes.{image_is, marks_of, plain_before_more, units_before_more, units_shaped}
 use Rattle.link_graph.proofs.Stretches.{numbered_at, numbered_length}
 
@@ -185,10 +185,7 @@ module _ (odr : Bool) (seen : List Analysis) (live : List (List Bool)) (names : 
 
   -- its images have numbers of 32 bits behind so many units
   pub part_numbered : (before number : ℕ) → number ≡ before → before + length one.units.items < 2 ^ 32 → All (λ image. IfSome image (λ target. number + target.unit < 2 ^ 32)) one.images
-  part_numbered before number same few =
-      let unit_count : length one.units.items ≡ length (units_of i (kept_object odr part.its)) = ap length part.own.units in
-      images_few number (length (units_of i (kept_object odr part.its))) one.images (omega (arith, few, same, unit_count))
-      (subst (All (λ (image : Option Target). IfSome image (λ target. target.unit < length (units_of i (kept_object odr part.its))))) (sym part.own.images) (images_within i (kept_object odr part.its) part.sound))
+  part_numbered before number same few = own_few i (kept_object odr part.its) one number one.images part.sound part.own refl (omega (arith, few, same))
 
   pub shaped_more : (from end before : ℕ) (units later : List ShapeUnit) (plain : List (List (Option ℕ))) (images : List (List (Option Target))) (leading : List (Option Target))
       → IsFirstOf names (i + 1) from → IsFirstOf names (i + 2) end → before ≡ length units

@@ -17,3 +17,4 @@ pub mod Families
 pub mod PoolRuns
 pub mod PoolNodes
 pub mod LinkedApart
+pub mod Growing

@@ -1,5 +1,5 @@
 -- Where references lead once the units of an object stand behind others.
-use Rattle.std.proofs.Common.{◌≡◌, ℕ, ◌+◌, ◌^◌, ◌<◌, ◌≤◌, Bool, false, cond, eqb, List, [], ◌∷◌, ◌++◌, length, map, take, drop, set, get_or, slice_get, Option, Some, None, refl, sym, ap, ◌∙◌, arith, length-append}
+use Rattle.std.proofs.Common.{◌≡◌, ℕ, ◌+◌, ◌^◌, ◌<◌, ◌≤◌, Bool, false, cond, eqb, List, [], ◌∷◌, ◌++◌, length, map, take, drop, set, get_or, slice_get, Option, Some, None, refl, sym, ap, subst, ◌∙◌, arith, length-append}
 use Rattle.std.specs.List.{All, cons_option, enumerate_from, filter_map}
 use Rattle.std.specs.Option.{IfSome}
 use Rattle.std.proofs.lemmas.List.{drop-drop, drop-set-lt, get_or-drop, length-set, map-append, take_all, take_more, take_more_set}
@@ -12,7 +12,8 @@ use Rattle.dwarf_types.specs.declared.shape.ShapeUnit.{ShapeUnit}
 use Rattle.dwarf_types.specs.LinkedShape.{origin_of}
 use Rattle.dwarf_types.specs.LinkedUnits.{Object, kept_entries, node_number, numbered}
 use Rattle.dwarf_types.specs.Sound.{IsSound}
-use Rattle.link_graph.specs.OwnShapes.{target_behind}
+use Rattle.link_graph.specs.declared.object.ObjectShape.{ObjectShape}
+use Rattle.link_graph.specs.OwnShapes.{IsOwnShape, target_behind}
 use Rattle.link_graph.specs.Passes.{image_behind, images_of, target_in, unit_in, units_below, units_of}
 use Rattle.link_graph.proofs.Gathered.{All-enumerate, map_same, parts_at}
 use Rattle.link_graph.proofs.Shapes.{some_there}
@@ -102,3 +103,11 @@ target_few before count (Some target) few h = omega (arith, few, h)
 pub images_few : (before count : ℕ) (images : List (Option Target)) → before + count < 2 ^ 32 → All (λ image. IfSome image (λ target. target.unit < count)) images → All (λ image. IfSome image (λ target. before + target.unit < 2 ^ 32)) images
 images_few before count images few are =
     All-weaker (λ (image : Option Target). IfSome image (λ target. target.unit < count)) (λ image. IfSome image (λ target. before + target.unit < 2 ^ 32)) (λ image h. target_few before count image few h) images are
+
+-- what an object gives, behind so many units
+pub own_few : (i : ℕ) (o : Object) (own : ObjectShape) (before : ℕ) (images : List (Option Target)) → IsSound o.seen → IsOwnShape i o own → images ≡ own.images → before + length own.units.items < 2 ^ 32
+    → All (λ image. IfSome image (λ target. before + target.unit < 2 ^ 32)) images
+own_few i o own before images sound gives are few =
+    let unit_count : length own.units.items ≡ length (units_of i o) = ap length gives.units in
+    images_few before (length (units_of i o)) images (omega (arith, few, unit_count))
+    (subst (All (λ (image : Option Target). IfSome image (λ target. target.unit < length (units_of i o)))) (sym (are ∙ gives.images)) (images_within i o sound))

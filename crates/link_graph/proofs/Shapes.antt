@@ -40,7 +40,7 @@ unless_then : {A B : Type 0} (g : A → Option B) (b : Bool) (x : A) (y : B) →
 unless_then g true x y e = refl
 unless_then g false x y e = e
 
-unless_some : {A : Type 0} (b : Bool) (x y : A) → cond b None (Some x) ≡ Some y → x ≡ y
+pub unless_some : {A : Type 0} (b : Bool) (x y : A) → cond b None (Some x) ≡ Some y → x ≡ y
 unless_some true x y e = absurd cc
 unless_some false x y e = same_Some x y e
 

@@ -31,6 +31,13 @@ pub record AreOwnShapes (odr : Bool) (seen : List Analysis) (live : List (List B
   pub len : length own ≡ length seen
   pub each : (i : ℕ) (one : ObjectShape) → slice_get own i ≡ Some one → IsOwnShapeAt (kept_objects odr seen live) i one
 
+-- an object with its live entries, behind others with theirs
+pub record StandsBehind (seen : List Analysis) (live : List (List Bool)) (object : Analysis) (row : List Bool) : Type 0 where
+  pub sound : All IsSound seen
+  pub marked : AreMarked seen live
+  pub its_sound : IsSound object
+  pub its_marks : length row ≡ length object.entries
+
 -- a node of a unit that stands behind so many others
 abbrev pub target_behind : ℕ → Option Target → Option Target
 target_behind before image = option_map (λ target. record { unit = before + target.unit; node = target.node }) image

@@ -1,6 +1,6 @@
 //! The shapes of all objects, joined to that of a link.
 
-ghost use Rattle.std.specs.Prelude.{◌≡◌, ◌<◌, ◌≤◌, ◌+◌, ◌^◌, ◌↔◌, ℕ, Bool, List as Listed, Err, None, map, length, slice_index_or, IsErr, IfOk, IfSome};
+ghost use Rattle.std.specs.Prelude.{◌≡◌, ◌<◌, ◌≤◌, ◌+◌, ◌^◌, ℕ, Bool, List as Listed, Err, None, map, length, slice_index_or, IfOk, IfSome};
 ghost use Rattle.std.specs.List.{All};
 ghost use Rattle.dwarf_types.specs.declared.analysis.Analysis.{Analysis as Seen};
 ghost use Rattle.odr_names.specs.Book.{path_at};
@@ -12,6 +12,7 @@ ghost use Rattle.link_graph.specs.OwnShapes.{AreOwnShapes, target_behind};
 ghost use Rattle.link_graph.specs.Passes.{names_between, path_target, put_each};
 ghost use Rattle.link_graph.specs.Pool.{node_of_path};
 
+use crate::behind::{number_behind, place_behind};
 use crate::merged::lead_to_paths;
 use crate::object::ObjectShape;
 use crate::pool::{pool_of, settle_version};
@@ -70,17 +71,6 @@ pub fn joined_shape(
     })
 }
 
-/// The number of the first of some units behind others, unless that of the last would pass 32 bits.
-fn number_behind(before: usize, units: usize) -> Result<u32, ShapeError>
-    ensures number { IfOk result (λ number. (number ≡ before) × (before + units < 2 ^ 32)) }
-    ensures full { IsErr result ↔ (2 ^ 32 ≤ before + units) }
-{
-    if before.saturating_add(units) > u32::MAX as usize {
-        return Err(ShapeError::Units);
-    }
-    Ok(before as u32)
-}
-
 /// Lets references to the entries of an object lead where they lead among all units.
 ///
 /// So many units stand before those of the object, and the names from `from` on up to `end` are those of its merged
@@ -99,20 +89,6 @@ fn place_images(
     requires entries { All (λ w. w.entry < length images.old) (names_between names.now from end) }
     ensures { images.new ≡ put_each (path_target names.now) (names_between names.now from end) (map (target_behind before) images.old) }
 {
-    for i in 0..images.len() {
-        images[i] = target_behind(before, images[i]);
-    }
+    place_behind(images, before);
     lead_to_paths(images, names, nodes, from, end);
-}
-
-/// A node of a unit that stands behind so many others.
-fn target_behind(before: u32, image: Option<Target>) -> Option<Target>
-    requires { IfSome image (λ target. before + target.unit < 2 ^ 32) }
-    ensures { result ≡ target_behind before image }
-{
-    let image = image?;
-    Some(Target {
-        unit: before + image.unit,
-        node: image.node,
-    })
 }

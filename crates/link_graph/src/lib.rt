@@ -10,8 +10,12 @@
 //! merged entries stand in the pool's unit, the first, which holds a node for each path (`pool`, `specs/Pool.antt`), the
 //! units of the objects stand behind it, and references to a merged entry lead to the node of its path. The graph for
 //! which a shape stands is in `specs/Graph.antt` and `specs/PoolFiles.antt`.
+//!
+//! Where nothing is merged, an object's shape depends on no other object ([`kept_shape`]), and the shape of a link grows
+//! object by object ([`empty_shape`], [`add_object`]): what stands in it of the first objects stays (`proofs/Growing.antt`).
 #![tactic(auto)]
 
+mod behind;
 mod entry;
 mod joining;
 mod kept;
@@ -21,8 +25,10 @@ mod pool;
 mod shape;
 mod shape_error;
 mod unit;
+mod unmerged;
 
 pub use joining::joined_shape;
-pub use object::ObjectShape;
+pub use object::{ObjectShape, kept_shape};
 pub use shape::{build, object_shape};
 pub use shape_error::ShapeError;
+pub use unmerged::{add_object, empty_shape};

@@ -23,8 +23,8 @@ pub struct ObjectShape {
 
 /// What an object gives to the shape of a link, by its entries that are kept.
 ///
-/// `object` is the object's number from 0.
-pub(crate) fn kept_shape(
+/// `object` is the object's number from 0. Where nothing is merged, the entries that are kept are its live ones.
+pub fn kept_shape(
     alloc: Global,
     object: u32,
     seen: &Analysis,

@@ -1,5 +1,5 @@
 use Rattle.link_graph.proofs.Placed.{AreMovedTo}
-use Rattle.link_graph.proofs.joining.place_images.Given as goal
+use Rattle.link_graph.proofs.behind.place_behind.Given as goal
 
 -- the images so far
 abbrev pub invariant-loop-i : goal.invariant-loop-i
