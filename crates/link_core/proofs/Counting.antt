@@ -30,12 +30,12 @@ entries_so_far seen i object sound few lt is =
     let more = sum_by_more_le f seen i object lt in
     omega (arith, more, ap f is, entries_few seen sound few)
 
-filter_few : (row : List Bool) → length (filter (λ b. b) row) ≤ length row
+pub filter_few : (row : List Bool) → length (filter (λ b. b) row) ≤ length row
 filter_few [] = omega arith
 filter_few (true ∷ row) = let rest = filter_few row in omega (arith, rest)
 filter_few (false ∷ row) = let rest = filter_few row in omega (arith, rest)
 
-live_few : (seen : List Analysis) (marks : List (List Bool)) → length marks ≡ length seen → All (λ object. length object.1 ≡ length object.0.entries) (zip seen marks)
+pub live_few : (seen : List Analysis) (marks : List (List Bool)) → length marks ≡ length seen → All (λ object. length object.1 ≡ length object.0.entries) (zip seen marks)
     → sum_by (λ row. length (filter (λ b. b) row)) marks ≤ sum_by (λ object. length object.entries) seen
 live_few [] [] each whole = omega arith
 live_few [] (row ∷ marks) each whole = absurd (omega (arith, each))

@@ -1,6 +1,6 @@
 -- The graph that is linked: its names, its shape, its frames, and the drafts of its units.
 use Rattle.std.proofs.Common.{◌≡◌, ◌<◌, ◌≤◌, ◌+◌, ◌-◌, ◌^◌, ℕ, suc, Bool, true, false, List, [], ◌∷◌, ◌++◌, length, get_or, slice_get, Option, Some, is_some, map, if◌then◌else◌, Result, Ok, Err, refl, sym, ap, subst, ◌∙◌, arith}
-use Rattle.std.specs.List.{flat_map, zip}
+use Rattle.std.specs.List.{filter, flat_map, sum_by, zip}
 use Rattle.std.proofs.lemmas.Bool.{le-leb, lt-leb}
 use Rattle.std.proofs.lemmas.List.{length-map}
 use Rattle.std.proofs.lemmas.Option.{get_or_from_slice_get, slice_get_within}
@@ -20,16 +20,17 @@ use Rattle.link_graph.specs.Pool.{pool_names, preorder}
 use Rattle.odr_names.specs.Making.{AreLiveRows}
 use Rattle.type_names.specs.Names.{Named}
 use Rattle.type_pool.specs.declared.closed.ClosedPool.{ClosedPool}
-use Rattle.layout.specs.Laid.{long_unit}
+use Rattle.layout.specs.Laid.{AreDrafts, long_unit}
 use Rattle.layout.proofs.DraftRuns.{Drafted, long_here, one_drafted}
 use Rattle.unit_draft.specs.declared.unit.Draft.{Draft}
 use Rattle.macho_read.specs.declared.image.Image.{Image}
+use Rattle.link_core.specs.declared.bundle.Counted.{Counted}
 use Rattle.link_core.specs.declared.graph.Shaped.{Shaped}
 use Rattle.link_core.specs.declared.refusal.LimitKind.TheVariants as limits
 use Rattle.link_core.specs.declared.refusal.Refusal.{Refusal}
 use Rattle.link_core.specs.declared.refusal.Refusal.TheVariants as refusals
 use Rattle.link_core.specs.Linked.{AreLive, IsClosed, MarkLive, first_limit, graph_of, limit_of}
-use Rattle.link_core.specs.Passes.{DraftsBy, DraftsUnit, DraftsUnits, HasPool, IsShaped, Shapes}
+use Rattle.link_core.specs.Passes.{DraftsBy, DraftsUnit, DraftsUnits, HasPool, IsDrafted, IsShaped, Shapes}
 use Rattle.link_core.proofs.Turns.{given_as, given_more}
 
 limited : (b : Bool) (found rest : Option Refusal) → b ≡ true → (if b then found else rest) ≡ found
@@ -79,7 +80,7 @@ pool_first shape (n ∷ names) h some = (
 
 -- ---- frames
 
-frames_same : (seen : List Analysis) (marks : List (List Bool)) → length marks ≡ length seen → flat_map (λ object. object.frames) seen ≡ flat_map (λ o. o.seen.frames) (objects_of seen marks)
+pub frames_same : (seen : List Analysis) (marks : List (List Bool)) → length marks ≡ length seen → flat_map (λ object. object.frames) seen ≡ flat_map (λ o. o.seen.frames) (objects_of seen marks)
 frames_same [] marks e = refl
 frames_same (a ∷ seen) [] e = absurd (omega (arith, e))
 frames_same (a ∷ seen) (row ∷ marks) e = ap (λ (l : List OutFrame). a.frames ++ l) (frames_same seen marks (omega (arith, e)))
@@ -161,3 +162,16 @@ given_batch seen left shape first end outs more all is le there before here whol
     let now : GivesAll (λ k out. DraftsUnit graph (first + k) out) (end - first) more =
     given_as (λ k out. DraftsBy left shape (first + k) out) (λ k out. DraftsUnit graph (first + k) out) (end - first) more (λ k out lt drafts. drafts seen is (there (first + k) (omega arith) (omega (arith, lt, le)))) here in
     subst (GivesAll (DraftsUnit graph) end) (sym whole) (given_more (DraftsUnit graph) first end outs more le before now)
+
+-- the units of a shape are drafted
+pub drafted : (odr : Bool) (seen lent : List Analysis) (live : List (List Bool)) (shaped : Shaped) (h : IsShaped odr seen live shaped) (drafts : List Draft) (frames : List OutFrame) (counted : Counted)
+    → DraftsUnits (graph_in seen shaped.shape) (Ok drafts) → lent ≡ seen → frames ≡ flat_map (λ object. object.frames) lent → counted.objects ≡ length seen → counted.entries ≡ sum_by (λ object. length object.entries) seen
+    → counted.live ≡ sum_by (λ row. length (filter (λ b. b) row)) live → counted.pooled ≡ shaped.pooled → counted.names ≡ shaped.names → IsDrafted odr seen live drafts frames counted shaped.closed
+drafted odr seen lent live shaped h drafts frames counted are same framed o e l p n = record {
+  few_names = h.few_names;
+  few = subst (λ (g : Graph). length g.units < 2 ^ 32 - 1) h.graph (shape_few seen shaped.shape h.is_shape h.few);
+  drafts_are = subst (λ (g : Graph). AreDrafts g drafts) h.graph are;
+  frames_are = frames_are odr seen lent live frames shaped h same framed;
+  counted_are = record { objects = o; entries = e; live = l; pooled = p ∙ h.pooled; names = n ∙ h.names };
+  closed_is = h.closed;
+}

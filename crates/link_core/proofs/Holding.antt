@@ -1,13 +1,13 @@
 -- Which files are held while objects are read in their order.
-use Rattle.std.proofs.Common.{◌≡◌, ◌<◌, ◌≤◌, ◌+◌, ◌-◌, ℕ, zero, suc, List, [], ◌∷◌, ◌++◌, length, get_or, set, slice_get, Option, Some, None, Result, refl, ap, subst, ◌∙◌, arith, get_or-set_other}
+use Rattle.std.proofs.Common.{◌≡◌, ◌<◌, ◌≤◌, ◌+◌, ◌-◌, ℕ, zero, suc, List, [], ◌∷◌, length, get_or, set, slice_get, Option, Some, None, Result, refl, ap, subst, ◌∙◌, arith, get_or-set_other}
 use Rattle.std.proofs.lemmas.List.{get_or_default}
 use Rattle.stab_map.specs.declared.object.MapObject.{MapObject}
 use Rattle.work_share.specs.Results.{GivesAll}
 use Rattle.link_core.specs.declared.objects.ReadObject.{ReadObject}
 use Rattle.link_core.specs.declared.refusal.Refusal.{Refusal}
-use Rattle.link_core.specs.Linked.{Source, sources_of}
+use Rattle.link_core.specs.Linked.{sources_of}
 use Rattle.link_core.specs.Passes.{AreHeld, AreLast, ReadsAt}
-use Rattle.link_core.proofs.Turns.{given_as, given_more}
+use Rattle.link_core.proofs.Turns.{given_as}
 
 pub held_all : (source : List (Option ℕ)) (files : List (List ℕ)) → AreHeld 0 source files files
 held_all source files k n le at = refl
@@ -35,10 +35,9 @@ module _ (files held : List (List ℕ)) where
   read_as : (cpu from k : ℕ) (objects : List MapObject) (source : List (Option ℕ)) (out : Result ReadObject Refusal) → from ≤ k → AreHeld from source files held → ReadsAt cpu (sources_of objects held source) k out → ReadsAt cpu (sources_of objects files source) k out
   read_as cpu from k objects source out le are reads s at = reads s (same_at objects source k (λ n here. are k n le here) ∙ at)
 
-  -- what is read of a batch by the files that are held goes behind what was read before
-  pub read_more : (cpu first end : ℕ) (objects : List MapObject) (source : List (Option ℕ)) (outs more : List (Result ReadObject Refusal)) → first ≤ end → AreHeld first source files held → GivesAll (ReadsAt cpu (sources_of objects files source)) first outs
-      → GivesAll (λ k out. ReadsAt cpu (sources_of objects held source) (first + k) out) (end - first) more → GivesAll (ReadsAt cpu (sources_of objects files source)) end (outs ++ more)
-  read_more cpu first end objects source outs more le are before here =
-      given_more (ReadsAt cpu (sources_of objects files source)) first end outs more le before
-      (given_as (λ k out. ReadsAt cpu (sources_of objects held source) (first + k) out) (λ k out. ReadsAt cpu (sources_of objects files source) (first + k) out) (end - first) more
-      (λ k out lt reads. read_as cpu first (first + k) objects source out (omega arith) are reads) here)
+  -- what is read of a batch by the files that are held is read of it by all
+  pub read_held : (cpu first end : ℕ) (objects : List MapObject) (source : List (Option ℕ)) (more : List (Result ReadObject Refusal)) → AreHeld first source files held
+      → GivesAll (λ k out. ReadsAt cpu (sources_of objects held source) (first + k) out) (end - first) more → GivesAll (λ k out. ReadsAt cpu (sources_of objects files source) (first + k) out) (end - first) more
+  read_held cpu first end objects source more are here =
+      given_as (λ k out. ReadsAt cpu (sources_of objects held source) (first + k) out) (λ k out. ReadsAt cpu (sources_of objects files source) (first + k) out) (end - first) more
+      (λ k out lt reads. read_as cpu first (first + k) objects source out (omega arith) are reads) here

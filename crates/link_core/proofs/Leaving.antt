@@ -80,13 +80,3 @@ module _ (seen : List Analysis) (shape : Shape) (is : IsShape seen shape) where
 
   pub may_draft : (u v : ℕ) (left : List Analysis) → length shape.units < 2 ^ 32 - 1 → All IsSound seen → u ≤ v → v < length shape.units → AreLeft (needed u) seen left → MayDraft left shape v
   may_draft u v left few sound le lt from = record { there = lt; few = few; holds = record { all = seen; is_shape = is; sound = sound; there = unit_there u v left le lt from } }
-
--- no unit from this one on needs an object before a number
-abbrev pub Waits : Shape → ℕ → ℕ → Type 0
-Waits shape u dropped = (v : ℕ) → u ≤ v → v < length shape.units → dropped ≤ first_needed (object_of shape v)
-
-pub waits_first : (shape : Shape) → Waits shape 0 0
-waits_first shape v le lt = omega arith
-
-pub waits_next : (seen : List Analysis) (shape : Shape) (u next : ℕ) → IsShape seen shape → u ≤ next → Waits shape next (first_needed (object_of shape u))
-waits_next seen shape u next is le v le' lt = rises seen shape is u v (omega (arith, le, le')) lt

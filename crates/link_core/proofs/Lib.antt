@@ -2,6 +2,7 @@ pub mod Analysing
 pub mod Counting
 pub mod LastPart
 pub mod Leaving
+pub mod Batching
 pub mod Marking
 pub mod Members
 pub mod Graphs
@@ -11,3 +12,4 @@ pub mod Turns
 pub mod ObjectsRead
 pub mod Refusing
 pub mod Bundling
+pub mod Unmerging

@@ -1,24 +1,16 @@
 -- Objects that were read, one after the other.
-use Rattle.std.proofs.Common.{◌≡◌, ◌<◌, ◌+◌, ℕ, Bool, List, [], ◌∷◌, ◌++◌, length, drop, get_or, slice_get, Some, Result, Ok, Err, refl, sym, subst, arith, length-append}
-use Rattle.std.specs.List.{All}
+use Rattle.std.proofs.Common.{◌≡◌, ◌<◌, ◌+◌, ℕ, Bool, List, [], ◌∷◌, ◌++◌, length, get_or, slice_get, Some, Result, Ok, Err, refl, sym, subst, arith, length-append}
 use Rattle.std.proofs.lemmas.List.Elements.{All-push}
 use Rattle.std.proofs.lemmas.Option.{get_or_from_slice_get}
 use Rattle.dwarf_types.specs.declared.analysis.Analysis.{Analysis}
 use Rattle.dwarf_types.specs.Sound.{IsSound}
 use Rattle.link_core.specs.declared.objects.ReadObject.{ReadObject}
 use Rattle.link_core.specs.declared.refusal.Refusal.{Refusal}
-use Rattle.link_core.specs.Linked.{MarkLive, Source, analyses_from}
-use Rattle.link_core.specs.Passes.{AreRead, Reads, ReadsAt, behind}
+use Rattle.link_core.specs.Linked.{Source, analyses_from}
+use Rattle.link_core.specs.Passes.{AreRead, Going, Reads, ReadsAt, behind}
 use Rattle.link_core.proofs.Analysing.{object_more, object_refused, objects_all}
 use Rattle.link_core.proofs.Marking.{mark_none, mark_one}
 use Rattle.link_core.proofs.Turns.{there_is}
-
--- the first objects are read
-pub record Going (cpu : ℕ) (sources : List Source) (i : ℕ) (seen : List Analysis) (marks : List (List Bool)) : Type 0 where
-  pub exact : analyses_from cpu 1 sources ≡ behind seen (analyses_from cpu (i + 1) (drop i sources))
-  pub sound : All IsSound seen
-  pub size : length seen ≡ i
-  pub live : MarkLive seen marks
 
 behind_none : (r : Result (List Analysis) Refusal) → r ≡ behind [] r
 behind_none (Ok seen) = refl

@@ -34,12 +34,12 @@ all_taken gives count all front left whole none given = omega (arith, given.0, n
 
 -- ---- results of one batch behind those of others
 
-slice_get_front : {O : Type 0} (xs ys : List O) (k : ℕ) → k < length xs → slice_get (xs ++ ys) k ≡ slice_get xs k
+pub slice_get_front : {O : Type 0} (xs ys : List O) (k : ℕ) → k < length xs → slice_get (xs ++ ys) k ≡ slice_get xs k
 slice_get_front [] ys k lt = absurd (omega (arith, lt))
 slice_get_front (x ∷ xs) ys zero lt = refl
 slice_get_front (x ∷ xs) ys (suc k) lt = slice_get_front xs ys k (omega (arith, lt))
 
-slice_get_behind : {O : Type 0} (xs ys : List O) (k n : ℕ) → n ≡ length xs + k → slice_get (xs ++ ys) n ≡ slice_get ys k
+pub slice_get_behind : {O : Type 0} (xs ys : List O) (k n : ℕ) → n ≡ length xs + k → slice_get (xs ++ ys) n ≡ slice_get ys k
 slice_get_behind [] ys k n e = ap (slice_get ys) (omega (arith, e))
 slice_get_behind (x ∷ xs) ys k zero e = absurd (omega (arith, e))
 slice_get_behind (x ∷ xs) ys k (suc n) e = slice_get_behind xs ys k n (omega (arith, e))

@@ -5,3 +5,4 @@ pub mod Passes
 pub mod Shaping
 pub mod StatusText
 pub mod Statuses
+pub mod Unmerged

@@ -1,8 +1,9 @@
 -- What the passes of a link answer, each to the next. Want of memory says nothing.
-use Rattle.std.specs.Prelude.{◌≡◌, ◌<◌, ◌≤◌, ◌+◌, ◌-◌, ℕ, ◌^◌, Bool, List, [], ◌++◌, length, slice_get, slice_index_or, Option, Some, None, Result, Ok, Err, IfSome}
-use Rattle.std.specs.List.{All}
+use Rattle.std.specs.Prelude.{◌≡◌, ◌<◌, ◌≤◌, ◌+◌, ◌-◌, ℕ, ◌^◌, Bool, List, [], ◌++◌, drop, length, slice_get, slice_index_or, Option, Some, None, Result, Ok, Err, IfSome}
+use Rattle.std.specs.List.{All, filter, sum_by}
 use Rattle.std.specs.Option.{option_map_or}
-use Rattle.clone_units.specs.Units.{AreThere, Holds}
+use Rattle.clone_units.specs.Units.{AreThere, Holds, object_of}
+use Rattle.work_share.specs.Results.{GivesAll}
 use Rattle.ds_base.specs.declared.fault.Fault.{Fault}
 use Rattle.dwarf_types.specs.declared.analysis.Analysis.{Analysis}
 use Rattle.dwarf_types.specs.declared.frames.OutFrame.{OutFrame}
@@ -17,18 +18,23 @@ use Rattle.link_graph.specs.Pool.{pool_names}
 use Rattle.dwarf_types.specs.declared.shape.Shape.{Shape}
 use Rattle.dwarf_types.specs.declared.shape.ShapeUnit.{ShapeUnit}
 use Rattle.type_names.specs.Names.{Named}
+use Rattle.type_pool.specs.declared.closed.ClosedPool.{ClosedPool}
 use Rattle.layout.specs.Laid.{AreDrafts, Laid, Measures}
 use Rattle.unit_draft.specs.declared.unit.Draft.{Draft}
 use Rattle.unit_draft.specs.Drafted.{IsDraft}
 use Rattle.dsym_write.specs.Bundle.{image_file}
 use Rattle.dsym_write.specs.Plist.{plist_bytes}
+use Rattle.link_core.specs.declared.bundle.Counted.{Counted}
 use Rattle.link_core.specs.declared.bundle.Linked.{Linked}
 use Rattle.link_core.specs.declared.refusal.LimitKind.TheVariants as limits
 use Rattle.link_core.specs.declared.refusal.Refusal.{Refusal}
 use Rattle.link_core.specs.declared.refusal.Refusal.TheVariants as refusals
 use Rattle.stab_map.specs.declared.object.MapObject.{MapObject}
+use Rattle.link_core.specs.declared.drafting.Drafts.{Drafts}
 use Rattle.link_core.specs.declared.graph.Shaped.{Shaped}
+use Rattle.link_core.specs.declared.files.FilesLeft.{FilesLeft}
 use Rattle.link_core.specs.declared.objects.ReadObject.{ReadObject}
+use Rattle.link_core.specs.declared.reading.ReadBatch.{ReadBatch}
 use Rattle.link_core.specs.declared.reading.ReadObjects.{ReadObjects}
 use Rattle.link_core.specs.Linked.{AreLive, IsClosed, MarkLive, Source, analyses_from, analysis_from, counts_of, first_limit, graph_of, limit_of}
 
@@ -76,6 +82,31 @@ AreLast source last = (k n : ℕ) → slice_get source k ≡ Some (Some n) → k
 abbrev pub AreHeld : ℕ → List (Option ℕ) → List (List ℕ) → List (List ℕ) → Type 0
 AreHeld from source files held = (k n : ℕ) → from ≤ k → slice_get source k ≡ Some (Some n) → slice_index_or held n [] ≡ slice_index_or files n []
 
+-- the analyses so far before those that are left
+abbrev pub behind : List Analysis → Result (List Analysis) Refusal → Result (List Analysis) Refusal
+behind seen (Ok others) = Ok (seen ++ others)
+behind seen (Err refusal) = Err refusal
+
+-- the files of the objects from a number on are held, and it is told which file has its last object where
+pub record HoldsFrom (from : ℕ) (source : List (Option ℕ)) (files : List (List ℕ)) (it : FilesLeft) : Type 0 where
+  pub held : AreHeld from source files it.left
+  pub long : length it.left ≡ length files
+  pub small : All (λ file. length file < 2 ^ 32) it.left
+  pub last : AreLast source it.last.items
+
+-- what is read of the objects from one up to another
+pub record ReadsBatch (cpu : ℕ) (sources : List Source) (first : ℕ) (batch : ReadBatch) : Type 0 where
+  pub some : first < batch.end
+  pub within : batch.end ≤ length sources
+  pub given : GivesAll (λ k out. ReadsAt cpu sources (first + k) out) (batch.end - first) batch.outs.items
+
+-- the first objects are read, of which none has a fault
+pub record Going (cpu : ℕ) (sources : List Source) (i : ℕ) (seen : List Analysis) (marks : List (List Bool)) : Type 0 where
+  pub exact : analyses_from cpu 1 sources ≡ behind seen (analyses_from cpu (i + 1) (drop i sources))
+  pub sound : All IsSound seen
+  pub size : length seen ≡ i
+  pub live : MarkLive seen marks
+
 -- all objects with the marks of their live entries, where none has a fault
 pub record AreRead (cpu : ℕ) (sources : List Source) (it : ReadObjects) : Type 0 where
   pub exact : analyses_from cpu 1 sources ≡ Ok it.seen
@@ -89,11 +120,6 @@ Reads cpu sources (Ok it) = AreRead cpu sources it
 Reads cpu sources (Err (refusals.Faulty file fault)) = analyses_from cpu 1 sources ≡ Err (refusals.Faulty file fault)
 Reads cpu sources (Err (refusals.Limit which n)) = ⊥
 Reads cpu sources (Err refusals.NoMemory) = Unit {0}
-
--- the analyses so far before those that are left
-abbrev pub behind : List Analysis → Result (List Analysis) Refusal → Result (List Analysis) Refusal
-behind seen (Ok others) = Ok (seen ++ others)
-behind seen (Err refusal) = Err refusal
 
 -- ---- the graph
 
@@ -159,6 +185,21 @@ DraftsUnit graph u (Err refusals.NoMemory) = Unit {0}
 abbrev pub DraftsBy : List Analysis → Shape → ℕ → Result Draft Refusal → Type 0
 DraftsBy left shape u out = (all : List Analysis) → IsShape all shape → AreThere shape u all left → DraftsUnit (graph_in all shape) u out
 
+-- So many units of a shape are drafted, and the analyses that the others need are left.
+pub record AreDrafting (seen : List Analysis) (shape : Shape) (it : Drafts) : Type 0 where
+  pub within : length it.outs.items ≤ length shape.units
+  pub given : GivesAll (DraftsUnit (graph_in seen shape)) (length it.outs.items) it.outs.items
+  pub left : AreLeft it.dropped seen it.left
+  pub long : length it.left ≡ length seen
+  pub gone : it.dropped ≤ length seen
+  pub waits : (v : ℕ) → length it.outs.items ≤ v → v < length shape.units → it.dropped ≤ first_needed (object_of shape v)
+
+-- a shape of sound analyses whose units can be numbered
+pub record MayDraftAll (seen : List Analysis) (shape : Shape) : Type 0 where
+  pub is_shape : IsShape seen shape
+  pub sound : All IsSound seen
+  pub few : length shape.units < 2 ^ 32 - 1
+
 -- the drafts of all units, or that one is too long
 abbrev pub DraftsUnits : Graph → Result (List Draft) Refusal → Type 0
 DraftsUnits graph (Ok drafts) = AreDrafts graph drafts
@@ -187,6 +228,23 @@ Images program graph (Ok bytes) = (first_limit program graph ≡ None) × (bytes
 Images program graph (Err (refusals.Faulty file fault)) = ⊥
 Images program graph (Err (refusals.Limit which n)) = first_limit program graph ≡ Some (refusals.Limit which n)
 Images program graph (Err refusals.NoMemory) = Unit {0}
+
+-- what is counted of analyses with their live entries, but for what is written
+pub record AreCounted (odr : Bool) (seen : List Analysis) (marks : List (List Bool)) (counted : Counted) : Type 0 where
+  pub objects : counted.objects ≡ length seen
+  pub entries : counted.entries ≡ sum_by (λ object. length object.entries) seen
+  pub live : counted.live ≡ sum_by (λ row. length (filter (λ b. b) row)) marks
+  pub pooled : counted.pooled ≡ length (linked_names odr seen marks)
+  pub names : counted.names ≡ length (pool_names (linked_names odr seen marks))
+
+-- the graph that is linked of them is drafted, which has not too many units and merges not too many entries
+pub record IsDrafted (odr : Bool) (seen : List Analysis) (marks : List (List Bool)) (drafts : List Draft) (frames : List OutFrame) (counted : Counted) (closed : ClosedPool) : Type 0 where
+  pub few_names : length (linked_names odr seen marks) < 2 ^ 25
+  pub few : length (graph_of odr seen marks).units < 2 ^ 32 - 1
+  pub drafts_are : AreDrafts (graph_of odr seen marks) drafts
+  pub frames_are : (graph_of odr seen marks).frames ≡ frames
+  pub counted_are : AreCounted odr seen marks counted
+  pub closed_is : IsClosed (linked_names odr seen marks) closed
 
 -- the bundle of analyses whose live entries are marked, or the first limit that is reached
 abbrev pub Links : Bool → Image → List ℕ → List Analysis → List (List Bool) → Result Linked Refusal → Type 0

@@ -31,6 +31,16 @@ pub struct Counts {
     pub bytes: u64,
 }
 
+/// What is counted of the objects of a link.
+#[derive(Clone, Copy, Debug, PartialEq, Eq)]
+pub(crate) struct Counted {
+    pub objects: u64,
+    pub entries: u64,
+    pub live: u64,
+    pub pooled: u64,
+    pub names: u64,
+}
+
 /// The two files of a bundle.
 #[derive(Drop)]
 pub struct Linked {

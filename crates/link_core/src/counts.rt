@@ -37,7 +37,7 @@ pub(crate) fn count_live(seen: &[Analysis], marks: &[BitRow]) -> u64
 }
 
 /// The marks of a row of this length.
-fn count_marks(row: &BitRow, size: u32) -> u32
+pub(crate) fn count_marks(row: &BitRow, size: u32) -> u32
     requires { size ≡ length row.now }
     ensures { result ≡ length (filter (λ b. b) row.now) }
 {

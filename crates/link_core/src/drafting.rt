@@ -1,12 +1,12 @@
 //! The units of a linked graph, each cloned and drafted by one of several threads.
 
-ghost use Rattle.std.specs.Prelude.{◌≡◌, ◌<◌, ◌≤◌, ◌^◌, ◌+◌, ◌-◌, ℕ, length, IfOk};
-ghost use Rattle.std.specs.List.{All};
+ghost use Rattle.std.specs.Prelude.{◌≡◌, ◌<◌, ◌≤◌, ◌^◌, ◌+◌, ◌-◌, ℕ, List as Listed, length, IfOk, OnOk};
 ghost use Rattle.work_share.specs.Results.{GivesAll};
 ghost use Rattle.dwarf_types.specs.declared.graph.Graph.{Graph as Linked};
-ghost use Rattle.dwarf_types.specs.Sound.{IsSound};
-ghost use Rattle.link_graph.specs.Graph.{IsShape, graph_in};
-ghost use Rattle.link_core.specs.Passes.{DraftsBy, DraftsUnit, DraftsUnits, MayDraft};
+ghost use Rattle.dwarf_types.specs.declared.analysis.Analysis.{Analysis as Seen};
+ghost use Rattle.dwarf_types.specs.declared.shape.Shape.{Shape as Shaping};
+ghost use Rattle.link_graph.specs.Graph.{graph_in};
+ghost use Rattle.link_core.specs.Passes.{AreDrafting, DraftsBy, DraftsUnit, DraftsUnits, MayDraft, MayDraftAll};
 
 use crate::batches::{batch_end, drop_analyses, first_needed};
 use crate::refusal::{LimitKind, Refusal};
@@ -55,10 +55,72 @@ impl<'a, G: Gate> Job for Drafting<'a, G> {
     }
 }
 
-/// The drafts of the units of a shape, or that one is too long.
+/// The drafts of the first units of a shape, and the analyses that the others need.
 ///
 /// Units are drafted in batches. Who clones a unit drafts it too and lets the clone go, and the analysis of an object goes
 /// once the batch of its last unit is drafted: of all that is written, memory holds the bytes alone.
+#[derive(Drop)]
+pub(crate) struct Drafts {
+    /// The analyses of the objects; those that went have no entries.
+    pub left: List<Analysis>,
+    /// So many of them went.
+    pub dropped: usize,
+    pub outs: Vec<Result<Draft, Refusal>>,
+}
+
+impl Drafts {
+    /// No drafts of objects with these analyses.
+    pub(crate) fn new(alloc: Global, seen: List<Analysis>) -> Drafts
+        ensures { (shape : Shaping) → AreDrafting seen shape result }
+    {
+        Drafts {
+            left: seen,
+            dropped: 0,
+            outs: Vec::new(alloc),
+        }
+    }
+
+    /// Drafts the units of a shape that are not drafted yet.
+    pub(crate) fn draft_others<R: Threads + Sync, G: Gate + Sync>(
+        &mut self,
+        rt: &R,
+        alloc: Global,
+        workers: u32,
+        gate: &G,
+        shape: &Shape,
+    ) -> Result<(), NoMemory>
+        requires workers { (1 ≤ workers) × (workers ≤ 64) }
+        requires drafting { (seen : Listed Seen) × MayDraftAll seen shape.now × AreDrafting seen shape.now self.old }
+        ensures { (seen : Listed Seen) → MayDraftAll seen shape.now → AreDrafting seen shape.now self.old
+            → OnOk result (AreDrafting seen shape.now self.new × (length self.new.outs.items ≡ length shape.now.units)) }
+    {
+        let mut first = self.outs.len() as u32;
+        while (first as usize) < shape.units.len() {
+            let needed = first_needed(shape, first);
+            drop_analyses(alloc, self.left.as_mut_slice(), self.dropped, needed);
+            self.dropped = needed;
+            let end = batch_end(shape, first, workers);
+            let left = self.left.as_slice();
+            let more = batch(rt, alloc, workers, gate, left, shape, first, end)?;
+            put_behind(&mut self.outs, more)?;
+            first = end;
+        }
+        Ok(())
+    }
+
+    /// Lets all analyses go, once all units are drafted.
+    pub(crate) fn let_go(&mut self, alloc: Global)
+        requires { self.old.dropped ≤ length self.old.left }
+        ensures outs { self.new.outs ≡ self.old.outs }
+        ensures drafting { (seen : Listed Seen) (shape : Shaping) → AreDrafting seen shape self.old → length self.old.outs.items ≡ length shape.units → AreDrafting seen shape self.new }
+    {
+        let all = self.left.len();
+        drop_analyses(alloc, self.left.as_mut_slice(), self.dropped, all);
+        self.dropped = all;
+    }
+}
+
+/// The drafts of the units of a shape, or that one is too long.
 pub(crate) fn drafts_of<R: Threads + Sync, G: Gate + Sync>(
     rt: &R,
     alloc: Global,
@@ -68,25 +130,12 @@ pub(crate) fn drafts_of<R: Threads + Sync, G: Gate + Sync>(
     shape: &Shape,
 ) -> Result<List<Draft>, Refusal>
     requires workers { (1 ≤ workers) × (workers ≤ 64) }
-    requires sound { All IsSound seen }
-    requires is_shape { IsShape seen shape.now }
-    requires few { length shape.now.units < 2 ^ 32 - 1 }
+    requires drafted { MayDraftAll seen shape.now }
     ensures { DraftsUnits (graph_in seen shape.now) result }
 {
-    let mut left = seen;
-    let mut dropped = 0;
-    let mut outs = Vec::new(alloc);
-    let mut first = 0;
-    while (first as usize) < shape.units.len() {
-        let needed = first_needed(shape, first);
-        drop_analyses(alloc, left.as_mut_slice(), dropped, needed);
-        dropped = needed;
-        let end = batch_end(shape, first, workers);
-        let more = batch(rt, alloc, workers, gate, left.as_slice(), shape, first, end)?;
-        put_behind(&mut outs, more)?;
-        first = end;
-    }
-    all_drafted(alloc, outs)
+    let mut drafts = Drafts::new(alloc, seen);
+    drafts.draft_others(rt, alloc, workers, gate, shape)?;
+    all_drafted(alloc, drafts.outs)
 }
 
 /// What is drafted of the units from one up to another, by the analyses that are left.
@@ -144,7 +193,10 @@ fn draft_of<G: Gate>(
 }
 
 /// The drafts of all units, or that one is too long.
-fn all_drafted(alloc: Global, outs: Vec<Result<Draft, Refusal>>) -> Result<List<Draft>, Refusal>
+pub(crate) fn all_drafted(
+    alloc: Global,
+    outs: Vec<Result<Draft, Refusal>>,
+) -> Result<List<Draft>, Refusal>
     ensures { (graph : Linked) → length graph.units < 2 ^ 32 - 1 → GivesAll (DraftsUnit graph) (length graph.units) outs.items → DraftsUnits graph result }
 {
     let mut drafts = List::with_capacity(alloc, outs.len())?;

@@ -1,10 +1,10 @@
 //! The files of objects, each of which goes once its last object is read.
 
-ghost use Rattle.std.specs.Prelude.{◌≡◌, ◌<◌, ◌≤◌, ◌^◌, List as Listed, ℕ, Option, length, IfOk, IfSome};
+ghost use Rattle.std.specs.Prelude.{◌<◌, ◌≤◌, ◌^◌, List as Listed, ℕ, Option, length, IfOk, IfSome};
 ghost use Rattle.std.specs.List.{All};
-ghost use Rattle.link_core.specs.Passes.{AreHeld, AreLast};
+ghost use Rattle.link_core.specs.Passes.{AreHeld, AreLast, HoldsFrom};
 
-use ds_base::{Bytes, NoMemory};
+use ds_base::{Bytes, List, NoMemory};
 use std::alloc::Global;
 
 /// At most so many times files go.
@@ -13,12 +13,40 @@ const BATCHES: u64 = 32;
 /// So many of the greatest file at least are in a batch for each worker beside the first.
 const FILES_EACH: u64 = 4;
 
-/// The number of the last object of each file, counted from 0. A file without one has 0.
-pub(crate) fn last_objects(
+/// The files of the objects that are not read yet.
+#[derive(Drop)]
+pub(crate) struct FilesLeft {
+    /// All files; those that went are empty.
+    pub left: List<Bytes>,
+    /// The number of the last object of each, counted from 0.
+    pub last: Vec<u32>,
+    /// So many bytes of files at least go at a time.
+    pub least: u64,
+}
+
+/// All files of objects. `source` tells for each object the number of its file, if it has one.
+pub(crate) fn all_files(
     alloc: Global,
+    files: List<Bytes>,
     source: &[Option<u32>],
-    files: usize,
-) -> Result<Vec<u32>, NoMemory>
+    workers: u32,
+) -> Result<FilesLeft, NoMemory>
+    requires few { length source.now < 2 ^ 16 }
+    requires held { All (λ k. IfSome k (λ n. n < length files)) source.now }
+    requires small { All (λ file. length file < 2 ^ 32) files }
+    ensures { IfOk result (HoldsFrom 0 source.now files) }
+{
+    let last = last_objects(alloc, source, files.len())?;
+    let least = least_batch(files.as_slice(), workers);
+    Ok(FilesLeft {
+        left: files,
+        last,
+        least,
+    })
+}
+
+/// The number of the last object of each file, counted from 0. A file without one has 0.
+fn last_objects(alloc: Global, source: &[Option<u32>], files: usize) -> Result<Vec<u32>, NoMemory>
     requires few { length source.now < 2 ^ 16 }
     requires held { All (λ k. IfSome k (λ n. n < files)) source.now }
     ensures { IfOk result (λ last. AreLast source.now last.items) }
@@ -36,7 +64,7 @@ pub(crate) fn last_objects(
 ///
 /// Of all bytes they are so many that there are few batches, and so many that workers seldom wait for each other at the
 /// end of one. A single worker waits for nobody.
-pub(crate) fn least_batch(files: &[Bytes], workers: u32) -> u64
+fn least_batch(files: &[Bytes], workers: u32) -> u64
     ensures { 1 ≤ result }
 {
     let mut all: u64 = 0;

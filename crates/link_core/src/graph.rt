@@ -1,12 +1,12 @@
 //! The linked graph: its names, its shape, and its frames.
 
-ghost use Rattle.std.specs.Prelude.{◌≡◌, ◌<◌, ◌≤◌, ◌^◌, ◌-◌, List as Listed, Ok, length, IfOk};
+ghost use Rattle.std.specs.Prelude.{◌≡◌, ◌<◌, ◌≤◌, ◌^◌, ◌-◌, List as Listed, [], Ok, length, IfOk};
 ghost use Rattle.std.specs.List.{All, flat_map};
 ghost use Rattle.dwarf_types.specs.Sound.{IsSound};
 ghost use Rattle.link_graph.specs.Pool.{pool_names};
 ghost use Rattle.odr_names.specs.Winners.{AreWinners};
 ghost use Rattle.type_names.specs.Names.{Named};
-ghost use Rattle.link_core.specs.Linked.{MarkLive};
+ghost use Rattle.link_core.specs.Linked.{IsClosed, MarkLive};
 ghost use Rattle.link_core.specs.declared.refusal.LimitKind.TheVariants as limits;
 ghost use Rattle.link_core.specs.declared.refusal.Refusal.TheVariants as refusals;
 ghost use Rattle.link_core.specs.Passes.{HasPool, Names, Shapes, ShapesAll};
@@ -19,7 +19,7 @@ use ds_files::Gate;
 use dwarf_types::{Analysis, OutFrames, Shape};
 use link_graph::ShapeError;
 use name_bids::{shared_book, shared_winners};
-use odr_names::{BookError, MOST_POOLED, PathBook, count};
+use odr_names::{BookError, MOST_POOLED, PathBook, book, count};
 use std::alloc::Global;
 use std::thread::Threads;
 use type_pool::ClosedPool;
@@ -65,6 +65,26 @@ pub(crate) fn shape_of<R: Threads + Sync, G: Gate + Sync>(
         names,
         closed,
     })
+}
+
+/// The closed table of a link in which nothing is merged.
+pub(crate) fn no_names<R: Threads + Sync, G: Gate + Sync>(
+    rt: &R,
+    alloc: Global,
+    workers: u32,
+    gate: &G,
+) -> Result<ClosedPool, NoMemory>
+    requires workers { (1 ≤ workers) × (workers ≤ 64) }
+    ensures { IfOk result (IsClosed []) }
+{
+    let names = match book(alloc, &[], &[], false) {
+        Ok(names) => names,
+        Err(BookError::Pooled) => unreachable!(),
+        Err(BookError::NoMemory) => return Err(NoMemory),
+    };
+    let bids = shared_winners(rt, alloc, workers, gate, &names)?;
+    let (_, closed) = bids;
+    Ok(closed)
 }
 
 /// The names of the entries that are merged, made by so many threads; or that there are too many.
@@ -124,7 +144,7 @@ fn few_units<R: Threads + Sync>(
 }
 
 /// The limit of units: each takes bytes in a section.
-fn too_many_units() -> Refusal
+pub(crate) fn too_many_units() -> Refusal
     ensures { result ≡ refusals.Limit limits.Section (2 ^ 32 - 1) }
 {
     Refusal::Limit {

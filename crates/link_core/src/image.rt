@@ -1,23 +1,61 @@
-//! The image of a program, from the drafts of its units.
+//! The bundle of a program, from the drafts of its units.
 
-ghost use Rattle.std.specs.Prelude.{◌≡◌, ◌<◌, ◌^◌, ◌-◌, length, Ok};
-ghost use Rattle.dwarf_types.specs.declared.graph.Graph.{Graph as Linked};
+ghost use Rattle.std.specs.Prelude.{◌≡◌, ◌<◌, ◌^◌, ◌-◌, Bool, List as Listed, length, Ok};
+ghost use Rattle.dwarf_types.specs.declared.analysis.Analysis.{Analysis as Seen};
+ghost use Rattle.dwarf_types.specs.declared.graph.Graph.{Graph as AGraph};
 ghost use Rattle.layout.specs.Laid.{AreDrafts, IsMeasured, Measures};
-ghost use Rattle.link_core.specs.Passes.{AreOfGraph, Images, Lays};
+ghost use Rattle.link_core.specs.Passes.{AreOfGraph, Images, IsDrafted, Lays, Links};
 ghost use Rattle.macho_read.specs.Sound.{IsSound};
 
+use crate::bundle::{Counted, Counts, Linked};
+use crate::counts::count_nodes;
 use crate::refusal::{LimitKind, Refusal};
 use ds_base::limits::{IMAGE_BYTES, SECTION_BYTES, UNIT_BYTES};
 use ds_base::{Bytes, List};
-use dsym_write::{WriteError, image_from};
+use dsym_write::{WriteError, image_from, plist_text};
 use dwarf_types::OutFrames;
 use layout::{Layout, LayoutError, place_drafts};
 use macho_read::Image;
 use std::alloc::Global;
+use type_pool::ClosedPool;
 use unit_draft::Draft;
 
+/// The bundle of a program of this name and of the graph of these drafts and frames, or the first limit that is reached.
+pub(crate) fn bundle_of(
+    alloc: Global,
+    program: &Image,
+    name: &str,
+    drafts: List<Draft>,
+    frames: &OutFrames,
+    counted: Counted,
+    closed: ClosedPool,
+) -> Result<Linked, Refusal>
+    requires sound { IsSound program.now }
+    requires drafted { (odr : Bool) × (seen : Listed Seen) × (marks : Listed (Listed Bool)) × IsDrafted odr seen marks drafts frames.now counted closed }
+    ensures { (odr : Bool) (seen : Listed Seen) (marks : Listed (Listed Bool)) → IsDrafted odr seen marks drafts frames.now counted closed → Links odr program.now name.now seen marks result }
+{
+    let nodes = count_nodes(drafts.as_slice());
+    let image = image_of(alloc, program, drafts, frames)?;
+    let plist = plist_text(alloc, name)?;
+    let counts = Counts {
+        objects: counted.objects,
+        entries: counted.entries,
+        live: counted.live,
+        pooled: counted.pooled,
+        names: counted.names,
+        nodes,
+        bytes: image.len() as u64,
+    };
+    Ok(Linked {
+        image,
+        plist,
+        counts,
+        closed,
+    })
+}
+
 /// The image of a program and of the graph of these drafts and frames, or the first limit that is reached.
-pub(crate) fn image_of(
+fn image_of(
     alloc: Global,
     program: &Image,
     drafts: List<Draft>,
@@ -26,7 +64,7 @@ pub(crate) fn image_of(
     requires sound { IsSound program.now }
     requires few { length drafts < 2 ^ 32 - 1 }
     requires drafted { AreOfGraph drafts frames.now }
-    ensures { (graph : Linked) → AreDrafts graph drafts → graph.frames ≡ frames.now → Images program.now graph result }
+    ensures { (graph : AGraph) → AreDrafts graph drafts → graph.frames ≡ frames.now → Images program.now graph result }
 {
     let layout = layout_of(alloc, drafts, frames)?;
     let image = write_image(alloc, program, &layout)?;
@@ -36,7 +74,7 @@ pub(crate) fn image_of(
 /// The layout of the graph of these drafts and frames, or the first limit that it reaches.
 fn layout_of(alloc: Global, drafts: List<Draft>, frames: &OutFrames) -> Result<Layout, Refusal>
     requires few { length drafts < 2 ^ 32 - 1 }
-    ensures { (graph : Linked) → AreDrafts graph drafts → graph.frames ≡ frames.now → Lays graph result }
+    ensures { (graph : AGraph) → AreDrafts graph drafts → graph.frames ≡ frames.now → Lays graph result }
 {
     match place_drafts(alloc, drafts, frames) {
         Ok(layout) => Ok(layout),
@@ -56,7 +94,7 @@ fn layout_of(alloc: Global, drafts: List<Draft>, frames: &OutFrames) -> Result<L
 fn write_image(alloc: Global, program: &Image, layout: &Layout) -> Result<Bytes, Refusal>
     requires sound { IsSound program.now }
     requires measured { IsMeasured layout.now }
-    ensures { (graph : Linked) → Measures graph (Ok layout.now) → length graph.units < 2 ^ 32 - 1 → Images program.now graph result }
+    ensures { (graph : AGraph) → Measures graph (Ok layout.now) → length graph.units < 2 ^ 32 - 1 → Images program.now graph result }
 {
     match image_from(alloc, program, layout) {
         Ok(image) => Ok(image),

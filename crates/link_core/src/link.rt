@@ -1,6 +1,6 @@
 //! The bundle of a program, from the bytes of its objects.
 
-ghost use Rattle.std.specs.Prelude.{◌≡◌, ◌<◌, ◌≤◌, ◌^◌, ℕ, List as Listed, IfSome, Ok, length};
+ghost use Rattle.std.specs.Prelude.{◌≡◌, ◌<◌, ◌≤◌, ◌^◌, IfSome, Ok, length};
 ghost use Rattle.std.specs.List.{All};
 ghost use Rattle.macho_read.specs.declared.kind.Role.TheVariants as roles;
 ghost use Rattle.macho_read.specs.Kind.{kind_of};
@@ -9,16 +9,16 @@ ghost use Rattle.dwarf_types.specs.Sound.{IsSound};
 ghost use Rattle.link_core.specs.Linked.{Bundles, MarkLive, sources_of};
 ghost use Rattle.link_core.specs.Passes.{Links};
 
-use crate::bundle::{Counts, Linked, Options};
-use crate::counts::{count_entries, count_live, count_nodes};
+use crate::bundle::{Counted, Linked, Options};
+use crate::counts::{count_entries, count_live};
 use crate::drafting::drafts_of;
 use crate::graph::{Shaped, frames_of, shape_of};
-use crate::image::image_of;
+use crate::image::bundle_of;
 use crate::reading::{ReadObjects, read_files, read_objects};
 use crate::refusal::Refusal;
+use crate::unmerged::link_unmerged;
 use ds_base::{BitRow, Bytes, List};
 use ds_files::Gate;
-use dsym_write::plist_text;
 use dwarf_types::Analysis;
 use macho_read::Image;
 use stab_map::MapObject;
@@ -77,7 +77,11 @@ pub fn link_objects<R: Threads + Sync, G: Gate + Sync>(
     )
 }
 
-/// Links the objects of a program to its bundle, as [`link_objects`] does, and lets each file go once the objects of it are read.
+/// Links the objects of a program to its bundle, as [`link_objects`] does, and lets each file go once the objects of it
+/// are read.
+///
+/// Where nothing is merged, the units of a batch of objects are drafted once it is read, and their analyses go. The gate is
+/// not passed for names then.
 pub fn link_files<R: Threads + Sync, G: Gate + Sync>(
     rt: &R,
     alloc: Global,
@@ -98,6 +102,19 @@ pub fn link_files<R: Threads + Sync, G: Gate + Sync>(
     requires workers { (1 ≤ options.now.workers) × (options.now.workers ≤ 64) }
     ensures { Bundles options.now.odr program.now name.now (sources_of objects.now files source.now) result }
 {
+    if !options.odr {
+        return link_unmerged(
+            rt,
+            alloc,
+            options.workers,
+            gate,
+            program,
+            name,
+            objects,
+            files,
+            source,
+        );
+    }
     let read = read_files(
         rt,
         alloc,
@@ -160,22 +177,12 @@ fn link_marked<R: Threads + Sync, G: Gate + Sync>(
     let frames = frames_of(alloc, seen.as_slice())?;
     let drafts = drafts_of(rt, alloc, options.workers, gate, seen, &shape)?;
     drop(shape);
-    let nodes = count_nodes(drafts.as_slice());
-    let image = image_of(alloc, program, drafts, &frames)?;
-    let plist = plist_text(alloc, name)?;
-    let counts = Counts {
+    let counted = Counted {
         objects,
         entries,
         live,
         pooled,
         names,
-        nodes,
-        bytes: image.len() as u64,
     };
-    Ok(Linked {
-        image,
-        plist,
-        counts,
-        closed,
-    })
+    bundle_of(alloc, program, name, drafts, &frames, counted, closed)
 }

@@ -4,9 +4,9 @@ ghost use Rattle.std.specs.Prelude.{◌≡◌, ◌<◌, ◌≤◌, ◌+◌, ◌-
 ghost use Rattle.std.specs.List.{All};
 ghost use Rattle.work_share.specs.Results.{GivesAll};
 ghost use Rattle.link_core.specs.Linked.{Source, sources_of};
-ghost use Rattle.link_core.specs.Passes.{MayRead, Reads, ReadsAt};
+ghost use Rattle.link_core.specs.Passes.{HoldsFrom, MayRead, Reads, ReadsAt, ReadsBatch};
 
-use crate::files::{batch_end, drop_files, last_objects, least_batch};
+use crate::files::{FilesLeft, all_files, batch_end, drop_files};
 use crate::objects::{ReadObject, members_of, read_object};
 use crate::refusal::Refusal;
 use crate::results::{in_turn, put_behind};
@@ -28,6 +28,14 @@ pub(crate) struct ReadObjects {
     pub seen: List<Analysis>,
     /// The marks of the live entries of each.
     pub marks: List<BitRow>,
+}
+
+/// What is read of a batch of objects.
+#[derive(Drop)]
+pub(crate) struct ReadBatch {
+    /// The first object behind them, counted from 0.
+    pub end: u32,
+    pub outs: Vec<Result<ReadObject, Refusal>>,
 }
 
 /// Each object of a batch is read.
@@ -125,30 +133,71 @@ pub(crate) fn read_files<R: Threads + Sync, G: Gate + Sync>(
     requires small { All (λ file. length file < 2 ^ 32) files }
     ensures { Reads cpu (sources_of objects.now files source.now) result }
 {
-    let last = last_objects(alloc, source, files.len())?;
-    let least = least_batch(files.as_slice(), workers);
-    let mut left = files;
+    let mut files = all_files(alloc, files, source, workers)?;
     let mut outs = Vec::new(alloc);
     let mut first = 0;
     while (first as usize) < objects.len() {
-        let end = batch_end(left.as_slice(), source, &last, first, least);
-        let more = read_batch(
-            rt,
-            alloc,
-            workers,
-            gate,
-            cpu,
-            objects,
-            left.as_slice(),
-            source,
-            first,
-            end,
+        let batch = read_next(
+            rt, alloc, workers, gate, cpu, objects, source, &mut files, first,
         )?;
+        let ReadBatch { end, outs: more } = batch;
         put_behind(&mut outs, more)?;
-        drop_files(alloc, left.as_mut_slice(), source, &last, first, end);
         first = end;
     }
     all_read(alloc, outs)
+}
+
+/// What is read of the objects from `first` on up to where files go.
+///
+/// Those of which no other object is go.
+pub(crate) fn read_next<R: Threads + Sync, G: Gate + Sync>(
+    rt: &R,
+    alloc: Global,
+    workers: u32,
+    gate: &G,
+    cpu: u32,
+    objects: &[MapObject],
+    source: &[Option<u32>],
+    files: &mut FilesLeft,
+    first: u32,
+) -> Result<ReadBatch, NoMemory>
+    requires workers { (1 ≤ workers) × (workers ≤ 64) }
+    requires few { length objects.now < 2 ^ 16 }
+    requires each { length source.now ≡ length objects.now }
+    requires held { All (λ k. IfSome k (λ n. n < length files.old.left)) source.now }
+    requires there { first < length objects.now }
+    requires files { (all : Listed (Listed ℕ)) × HoldsFrom first source.now all files.old }
+    ensures { (all : Listed (Listed ℕ)) → HoldsFrom first source.now all files.old
+        → IfOk result (λ batch. ReadsBatch cpu (sources_of objects.now all source.now) first batch × HoldsFrom batch.end source.now all files.new) }
+{
+    let end = batch_end(
+        files.left.as_slice(),
+        source,
+        &files.last,
+        first,
+        files.least,
+    );
+    let outs = read_batch(
+        rt,
+        alloc,
+        workers,
+        gate,
+        cpu,
+        objects,
+        files.left.as_slice(),
+        source,
+        first,
+        end,
+    )?;
+    drop_files(
+        alloc,
+        files.left.as_mut_slice(),
+        source,
+        &files.last,
+        first,
+        end,
+    );
+    Ok(ReadBatch { end, outs })
 }
 
 /// What is read of the objects from one up to another.

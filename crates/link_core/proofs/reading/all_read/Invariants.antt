@@ -1,8 +1,7 @@
 use Rattle.std.proofs.Common.{◌≡◌, ◌++◌, ℕ, List, length}
 use Rattle.work_share.specs.Results.{GivesAll}
 use Rattle.link_core.specs.Linked.{Source}
-use Rattle.link_core.specs.Passes.{ReadsAt}
-use Rattle.link_core.proofs.ObjectsRead.{Going}
+use Rattle.link_core.specs.Passes.{Going, ReadsAt}
 use Rattle.link_core.proofs.reading.all_read.Given as goal
 
 -- the objects so far are read

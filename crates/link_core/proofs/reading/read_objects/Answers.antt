@@ -1,4 +1,4 @@
-use Rattle.std.proofs.Common.{◌≡◌, ◌+◌, ℕ, length, ap, sym, subst, ◌∙◌, arith}
+use Rattle.std.proofs.Common.{◌≡◌, ◌+◌, ℕ, subst, arith}
 use Rattle.link_core.specs.Linked.{sources_of}
 use Rattle.link_core.specs.Passes.{ReadsAt}
 use Rattle.link_core.proofs.Analysing.{sources_long}
