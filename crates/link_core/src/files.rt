@@ -13,6 +13,9 @@ const BATCHES: u64 = 32;
 /// So many of the greatest file at least are in a batch for each worker beside the first.
 const FILES_EACH: u64 = 4;
 
+/// A batch has so many objects for each worker at most, so that those of one archive are not all in one.
+const OBJECTS_EACH: u32 = 128;
+
 /// The files of the objects that are not read yet.
 #[derive(Drop)]
 pub(crate) struct FilesLeft {
@@ -20,8 +23,10 @@ pub(crate) struct FilesLeft {
     pub left: List<Bytes>,
     /// The number of the last object of each, counted from 0.
     pub last: Vec<u32>,
-    /// So many bytes of files at least go at a time.
+    /// So many bytes of files at least go behind a batch.
     pub least: u64,
+    /// A batch has so many objects at most.
+    pub most: u32,
 }
 
 /// All files of objects. `source` tells for each object the number of its file, if it has one.
@@ -42,6 +47,7 @@ pub(crate) fn all_files(
         left: files,
         last,
         least,
+        most: workers.saturating_mul(OBJECTS_EACH),
     })
 }
 
@@ -79,22 +85,18 @@ fn least_batch(files: &[Bytes], workers: u32) -> u64
     (all / BATCHES).max(shared).max(1)
 }
 
-/// Where the batch that begins with an object ends: so far that files of so many bytes go behind it.
-pub(crate) fn batch_end(
-    files: &[Bytes],
-    source: &[Option<u32>],
-    last: &[u32],
-    first: u32,
-    least: u64,
-) -> u32
+/// Where the batch that begins with an object ends: so far that files of so many bytes go behind it, or that it has so
+/// many objects.
+pub(crate) fn batch_end(files: &FilesLeft, source: &[Option<u32>], first: u32) -> u32
     requires few { length source.now < 2 ^ 16 }
     requires there { first < length source.now }
     ensures { (first < result) × (result ≤ length source.now) }
 {
     let mut going: u64 = 0;
     for k in first..source.len() as u32 {
-        going = going.saturating_add(bytes_going(files, last, source[k as usize], k));
-        if going >= least {
+        let bytes = bytes_going(files.left.as_slice(), &files.last, source[k as usize], k);
+        going = going.saturating_add(bytes);
+        if going >= files.least || k + 1 - first >= files.most {
             return k + 1;
         }
     }

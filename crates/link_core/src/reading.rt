@@ -114,8 +114,8 @@ pub(crate) fn read_objects<R: Threads + Sync, G: Gate + Sync>(
 
 /// The same by files that go, each once the last object of it is read.
 ///
-/// Objects are read in batches, behind each of which files go. Archives are walked once for each batch, of which there
-/// are few.
+/// Objects are read in batches, behind each of which files go. Archives are walked once for each batch, of which there are
+/// few.
 pub(crate) fn read_files<R: Threads + Sync, G: Gate + Sync>(
     rt: &R,
     alloc: Global,
@@ -147,9 +147,7 @@ pub(crate) fn read_files<R: Threads + Sync, G: Gate + Sync>(
     all_read(alloc, outs)
 }
 
-/// What is read of the objects from `first` on up to where files go.
-///
-/// Those of which no other object is go.
+/// What is read of the batch of objects that begins with `first`. Files go of which no later object is.
 pub(crate) fn read_next<R: Threads + Sync, G: Gate + Sync>(
     rt: &R,
     alloc: Global,
@@ -170,13 +168,7 @@ pub(crate) fn read_next<R: Threads + Sync, G: Gate + Sync>(
     ensures { (all : Listed (Listed ℕ)) → HoldsFrom first source.now all files.old
         → IfOk result (λ batch. ReadsBatch cpu (sources_of objects.now all source.now) first batch × HoldsFrom batch.end source.now all files.new) }
 {
-    let end = batch_end(
-        files.left.as_slice(),
-        source,
-        &files.last,
-        first,
-        files.least,
-    );
+    let end = batch_end(files, source, first);
     let outs = read_batch(
         rt,
         alloc,
