@@ -90,9 +90,9 @@ for program in large small; do
     rm -f "$program".*.times
     for _ in $(seq "$runs"); do
         note "$program.dsymlink-no-odr-j1" "$dsymlink" --no-odr -j 1 "$program"
+        note "$program.dsymutil-no-odr-one-thread" dsymutil-19 --no-odr --num-threads 1 -o "$program.util.dSYM" "$program"
         note "$program.dsymlink-j1" "$dsymlink" -j 1 "$program"
         note "$program.dsymlink-j4" "$dsymlink" -j 4 "$program"
-        note "$program.dsymutil-no-odr-one-thread" dsymutil-19 --no-odr --num-threads 1 -o "$program.util.dSYM" "$program"
         note "$program.dsymutil" dsymutil-19 -o "$program.util.dSYM" "$program"
         note "$program.dsymutil-parallel" dsymutil-19 --linker=parallel --num-threads 4 -o "$program.util.dSYM" "$program"
     done
