@@ -7,13 +7,13 @@ ghost use Rattle.link_core.specs.Passes.{AreHeld, AreLast, HoldsFrom};
 use ds_base::{Bytes, List, NoMemory};
 use std::alloc::Global;
 
-/// At most so many times files go.
-const BATCHES: u64 = 32;
+/// Of all bytes and of all objects a batch has one in so many at least, so that there are few batches.
+const BATCHES: u32 = 32;
 
 /// So many of the greatest file at least are in a batch for each worker beside the first.
 const FILES_EACH: u64 = 4;
 
-/// A batch has so many objects for each worker at most, so that those of one archive are not all in one.
+/// So many objects for each worker are not too few for a batch.
 const OBJECTS_EACH: u32 = 128;
 
 /// The files of the objects that are not read yet.
@@ -47,7 +47,7 @@ pub(crate) fn all_files(
         left: files,
         last,
         least,
-        most: workers.saturating_mul(OBJECTS_EACH),
+        most: most_objects(source.len() as u32, workers),
     })
 }
 
@@ -82,7 +82,13 @@ fn least_batch(files: &[Bytes], workers: u32) -> u64
     }
     let others = u64::from(workers.saturating_sub(1));
     let shared = greatest.saturating_mul(FILES_EACH * others);
-    (all / BATCHES).max(shared).max(1)
+    (all / u64::from(BATCHES)).max(shared).max(1)
+}
+
+/// A batch has so many of these objects at most, so that those of one archive, which goes behind its last, are not all in
+/// one batch. They are so many that there are few batches.
+fn most_objects(objects: u32, workers: u32) -> u32 {
+    (objects / BATCHES).max(workers.saturating_mul(OBJECTS_EACH))
 }
 
 /// Where the batch that begins with an object ends: so far that files of so many bytes go behind it, or that it has so
