@@ -1,4 +1,4 @@
--- What the kind of a cell tells of its value.
+-- What the kind of a cell tells of its value, and its name of its attribute's.
 use Rattle.std.proofs.Common.{◌≡◌, ℕ, zero, suc, List, [], ◌∷◌, Bool, Some, map, length, slice_get, refl, sym, ap, ◌∙◌, arith}
 use Rattle.std.specs.Prelude.{is_some}
 use Rattle.std.specs.List.{list_any}
@@ -90,6 +90,15 @@ plain_at s (c ∷ cells) zero kind a there is =
     let same : attr_of s c ≡ a = cc in
     ap holds_plain (sym own) ∙ plain_held s c.kind c.form c.payload ∙ ap (λ (b : Attr). is_plain b.value) same
 plain_at s (c ∷ cells) (suc j) kind a there is = plain_at s cells j kind a there is
+
+-- and its name
+pub named_at : (s : Sides) (cells : List Cell) (j name : ℕ) (a : Attr) → slice_get (map (λ (c : Cell). c.name) cells) j ≡ Some name → slice_get (map (attr_of s) cells) j ≡ Some a → name ≡ a.name
+named_at s [] j name a there is = absurd (let no : ⊥ = cc in no)
+named_at s (c ∷ cells) zero name a there is =
+    let own : c.name ≡ name = cc in
+    let same : attr_of s c ≡ a = cc in
+    sym own ∙ ap (λ (b : Attr). b.name) same
+named_at s (c ∷ cells) (suc j) name a there is = named_at s cells j name a there is
 
 pub raw_plain_at : (s : Sides) (cells : List Cell) (ends : List ℕ) (j : ℕ) (kind : Kind) (a : RawAttr) → length ends ≡ length cells → slice_get (map (λ (c : Cell). c.kind) cells) j ≡ Some kind → slice_get (raw_attrs_of s cells ends) j ≡ Some a → holds_plain kind ≡ is_plain a.value
 raw_plain_at s [] ends j kind a beside there is = absurd (let no : ⊥ = cc in no)

@@ -82,6 +82,14 @@ pub(crate) fn kind_at(cells: &[Cell], j: usize) -> Kind
     cells[j].kind
 }
 
+/// The name of a cell.
+pub(crate) fn name_at(cells: &[Cell], j: usize) -> u16
+    requires { j < length cells.now }
+    ensures { slice_get (map (λ c. c.name) cells.now) j ≡ Some result }
+{
+    cells[j].name
+}
+
 /// Whether a cell of this kind holds a text or a number.
 pub(crate) fn is_plain(kind: Kind) -> bool
     ensures { result ≡ holds_plain kind }

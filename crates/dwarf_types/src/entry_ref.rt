@@ -10,7 +10,9 @@ ghost use Rattle.dwarf_types.specs.Moves.{place_in};
 ghost use Rattle.dwarf_types.specs.Plain.{is_offset, is_plain};
 ghost use Rattle.dwarf_types.specs.Seen.{attr_seen, raw_attr_seen};
 
-use crate::columns::{Cell, Head, first_named, has_address, has_offset, is_plain, kind_at};
+use crate::columns::{
+    Cell, Head, first_named, has_address, has_offset, is_plain, kind_at, name_at,
+};
 use crate::seen::{AttrRef, RawAttrRef, attr_in};
 use crate::sides::Sides;
 use std::marker::Model;
@@ -90,6 +92,14 @@ impl<'a> EntryRef<'a> {
         ensures item { attr_seen result ≡ slice_index_or self.now.attrs j (attr_seen result) }
     {
         attr_in(self.sides, self.cells[j])
+    }
+
+    /// The name of its attribute at a place, counted from 0, which is told without its value.
+    pub fn attr_name(&self, j: usize) -> u16
+        requires { j < length self.now.attrs }
+        ensures { (a : AnAttr) → slice_get self.now.attrs j ≡ Some a → result ≡ a.name }
+    {
+        name_at(self.cells, j)
     }
 
     /// Whether its attribute at a place, counted from 0, is a text or a number, which mean the same wherever they stand.
