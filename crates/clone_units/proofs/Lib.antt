@@ -12,3 +12,4 @@ pub mod FirstUses
 pub mod Numbered
 pub mod Pooled
 pub mod Asked
+pub mod NamedFiles

@@ -1,12 +1,13 @@
 //! The source files that entries name, each by the names of its directory and of itself.
 
-ghost use Rattle.std.specs.Prelude.{◌≡◌, ◌==◌, [], ◌∷◌, None, if◌then◌else◌, fold, slice_get, OnOk, IfOk};
+ghost use Rattle.std.specs.Prelude.{◌≡◌, ◌<◌, ◌==◌, [], ◌∷◌, None, Some, length, if◌then◌else◌, fold, slice_get, OnOk, IfOk};
 ghost use Rattle.std.proofs.Common.{ap, ◌∙◌};
 ghost use Rattle.std.proofs.lemmas.Bool.{and_parts};
 ghost use Rattle.std.specs.Cmp.Lexicographic.{bytes_decides};
 ghost use Rattle.std.specs.List.{flat_map};
 ghost use Rattle.std.specs.Option.{option_and_then, option_map, option_map_or};
 ghost use Rattle.clone_units.specs.Sourced.{file_seen, files_seen, uses_of};
+ghost use Rattle.dwarf_types.specs.declared.entry.Attr.{Attr};
 ghost use Rattle.dwarf_types.specs.Moves.{value_of};
 ghost use Rattle.dwarf_types.specs.Seen.{attr_seen, value_seen};
 ghost use Rattle.dwarf_types.specs.SeenLines.{file_seen as file_name_seen};
@@ -80,11 +81,22 @@ fn add_files_named<'a>(
     ensures { OnOk result (files_seen files.new ≡ insert_all same_file (files_seen files.old) (files_named seen.now entry.now)) }
 {
     for j in 0..entry.len() {
-        if let Some(file) = file_named(seen, entry.unit(), &entry.attr(j)) {
+        if let Some(file) = file_named_at(seen, entry, j) {
             add_file(files, file)?;
         }
     }
     Ok(())
+}
+
+/// The file that the attribute of an entry at a place names; the value of another attribute is not read.
+fn file_named_at<'a>(seen: &'a Analysis, entry: &EntryRef<'a>, j: usize) -> Option<FileRef<'a>>
+    requires { j < length entry.now.attrs }
+    ensures { (a : Attr) → slice_get entry.now.attrs j ≡ Some a → option_map file_seen result ≡ file_named seen.now entry.now.unit a }
+{
+    if entry.attr_name(j) != DW_AT_decl_file {
+        return None;
+    }
+    file_named(seen, entry.unit(), &entry.attr(j))
 }
 
 /// Puts a file last, unless it is there.
