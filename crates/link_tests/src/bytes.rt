@@ -1,4 +1,4 @@
-//! A program and its bundle, byte by byte (mach-o/loader.h, mach-o/nlist.h; DWARF 4).
+//! The bundle of the program, byte by byte (mach-o/loader.h, mach-o/nlist.h; DWARF 4).
 
 use ds_base::{Bytes, NoMemory};
 use std::alloc::Global;
@@ -10,55 +10,6 @@ fn joined(alloc: Global, parts: &[&[u8]]) -> Result<Bytes, NoMemory> {
         bytes.extend(part)?;
     }
     Ok(bytes)
-}
-
-/// A program for arm64 up to its symbols. It has `_main` of 0x2a bytes at 0x1_0000_3f50 in its one section, `__text`.
-#[rattlefmt::skip]
-const PROGRAM: &[&[u8]] = &[
-    // magic, cputype, cpusubtype, filetype, ncmds, sizeofcmds, flags, reserved
-    b"\xcf\xfa\xed\xfe\x0c\0\0\x01\0\0\0\0\x02\0\0\0\x03\0\0\0\xc8\0\0\0\0\0\0\0\0\0\0\0",
-    // cmd, cmdsize, segname
-    b"\x19\0\0\0\x98\0\0\0__TEXT\0\0\0\0\0\0\0\0\0\0",
-    // vmaddr, vmsize, fileoff, filesize
-    b"\0\0\0\0\x01\0\0\0\0\x40\0\0\0\0\0\0\0\0\0\0\0\0\0\0\0\x40\0\0\0\0\0\0",
-    // maxprot, initprot, nsects, flags
-    b"\x05\0\0\0\x05\0\0\0\x01\0\0\0\0\0\0\0",
-    // sectname, segname, addr, size, and offset, align, reloff, nreloc, flags, reserved1 to 3
-    b"__text\0\0\0\0\0\0\0\0\0\0__TEXT\0\0\0\0\0\0\0\0\0\0\x50\x3f\0\0\x01\0\0\0\x2a\0\0\0\0\0\0\0\x50\x3f\0\0\x04\0\0\0\0\0\0\0\0\0\0\0\0\x04\0\x80\0\0\0\0\0\0\0\0\0\0\0\0",
-    // cmd, cmdsize, uuid
-    b"\x1b\0\0\0\x18\0\0\0\0\x11\x22\x33\x44\x55\x66\x77\x88\x99\xaa\xbb\xcc\xdd\xee\xff",
-    // cmd, cmdsize, symoff, nsyms, stroff, strsize
-    b"\x02\0\0\0\x18\0\0\0\xe8\0\0\0\x04\0\0\0\x28\x01\0\0\x19\0\0\0",
-    // the stab of the object `/tmp/m.o`, and those of `_main`: n_strx, n_type, n_sect, n_desc, n_value
-    b"\x01\0\0\0\x66\0\x01\0\0\0\0\0\0\0\0\0",
-    b"\x0a\0\0\0\x24\x01\0\0\x50\x3f\0\0\x01\0\0\0",
-    b"\0\0\0\0\x24\0\0\0\x2a\0\0\0\0\0\0\0",
-];
-
-/// The symbol of `_main`.
-const MAIN: &[u8] = b"\x0a\0\0\0\x0f\x01\0\0\x50\x3f\0\0\x01\0\0\0";
-
-/// The stab of the object `/tmp/n.o`.
-const SECOND_OBJECT: &[u8] = b"\x10\0\0\0\x66\0\x01\0\0\0\0\0\0\0\0\0";
-
-const STRINGS: &[u8] = b"\0/tmp/m.o\0_main\0/tmp/n.o\0";
-
-/// The program with this symbol behind its stabs.
-fn program_with(alloc: Global, last: &[u8]) -> Result<Bytes, NoMemory> {
-    let mut program = joined(alloc, PROGRAM)?;
-    program.extend(last)?;
-    program.extend(STRINGS)?;
-    Ok(program)
-}
-
-/// The program of one object, `/tmp/m.o`.
-pub(crate) fn program(alloc: Global) -> Result<Bytes, NoMemory> {
-    program_with(alloc, MAIN)
-}
-
-/// The same program with a second object, `/tmp/n.o`, of which nothing was linked, in place of the symbol of `_main`.
-pub(crate) fn program_of_two(alloc: Global) -> Result<Bytes, NoMemory> {
-    program_with(alloc, SECOND_OBJECT)
 }
 
 /// The commands, symbols and strings of the image, of 727 bytes: the UUID, the symbols, and two segments.

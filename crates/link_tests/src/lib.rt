@@ -10,6 +10,8 @@ mod main_object;
 #[cfg(test)]
 mod objects;
 #[cfg(test)]
+mod program;
+#[cfg(test)]
 mod tests;
 #[cfg(test)]
 mod tests_names;

@@ -1,5 +1,6 @@
-use crate::bytes::{PLIST_TEXT, image, program, program_of_two};
+use crate::bytes::{PLIST_TEXT, image};
 use crate::main_object::main_object;
+use crate::program::{program, program_of_two};
 use ds_base::{Fault, Kind, List, NoMemory, Part};
 use ds_files::{MemoryFiles, MemorySink, OpenGate};
 use link_cli::link_main;

@@ -3,6 +3,8 @@ pub mod LineSizes
 pub mod LowPlaces
 pub mod Modest
 pub mod PlacedSymbols
+pub mod ProgramCommands
+pub mod ProgramReadBack
 pub mod Ranges
 pub mod Short
 pub mod ShortNames
@@ -11,3 +13,4 @@ pub mod SoundProgram
 pub mod Specs
 pub mod TheFile
 pub mod Told
+pub mod WorkedProgram

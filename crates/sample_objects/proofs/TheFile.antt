@@ -4,7 +4,7 @@ use Rattle.std.specs.List.{flat_map}
 use Rattle.byteorder.specs.Endian.{little_bytes}
 use Rattle.ds_base.specs.declared.fault.Part.{Part}
 use Rattle.ds_base.specs.declared.fault.Part.TheVariants as parts
-use Rattle.ds_base.specs.declared.macho.TheConstants.{LC_SEGMENT_64, MH_MAGIC_64, MH_OBJECT}
+use Rattle.ds_base.specs.declared.macho.TheConstants.{LC_SEGMENT_64, MH_OBJECT}
 use Rattle.dsym_write.specs.Bundle.{contents, name_of_part, strings_bytes, symbols_bytes}
 use Rattle.dsym_write.proofs.SegmentCommands.{length-section}
 use Rattle.macho_read.specs.declared.image.Segment.{Segment}
@@ -14,6 +14,7 @@ use Rattle.reloc_table.specs.declared.relocation.Reloc.{Reloc}
 use Rattle.sample_objects.specs.declared.places.Places.{Places}
 use Rattle.sample_objects.specs.declared.spec.ObjectSpec.{ObjectSpec}
 use Rattle.sample_objects.specs.ObjectFile.{all_protections, commands_len, debug_section, debug_sections, file_of, line_relocs, object_bytes, places_of, relocs_bytes, sections_of, segment_command, sized_of, symtab_command, text_section}
+use Rattle.sample_objects.specs.Records.{header_bytes}
 use Rattle.std.proofs.lemmas.List.{length-map}
 
 name_short : (part : Part) → length (name_of_part part) ≤ 16
@@ -45,16 +46,13 @@ module _ (places : Places) (sized : List (Part × ℕ)) (commands : places.comma
   abbrev pub records : List ℕ
   records = flat_map section_bytes (debug_sections places places.offset sized)
 
+  abbrev pub record_of : Segment
+  record_of = record { name = []; vmaddr = 0; vmsize = places.contents; maxprot = all_protections; initprot = all_protections; flags = 0; sections = 1 + places.sections }
+
   -- the fields of the segment, by its size
   abbrev pub segment_front : ℕ → List ℕ
   segment_front size =
-      flat_map (little_bytes 4) (LC_SEGMENT_64 ∷ size ∷ [])
-      ++ (replicate 16 0
-      ++ (flat_map (little_bytes 8) (0 ∷ places.contents ∷ places.offset ∷ places.contents ∷ [])
-      ++ (flat_map (little_bytes 4) (all_protections ∷ all_protections ∷ (1 + places.sections) ∷ 0 ∷ []) ++ section_bytes text_section)))
-
-  abbrev record_of : Segment
-  record_of = record { name = []; vmaddr = 0; vmsize = places.contents; maxprot = all_protections; initprot = all_protections; flags = 0; sections = 1 + places.sections }
+      flat_map (little_bytes 4) (LC_SEGMENT_64 ∷ size ∷ []) ++ (replicate 16 0 ++ (spelled (segment_fields places.offset places.contents record_of) ++ section_bytes text_section))
 
   abbrev body : List ℕ
   body = (padded [] ++ spelled (segment_fields places.offset places.contents record_of)) ++ ((section_bytes text_section ++ records) ++ [])
@@ -96,7 +94,7 @@ module _ (spec : ObjectSpec) where
       (segment_len (places_of spec) sized commands_told) refl
 
   abbrev header_with : ℕ → List ℕ
-  header_with size = flat_map (little_bytes 4) (MH_MAGIC_64 ∷ spec.cpu ∷ 0 ∷ MH_OBJECT ∷ 2 ∷ size ∷ 0 ∷ 0 ∷ [])
+  header_with size = header_bytes spec.cpu 0 MH_OBJECT 2 size
 
   header_is : header_with (places_of spec).commands ≡ spelled (header_fields (file_of spec))
   header_is = ap header_with (sym commands_length)
@@ -113,11 +111,11 @@ module _ (spec : ObjectSpec) where
 
 -- ---- parts that were put one behind the other
 
-pub six_in_turn : (o a b c d e f : List ℕ) → (((((o ++ a) ++ b) ++ c) ++ d) ++ e) ++ f ≡ o ++ ((a ++ (b ++ (c ++ (d ++ e)))) ++ f)
-six_in_turn o a b c d e f = simp append_assoc
+pub five_in_turn : (o a b c d e : List ℕ) → ((((o ++ a) ++ b) ++ c) ++ d) ++ e ≡ o ++ ((a ++ (b ++ (c ++ d))) ++ e)
+five_in_turn o a b c d e = simp append_assoc
 
-pub four_in_turn : (o a b c d : List ℕ) → (((o ++ a) ++ b) ++ c) ++ d ≡ o ++ (a ++ (b ++ (c ++ d)))
-four_in_turn o a b c d = simp append_assoc
+pub three_in_turn : (o a b c : List ℕ) → ((o ++ a) ++ b) ++ c ≡ o ++ ((a ++ b) ++ c)
+three_in_turn o a b c = simp append_assoc
 
 eight_in_turn : (o h a b c r m s t p1 p2 p3 p4 p5 p6 p7 p8 : List ℕ) → o ≡ [] → h ≡ o ++ p1 → a ≡ h ++ p2 → b ≡ a ++ p3 → c ≡ b ++ p4 → r ≡ c ++ p5 → m ≡ r ++ p6 → s ≡ m ++ p7 → t ≡ s ++ p8
     → t ≡ p1 ++ (p2 ++ (p3 ++ (p4 ++ (p5 ++ (p6 ++ (p7 ++ p8))))))
@@ -142,7 +140,7 @@ module _ (spec : ObjectSpec) where
         ∙ ap (λ (l : List ℕ). parts_with (places_of spec) (sized_of (sections_of spec)) (contents (sections_of spec)) spec.relocs (line_relocs spec.unit) l) texts
         ∙ file_is spec
 
-    pub whole : (o h a b c r m s t : List ℕ) → o ≡ [] → h ≡ o ++ flat_map (little_bytes 4) (MH_MAGIC_64 ∷ spec.cpu ∷ 0 ∷ MH_OBJECT ∷ 2 ∷ places.commands ∷ 0 ∷ 0 ∷ [])
+    pub whole : (o h a b c r m s t : List ℕ) → o ≡ [] → h ≡ o ++ header_bytes spec.cpu 0 MH_OBJECT 2 places.commands
         → a ≡ h ++ command_bytes (command_of (segment_command places all)) → b ≡ a ++ command_bytes (command_of (symtab_command places)) → c ≡ b ++ bytes → r ≡ c ++ relocs_bytes relocs
         → m ≡ r ++ relocs_bytes moved → s ≡ m ++ symbols_bytes spec.symbols → t ≡ s ++ strings → t ≡ object_bytes spec
     whole o h a b c r m s t eo eh ea eb ec er em es et =

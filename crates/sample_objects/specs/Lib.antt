@@ -2,5 +2,7 @@ pub mod GeneratedProgram
 pub mod GeneratedUnit
 pub mod Lines
 pub mod ObjectFile
+pub mod ProgramFile
+pub mod Records
 pub mod Sized
 pub mod Symbols

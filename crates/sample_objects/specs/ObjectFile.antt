@@ -89,9 +89,6 @@ line_relocs_place spec = relocs_place spec + RELOCATION_INFO_SIZE * length spec.
 abbrev pub symbols_place : ObjectSpec → ℕ
 symbols_place spec = line_relocs_place spec + RELOCATION_INFO_SIZE * length (line_relocs spec.unit)
 
-abbrev pub strings_place : ObjectSpec → ℕ
-strings_place spec = symbols_place spec + NLIST_64_SIZE * length spec.symbols
-
 -- a place of relocations, or 0 where there is none
 abbrev pub place_of_some : ℕ → ℕ → ℕ
 place_of_some place count = if count == 0 then 0 else place
@@ -109,7 +106,6 @@ places_of spec =
       line_nreloc = length (line_relocs spec.unit);
       symoff = symbols_place spec;
       nsyms = length spec.symbols;
-      stroff = strings_place spec;
       strsize = length (strings_bytes spec.symbols);
     }
 
@@ -180,8 +176,12 @@ segment_command places sized =
     (record { name = []; vmaddr = 0; vmsize = places.contents; maxprot = all_protections; initprot = all_protections; flags = 0; sections = 1 + places.sections })
     places.offset places.contents (text_section ∷ debug_sections places places.offset sized) []
 
+-- so many symbols at a place of the file, and their strings of a size behind them
+abbrev pub symbol_table : ℕ → ℕ → ℕ → LoadCommand
+symbol_table place count size = SymtabCommand (record { symoff = place; nsyms = count; stroff = place + NLIST_64_SIZE * count; strsize = size }) []
+
 abbrev pub symtab_command : Places → LoadCommand
-symtab_command places = SymtabCommand (record { symoff = places.symoff; nsyms = places.nsyms; stroff = places.stroff; strsize = places.strsize }) []
+symtab_command places = symbol_table places.symoff places.nsyms places.strsize
 
 abbrev pub file_of : ObjectSpec → File
 file_of spec =

@@ -3,12 +3,26 @@
 ghost use Rattle.std.specs.Prelude.{◌≡◌, ◌++◌, OnOk};
 ghost use Rattle.std.specs.List.{flat_map};
 ghost use Rattle.byteorder.specs.Endian.{little_bytes};
+ghost use Rattle.macho_read.specs.Spelling.{padded};
 
 use appending::append_u64;
-use ds_base::{Bytes, NoMemory};
+use ds_base::{Bytes, NoMemory, bytes_from};
 
 /// How many bytes a word has.
 const WORD_SIZE: usize = 4;
+
+/// What stands behind a name without a byte.
+const PADDING: [u8; 16] = [0; 16];
+
+/// Puts a name last, padded with zeros to 16 bytes; a longer one stands in full.
+pub(crate) fn append_name(out: &mut Bytes, name: &[u8]) -> Result<(), NoMemory>
+    ensures { OnOk result (out.new ≡ out.old ++ padded name.now) }
+{
+    let len = name.len().min(PADDING.len());
+    out.extend(name)?;
+    out.extend(bytes_from(&PADDING, len))?;
+    Ok(())
+}
 
 /// Puts numbers of four bytes last; of a greater number than they hold, the lowest four.
 pub(crate) fn append_words(out: &mut Bytes, words: &[u64]) -> Result<(), NoMemory>

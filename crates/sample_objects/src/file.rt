@@ -7,13 +7,15 @@ ghost use Rattle.layout.specs.Laid.{long_section, long_unit};
 ghost use Rattle.sample_objects.specs.ObjectFile;
 ghost use Rattle.sample_objects.specs.ObjectFile.{graph_of, object_bytes, sections_of, sized_of};
 
-use crate::commands::{append_header, append_segment, append_symtab};
+use crate::commands::append_segment;
 use crate::lines::line_relocs;
 use crate::places::places_of;
+use crate::records::{append_header, append_symtab};
 use crate::relocation::append_relocs;
 use crate::sections::{contents_of, layout_of, sized_sections};
 use crate::spec::ObjectSpec;
 use crate::symbols::{append_symbols, strings_of};
+use ds_base::macho::MH_OBJECT;
 use ds_base::{Bytes, NoMemory, Part};
 use layout::section_size;
 use reloc_table::Reloc;
@@ -72,9 +74,9 @@ fn object_of(
         strings.len(),
     )?;
     let mut out = Bytes::new(alloc);
-    append_header(&mut out, spec.cpu, places.commands)?;
+    append_header(&mut out, spec.cpu, 0, MH_OBJECT, 2, places.commands)?;
     append_segment(&mut out, places, sized)?;
-    append_symtab(&mut out, places)?;
+    append_symtab(&mut out, places.symoff, places.nsyms, places.strsize)?;
     out.extend(contents)?;
     append_relocs(&mut out, spec.relocs.as_slice())?;
     append_relocs(&mut out, moved)?;

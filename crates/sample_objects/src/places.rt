@@ -7,8 +7,8 @@ ghost use Rattle.sample_objects.specs.ObjectFile.{commands_len, line_relocs, sec
 
 use crate::spec::ObjectSpec;
 use ds_base::macho::{
-    MACH_HEADER_64_SIZE, NLIST_64_SIZE, RELOCATION_INFO_SIZE, SECTION_64_SIZE,
-    SEGMENT_COMMAND_64_SIZE, SYMTAB_COMMAND_SIZE,
+    MACH_HEADER_64_SIZE, RELOCATION_INFO_SIZE, SECTION_64_SIZE, SEGMENT_COMMAND_64_SIZE,
+    SYMTAB_COMMAND_SIZE,
 };
 use ds_base::{NoMemory, plus, times};
 
@@ -27,11 +27,9 @@ pub(crate) struct Places {
     /// The same of `__debug_line`.
     pub(crate) line_reloff: u64,
     pub(crate) line_nreloc: u64,
-    /// Where the symbols stand, and how many there are.
+    /// Where the symbols stand, how many there are, and the size of their strings.
     pub(crate) symoff: u64,
     pub(crate) nsyms: u64,
-    /// Where the strings stand, and their size.
-    pub(crate) stroff: u64,
     pub(crate) strsize: u64,
 }
 
@@ -53,7 +51,6 @@ pub(crate) fn places_of(
     let sections = sections as u64;
     let contents = size as u64;
     let nreloc = spec.relocs.len() as u64;
-    let nsyms = spec.symbols.len() as u64;
     let commands = size_of_commands(sections)?;
     let offset = plus(u64::from(MACH_HEADER_64_SIZE), commands)?;
     let relocs = plus(offset, contents)?;
@@ -63,7 +60,6 @@ pub(crate) fn places_of(
         line_relocs,
         times(u64::from(RELOCATION_INFO_SIZE), line_nreloc)?,
     )?;
-    let stroff = plus(symoff, times(u64::from(NLIST_64_SIZE), nsyms)?)?;
     Ok(Places {
         commands,
         sections,
@@ -74,8 +70,7 @@ pub(crate) fn places_of(
         line_reloff: place_of_some(line_relocs, line_nreloc),
         line_nreloc,
         symoff,
-        nsyms,
-        stroff,
+        nsyms: spec.symbols.len() as u64,
         strsize: strings as u64,
     })
 }

@@ -8,6 +8,7 @@ use ds_base::dwarf::{
     DW_AT_stmt_list, DW_FORM_data2, DW_FORM_data4, DW_OP_dup, DW_OP_stack_value,
     DW_TAG_compile_unit, DW_TAG_subprogram, DW_TAG_variable,
 };
+use ds_base::macho::{CPU_TYPE_ARM64, MH_EXECUTE, N_EXT, N_FUN, N_OSO, N_SECT};
 use ds_base::{Bytes, List};
 use dsym_write::{image_from, plist_text};
 use dwarf_types::{
@@ -15,16 +16,74 @@ use dwarf_types::{
     Paths, Sequences, Span,
 };
 use layout::measure;
-use macho_read::{Image, read_image};
+use macho_read::{Image, Section, Segment, Symbols, read_image};
+use sample_objects::program_file;
 use std::alloc::Global;
 use std::process::Abort;
 
 // ---- a program, a graph and the image
 
-fn program_in(rt: &impl Abort, alloc: Global, bytes: &[u8]) -> Image
+const UUID: [u8; 16] = [
+    0x00, 0x11, 0x22, 0x33, 0x44, 0x55, 0x66, 0x77, 0x88, 0x99, 0xaa, 0xbb, 0xcc, 0xdd, 0xee, 0xff,
+];
+
+// Where `main` is linked.
+const MAIN: u64 = 0x1_0000_3f50;
+
+fn text_segment(rt: &impl Abort, alloc: Global) -> Segment {
+    Segment {
+        name: bytes(rt, alloc, b"__TEXT"),
+        vmaddr: 0x1_0000_0000,
+        vmsize: 0x4000,
+        maxprot: 5,
+        initprot: 5,
+        flags: 0,
+        sections: 1,
+    }
+}
+
+fn text_section(rt: &impl Abort, alloc: Global) -> Section {
+    Section {
+        name: bytes(rt, alloc, b"__text"),
+        segment: bytes(rt, alloc, b"__TEXT"),
+        addr: MAIN,
+        size: 0x2a,
+        offset: 0x3f50,
+        align: 4,
+        reloff: 7,
+        nreloc: 9,
+        flags: 0x8000_0400,
+        reserved1: 0,
+        reserved2: 0,
+        reserved3: 0,
+    }
+}
+
+// Two stabs and `_main`.
+fn symbols(rt: &impl Abort, alloc: Global) -> Symbols {
+    let mut symbols = Symbols::new(alloc);
+    assert!(rt; symbols.push(b"/m", N_OSO, 3, 1, 0).is_ok());
+    assert!(rt; symbols.push(b"_main", N_FUN, 1, 0, MAIN).is_ok());
+    assert!(rt; symbols.push(b"_main", N_SECT | N_EXT, 1, 0, MAIN).is_ok());
+    symbols
+}
+
+// A program with a UUID, a segment with a section, a function, and the stabs of the object that has it, as its file is
+// read.
+fn program(rt: &impl Abort, alloc: Global) -> Image
     ensures { IsSound result }
 {
-    read_image(alloc, bytes).expect(rt, "a program")
+    let image = Image {
+        cpu: CPU_TYPE_ARM64,
+        sub: 0,
+        filetype: MH_EXECUTE,
+        uuid: Some(UUID),
+        segments: one(rt, alloc, text_segment(rt, alloc)),
+        sections: one(rt, alloc, text_section(rt, alloc)),
+        symbols: symbols(rt, alloc),
+    };
+    let file = program_file(alloc, &image).expect(rt, "memory for a file");
+    read_image(alloc, file.as_slice()).expect(rt, "a program")
 }
 
 // The image of a program and a graph.
@@ -139,32 +198,10 @@ fn unit(rt: &impl Abort, alloc: Global, version: u16) -> OutUnit {
 
 // ---- images
 
-// The program has a UUID, a segment with a section, a function, and the stabs of the object that has it.
 #[rattlefmt::skip]
 #[test]
 fn an_image_has_the_commands_of_its_program_and_the_sections_of_its_graph(rt: HostRuntime) {
     let alloc = rt.alloc();
-    let program = [
-        // the header
-        0xcf, 0xfa, 0xed, 0xfe,  0x0c, 0, 0, 1,  0, 0, 0, 0,  2, 0, 0, 0,  3, 0, 0, 0,  0xc8, 0, 0, 0,  0x85, 0, 0, 0,  0, 0, 0, 0,
-        // the UUID
-        0x1b, 0, 0, 0,  0x18, 0, 0, 0,  0, 0x11, 0x22, 0x33, 0x44, 0x55, 0x66, 0x77, 0x88, 0x99, 0xaa, 0xbb, 0xcc, 0xdd, 0xee, 0xff,
-        // the symbol table: at 232, three symbols; at 280, 10 bytes
-        2, 0, 0, 0,  0x18, 0, 0, 0,  0xe8, 0, 0, 0,  3, 0, 0, 0,  0x18, 1, 0, 0,  0x0a, 0, 0, 0,
-        // __TEXT
-        0x19, 0, 0, 0,  0x98, 0, 0, 0,  b'_', b'_', b'T', b'E', b'X', b'T', 0, 0, 0, 0, 0, 0, 0, 0, 0, 0,
-        0, 0, 0, 0, 1, 0, 0, 0,  0, 0x40, 0, 0, 0, 0, 0, 0,  0, 0, 0, 0, 0, 0, 0, 0,  0, 0x40, 0, 0, 0, 0, 0, 0,
-        5, 0, 0, 0,  5, 0, 0, 0,  1, 0, 0, 0,  0, 0, 0, 0,
-        b'_', b'_', b't', b'e', b'x', b't', 0, 0, 0, 0, 0, 0, 0, 0, 0, 0,
-        b'_', b'_', b'T', b'E', b'X', b'T', 0, 0, 0, 0, 0, 0, 0, 0, 0, 0,
-        0x50, 0x3f, 0, 0, 1, 0, 0, 0,  0x2a, 0, 0, 0, 0, 0, 0, 0,
-        0x50, 0x3f, 0, 0,  4, 0, 0, 0,  7, 0, 0, 0,  9, 0, 0, 0,  0, 4, 0, 0x80,  0, 0, 0, 0,  0, 0, 0, 0,  0, 0, 0, 0,
-        // two stabs and _main
-        1, 0, 0, 0,  0x66, 3,  1, 0,  0, 0, 0, 0, 0, 0, 0, 0,
-        4, 0, 0, 0,  0x24, 1,  0, 0,  0x50, 0x3f, 0, 0, 1, 0, 0, 0,
-        4, 0, 0, 0,  0x0f, 1,  0, 0,  0x50, 0x3f, 0, 0, 1, 0, 0, 0,
-        0,  b'/', b'm', 0,  b'_', b'm', b'a', b'i', b'n', 0,
-    ];
     let front = [
         // the header
         0xcf, 0xfa, 0xed, 0xfe,  0x0c, 0, 0, 1,  0, 0, 0, 0,  0x0a, 0, 0, 0,  4, 0, 0, 0,  0xa0, 2, 0, 0,  0, 0, 0, 0,  0, 0, 0, 0,
@@ -232,7 +269,7 @@ fn an_image_has_the_commands_of_its_program_and_the_sections_of_its_graph(rt: Ho
         units: one(&rt, alloc, unit(&rt, alloc, 4)),
         frames: OutFrames::new(alloc),
     };
-    let program = program_in(&rt, alloc, &program);
+    let program = program(&rt, alloc);
     let image = image_of(&rt, alloc, &program, &graph);
     begins_with(&rt, image.as_slice(), &front);
     sections_are(&rt, image.as_slice(), &sections);

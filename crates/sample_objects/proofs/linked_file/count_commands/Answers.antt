@@ -1,0 +1,6 @@
+use Rattle.std.proofs.Common.{ℕ, ◌+◌, ap, ◌∙◌}
+use Rattle.sample_objects.proofs.ProgramCommands.{count_is}
+use Rattle.sample_objects.proofs.linked_file.count_commands.Goals as goal
+
+pub returns : goal.returns
+returns c = c.in_ok-count.ensures ∙ ap (λ (n : ℕ). n + 1) c.in_ok-first.ensures ∙ count_is c.args.image.now _ _ c.count_uuid.ensures c.len.ensures

@@ -1,0 +1,89 @@
+//! The file of a linked program.
+
+ghost use Rattle.std.specs.Prelude.{◌≡◌, ◌++◌, IfOk, OnOk, length};
+ghost use Rattle.dsym_write.specs.Bundle.{uuid_command};
+ghost use Rattle.dsym_write.specs.Pieces.{commands_text};
+ghost use Rattle.sample_objects.specs.ProgramFile;
+ghost use Rattle.sample_objects.specs.ProgramFile.{commands_of, program_bytes};
+
+use crate::records::{append_command, append_header, append_symtab};
+use crate::segments::append_segments;
+use crate::symbols::{append_symbols, strings_of};
+use ds_base::macho::{LC_UUID, MACH_HEADER_64_SIZE, SYMTAB_COMMAND_SIZE};
+use ds_base::{Bytes, NoMemory, plus};
+use macho_read::Image;
+use std::alloc::Global;
+
+/// The file of a linked program (mach-o/loader.h, mach-o/nlist.h), as an image says it.
+///
+/// Its commands are a UUID, if the image has one, a segment for each of the image's, with the records of its own
+/// sections, and a symbol table; the symbols follow, and their strings. The file has nothing to load: segments have no
+/// bytes in it, and what sections say of their offset and their relocations is the image's. A name of more than 16 bytes
+/// stands in full, so that its command isn't read as it was meant. Offsets and sizes have 32 bits; in a file that is
+/// longer they keep the lowest.
+pub fn program_file(alloc: Global, image: &Image) -> Result<Bytes, NoMemory>
+    ensures { IfOk result (λ bytes. bytes ≡ program_bytes image.now) }
+{
+    let first = first_commands(alloc, image)?;
+    let strings = strings_of(alloc, &image.symbols)?;
+    let count = count_commands(image)?;
+    let size = plus(first.len() as u64, u64::from(SYMTAB_COMMAND_SIZE))?;
+    let place = plus(u64::from(MACH_HEADER_64_SIZE), size)?;
+    let mut out = Bytes::new(alloc);
+    append_header(&mut out, image.cpu, image.sub, image.filetype, count, size)?;
+    out.extend(first.as_slice())?;
+    append_symtab(
+        &mut out,
+        place,
+        image.symbols.len() as u64,
+        strings.len() as u64,
+    )?;
+    append_symbols(&mut out, &image.symbols)?;
+    out.extend(strings.as_slice())?;
+    Ok(out)
+}
+
+/// How many commands there are.
+fn count_commands(image: &Image) -> Result<u64, NoMemory>
+    ensures { IfOk result (λ count. count ≡ length (commands_of image.now)) }
+{
+    let first = plus(count_uuid(&image.uuid), image.segments.len() as u64)?;
+    let count = plus(first, 1)?;
+    Ok(count)
+}
+
+/// How many commands a UUID has: one, if there is a UUID.
+fn count_uuid(uuid: &Option<[u8; 16]>) -> u64
+    ensures { result ≡ length (uuid_command uuid.now) }
+{
+    match uuid {
+        Some(_) => 1,
+        None => 0,
+    }
+}
+
+/// The commands but that of the symbol table.
+fn first_commands(alloc: Global, image: &Image) -> Result<Bytes, NoMemory>
+    ensures { IfOk result (λ commands. commands ≡ commands_text (ProgramFile.first_commands image.now)) }
+{
+    let mut out = Bytes::new(alloc);
+    append_uuid(&mut out, &image.uuid)?;
+    append_segments(
+        alloc,
+        &mut out,
+        image.segments.as_slice(),
+        image.sections.as_slice(),
+    )?;
+    Ok(out)
+}
+
+/// Puts a UUID command last, if there is a UUID (`uuid_command`).
+fn append_uuid(out: &mut Bytes, uuid: &Option<[u8; 16]>) -> Result<(), NoMemory>
+    ensures { OnOk result (out.new ≡ out.old ++ commands_text (uuid_command uuid.now)) }
+{
+    let Some(bytes) = uuid else {
+        return Ok(());
+    };
+    append_command(out, LC_UUID, bytes)?;
+    Ok(())
+}
