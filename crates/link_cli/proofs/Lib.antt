@@ -1,3 +1,4 @@
+pub mod FilesMade
 pub mod Generating
 pub mod Holding
 pub mod Later

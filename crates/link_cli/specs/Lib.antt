@@ -2,6 +2,7 @@ pub mod Answer
 pub mod Endings
 pub mod Files
 pub mod Holding
+pub mod Making
 pub mod Plan
 pub mod Plans
 pub mod Prepared

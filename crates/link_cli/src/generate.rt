@@ -12,12 +12,13 @@ ghost use Rattle.link_cli.specs.Plan.{HasWorkers};
 ghost use Rattle.link_cli.specs.Plans.{plan_seen};
 
 use crate::ending::Ending;
+use crate::making::shared_program;
 use crate::plan::Plan;
 use crate::texts::summary;
 use ds_base::{Bytes, List, NoMemory};
 use ds_files::Gate;
 use link_core::{Counts, Linked, Options, Refusal, Status, last_part, link_objects};
-use sample_objects::{Generated, generated};
+use sample_objects::Generated;
 use std::alloc::Global;
 use std::thread::Threads;
 
@@ -34,7 +35,7 @@ pub(crate) fn link_generated<R: Threads + Sync, G: Gate + Sync>(
     requires workers { HasWorkers plan.now.workers }
     ensures { LinksGenerated (plan_seen plan.now) count (generated_program count) result }
 {
-    let Ok(made) = generated(alloc, count) else {
+    let Ok(made) = shared_program(rt, alloc, plan.workers, count) else {
         return Ending::no_memory(alloc);
     };
     match bundle(rt, alloc, plan, count, &made, gate) {

@@ -17,6 +17,7 @@ mod files;
 mod generate;
 mod laws;
 mod link;
+mod making;
 mod output;
 mod plan;
 mod program;

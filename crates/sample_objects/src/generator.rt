@@ -31,9 +31,22 @@ pub fn generated(alloc: Global, count: u32) -> Result<Generated, NoMemory>
     ensures kind { IfOk result (λ made. kind_of made.program roles.Program ≡ Ok tt) }
     ensures small { IfOk result (λ made. All (λ file. length file < 2 ^ 32) made.files) }
 {
+    let files = files_of(alloc, count)?;
+    generated_with(alloc, count, files)
+}
+
+/// The generated program of so many objects, whose files are made ([`generated_file`]).
+pub fn generated_with(alloc: Global, count: u32, files: List<Bytes>) -> Result<Generated, NoMemory>
+    requires some { 1 ≤ count }
+    requires few { count ≤ 1000 }
+    requires files { files ≡ (generated_program count).files }
+    ensures exact { IfOk result (λ made. made ≡ generated_program count) }
+    ensures sound { IfOk result (λ made. IsSound made.program) }
+    ensures kind { IfOk result (λ made. kind_of made.program roles.Program ≡ Ok tt) }
+    ensures small { IfOk result (λ made. All (λ file. length file < 2 ^ 32) made.files) }
+{
     let program = program_with(alloc, count)?;
     let objects = objects_of(alloc, count)?;
-    let files = files_of(alloc, count)?;
     Ok(Generated {
         program,
         objects,
@@ -131,18 +144,18 @@ fn files_of(alloc: Global, count: u32) -> Result<List<Bytes>, NoMemory>
 {
     let mut files = List::new(alloc);
     for k in 0..count {
-        let file = file_of(alloc, k + 1)?;
+        let file = generated_file(alloc, k + 1)?;
         files.push(file)?;
     }
     Ok(files)
 }
 
-/// The file of an object.
-fn file_of(alloc: Global, i: u32) -> Result<Bytes, NoMemory>
-    requires { i ≤ 1000 }
-    ensures { IfOk result (λ bytes. bytes ≡ object_bytes (spec_of i)) }
+/// The file of the object of a number, which is counted from 1, of a generated program.
+pub fn generated_file(alloc: Global, number: u32) -> Result<Bytes, NoMemory>
+    requires { number ≤ 1000 }
+    ensures { IfOk result (λ bytes. bytes ≡ object_bytes (spec_of number)) }
 {
-    let spec = spec_for(alloc, i)?;
+    let spec = spec_for(alloc, number)?;
     let bytes = object(alloc, &spec)?;
     Ok(bytes)
 }

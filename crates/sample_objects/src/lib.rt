@@ -33,7 +33,7 @@ mod texts;
 mod unit;
 
 pub use file::object;
-pub use generator::generated;
+pub use generator::{generated, generated_file, generated_with};
 pub use law::programs_read_back;
 pub use linked_file::program_file;
 pub use program::Generated;
