@@ -2,7 +2,7 @@
 
 ghost use Rattle.std.specs.Prelude.{◌≡◌, [], IfOk};
 ghost use Rattle.std.specs.List.{All};
-ghost use Rattle.addr_map.specs.Sound.{IsSound};
+ghost use Rattle.addr_map.specs.Sound.{IsSound, IsSoundRange};
 
 use crate::parts::{ADDRESSES, assert_refused, lists_5, no_symbols, two_relocs};
 use addr_map::{AddrMap, MapRange};
@@ -71,20 +71,35 @@ fn the_first_operation_that_is_wrong_is_told(rt: HostRuntime) {
     refused(&rt, alloc, "an entry value inside another", Kind::OpOutsideProfile, 3, b"\xa3\x02\x96\xa3");
 }
 
-/// A map without symbols of one range: 0x20 to 0x40 went to 0x100002000.
-fn one_range(alloc: Global) -> Result<AddrMap, NoMemory>
-    ensures { IfOk result IsSound }
+/// A range: 0x20 to 0x40 went to 0x100002000.
+fn range() -> MapRange
+    ensures { IsSoundRange result }
 {
-    let mut ranges = List::new(alloc);
-    ranges.push(MapRange {
+    MapRange {
         start: 0x20,
         end: 0x40,
         linked: 0x1_0000_2000,
-    })?;
+    }
+}
+
+/// A map without symbols of one range.
+fn map_of(alloc: Global, range: MapRange) -> Result<AddrMap, NoMemory>
+    requires { IsSoundRange range }
+    ensures { IfOk result IsSound }
+{
+    let mut ranges = List::new(alloc);
+    ranges.push(range)?;
     Ok(AddrMap {
         ranges,
         names: List::new(alloc),
     })
+}
+
+/// The map of that range alone.
+fn one_range(alloc: Global) -> Result<AddrMap, NoMemory>
+    ensures { IfOk result IsSound }
+{
+    map_of(alloc, range())
 }
 
 /// An expression that begins at 0x100 in unit 1 of version 5, whose first byte stands at 0xd0, in an object of which
