@@ -1,5 +1,6 @@
 //! Files by their names.
 
+use crate::ahead::Ahead;
 use ds_base::{Bytes, NoMemory};
 use std::alloc::Global;
 
@@ -32,6 +33,9 @@ impl From<NoMemory> for FileError {
 /// `files` are the files where they are told, a map from the bytes of a name to the bytes of the file. `counts` says
 /// how often a call failed, missed its file, and found it too long. No count ever falls, and one that stands at
 /// 2^64 - 1, its last value, counts as risen.
+///
+/// [`Files::size_ahead`], [`Files::fetch`] and [`Files::keep`] serve [`crate::read_ahead`]: by them files may be read
+/// before they are asked for. Where that gains nothing, the first two answer `None`, and the third does nothing.
 pub trait Files {
     ghost use Rattle.std.specs.Prelude.{◌≡◌, ◌≤◌, length, Some, IfOk, OnOk, IfErr, option_map};
     ghost use Rattle.std.specs.declared.option.Option.{Option as Maybe};
@@ -63,4 +67,16 @@ pub trait Files {
         ensures done { OnOk result (files self.new ≡ option_map (λ m. map.insert m name.now bytes.now) (files self.old)) }
         ensures failed { IfErr result (ReplaceFails (files self.old) (files self.new) name.now (counts self.old) (counts self.new)) }
         ensures later { IsLater (counts self.old) (counts self.new) };
+
+    /// How many bytes the named file is said to have, where it may be fetched before it is asked for.
+    fn size_ahead(&self, name: &str) -> Option<u64>;
+
+    /// The bytes of the named file, before it is asked for. It is `None` where they are more than `most` or can't be read:
+    /// nothing is counted, and what fails is told when the file is asked for.
+    fn fetch(&self, alloc: Global, name: &str, most: u64) -> Option<Bytes>;
+
+    /// Keeps files that were fetched until they are asked for, in the place of those that it kept before.
+    fn keep(&mut self, ahead: Ahead)
+        ensures same { files self.new ≡ files self.old }
+        ensures counted { counts self.new ≡ counts self.old };
 }

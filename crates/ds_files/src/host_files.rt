@@ -3,6 +3,7 @@
 ghost use Rattle.std.specs.Prelude.{◌≡◌, ◌≢◌, ◌≤◌, length, IfOk};
 ghost use Rattle.ds_files.specs.declared.files.FileError.TheVariants as errors;
 
+use crate::ahead::Ahead;
 use crate::files::{FileError, Files};
 use crate::streams::{read_sized, write_whole};
 use crate::tally::Tally;
@@ -18,10 +19,13 @@ use std::{fs, io, rt};
 ///
 /// A file is read into one buffer, and is `Missing` where the system finds no such path, `TooLong` once it has more bytes
 /// than the call allows, and `Failed` at any other error. To replace a file makes the folders of its path that are missing.
+/// What was read ahead is given out where it is asked for next. It is let go once a file is replaced, which may be in it.
 #[derive(Drop)]
 pub struct HostFiles<R> {
     rt: R,
     tally: Tally,
+    /// What was read before it is asked for.
+    ahead: Ahead,
 }
 
 impl<R> Model for HostFiles<R> {
@@ -42,6 +46,7 @@ impl<R: rt::Files> HostFiles<R> {
         HostFiles {
             rt,
             tally: Tally::new(),
+            ahead: Ahead::new(),
         }
     }
 }
@@ -61,7 +66,7 @@ impl<R: rt::Files> Files for HostFiles<R> {
         ensures after { self.new ≡ counts_after result self.old }
         ensures later { IsLater self.old self.new }
     {
-        match read_file(&self.rt, alloc, name, most) {
+        match read_once(&self.rt, &mut self.ahead, alloc, name, most) {
             Ok(bytes) => Ok(bytes),
             Err(error) => Err(self.tally.count(error)),
         }
@@ -72,11 +77,49 @@ impl<R: rt::Files> Files for HostFiles<R> {
         ensures after { self.new ≡ counts_after result self.old }
         ensures later { IsLater self.old self.new }
     {
+        self.ahead = Ahead::new();
         match replace_file(&self.rt, name, bytes) {
             Ok(()) => Ok(()),
             Err(_) => Err(self.tally.count(FileError::Failed)),
         }
     }
+
+    /// The size that the system tells of a regular file. Nothing else is fetched.
+    fn size_ahead(&self, name: &str) -> Option<u64> {
+        match fs::metadata(&self.rt, name) {
+            Ok(metadata) if metadata.is_file() => Some(metadata.len()),
+            _ => None,
+        }
+    }
+
+    fn fetch(&self, alloc: Global, name: &str, most: u64) -> Option<Bytes> {
+        read_file(&self.rt, alloc, name, most).ok()
+    }
+
+    fn keep(&mut self, ahead: Ahead)
+        ensures { self.new ≡ self.old }
+    {
+        self.ahead = ahead;
+    }
+}
+
+/// All bytes of a file: those that were read ahead, or it is read now.
+fn read_once<R: rt::Files>(
+    rt: &R,
+    ahead: &mut Ahead,
+    alloc: Global,
+    name: &str,
+    most: u64,
+) -> Result<Bytes, FileError>
+    ensures { IfOk result (λ b. length b ≤ most) }
+{
+    let Some(bytes) = ahead.take(name) else {
+        return read_file(rt, alloc, name, most);
+    };
+    if bytes.len() as u64 > most {
+        return Err(FileError::TooLong);
+    }
+    Ok(bytes)
 }
 
 /// All bytes of a file. Its size, where the system tells it, says what to reserve and whether to read at all.

@@ -6,6 +6,7 @@ ghost use Rattle.std.specs.Ordering.{nat_cmp};
 ghost use Rattle.std.specs.Cmp.Lexicographic.{slice_cmp};
 ghost use Rattle.std.specs.FinMap as map;
 
+use crate::ahead::Ahead;
 use crate::files::{FileError, Files};
 use crate::tally::Tally;
 use ds_base::{Bytes, List, NoMemory};
@@ -139,6 +140,21 @@ impl Files for MemoryFiles {
         self.set(alloc, name, bytes)?;
         Ok(())
     }
+
+    fn size_ahead(&self, _name: &str) -> Option<u64> {
+        None
+    }
+
+    fn fetch(&self, _alloc: Global, _name: &str, _most: u64) -> Option<Bytes> {
+        None
+    }
+
+    fn keep(&mut self, _ahead: Ahead)
+        ensures exact { self.new ≡ self.old }
+
+        ensures same { Some self.new.files ≡ Some self.old.files }
+        ensures counted { self.new.counts ≡ self.old.counts }
+    {}
 }
 
 /// The newest bytes of a name.

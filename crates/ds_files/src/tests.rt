@@ -1,10 +1,13 @@
+use crate::ahead::read_ahead;
 use crate::files::{FileError, Files};
 use crate::gate::{Gate, OpenGate};
+use crate::host_files::HostFiles;
 use crate::memory_files::MemoryFiles;
 use crate::memory_sink::MemorySink;
 use crate::sink::{Sink, SinkFailed};
 use crate::streams::{read_whole, write_whole};
 use ds_base::{Bytes, List};
+use std::fs::remove_file;
 use std::io;
 use std::io::{ErrorKind, Read, Write};
 use std::process::Abort;
@@ -143,4 +146,25 @@ fn fills(rt: &impl Abort, room: usize, want: bool) {
 fn bytes_are_written_to_the_last(rt: HostRuntime) {
     fills(&rt, 6, true);
     fills(&rt, 4, false);
+}
+
+// The files are gone when they are asked for, so that only what was read ahead can be answered: the first two, whose eight
+// bytes are as many as may be kept. Each is given out once.
+#[test]
+fn files_that_were_read_ahead_are_answered_as_others(rt: HostRuntime) {
+    let alloc = rt.alloc();
+    let mut files = HostFiles::new(&rt);
+    assert_eq!(rt; files.replace(alloc, "first", b"abc"), Ok(()));
+    assert_eq!(rt; files.replace(alloc, "second", b"defgh"), Ok(()));
+    assert_eq!(rt; files.replace(alloc, "third", b"i"), Ok(()));
+    let names = ["first", "none", "second", "third"];
+    read_ahead(&rt, alloc, 2, &names, 8, &mut files);
+    assert_eq!(rt; remove_file(&rt, "first").is_ok(), true);
+    assert_eq!(rt; remove_file(&rt, "second").is_ok(), true);
+    assert_eq!(rt; remove_file(&rt, "third").is_ok(), true);
+    reads(&rt, files.read(alloc, "first", 3), Ok(b"abc"));
+    reads(&rt, files.read(alloc, "first", 3), Err(FileError::Missing));
+    reads(&rt, files.read(alloc, "none", 3), Err(FileError::Missing));
+    reads(&rt, files.read(alloc, "second", 4), Err(FileError::TooLong));
+    reads(&rt, files.read(alloc, "third", 9), Err(FileError::Missing));
 }
