@@ -1,5 +1,5 @@
 -- The steps of a link, from what the outside answered.
-use Rattle.std.proofs.Common.{◌≡◌, ℕ, inl, inr, ◌-◌, ◌^◌, List, [], length, Option, Result, Ok, Err, refl, sym, ap, subst, ◌∙◌}
+use Rattle.std.proofs.Common.{◌≡◌, ℕ, Bool, inl, inr, ◌-◌, ◌^◌, List, [], length, Option, Result, Ok, Err, refl, sym, ap, subst, ◌∙◌}
 use Rattle.std.specs.Option.{option_map}
 use Rattle.std.specs.FinMap as map
 use Rattle.std.specs.Result.{IsErrAnd}
@@ -73,6 +73,11 @@ module _ (plan : Planned) (objects : List MapObject) (warnings : List ℕ) (made
       (written (world mid middle) first (replaces_as (image_name plan.out plan.exe) made made_of.image shown mid new middle now is_name is_image second later))
 
 -- ---- the objects
+
+-- files were read behind a hint, which changed nothing
+module _ {keep_going : Bool} {number : ℕ} {objects : List MapObject} {held : Held} {before hinted after : World} {answer : Result Held Stopped} where
+  pub read_behind : hinted ≡ before → ReadsFiles keep_going number objects held hinted after answer → ReadsFiles keep_going number objects held before after answer
+  read_behind same reads = subst (λ (w : World). ReadsFiles keep_going number objects held w after answer) same reads
 
 module _ (plan : Planned) (program : Program) where
   pub makes_as : (name : List ℕ) (given sources : List Source) (answer : Result Linked Refusal) → name ≡ last_part plan.exe → given ≡ sources → Bundles plan.odr program.image name given answer

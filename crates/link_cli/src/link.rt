@@ -15,7 +15,9 @@ ghost use Rattle.link_cli.specs.Plans.{plan_seen};
 ghost use Rattle.link_cli.specs.Seen.{AreSmall, HaveNames, held_seen};
 
 use crate::ending::Ending;
-use crate::files::{HeldFiles, MOST_INPUT, contents_of, numbers_of, read_files, unread};
+use crate::files::{
+    HeldFiles, MOST_INPUT, contents_of, expect_files, numbers_of, read_files, unread,
+};
 use crate::generate::link_generated;
 use crate::output::write_bundle;
 use crate::plan::{Mode, Plan, PlanError, plan_of_words};
@@ -34,7 +36,7 @@ use std::thread::Threads;
 ///
 /// Files are numbered: 0 is the program, and its objects follow from 1 in the order of its debug map. All that is told
 /// goes out last, by one call. What is answered does not depend on the number of threads that the words ask for.
-pub fn link_main<R: Threads + Sync, F: Files, S: Sink, G: Gate + Sync>(
+pub fn link_main<R: Threads + Sync, F: Files + Sync, S: Sink, G: Gate + Sync>(
     rt: &R,
     alloc: Global,
     words: &[String],
@@ -50,7 +52,7 @@ pub fn link_main<R: Threads + Sync, F: Files, S: Sink, G: Gate + Sync>(
 }
 
 /// Does what the command's words ask.
-fn run<R: Threads + Sync, F: Files, G: Gate + Sync>(
+fn run<R: Threads + Sync, F: Files + Sync, G: Gate + Sync>(
     rt: &R,
     alloc: Global,
     words: &[String],
@@ -67,7 +69,7 @@ fn run<R: Threads + Sync, F: Files, G: Gate + Sync>(
 }
 
 /// Does what a plan asks.
-fn run_plan<R: Threads + Sync, F: Files, G: Gate + Sync>(
+fn run_plan<R: Threads + Sync, F: Files + Sync, G: Gate + Sync>(
     rt: &R,
     alloc: Global,
     plan: &Plan,
@@ -86,7 +88,7 @@ fn run_plan<R: Threads + Sync, F: Files, G: Gate + Sync>(
 }
 
 /// Reads the program of a plan, and does what is to be done with it.
-fn run_program<R: Threads + Sync, F: Files, G: Gate + Sync>(
+fn run_program<R: Threads + Sync, F: Files + Sync, G: Gate + Sync>(
     rt: &R,
     alloc: Global,
     plan: &Plan,
@@ -142,7 +144,7 @@ fn tell_map(alloc: Global, program: &Program) -> Ending
 }
 
 /// Reads the files of a program's objects, which have at most `most` bytes together, links them and writes the bundle.
-fn link_program<R: Threads + Sync, F: Files, G: Gate + Sync>(
+fn link_program<R: Threads + Sync, F: Files + Sync, G: Gate + Sync>(
     rt: &R,
     alloc: Global,
     plan: &Plan,
@@ -160,6 +162,7 @@ fn link_program<R: Threads + Sync, F: Files, G: Gate + Sync>(
     ensures { LinksObjects (plan_seen plan.now) program.now most (world (F.files files.old) (F.counts files.old)) (world (F.files files.new) (F.counts files.new)) result }
 {
     let objects = program.objects.as_slice();
+    expect_files(rt, alloc, plan.workers, objects, most, files);
     match read_files(alloc, objects, plan.keep_going, most, files) {
         Ok(held) => link_held(rt, alloc, plan, program, held, files, gate),
         Err(stopped) => { Ending::refused(alloc, plan, objects, stopped.warnings, stopped.status) }

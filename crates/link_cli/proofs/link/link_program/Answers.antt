@@ -1,6 +1,6 @@
 use Rattle.link_cli.specs.Holding.{held_of}
 use Rattle.link_cli.specs.Plans.{plan_seen}
-use Rattle.link_cli.proofs.LinkSteps.{objects_read, objects_refused}
+use Rattle.link_cli.proofs.LinkSteps.{objects_read, objects_refused, read_behind}
 use Rattle.link_cli.proofs.Sources.{few_files, held_small, none_small}
 use Rattle.link_cli.proofs.link.link_program.Goals as goal
 
@@ -12,8 +12,8 @@ link_held-requires-clause-small g c κs within = held_small c.in-Ok.ensures c.re
 
 pub returns-in-Ok : goal.returns-in-Ok
 returns-in-Ok g c =
-    objects_read (plan_seen c.args.plan.now) c.args.program.now _ c.as_slice-objects.ensures c.args.most _ _ _ (held_of c.in-Ok.held) _ c.in-Ok.ensures c.link_held.ensures
+    objects_read (plan_seen c.args.plan.now) c.args.program.now _ c.as_slice-objects.ensures c.args.most _ _ _ (held_of c.in-Ok.held) _ (read_behind c.expect_files.ensures c.in-Ok.ensures) c.link_held.ensures
 
 pub returns-in-Err : goal.returns-in-Err
 returns-in-Err g c =
-    objects_refused (plan_seen c.args.plan.now) c.args.program.now _ c.as_slice-objects.ensures c.args.most _ _ c.in-Err.stopped _ c.in-Err.ensures c.refused.ensures
+    objects_refused (plan_seen c.args.plan.now) c.args.program.now _ c.as_slice-objects.ensures c.args.most _ _ c.in-Err.stopped _ (read_behind c.expect_files.ensures c.in-Err.ensures) c.refused.ensures
