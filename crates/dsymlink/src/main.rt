@@ -26,6 +26,9 @@ fn main(rt: HostRuntime) -> ExitCode {
 
 /// Links the program that the words name, and gives the code of the status.
 fn exit_code<R: Env + Files + Print + AllocGlobal + Threads + Sync>(rt: &R) -> ExitCode
+where
+    R::File: Send,
+    R::Dir: Send,
     ensures { Ends (exit_status result) }
 {
     ExitCode::from(code(&run(rt)))
@@ -33,6 +36,9 @@ fn exit_code<R: Env + Files + Print + AllocGlobal + Threads + Sync>(rt: &R) -> E
 
 /// Links the program that the words name. Where the arguments are not all UTF-8, there are no words, which name none.
 fn run<R: Env + Files + Print + AllocGlobal + Threads + Sync>(rt: &R) -> Status
+where
+    R::File: Send,
+    R::Dir: Send,
     ensures { Runs result }
 {
     let alloc = rt.alloc();

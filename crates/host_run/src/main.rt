@@ -56,7 +56,7 @@ fn replace<F: Files, S: Sink>(
 }
 
 /// Links the program of a name.
-fn link<R: Threads + Sync, F: Files, S: Sink>(
+fn link<R: Threads + Sync, F: Files + Sync, S: Sink>(
     rt: &R,
     alloc: Global,
     files: &mut F,
@@ -70,7 +70,7 @@ fn link<R: Threads + Sync, F: Files, S: Sink>(
 }
 
 /// Says how a link of the program of a name ends.
-fn tell_link<R: Threads + Sync, F: Files, S: Sink>(
+fn tell_link<R: Threads + Sync, F: Files + Sync, S: Sink>(
     rt: &R,
     alloc: Global,
     files: &mut F,
