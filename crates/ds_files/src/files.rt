@@ -37,7 +37,7 @@ impl From<NoMemory> for FileError {
 /// [`Files::size_ahead`], [`Files::fetch`] and [`Files::keep`] serve [`crate::read_ahead`]: by them files may be read
 /// before they are asked for. Where that gains nothing, the first two answer `None`, and the third does nothing.
 pub trait Files {
-    ghost use Rattle.std.specs.Prelude.{◌≡◌, ◌≤◌, length, Some, IfOk, OnOk, IfErr, option_map};
+    ghost use Rattle.std.specs.Prelude.{◌≡◌, ◌≤◌, length, Some, IfOk, IfSome, OnOk, IfErr, option_map};
     ghost use Rattle.std.specs.declared.option.Option.{Option as Maybe};
     ghost use Rattle.std.specs.FinMap as map;
     ghost use Rattle.ds_files.specs.Outside.{Contents, Counts, IsLater, Told, IsLong, IsQuiet, ReadFails, RefusesLong, ReplaceFails};
@@ -71,9 +71,10 @@ pub trait Files {
     /// How many bytes the named file is said to have, where it may be fetched before it is asked for.
     fn size_ahead(&self, name: &str) -> Option<u64>;
 
-    /// The bytes of the named file, before it is asked for. It is `None` where they are more than `most` or can't be read:
+    /// All bytes of the named file, before it is asked for. It is `None` where they are more than `most` or can't be read:
     /// nothing is counted, and what fails is told when the file is asked for.
-    fn fetch(&self, alloc: Global, name: &str, most: u64) -> Option<Bytes>;
+    fn fetch(&self, alloc: Global, name: &str, most: u64) -> Option<Bytes>
+        ensures within { IfSome result (λ b. length b ≤ most) };
 
     /// Keeps files that were fetched until they are asked for, in the place of those that it kept before.
     fn keep(&mut self, ahead: Ahead)

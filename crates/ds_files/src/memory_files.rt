@@ -93,7 +93,7 @@ impl MemoryFiles {
 }
 
 impl Files for MemoryFiles {
-    ghost use Rattle.std.specs.Prelude.{◌≡◌, ◌≤◌, length, Some, IfOk, OnOk, IfErr, option_map};
+    ghost use Rattle.std.specs.Prelude.{◌≡◌, ◌≤◌, length, None, Some, IfOk, OnOk, IfErr, option_map};
     ghost use Rattle.std.specs.FinMap as map;
     ghost use Rattle.ds_files.specs.Outside.{IsLater, Told, IsLong, IsQuiet, ReadFails, RefusesLong, ReplaceFails};
     ghost use Rattle.ds_files.specs.MemoryFiles.{Answers, read_of, replace_of, after_read, after_replace};
@@ -141,11 +141,15 @@ impl Files for MemoryFiles {
         Ok(())
     }
 
-    fn size_ahead(&self, _name: &str) -> Option<u64> {
+    fn size_ahead(&self, _name: &str) -> Option<u64>
+        ensures { result ≡ None }
+    {
         None
     }
 
-    fn fetch(&self, _alloc: Global, _name: &str, _most: u64) -> Option<Bytes> {
+    fn fetch(&self, _alloc: Global, _name: &str, _most: u64) -> Option<Bytes>
+        ensures { result ≡ None }
+    {
         None
     }
 
