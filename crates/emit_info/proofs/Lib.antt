@@ -1,3 +1,4 @@
+pub mod Between
 pub mod Drafts
 pub mod SubRooms
 pub mod UnitByUnit

@@ -16,7 +16,7 @@ use Rattle.layout.specs.Laid.{Laid, Measures}
 use Rattle.layout.proofs.Limits.{tables_short}
 
 module _ (graph : Graph) (part : ℕ → OutUnit → List ℕ) (u : ℕ) (unit : OutUnit) (lt : u < length graph.units) (is : unit ≡ get_or graph.units u unit) where
-  within : u < length (numbered_units graph)
+  pub within : u < length (numbered_units graph)
   within = omega (arith, lt, length-enumerate_from 0 graph.units)
 
   here : get_or (numbered_units graph) u (u, unit) ≡ (u, unit)
@@ -24,7 +24,7 @@ module _ (graph : Graph) (part : ℕ → OutUnit → List ℕ) (u : ℕ) (unit :
       let number : 0 + u ≡ u = omega arith in
       get_or-enumerate_from 0 graph.units u (u, unit) lt ∙ ap (λ (it : OutUnit). (0 + u, it)) (sym is) ∙ ap (λ (n : ℕ). (n, unit)) number
 
-  part_here : part (get_or (numbered_units graph) u (u, unit)).0 (get_or (numbered_units graph) u (u, unit)).1 ≡ part u unit
+  pub part_here : part (get_or (numbered_units graph) u (u, unit)).0 (get_or (numbered_units graph) u (u, unit)).1 ≡ part u unit
   part_here = ap (λ (n : ℕ × OutUnit). part n.0 n.1) here
 
   pub unit_fits : length (flat_map (λ n. part n.0 n.1) (take u (numbered_units graph))) + length (part u unit) ≤ length (over_units graph part)

@@ -1,10 +1,9 @@
-//! Units (DWARF 4 and 5, section 7.5.1.1).
+//! One unit (DWARF 4 and 5, section 7.5.1.1).
 
-ghost use Rattle.std.specs.Prelude.{◌≡◌, ◌+◌, ◌<◌, ◌≤◌, ◌^◌, length, slice_get, Ok, Some};
+ghost use Rattle.std.specs.Prelude.{◌≡◌, ◌+◌, ◌<◌, ◌≤◌, length, slice_get, Ok, Some};
 ghost use Rattle.ds_base.specs.Room.{Adds};
 ghost use Rattle.dwarf_types.specs.declared.graph.Graph.{Graph};
 ghost use Rattle.dwarf_types.specs.declared.graph.OutUnit.{OutUnit};
-ghost use Rattle.dwarf_types.specs.Encode.{info_section};
 ghost use Rattle.emit_info.specs.Emitting.{bytes_in};
 ghost use Rattle.layout.specs.Laid.{IsMeasured, Measures};
 ghost use Rattle.unit_draft.specs.declared.unit.Draft.{Draft as ADraft};
@@ -12,21 +11,8 @@ ghost use Rattle.unit_draft.specs.declared.unit.Draft.{Draft as ADraft};
 use layout::{Layout, drafts, outside_of};
 use unit_draft::emit_draft;
 
-/// Writes all units, one behind the other from `start` on, and answers the place behind them.
-pub fn emit_units(layout: &Layout, room: &mut [u8], start: usize) -> usize
-    requires measured { IsMeasured layout.now }
-    requires fits { (graph : Graph) → Measures graph (Ok layout.now) → start + length (info_section graph) ≤ length room.old }
-    ensures { (graph : Graph) → Measures graph (Ok layout.now) → Adds room.old start (info_section graph) room.new result }
-{
-    let mut at = start;
-    for (u, draft) in drafts(layout).iter().enumerate() {
-        at = add_unit(layout, u as u32, draft.len as usize, room, at);
-    }
-    at
-}
-
 /// Writes a unit of this size from `at` on, and answers the place behind it.
-fn add_unit(layout: &Layout, unit: u32, size: usize, room: &mut [u8], at: usize) -> usize
+pub(crate) fn add_unit(layout: &Layout, unit: u32, size: usize, room: &mut [u8], at: usize) -> usize
     requires measured { IsMeasured layout.now }
     requires within { unit < length layout.now.drafts }
     requires size { (draft : ADraft) → slice_get layout.now.drafts unit ≡ Some draft → size ≡ draft.len }

@@ -1,0 +1,156 @@
+//! All units, by several threads.
+
+ghost use Rattle.std.specs.Prelude.{◌≡◌, ◌+◌, ◌<◌, ◌≤◌, ◌^◌, ℕ, length, Ok};
+ghost use Rattle.std.specs.Thread.{IsSync};
+ghost use Rattle.ds_base.specs.Room.{Adds};
+ghost use Rattle.dwarf_types.specs.declared.graph.Graph.{Graph};
+ghost use Rattle.dwarf_types.specs.Encode.{info_section};
+ghost use Rattle.emit_info.specs.Emitting.{Fills, IsSizeOf};
+ghost use Rattle.layout.specs.Laid.{IsMeasured, Measures};
+
+use crate::unit::add_unit;
+use ds_base::Part;
+use layout::{Layout, drafts, section_size};
+use std::thread::{Threads, join_mut};
+
+/// Writes all units, one behind the other from `start` on, and answers the place behind them.
+pub fn emit_units(layout: &Layout, room: &mut [u8], start: usize) -> usize
+    requires measured { IsMeasured layout.now }
+    requires fits { (graph : Graph) → Measures graph (Ok layout.now) → start + length (info_section graph) ≤ length room.old }
+    ensures { (graph : Graph) → Measures graph (Ok layout.now) → Adds room.old start (info_section graph) room.new result }
+{
+    let all = behind_all(layout);
+    let end = start + all.bytes;
+    fill_in_turn(layout, 0, all.unit, &mut room[start..end]);
+    end
+}
+
+/// Writes all units as [`emit_units`] does, by at most `workers` threads.
+///
+/// Each thread writes neighbours, and about as many bytes as any other, as far as whole units allow. What no thread can
+/// be started for is written in the caller's.
+pub fn emit_units_by<R: Threads + Sync>(
+    rt: &R,
+    workers: u32,
+    layout: &Layout,
+    room: &mut [u8],
+    start: usize,
+) -> usize
+    requires workers { (1 ≤ workers) × (workers ≤ 64) }
+    requires measured { IsMeasured layout.now }
+    requires fits { (graph : Graph) → Measures graph (Ok layout.now) → start + length (info_section graph) ≤ length room.old }
+    ensures { (graph : Graph) → Measures graph (Ok layout.now) → Adds room.old start (info_section graph) room.new result }
+{
+    let all = behind_all(layout);
+    let end = start + all.bytes;
+    fill_units(rt, workers, layout, 0, all.unit, &mut room[start..end]);
+    end
+}
+
+/// Writes the units from `first` up to `end` into a room of their size, by at most so many threads.
+#[cycle(fillers)]
+fn fill_units<R: Threads + Sync>(
+    rt: &R,
+    workers: u32,
+    layout: &Layout,
+    first: u32,
+    end: u32,
+    room: &mut [u8],
+)
+    requires { IsSizeOf layout.now first end (length room.old) }
+    ensures { Fills layout.now first end room.new }
+{
+    if workers < 2 || end - first < 2 {
+        fill_in_turn(layout, first, end, room);
+        return;
+    }
+    let behind = workers / 2;
+    let before = workers - behind;
+    let share = room.len() / workers as usize * before as usize;
+    let cut = cut_at(layout, first, end, share);
+    let (front, back) = room.split_at_mut(cut.bytes);
+    fill_both(
+        rt, before, behind, layout, first, cut.unit, end, front, back,
+    );
+}
+
+/// Writes the units from `first` up to `middle` by `before` threads, and beside them those up to `end` by `behind`.
+#[cycle(fillers)]
+fn fill_both<R: Threads + Sync>(
+    rt: &R,
+    before: u32,
+    behind: u32,
+    layout: &Layout,
+    first: u32,
+    middle: u32,
+    end: u32,
+    front: &mut [u8],
+    back: &mut [u8],
+)
+    requires workers { (1 ≤ before) × (1 ≤ behind) }
+    requires front { IsSizeOf layout.now first middle (length front.old) }
+    requires back { IsSizeOf layout.now middle end (length back.old) }
+    ensures front { Fills layout.now first middle front.new }
+    ensures back { Fills layout.now middle end back.new }
+{
+    let mut fill_front = ||
+        requires { IsSync R.row × IsSizeOf layout.now first middle (length front.now) }
+        ensures { Fills layout.entry.now first middle front.exit.now }
+    { fill_units(rt, before, layout, first, middle, front) };
+    let mut fill_back = ||
+        requires { IsSync R.row × IsSizeOf layout.now middle end (length back.now) }
+        ensures { Fills layout.entry.now middle end back.exit.now }
+    { fill_units(rt, behind, layout, middle, end, back) };
+    join_mut(rt, &mut fill_front, &mut fill_back);
+}
+
+/// Writes the units from `first` up to `end` into a room of their size, one after the other.
+fn fill_in_turn(layout: &Layout, first: u32, end: u32, room: &mut [u8])
+    requires { IsSizeOf layout.now first end (length room.old) }
+    ensures { Fills layout.now first end room.new }
+{
+    let drafts = drafts(layout);
+    let mut at = 0;
+    for unit in first..end {
+        at = add_unit(layout, unit, drafts[unit as usize].len as usize, room, at);
+    }
+}
+
+/// Where a row of units is cut in two.
+#[derive(Clone, Copy)]
+struct Cut {
+    /// The first unit behind the cut.
+    unit: u32,
+    /// The bytes of the units before it.
+    bytes: usize,
+}
+
+/// The cut behind all units.
+fn behind_all(layout: &Layout) -> Cut
+    requires { IsMeasured layout.now }
+    ensures all { result.unit ≡ length layout.now.drafts }
+    ensures size { IsSizeOf layout.now 0 result.unit result.bytes }
+{
+    Cut {
+        unit: drafts(layout).len() as u32,
+        bytes: section_size(layout, Part::Info) as usize,
+    }
+}
+
+/// Where the units from `first` up to `end` are cut so that as near to `share` bytes as whole units allow stand before.
+fn cut_at(layout: &Layout, first: u32, end: u32, share: usize) -> Cut
+    requires { (size : ℕ) × (size < 2 ^ 64) × IsSizeOf layout.now first end size }
+    ensures inside { result.unit ≤ end }
+    ensures before { IsSizeOf layout.now first result.unit result.bytes }
+{
+    let drafts = drafts(layout);
+    let mut bytes = 0;
+    for unit in first..end {
+        let len = drafts[unit as usize].len as usize;
+        if bytes + len / 2 >= share {
+            return Cut { unit, bytes };
+        }
+        bytes += len;
+    }
+    Cut { unit: end, bytes }
+}
