@@ -7,7 +7,7 @@ use Rattle.ds_base.specs.declared.fault.Part.TheVariants as parts
 use Rattle.dwarf_types.specs.declared.graph.Graph.{Graph}
 use Rattle.dwarf_types.specs.declared.graph.Written.{Written}
 use Rattle.dwarf_types.specs.Encode.{abbrev_section, aranges_section, encode, frame_section, has_bytes, info_section, line_section, line_str_section, loc_section, loclists_section, ranges_section, rnglists_section, str_section}
-use Rattle.section_write.specs.Runs.{back_bytes, front_bytes, lists_bytes}
+use Rattle.section_write.specs.Runs.{back_bytes, front_bytes, lists_bytes, texts_bytes}
 
 -- ---- sections without bytes
 
@@ -65,6 +65,9 @@ front_len graph =
       length-append (str_section graph) (line_section graph ++ line_str_section graph),
       length-append (line_section graph) (line_str_section graph),
     )
+
+pub texts_len : (graph : Graph) → length (texts_bytes graph) ≡ length (str_section graph) + (length (line_section graph) + length (line_str_section graph))
+texts_len graph = omega (arith, length-append (str_section graph) (line_section graph ++ line_str_section graph), length-append (line_section graph) (line_str_section graph))
 
 pub lists_len : (graph : Graph) → length (lists_bytes graph) ≡ length (ranges_section graph) + (length (rnglists_section graph) + (length (loc_section graph) + length (loclists_section graph)))
 lists_len graph =

@@ -3,7 +3,8 @@
 //! Layer: writers. [`emit_sections`] fills a room with the bytes of all sections that `encode` gives the graph
 //! (`dwarf_types/specs/Encode.antt`). Each byte is copied once, from the draft of its unit or from what the layout
 //! keeps, and what stands outside of a unit is filled in where its entries and its line table then stand. Lists of
-//! version 5 stand behind the header of their section. It takes no memory.
+//! version 5 stand behind the header of their section. It takes no memory. [`emit_sections_by`] does the same by several
+//! threads.
 #![tactic(auto)]
 
 mod lines;
@@ -11,4 +12,4 @@ mod lists;
 mod parts;
 mod sections;
 
-pub use sections::emit_sections;
+pub use sections::{emit_sections, emit_sections_by};
