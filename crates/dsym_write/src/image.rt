@@ -15,15 +15,24 @@ use crate::places::{Places, places_of};
 use ds_base::Bytes;
 use layout::Layout;
 use macho_read::Image;
-use section_write::emit_sections;
+use section_write::emit_sections_by;
 use std::alloc::Global;
+use std::thread::Threads;
 
 /// The dSYM image of a program: the commands and the symbols of the program, and the sections of a graph that was
 /// measured (mach-o/loader.h).
 ///
 /// The file keeps the program's UUID, its segments and sections without their bytes, and the symbols that are not
-/// stabs. A file of 2^32 bytes or more is not made, and its size is told. Memory is taken once, for the file.
-pub fn image_from(alloc: Global, program: &Image, layout: &Layout) -> Result<Bytes, WriteError>
+/// stabs. A file of 2^32 bytes or more is not made, and its size is told. Memory is taken once, for the file. Units are
+/// written by at most `workers` threads.
+pub fn image_from<R: Threads + Sync>(
+    rt: &R,
+    alloc: Global,
+    workers: u32,
+    program: &Image,
+    layout: &Layout,
+) -> Result<Bytes, WriteError>
+    requires workers { (1 ≤ workers) × (workers ≤ 64) }
     requires sound { IsSound program.now }
     requires measured { IsMeasured layout.now }
     ensures { (graph : Graph) → Measures graph (Ok layout.now) → Writes program.now graph result }
@@ -33,12 +42,20 @@ pub fn image_from(alloc: Global, program: &Image, layout: &Layout) -> Result<Byt
         return Err(WriteError::File { size: places.size });
     }
     let mut file = Bytes::zeros(alloc, places.size as usize)?;
-    write_image(program, layout, places, file.as_mut_slice());
+    write_image(rt, workers, program, layout, places, file.as_mut_slice());
     Ok(file)
 }
 
 /// Writes the file into a room of its size.
-fn write_image(program: &Image, layout: &Layout, places: Places, room: &mut [u8])
+fn write_image<R: Threads + Sync>(
+    rt: &R,
+    workers: u32,
+    program: &Image,
+    layout: &Layout,
+    places: Places,
+    room: &mut [u8],
+)
+    requires workers { (1 ≤ workers) × (workers ≤ 64) }
     requires sound { IsSound program.now }
     requires measured { IsMeasured layout.now }
     requires places { ArePlaces program.now layout.now.sizes places }
@@ -48,7 +65,7 @@ fn write_image(program: &Image, layout: &Layout, places: Places, room: &mut [u8]
 {
     let at = emit_front(program, layout, places, room);
     let at = emit_zeros(room, at, places.offset as usize);
-    add_sections(layout, room, at);
+    add_sections(rt, workers, layout, room, at);
 }
 
 /// Writes zeros up to a place.
@@ -69,13 +86,20 @@ fn clear(bytes: &mut [u8])
 }
 
 /// Writes the sections at the end of the file.
-fn add_sections(layout: &Layout, room: &mut [u8], at: usize) -> usize
+fn add_sections<R: Threads + Sync>(
+    rt: &R,
+    workers: u32,
+    layout: &Layout,
+    room: &mut [u8],
+    at: usize,
+) -> usize
+    requires workers { (1 ≤ workers) × (workers ≤ 64) }
     requires measured { IsMeasured layout.now }
     requires within { at ≤ length room.old }
     requires size { (graph : Graph) → Measures graph (Ok layout.now) → at + length (contents (encode graph)) ≡ length room.old }
     ensures { (graph : Graph) → Measures graph (Ok layout.now) → Adds room.old at (contents (encode graph)) room.new result }
 {
     let end = room.len();
-    emit_sections(layout, &mut room[at..end]);
+    emit_sections_by(rt, workers, layout, &mut room[at..end]);
     end
 }

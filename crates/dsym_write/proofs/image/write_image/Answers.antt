@@ -5,7 +5,7 @@ use Rattle.dsym_write.proofs.Told.{AreTold, graph_told}
 use Rattle.dsym_write.proofs.image.write_image.Goals as goal
 
 pub emit_front-at-requires-clause-fits : goal.emit_front-at-requires-clause-fits
-emit_front-at-requires-clause-fits c =
+emit_front-at-requires-clause-fits g c =
     let told = subst (λ l. AreTold (encode c.requires.measured.graph) l.sizes) (sym c.requires.measured.measured.0) (graph_told c.requires.measured.graph) in
     omega (
       arith,
@@ -16,7 +16,7 @@ emit_front-at-requires-clause-fits c =
     )
 
 pub emit_zeros-at-requires-clause-behind : goal.emit_zeros-at-requires-clause-behind
-emit_zeros-at-requires-clause-behind c =
+emit_zeros-at-requires-clause-behind g c =
     let told = subst (λ l. AreTold (encode c.requires.measured.graph) l.sizes) (sym c.requires.measured.measured.0) (graph_told c.requires.measured.graph) in
     omega (
       arith,
@@ -26,11 +26,11 @@ emit_zeros-at-requires-clause-behind c =
     )
 
 pub add_sections-requires-clause-size : goal.add_sections-requires-clause-size
-add_sections-requires-clause-size c = λ graph measured.
+add_sections-requires-clause-size g c κs within = λ graph measured.
     let told = subst (λ l. AreTold (encode graph) l.sizes) (sym measured.0) (graph_told graph) in
     added_size c.args.program.now (encode graph) c.args.layout.now.sizes c.args.places c.requires.sound c.requires.places told _ _ _ _ _ c.requires.size c.emit_front-at.ensures c.emit_zeros-at.ensures
 
 pub returns : goal.returns
-returns c = λ graph measured.
+returns g c = λ graph measured.
     let told = subst (λ l. AreTold (encode graph) l.sizes) (sym measured.0) (graph_told graph) in
     file_written c.args.program.now (encode graph) c.args.layout.now.sizes c.args.places c.requires.sound c.requires.places told _ _ _ _ _ c.requires.size c.emit_front-at.ensures c.emit_zeros-at.ensures _ _ (c.add_sections.ensures graph measured)
