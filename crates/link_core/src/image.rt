@@ -1,6 +1,6 @@
 //! The bundle of a program, from the drafts of its units.
 
-ghost use Rattle.std.specs.Prelude.{◌≡◌, ◌<◌, ◌^◌, ◌-◌, Bool, List as Listed, length, Ok};
+ghost use Rattle.std.specs.Prelude.{◌≡◌, ◌<◌, ◌≤◌, ◌^◌, ◌-◌, Bool, List as Listed, length, Ok};
 ghost use Rattle.dwarf_types.specs.declared.analysis.Analysis.{Analysis as Seen};
 ghost use Rattle.dwarf_types.specs.declared.graph.Graph.{Graph as AGraph};
 ghost use Rattle.layout.specs.Laid.{AreDrafts, IsMeasured, Measures};
@@ -17,12 +17,16 @@ use dwarf_types::OutFrames;
 use layout::{Layout, LayoutError, place_drafts};
 use macho_read::Image;
 use std::alloc::Global;
+use std::thread::Threads;
 use type_pool::ClosedPool;
 use unit_draft::Draft;
 
 /// The bundle of a program of this name and of the graph of these drafts and frames, or the first limit that is reached.
-pub(crate) fn bundle_of(
+/// The image is filled by at most `workers` threads.
+pub(crate) fn bundle_of<R: Threads + Sync>(
+    rt: &R,
     alloc: Global,
+    workers: u32,
     program: &Image,
     name: &str,
     drafts: List<Draft>,
@@ -30,12 +34,13 @@ pub(crate) fn bundle_of(
     counted: Counted,
     closed: ClosedPool,
 ) -> Result<Linked, Refusal>
+    requires workers { (1 ≤ workers) × (workers ≤ 64) }
     requires sound { IsSound program.now }
     requires drafted { (odr : Bool) × (seen : Listed Seen) × (marks : Listed (Listed Bool)) × IsDrafted odr seen marks drafts frames.now counted closed }
     ensures { (odr : Bool) (seen : Listed Seen) (marks : Listed (Listed Bool)) → IsDrafted odr seen marks drafts frames.now counted closed → Links odr program.now name.now seen marks result }
 {
     let nodes = count_nodes(drafts.as_slice());
-    let image = image_of(alloc, program, drafts, frames)?;
+    let image = image_of(rt, alloc, workers, program, drafts, frames)?;
     let plist = plist_text(alloc, name)?;
     let counts = Counts {
         objects: counted.objects,
@@ -55,19 +60,22 @@ pub(crate) fn bundle_of(
 }
 
 /// The image of a program and of the graph of these drafts and frames, or the first limit that is reached.
-fn image_of(
+fn image_of<R: Threads + Sync>(
+    rt: &R,
     alloc: Global,
+    workers: u32,
     program: &Image,
     drafts: List<Draft>,
     frames: &OutFrames,
 ) -> Result<Bytes, Refusal>
+    requires workers { (1 ≤ workers) × (workers ≤ 64) }
     requires sound { IsSound program.now }
     requires few { length drafts < 2 ^ 32 - 1 }
     requires drafted { AreOfGraph drafts frames.now }
     ensures { (graph : AGraph) → AreDrafts graph drafts → graph.frames ≡ frames.now → Images program.now graph result }
 {
     let layout = layout_of(alloc, drafts, frames)?;
-    let image = write_image(alloc, program, &layout)?;
+    let image = write_image(rt, alloc, workers, program, &layout)?;
     Ok(image)
 }
 
@@ -91,12 +99,19 @@ fn layout_of(alloc: Global, drafts: List<Draft>, frames: &OutFrames) -> Result<L
 }
 
 /// The image of a program and of a layout.
-fn write_image(alloc: Global, program: &Image, layout: &Layout) -> Result<Bytes, Refusal>
+fn write_image<R: Threads + Sync>(
+    rt: &R,
+    alloc: Global,
+    workers: u32,
+    program: &Image,
+    layout: &Layout,
+) -> Result<Bytes, Refusal>
+    requires workers { (1 ≤ workers) × (workers ≤ 64) }
     requires sound { IsSound program.now }
     requires measured { IsMeasured layout.now }
     ensures { (graph : AGraph) → Measures graph (Ok layout.now) → length graph.units < 2 ^ 32 - 1 → Images program.now graph result }
 {
-    match image_from(alloc, program, layout) {
+    match image_from(rt, alloc, workers, program, layout) {
         Ok(image) => Ok(image),
         Err(WriteError::File { .. }) => Err(Refusal::Limit {
             which: LimitKind::File,

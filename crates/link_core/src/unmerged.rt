@@ -90,7 +90,7 @@ pub(crate) fn link_unmerged<R: Threads + Sync, G: Gate + Sync>(
         linked.draft_others(rt, alloc, workers, gate)?;
         first = end;
     }
-    linked.bundle(alloc, program, name, closed)
+    linked.bundle(rt, alloc, workers, program, name, closed)
 }
 
 impl Unmerged {
@@ -164,13 +164,16 @@ impl Unmerged {
     }
 
     /// The bundle of a program of this name with all objects, or the first limit that is reached.
-    fn bundle(
+    fn bundle<R: Threads + Sync>(
         self,
+        rt: &R,
         alloc: Global,
+        workers: u32,
         program: &Image,
         name: &str,
         closed: ClosedPool,
     ) -> Result<Linked, Refusal>
+        requires workers { (1 ≤ workers) × (workers ≤ 64) }
         requires sound { IsSoundImage program.now }
         requires whole { (seen : Listed Seen) × (marks : Listed (Listed Bool)) × IsWhole seen marks self }
         requires closed { IsClosed [] closed }
@@ -199,7 +202,9 @@ impl Unmerged {
             names: 0,
         };
         let drafts = all_drafted(alloc, outs)?;
-        bundle_of(alloc, program, name, drafts, &frames, counted, closed)
+        bundle_of(
+            rt, alloc, workers, program, name, drafts, &frames, counted, closed,
+        )
     }
 }
 

@@ -8,23 +8,23 @@ use Rattle.link_core.proofs.Counting.{nodes_drafted, nodes_few}
 use Rattle.link_core.proofs.image.bundle_of.Goals as goal
 
 pub count_nodes-nodes-requires : goal.count_nodes-nodes-requires
-count_nodes-nodes-requires c =
+count_nodes-nodes-requires g c =
     let it = c.requires.drafted.3 in
     rw c.as_slice.ensures (record { few = nodes_few _ c.args.drafts it.drafts_are (omega (arith, it.few)) })
 
 pub image_of-requires-clause-few : goal.image_of-requires-clause-few
-image_of-requires-clause-few c = let it = c.requires.drafted.3 in omega (arith, it.few, it.drafts_are.count)
+image_of-requires-clause-few g c κs within = let it = c.requires.drafted.3 in omega (arith, it.few, it.drafts_are.count)
 
 pub image_of-requires-clause-drafted : goal.image_of-requires-clause-drafted
-image_of-requires-clause-drafted c = let it = c.requires.drafted.3 in record { graph = graph_of c.requires.drafted.0 c.requires.drafted.1 c.requires.drafted.2; are = it.drafts_are; its_frames = it.frames_are }
+image_of-requires-clause-drafted g c κs within = let it = c.requires.drafted.3 in record { graph = graph_of c.requires.drafted.0 c.requires.drafted.1 c.requires.drafted.2; are = it.drafts_are; its_frames = it.frames_are }
 
 pub returns-in_err-image : goal.returns-in_err-image
-returns-in_err-image c =
+returns-in_err-image g c =
     let p = err_from_is_err_and c.from_residual.result c.from_residual.ensures.1 in
     λ odr seen marks it. rw (p.1, p.2) (image_refused odr c.args.program.now c.args.name.now seen marks it.few_names c.in_err-image.field-0.0 (c.in_err-image.ensures (graph_of odr seen marks) it.drafts_are it.frames_are))
 
 pub returns : goal.returns
-returns c =
+returns g c =
     λ odr seen marks it.
     let nodes = c.count_nodes-nodes.ensures ∙ ap (sum_by (λ (draft : Draft). length draft.places)) c.as_slice.ensures ∙ nodes_drafted (graph_of odr seen marks) c.args.drafts it.drafts_are in
     links_made odr c.args.program.now c.args.name.now seen marks it.few_names c.in_ok-image.image c.in_ok-plist.plist c.args.closed c.args.counted _ _ (c.in_ok-image.ensures (graph_of odr seen marks) it.drafts_are it.frames_are) c.in_ok-plist.ensures it.counted_are nodes c.len.ensures it.closed_is

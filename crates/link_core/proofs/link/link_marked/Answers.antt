@@ -20,7 +20,7 @@ returns-in_err-drafts g c =
     rw (p.1, p.2) (drafts_refused c.args.options.now.odr c.args.program.now c.args.name.now c.args.seen c.args.marks.now c.in_ok-shaped.shaped shaped c.in_err-drafts.field-0.0 c.in_err-drafts.ensures)
 
 pub bundle_of-requires-clause-drafted : goal.bundle_of-requires-clause-drafted
-bundle_of-requires-clause-drafted g c =
+bundle_of-requires-clause-drafted g c κs within =
     let odr = c.args.options.now.odr in
     let seen = c.args.seen in
     let marks = c.args.marks.now in

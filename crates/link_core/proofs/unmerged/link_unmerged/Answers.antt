@@ -85,7 +85,7 @@ loop-first-preserved g c =
     (omega (arith, read.0.within, long), read.1, so_far_on cpu sources c.in_ok-batch.batch.end c.add_batch.new.self c.draft_others.new.self here whole, whole.all)
 
 pub bundle-requires-clause-whole : goal.bundle-requires-clause-whole
-bundle-requires-clause-whole g c =
+bundle-requires-clause-whole g c κs lives =
     let so_far = c.loop-first.invariant.2 in
     let sources = sources_of c.args.objects.now c.args.files c.args.source.now in
     (so_far.seen, so_far.marks, record { are = linked_so_far c.args.program.now.cpu sources c.loop-first.first c.loop-first.linked so_far; all = c.loop-first.invariant.3 })
