@@ -20,6 +20,7 @@ use macho_read::{Image, Section, Segment, Symbols, read_image};
 use sample_objects::program_file;
 use std::alloc::Global;
 use std::process::Abort;
+use std::thread::Threads;
 
 // ---- a program, a graph and the image
 
@@ -86,13 +87,18 @@ fn program(rt: &impl Abort, alloc: Global) -> Image
     read_image(alloc, file.as_slice()).expect(rt, "a program")
 }
 
-// The image of a program and a graph.
-fn image_of(rt: &impl Abort, alloc: Global, program: &Image, graph: &Graph) -> Bytes
+// The image of a program and a graph, with the units by two threads.
+fn image_of<R: Threads + Abort + Sync>(
+    rt: &R,
+    alloc: Global,
+    program: &Image,
+    graph: &Graph,
+) -> Bytes
     requires { IsSound program.now }
 {
     assert!(rt; graph.units.len() <= 2);
     let layout = measure(alloc, graph).expect(rt, "a layout");
-    image_from(alloc, program, &layout).expect(rt, "an image")
+    image_from(rt, alloc, 2, program, &layout).expect(rt, "an image")
 }
 
 // An image begins with some bytes, and has zeros behind them up to 4096.
