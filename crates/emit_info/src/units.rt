@@ -1,4 +1,4 @@
-//! All units, by several threads.
+//! All units, in turn or by several threads.
 
 ghost use Rattle.std.specs.Prelude.{◌≡◌, ◌+◌, ◌<◌, ◌≤◌, ◌^◌, ℕ, length, Ok};
 ghost use Rattle.std.specs.Thread.{IsSync};
@@ -147,6 +147,7 @@ fn cut_at(layout: &Layout, first: u32, end: u32, share: usize) -> Cut
     let mut bytes = 0;
     for unit in first..end {
         let len = drafts[unit as usize].len as usize;
+        // A unit stands before the cut if less than half of it is too much there.
         if bytes + len / 2 >= share {
             return Cut { unit, bytes };
         }
