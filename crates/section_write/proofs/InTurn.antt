@@ -7,7 +7,7 @@ use Rattle.ds_base.specs.declared.fault.Part.TheVariants as parts
 use Rattle.dwarf_types.specs.declared.graph.Graph.{Graph}
 use Rattle.dwarf_types.specs.declared.graph.Written.{Written}
 use Rattle.dwarf_types.specs.Encode.{abbrev_section, aranges_section, encode, frame_section, has_bytes, info_section, line_section, line_str_section, loc_section, loclists_section, ranges_section, rnglists_section, str_section}
-use Rattle.section_write.specs.Runs.{back_bytes, front_bytes, lists_bytes, texts_bytes}
+use Rattle.section_write.specs.Runs.{back_bytes, behind_bytes, entries_bytes, front_bytes, lists_bytes, others_bytes}
 
 -- ---- sections without bytes
 
@@ -66,9 +66,6 @@ front_len graph =
       length-append (line_section graph) (line_str_section graph),
     )
 
-pub texts_len : (graph : Graph) → length (texts_bytes graph) ≡ length (str_section graph) + (length (line_section graph) + length (line_str_section graph))
-texts_len graph = omega (arith, length-append (str_section graph) (line_section graph ++ line_str_section graph), length-append (line_section graph) (line_str_section graph))
-
 pub lists_len : (graph : Graph) → length (lists_bytes graph) ≡ length (ranges_section graph) + (length (rnglists_section graph) + (length (loc_section graph) + length (loclists_section graph)))
 lists_len graph =
     omega (
@@ -80,3 +77,30 @@ lists_len graph =
 
 pub back_len : (graph : Graph) → length (back_bytes graph) ≡ length (aranges_section graph) + length (frame_section graph)
 back_len graph = length-append (aranges_section graph) (frame_section graph)
+
+-- ---- what several threads write beside each other
+
+joined : (a b c d e r : List ℕ) → (a ++ (b ++ (c ++ (d ++ e)))) ++ r ≡ (a ++ b) ++ (c ++ (d ++ (e ++ r)))
+joined a b c d e r = simp append_assoc
+
+pub sections_beside : (graph : Graph) → flat_map (λ s. s.bytes) (encode graph) ≡ entries_bytes graph ++ others_bytes graph
+sections_beside graph =
+    sections_are graph ∙ joined (abbrev_section graph) (info_section graph) (str_section graph) (line_section graph) (line_str_section graph) (lists_bytes graph ++ back_bytes graph)
+
+pub entries_len : (graph : Graph) → length (entries_bytes graph) ≡ length (abbrev_section graph) + length (info_section graph)
+entries_len graph = length-append (abbrev_section graph) (info_section graph)
+
+pub others_len : (graph : Graph) → length (others_bytes graph) ≡ length (str_section graph) + length (behind_bytes graph)
+others_len graph = length-append (str_section graph) (behind_bytes graph)
+
+pub behind_len : (graph : Graph) → length (behind_bytes graph) ≡ length (line_section graph) + (length (line_str_section graph) + (length (lists_bytes graph) + length (back_bytes graph)))
+behind_len graph =
+    omega (
+      arith,
+      length-append (line_section graph) (line_str_section graph ++ (lists_bytes graph ++ back_bytes graph)),
+      length-append (line_str_section graph) (lists_bytes graph ++ back_bytes graph),
+      length-append (lists_bytes graph) (back_bytes graph),
+    )
+
+pub beside_len : (graph : Graph) → length (flat_map (λ s. s.bytes) (encode graph)) ≡ length (abbrev_section graph) + (length (info_section graph) + (length (str_section graph) + length (behind_bytes graph)))
+beside_len graph = omega (arith, ap length (sections_beside graph), length-append (entries_bytes graph) (others_bytes graph), entries_len graph, others_len graph)

@@ -11,5 +11,7 @@ mod lines;
 mod lists;
 mod parts;
 mod sections;
+mod shared;
 
-pub use sections::{emit_sections, emit_sections_by};
+pub use sections::emit_sections;
+pub use shared::emit_sections_by;
