@@ -23,8 +23,8 @@ use std::thread::Threads;
 /// measured (mach-o/loader.h).
 ///
 /// The file keeps the program's UUID, its segments and sections without their bytes, and the symbols that are not
-/// stabs. A file of 2^32 bytes or more is not made, and its size is told. Memory is taken once, for the file. Units are
-/// written by at most `workers` threads.
+/// stabs. A file of 2^32 bytes or more is not made, and its size is told. Memory is taken once, for the file. The
+/// sections are written by at most `workers` threads.
 pub fn image_from<R: Threads + Sync>(
     rt: &R,
     alloc: Global,

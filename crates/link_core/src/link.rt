@@ -30,10 +30,10 @@ use std::thread::Threads;
 /// `source` tells for each object the number of its file among `files`; an object without one has no entries. Faults
 /// come in the order of the objects, which are numbered from 1, and behind them the limits: of merged entries, of
 /// units, of a unit's bytes, of a section's, of the image's. `options` tells whether types of one name are merged, and how
-/// many threads read the objects, bid for the names that are merged, and clone, draft and write the units of the output.
-/// Each passes `gate` once for an object before it reads it and before it bids for its names, and once for a unit before it
-/// clones it and before it drafts it. Nothing that is written depends on the number of threads: the closed table alone
-/// may have a name at another cell.
+/// many threads read the objects, bid for the names that are merged, clone and draft the units of the output, and write
+/// its sections. Each passes `gate` once for an object before it reads it and before it bids for its names, and once for
+/// a unit before it clones it and before it drafts it. Nothing that is written depends on the number of threads: the
+/// closed table alone may have a name at another cell.
 pub fn link_objects<R: Threads + Sync, G: Gate + Sync>(
     rt: &R,
     alloc: Global,
