@@ -87,7 +87,7 @@ fn program(rt: &impl Abort, alloc: Global) -> Image
     read_image(alloc, file.as_slice()).expect(rt, "a program")
 }
 
-// The image of a program and a graph, with the units by two threads.
+// The image of a program and a graph, by four threads: two write the units.
 fn image_of<R: Threads + Abort + Sync>(
     rt: &R,
     alloc: Global,
@@ -98,7 +98,7 @@ fn image_of<R: Threads + Abort + Sync>(
 {
     assert!(rt; graph.units.len() <= 2);
     let layout = measure(alloc, graph).expect(rt, "a layout");
-    image_from(rt, alloc, 2, program, &layout).expect(rt, "an image")
+    image_from(rt, alloc, 4, program, &layout).expect(rt, "an image")
 }
 
 // An image begins with some bytes, and has zeros behind them up to 4096.
