@@ -1,5 +1,5 @@
--- The shapes of all objects, made by several workers, and the limit of units.
-use Rattle.std.proofs.Common.{◌≡◌, ◌<◌, ◌≤◌, ◌-◌, ◌^◌, Bool, List, length, map, Some, Result, Ok, slice_get, refl, sym, ap, ◌∙◌, arith}
+-- What a shape is joined of, made by several workers, and the limit of units.
+use Rattle.std.proofs.Common.{◌≡◌, ◌<◌, ◌≤◌, ◌+◌, ◌-◌, ◌^◌, ℕ, suc, Bool, List, [], ◌∷◌, ◌++◌, length, map, Some, Result, Ok, slice_get, refl, sym, ap, subst, ◌∙◌, arith, append_assoc}
 use Rattle.std.specs.List.{All}
 use Rattle.std.specs.Option.{option_map}
 use Rattle.std.proofs.lemmas.List.{length-map}
@@ -9,34 +9,95 @@ use Rattle.dwarf_types.specs.declared.analysis.Analysis.{Analysis}
 use Rattle.dwarf_types.specs.LinkedShape.{AreMarked}
 use Rattle.dwarf_types.specs.Sound.{IsSound}
 use Rattle.link_graph.specs.declared.object.ObjectShape.{ObjectShape}
-use Rattle.link_graph.specs.Merged.{linked_names, shape_of}
-use Rattle.link_graph.specs.OwnShapes.{AreOwnShapes}
+use Rattle.link_graph.specs.declared.pool.PathNodes.{PathNodes}
+use Rattle.link_graph.specs.Joining.{ArePathNodes}
+use Rattle.link_graph.specs.Merged.{kept_objects, linked_names, shape_of}
+use Rattle.link_graph.specs.OwnShapes.{AreOwnShapes, IsOwnShapeAt}
 use Rattle.link_graph.proofs.Joined.{shape_is}
+use Rattle.link_graph.proofs.Pairs.{slice_get_behind}
 use Rattle.type_names.specs.Names.{Named}
 use Rattle.work_share.specs.Results.{GivesAll}
 use Rattle.macho_read.specs.declared.image.Image.{Image}
 use Rattle.link_core.specs.declared.refusal.LimitKind.TheVariants as limits
 use Rattle.link_core.specs.declared.refusal.Refusal.TheVariants as refusals
+use Rattle.link_core.specs.declared.shaping.Made.{Made}
+use Rattle.link_core.specs.declared.shaping.Made.TheVariants as made
 use Rattle.link_core.specs.Linked.{limit_of}
-use Rattle.link_core.specs.Shaping.{GivesShape}
+use Rattle.link_core.specs.Shaping.{GivesMade, IsPathsFirst}
 use Rattle.link_core.proofs.Graphs.{shape_long}
 
--- shapes that were made, as they were given
-abbrev pub as_given : List ObjectShape → List (Result ObjectShape NoMemory)
-as_given own = map (λ (one : ObjectShape). Ok one) own
+-- what objects gave, as it was made
+abbrev pub as_made : List ObjectShape → List (Result Made NoMemory)
+as_made own = map (λ (one : ObjectShape). Ok (made.Object one)) own
 
-pub all_given : (odr : Bool) (seen : List Analysis) (live : List (List Bool)) (names : List Named) (outs : List (Result ObjectShape NoMemory)) (own : List ObjectShape) → All IsSound seen → AreMarked seen live → length seen < 2 ^ 16
-    → names ≡ linked_names odr seen live → as_given own ≡ outs → GivesAll (GivesShape seen live names) (length seen) outs → AreOwnShapes odr seen live names own
-all_given odr seen live names outs own sound marked few named is all = record {
+next_one : {A : Type 0} (x : A) (xs : List A) (i : ℕ) → slice_get (x ∷ xs) (i + 1) ≡ slice_get xs i
+next_one x xs i = let e : i + 1 ≡ suc i = omega arith in ap (slice_get (x ∷ xs)) e
+
+-- the nodes of merged entries come first, since item 0 gives them
+pub paths_first : (seen : List Analysis) (live : List (List Bool)) (names : List Named) (count : ℕ) (outs : List (Result Made NoMemory)) → 0 < count → GivesAll (GivesMade seen live names) count outs → IsPathsFirst outs
+paths_first seen live names count outs some all = record {
+  some_item = omega (arith, some, all.0);
+  paths = λ i paths at. (all.1 i (Ok (made.Paths paths)) at).0;
+  objects = λ i own at. (all.1 i (Ok (made.Object own)) at).0;
+}
+
+pub paths_given : (seen : List Analysis) (live : List (List Bool)) (names : List Named) (count : ℕ) (outs : List (Result Made NoMemory)) (paths : PathNodes) (own : List ObjectShape) → Ok (made.Paths paths) ∷ as_made own ≡ outs
+    → GivesAll (GivesMade seen live names) count outs → ArePathNodes names paths
+paths_given seen live names count outs paths own is all = (all.1 0 (Ok (made.Paths paths)) (ap (λ (xs : List (Result Made NoMemory)). slice_get xs 0) (sym is))).1
+
+pub all_given : (odr : Bool) (seen : List Analysis) (live : List (List Bool)) (names : List Named) (count : ℕ) (outs : List (Result Made NoMemory)) (paths : PathNodes) (own : List ObjectShape) → All IsSound seen → AreMarked seen live → length seen < 2 ^ 16
+    → names ≡ linked_names odr seen live → count ≡ length seen + 1 → Ok (made.Paths paths) ∷ as_made own ≡ outs → GivesAll (GivesMade seen live names) count outs → AreOwnShapes odr seen live names own
+all_given odr seen live names count outs paths own sound marked few named counted is all = record {
   sound = sound;
   marked = marked;
   few = few;
   named = named;
-  len = sym (length-map own (λ (one : ObjectShape). Ok one)) ∙ ap length is ∙ all.0;
+  len = omega (arith, counted, all.0, ap length is, length-map own object);
   each = λ i one at. (
-      let made : slice_get outs i ≡ Some (Ok one) = ap (λ (xs : List (Result ObjectShape NoMemory)). slice_get xs i) (sym is) ∙ slice_get-map (λ (one : ObjectShape). Ok one) own i ∙ ap (option_map (λ (one : ObjectShape). Ok one)) at in
-      all.1 i (Ok one) made odr named);
+      let here : slice_get outs (i + 1) ≡ Some (Ok (made.Object one)) =
+      ap (λ (xs : List (Result Made NoMemory)). slice_get xs (i + 1)) (sym is) ∙ next_one first (as_made own) i ∙ slice_get-map object own i ∙ ap (option_map object) at in
+      let back : (i + 1) - 1 ≡ i = omega arith in
+      subst (λ (n : ℕ). IsOwnShapeAt (kept_objects odr seen live) n one) back ((all.1 (i + 1) (Ok (made.Object one)) here).1 odr named));
 }
+  where
+    object : ObjectShape → Result Made NoMemory
+    object one = Ok (made.Object one)
+
+    first : Result Made NoMemory
+    first = Ok (made.Paths paths)
+
+-- ---- taken apart, the last one first
+
+first_of_all : (outs left : List (Result Made NoMemory)) (paths : PathNodes) (rest : List ObjectShape) → IsPathsFirst outs → left ++ Ok (made.Paths paths) ∷ as_made rest ≡ outs → Ok (made.Paths paths) ∷ as_made rest ≡ outs
+first_of_all outs [] paths rest first whole = whole
+first_of_all outs (out ∷ left) paths rest first whole =
+    let here : slice_get outs (length (out ∷ left)) ≡ Some (Ok (made.Paths paths)) =
+    ap (λ (xs : List (Result Made NoMemory)). slice_get xs (length (out ∷ left))) (sym whole) ∙ slice_get_behind (out ∷ left) (Ok (made.Paths paths)) (as_made rest) in
+    absurd (omega (arith, first.paths (length (out ∷ left)) paths here))
+
+-- the nodes of merged entries are met: nothing is left before them
+pub paths_met : (outs old left : List (Result Made NoMemory)) (out : Result Made NoMemory) (one : Made) (paths : PathNodes) (rest own : List ObjectShape) → IsPathsFirst outs → old ≡ left ++ out ∷ [] → out ≡ Ok one → one ≡ made.Paths paths
+    → own ≡ rest → old ++ as_made rest ≡ outs → Ok (made.Paths paths) ∷ as_made own ≡ outs
+paths_met outs old left out one paths rest own first last ok is same whole =
+    ap (λ (xs : List ObjectShape). with_paths (as_made xs)) same
+    ∙ first_of_all outs left paths rest first (ap (λ (last_one : Result Made NoMemory). left ++ last_one ∷ as_made rest) (sym (ok ∙ ap (λ (m : Made). made_of m) is)) ∙ sym (append_assoc left (out ∷ []) (as_made rest))
+    ∙ ap (λ (xs : List (Result Made NoMemory)). xs ++ as_made rest) (sym last) ∙ whole)
+  where
+    made_of : Made → Result Made NoMemory
+    made_of m = Ok m
+
+    with_paths : List (Result Made NoMemory) → List (Result Made NoMemory)
+    with_paths xs = Ok (made.Paths paths) ∷ xs
+
+-- they are met before all are gone
+pub never_gone : (outs old : List (Result Made NoMemory)) (rest : List ObjectShape) → IsPathsFirst outs → old ≡ [] → old ++ as_made rest ≡ outs → ⊥
+never_gone outs old rest first none whole = by rest (ap (λ (xs : List (Result Made NoMemory)). xs ++ as_made rest) (sym none) ∙ whole)
+  where
+    by : (rest : List ObjectShape) → as_made rest ≡ outs → ⊥
+    by [] is = omega (arith, first.some_item, ap length is)
+    by (one ∷ rest) is = omega (arith, first.objects 0 one (ap (λ (xs : List (Result Made NoMemory)). slice_get xs 0) (sym is)))
+
+-- ---- the limit of units
 
 -- where it would have so many units
 pub units_limit : (odr : Bool) (seen : List Analysis) (live : List (List Bool)) → All IsSound seen → AreMarked seen live → length (linked_names odr seen live) < 2 ^ 25 → 2 ^ 32 ≤ length (shape_of odr seen live).units

@@ -1,6 +1,6 @@
-//! The shape of the linked graph, for which each object's is made by one of several threads.
+//! The shape of the linked graph, made by several threads.
 
-ghost use Rattle.std.specs.Prelude.{◌≡◌, ◌<◌, ◌≤◌, ◌^◌, Bool, Ok, Err, length, map, IfOk};
+ghost use Rattle.std.specs.Prelude.{◌≡◌, ◌<◌, ◌≤◌, ◌+◌, ◌^◌, ◌∷◌, Bool, Ok, Err, length, map, IfOk};
 ghost use Rattle.std.specs.List.{All};
 ghost use Rattle.dwarf_types.specs.LinkedShape.{AreMarked};
 ghost use Rattle.dwarf_types.specs.Sound.{IsSound};
@@ -8,45 +8,83 @@ ghost use Rattle.link_graph.specs.declared.shape_error.ShapeError.TheVariants as
 ghost use Rattle.link_graph.specs.Graph.{IsShape};
 ghost use Rattle.link_graph.specs.Merged.{linked_names, shape_of};
 ghost use Rattle.odr_names.specs.Winners.{AreWinners};
-ghost use Rattle.link_core.specs.Shaping.{GivesShape, MayShape};
+ghost use Rattle.link_core.specs.declared.shaping.Made.TheVariants as made;
+ghost use Rattle.link_core.specs.Shaping.{GivesMade, IsPathsFirst, MayMake};
 
 use ds_base::{BitRow, List, NoMemory};
 use ds_files::OpenGate;
 use dwarf_types::{Analysis, Shape};
-use link_graph::{ObjectShape, ShapeError, joined_shape, object_shape};
+use link_graph::{
+    ObjectShape, PathNodes, ShapeError, object_shape, path_nodes, shared_joined_shape,
+};
 use odr_names::PathBook;
 use std::alloc::Global;
 use std::thread::Threads;
 use work_share::{Job, each};
 
-/// The number of the phase in which the shapes of objects are made. Its gate is open.
+/// The number of the phase in which a shape is made. Its gate is open.
 const SHAPE: u32 = 1;
 
-/// The shape of each object is made.
+/// What a shape is joined of.
+#[derive(Drop)]
+enum Made {
+    /// The nodes of merged entries.
+    Paths(PathNodes),
+    /// What one object gives.
+    Object(ObjectShape),
+}
+
+/// What the shape of a link is joined of is made: item 0 is the nodes of merged entries, which take longest, and behind
+/// it stand the objects.
 #[derive(Drop)]
 struct Shaping<'a, 'b> {
     alloc: Global,
     seen: &'a [Analysis],
     live: &'a [BitRow],
     names: &'a PathBook<'b>,
+    winners: &'a [u32],
 }
 
 impl<'a, 'b> Job for Shaping<'a, 'b> {
-    type Out = Result<ObjectShape, NoMemory>;
+    type Out = Result<Made, NoMemory>;
 
-    ghost takes = { λ job item. MayShape job.seen.now job.live.now job.names.now item };
+    ghost takes = { λ job item. MayMake job.seen.now job.live.now job.names.now job.winners.now item };
 
-    ghost gives = { λ job item out. GivesShape job.seen.now job.live.now job.names.now item out };
+    ghost gives = { λ job item out. GivesMade job.seen.now job.live.now job.names.now item out };
 
-    fn run(&self, item: u32) -> Result<ObjectShape, NoMemory> {
-        object_shape(self.alloc, self.seen, self.live, self.names, item)
+    fn run(&self, item: u32) -> Result<Made, NoMemory> {
+        if item == 0 {
+            return self.paths();
+        }
+        self.object(item - 1)
+    }
+}
+
+impl<'a, 'b> Shaping<'a, 'b> {
+    /// The nodes of merged entries.
+    fn paths(&self) -> Result<Made, NoMemory>
+        requires { MayMake self.now.seen.now self.now.live.now self.now.names.now self.now.winners.now 0 }
+        ensures { GivesMade self.now.seen.now self.now.live.now self.now.names.now 0 result }
+    {
+        let paths = path_nodes(self.alloc, self.names, self.winners)?;
+        Ok(Made::Paths(paths))
+    }
+
+    /// What an object gives.
+    fn object(&self, object: u32) -> Result<Made, NoMemory>
+        requires { MayMake self.now.seen.now self.now.live.now self.now.names.now self.now.winners.now (object + 1) }
+        ensures { GivesMade self.now.seen.now self.now.live.now self.now.names.now (object + 1) result }
+    {
+        let own = object_shape(self.alloc, self.seen, self.live, self.names, object)?;
+        Ok(Made::Object(own))
     }
 }
 
 /// The shape of what is linked, made by at most `workers` threads.
 ///
-/// It is that of [`link_graph::build`]: each worker makes the shape of one object after the other, and the caller joins
-/// them. A worker for which no thread can be started does its work in the caller's.
+/// It is that of [`link_graph::build`]: one worker makes the nodes of merged entries, and the others the shapes of one
+/// object after the other. Once these are joined, they share the objects whose references are led on. A worker for which
+/// no thread can be started does its work in the caller's.
 pub(crate) fn shared_shape<R: Threads + Sync>(
     rt: &R,
     alloc: Global,
@@ -71,25 +109,34 @@ pub(crate) fn shared_shape<R: Threads + Sync>(
         seen,
         live,
         names,
+        winners,
     };
     let gate = OpenGate::new();
-    let outs = each(rt, alloc, workers, seen.len() as u32, SHAPE, &gate, &job)?;
-    let own = all_shaped(alloc, outs)?;
-    joined_shape(alloc, names, winners, own)
+    let count = seen.len() as u32 + 1;
+    let outs = each(rt, alloc, workers, count, SHAPE, &gate, &job)?;
+    let parts = parted(alloc, outs)?;
+    let (paths, own) = parts;
+    shared_joined_shape(rt, alloc, workers, names, paths, own)
 }
 
-/// The shapes of all objects, unless memory ran out for one.
-fn all_shaped(
+/// The nodes of merged entries, which come first, and what the objects give, unless memory ran out for any.
+fn parted(
     alloc: Global,
-    outs: List<Result<ObjectShape, NoMemory>>,
-) -> Result<Vec<ObjectShape>, NoMemory>
-    ensures { IfOk result (λ own. map (λ one. Ok one) own.items ≡ outs) }
+    outs: List<Result<Made, NoMemory>>,
+) -> Result<(PathNodes, Vec<ObjectShape>), NoMemory>
+    requires { IsPathsFirst outs }
+    ensures { IfOk result (λ parts. Ok (made.Paths parts.0) ∷ map (λ one. Ok (made.Object one)) parts.1.items ≡ outs) }
 {
     let mut left = outs;
     let mut own = Vec::with_capacity(alloc, left.len())?;
     while let Some(out) = left.pop() {
-        own.push(out?)?;
+        match out? {
+            Made::Object(one) => own.push(one)?,
+            Made::Paths(paths) => {
+                own.reverse();
+                return Ok((paths, own));
+            }
+        }
     }
-    own.reverse();
-    Ok(own)
+    unreachable!()
 }

@@ -33,7 +33,8 @@ use Rattle.link_graph.specs.declared.object.ObjectShape.{ObjectShape}
 use Rattle.link_graph.specs.OwnShapes.{IsOwnShape, StandsBehind, target_behind}
 use Rattle.link_graph.specs.Passes.{images_of, marked, unit_in, units_before, units_of}
 use Rattle.link_graph.proofs.Gathered.{All-enumerate, All-filter_map, All-flat_map, filter_map_same, map_same}
-use Rattle.link_graph.proofs.Joined.{images_are, object_sound, shape_objects, slice_get_behind}
+use Rattle.link_graph.proofs.Joined.{images_are, object_sound, shape_objects}
+use Rattle.link_graph.proofs.Pairs.{slice_get_behind}
 use Rattle.link_graph.proofs.Placed.{images_placed}
 use Rattle.link_graph.proofs.Shapes.{units_shaped, unless_some}
 

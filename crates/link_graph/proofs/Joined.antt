@@ -1,11 +1,11 @@
 -- The whole shape: the pool's unit and the objects, one by one.
-use Rattle.std.proofs.Common.{◌≡◌, ◌⊎◌, inl, inr, ℕ, zero, suc, ◌+◌, ◌-◌, ◌<◌, ◌≤◌, ◌^◌, ◌&&◌, not, Bool, true, false, cond, List, [], ◌∷◌, ◌++◌, length, map, take, get_or, slice_get, Option, Some, None, is_some, refl, sym, ap, subst, ◌∙◌, arith, append_assoc, append-nil, length-append}
+use Rattle.std.proofs.Common.{◌≡◌, ◌⊎◌, inl, inr, ℕ, zero, suc, ◌+◌, ◌-◌, ◌<◌, ◌≤◌, ◌^◌, ◌&&◌, not, Bool, true, false, cond, List, [], ◌∷◌, ◌++◌, length, map, take, drop, get_or, slice_get, Option, Some, None, is_some, refl, sym, ap, subst, ◌∙◌, arith, append_assoc, append-nil, length-append}
 use Rattle.std.specs.List.{All, enumerate_from, filter, filter_map, flat_map, zip}
-use Rattle.std.specs.Option.{IfSome, option_and_then, option_map}
+use Rattle.std.specs.Option.{option_and_then, option_map}
 use Rattle.std.proofs.lemmas.Bool.{cases_lt, ne_eqb}
 use Rattle.std.specs.Prelude.{nat_lt, IfOk, Result, Ok, Err}
 use Rattle.ds_base.specs.declared.fault.NoMemory.{NoMemory}
-use Rattle.std.proofs.lemmas.List.{get_or-map, length-map, map-append, same_lists, take_all}
+use Rattle.std.proofs.lemmas.List.{get_or-map, length-map, same_lists, take_all}
 use Rattle.std.proofs.lemmas.List.Elements.{All-cons, All-filter, All-head, All-map, All-nil, All-tail, All-weaker}
 use Rattle.std.proofs.lemmas.List.Folds.{length-flat_map-take}
 use Rattle.std.proofs.lemmas.List.FromFn.{length-enumerate_from}
@@ -32,15 +32,19 @@ use Rattle.type_names.specs.Names.{Named, named_of}
 use Rattle.type_names.specs.Objects.{object_of}
 use Rattle.type_names.specs.Paths.{Piece, path_of}
 use Rattle.link_graph.specs.Graph.{IsPool, IsShape, Source, pool_version, source_of, units_in}
+use Rattle.link_graph.specs.declared.placing.Place.{Place}
+use Rattle.link_graph.specs.Joining.{Became, EachPair, HavePlaces, IsUnplaced, MayPlace, place_at, placed}
 use Rattle.link_graph.specs.Merged.{image_in, images_in, kept_object, kept_objects, linked_names, object_units, pool_count, pool_origin, pool_root, pool_units, shape_of}
 use Rattle.link_graph.specs.declared.object.ObjectShape.{ObjectShape}
 use Rattle.link_graph.specs.OwnShapes.{AreOwnShapes, IsOwnShape, IsOwnShapeAt, target_behind}
 use Rattle.link_graph.specs.Passes.{image_behind, images_of, kept_with, names_between, path_target, plain_before, put_each, units_before, units_of}
 use Rattle.link_graph.specs.Pool.{by_bids, children_of, is_child, is_outbid, node_of_path, pool_names, preorder, winners, with_bid}
-use Rattle.link_graph.proofs.Gathered.{All-flat_map, enumerate_at, enumerate_more, map_same}
+use Rattle.link_graph.specs.PoolOrder.{AreNodes}
+use Rattle.link_graph.proofs.Gathered.{All-flat_map, enumerate_at, lent_all, map_same}
 use Rattle.link_graph.proofs.KeptRows.{kept_is, kept_length}
 use Rattle.link_graph.proofs.Merging.{AreBetween, IsNameOf, are_names_of, named_in, names_begin, one_on, own_entries, own_names, put_length, put_named}
 use Rattle.link_graph.proofs.Objects.{images_length}
+use Rattle.link_graph.proofs.Pairs.{no_pairs, pairs_more, slice_get_behind}
 use Rattle.link_graph.proofs.Placed.{images_placed, own_few}
 use Rattle.link_graph.proofs.Shapes.{image_is, marks_of, plain_before_more, units_before_more, units_shaped}
 use Rattle.link_graph.proofs.Stretches.{numbered_at, numbered_length}
@@ -51,10 +55,6 @@ pub object_sound : (seen : List Analysis) (live : List (List Bool)) (i : ℕ) (o
 object_sound seen live i o sound at =
     let there = (object_parts seen live i o at).0 in
     subst IsSound (get_or_from_slice_get seen i o.seen o.seen there) (sound i o.seen (slice_get_within seen i o.seen there))
-
-pub slice_get_behind : {A : Type 0} (xs : List A) (y : A) (ys : List A) → slice_get (xs ++ y ∷ ys) (length xs) ≡ Some y
-slice_get_behind [] y ys = refl
-slice_get_behind (x ∷ xs) y ys = slice_get_behind xs y ys
 
 pub kept_there : (odr : Bool) (seen : List Analysis) (live : List (List Bool)) (i : ℕ) (o : heads.Object) → slice_get (objects_of seen live) i ≡ Some o → slice_get (kept_objects odr seen live) i ≡ Some (kept_object odr o)
 kept_there odr seen live i o at = slice_get-map (kept_object odr) (objects_of seen live) i ∙ ap (option_map (kept_object odr)) at
@@ -139,17 +139,21 @@ pub pools_counted : (version : ℕ) (names : List Named) → length (pool_units 
 pools_counted version [] = refl
 pools_counted version (n ∷ names) = refl
 
+-- the row of object k leads where the shape tells, once it is placed
+abbrev pub IsRowOf : Bool → List Analysis → List (List Bool) → List Named → ℕ → Place → List (Option Target) → Type 0
+IsRowOf odr seen live names k place row = (o : heads.Object) → slice_get (objects_of seen live) k ≡ Some o → placed names place row ≡ images_in odr seen live (k, o)
+
 -- the units and rows of the objects below i
-pub record IsShapedTo (odr : Bool) (seen : List Analysis) (live : List (List Bool)) (units : List ShapeUnit) (plain : List (List (Option ℕ))) (images : List (List (Option Target))) (i : ℕ) : Type 0 where
+pub record IsShapedTo (odr : Bool) (seen : List Analysis) (live : List (List Bool)) (names : List Named) (units : List ShapeUnit) (plain : List (List (Option ℕ))) (images : List (List (Option Target))) (places : List Place) (i : ℕ) : Type 0 where
   pub are_units : units ≡ pool_units 4 (linked_names odr seen live) ++ units_before (kept_objects odr seen live) i
   pub are_plain : plain ≡ plain_before (kept_objects odr seen live) i
-  pub are_images : images ≡ map (images_in odr seen live) (take i (enumerate_from 0 (objects_of seen live)))
+  pub are_placed : EachPair (IsRowOf odr seen live names) places images
 
-pub shaped_begin : (odr : Bool) (seen : List Analysis) (live : List (List Bool)) (names : List Named) (units : List ShapeUnit) → names ≡ linked_names odr seen live → units ≡ pool_units 4 names → IsShapedTo odr seen live units [] [] 0
+pub shaped_begin : (odr : Bool) (seen : List Analysis) (live : List (List Bool)) (names : List Named) (units : List ShapeUnit) → names ≡ linked_names odr seen live → units ≡ pool_units 4 names → IsShapedTo odr seen live names units [] [] [] 0
 shaped_begin odr seen live names units same is = record {
   are_units = is ∙ ap (pool_units 4) same ∙ sym (append-nil (pool_units 4 (linked_names odr seen live)));
   are_plain = refl;
-  are_images = refl;
+  are_placed = no_pairs (IsRowOf odr seen live names) [];
 }
 
 -- an object of a link, and what it gives
@@ -183,22 +187,28 @@ module _ (odr : Bool) (seen : List Analysis) (live : List (List Bool)) (names : 
       subst (λ (n : ℕ). All (λ (w : Named). w.entry < n) (names_between names from end)) (sym (ap length part.own.images ∙ images_length 0 i (kept_object odr part.its)))
       (own_entries odr names i from end part.its (part_names from end is_from is_end))
 
-  -- its images have numbers of 32 bits behind so many units
-  pub part_numbered : (before number : ℕ) → number ≡ before → before + length one.units.items < 2 ^ 32 → All (λ image. IfSome image (λ target. number + target.unit < 2 ^ 32)) one.images
-  part_numbered before number same few = own_few i (kept_object odr part.its) one number one.images part.sound part.own refl (omega (arith, few, same))
+  -- its place: behind so many units, which leaves its own numbers of 32 bits
+  pub part_may : (place : Place) (before : ℕ) → IsFirstOf names (i + 1) place.from → IsFirstOf names (i + 2) place.end → place.before ≡ before → before + length one.units.items < 2 ^ 32 → MayPlace names place one.images
+  part_may place before is_from is_end same few =
+      let its = part_names place.from place.end is_from is_end in
+      record {
+        numbered = own_few i (kept_object odr part.its) one place.before one.images part.sound part.own refl (omega (arith, few, same));
+        order = its.order;
+        within = its.within;
+        entries = part_entries place.from place.end is_from is_end;
+      }
 
-  pub shaped_more : (from end before : ℕ) (units later : List ShapeUnit) (plain : List (List (Option ℕ))) (images : List (List (Option Target))) (leading : List (Option Target))
-      → IsFirstOf names (i + 1) from → IsFirstOf names (i + 2) end → before ≡ length units
-      → later ≡ units ++ one.units.items → leading ≡ put_each (path_target names) (names_between names from end) (map (target_behind before) one.images)
-      → IsShapedTo odr seen live units plain images i → IsShapedTo odr seen live later (plain ++ one.plain ∷ []) (images ++ leading ∷ []) (i + 1)
-  shaped_more from end before units later plain images leading is_from is_end place later_are leading_are so_far = record {
+  pub shaped_more : (place : Place) (units later : List ShapeUnit) (plain : List (List (Option ℕ))) (images : List (List (Option Target))) (places : List Place)
+      → IsFirstOf names (i + 1) place.from → IsFirstOf names (i + 2) place.end → place.before ≡ length units → length images ≡ i → length places ≡ i
+      → later ≡ units ++ one.units.items → IsShapedTo odr seen live names units plain images places i
+      → IsShapedTo odr seen live names later (plain ++ one.plain ∷ []) (images ++ one.images ∷ []) (places ++ place ∷ []) (i + 1)
+  shaped_more place units later plain images places is_from is_end before long wide later_are so_far = record {
     are_units = later_are ∙ ap (λ (us : List ShapeUnit). units ++ us) part.own.units ∙ ap (λ (us : List ShapeUnit). us ++ units_of i (kept_object odr o)) so_far.are_units
         ∙ append_assoc (pool_units 4 (linked_names odr seen live)) (units_before objects i) (units_of i (kept_object odr o))
         ∙ ap (λ (us : List ShapeUnit). pool_units 4 (linked_names odr seen live) ++ us) (sym (units_before_more objects i (kept_object odr o) there));
     are_plain = ap (λ (row : List (Option ℕ)). plain ++ row ∷ []) part.own.plain ∙ ap (λ (rows : List (List (Option ℕ))). rows ++ plain_in (kept_object odr o) ∷ []) so_far.are_plain
         ∙ sym (plain_before_more objects i (kept_object odr o) there);
-    are_images = ap (λ (row : List (Option Target)). images ++ row ∷ []) led ∙ ap (λ (rows : List (List (Option Target))). rows ++ images_in odr seen live (i, o) ∷ []) so_far.are_images
-        ∙ sym (ap (map (images_in odr seen live)) (enumerate_more (objects_of seen live) i o part.at) ∙ map-append (images_in odr seen live) (take i (enumerate_from 0 (objects_of seen live))) ((i, o) ∷ []));
+    are_placed = pairs_more (IsRowOf odr seen live names) places images i place one.images wide long so_far.are_placed (λ other at. led ∙ ap (λ (x : heads.Object). images_in odr seen live (i, x)) (same_Some o other (sym part.at ∙ at)));
   }
     where
       o : heads.Object
@@ -210,21 +220,20 @@ module _ (odr : Bool) (seen : List Analysis) (live : List (List Bool)) (names : 
       there : slice_get objects i ≡ Some (kept_object odr o)
       there = kept_there odr seen live i o part.at
 
-      moved : map (target_behind before) one.images ≡ images_of before i (kept_object odr o)
-      moved = ap (map (target_behind before)) part.own.images ∙ images_placed before i (kept_object odr o)
+      moved : map (target_behind place.before) one.images ≡ images_of place.before i (kept_object odr o)
+      moved = ap (map (target_behind place.before)) part.own.images ∙ images_placed place.before i (kept_object odr o)
 
-      led : leading ≡ images_in odr seen live (i, o)
-      led = leading_are
-          ∙ ap (λ (ns : List Named). put_each (path_target ns) (names_between names from end) (map (target_behind before) one.images)) named
-          ∙ ap (put_each (path_target (linked_names odr seen live)) (names_between names from end)) moved
-          ∙ ap (λ (vs : List Named). put_each (path_target (linked_names odr seen live)) vs (images_of before i (kept_object odr o))) (part_names from end is_from is_end).own
-          ∙ images_are odr seen live i before o part.at part.sound (place ∙ ap length so_far.are_units ∙ length-append (pool_units 4 (linked_names odr seen live)) (units_before objects i)
+      led : placed names place one.images ≡ images_in odr seen live (i, o)
+      led = ap (λ (ns : List Named). put_each (path_target ns) (names_between names place.from place.end) (map (target_behind place.before) one.images)) named
+          ∙ ap (put_each (path_target (linked_names odr seen live)) (names_between names place.from place.end)) moved
+          ∙ ap (λ (vs : List Named). put_each (path_target (linked_names odr seen live)) vs (images_of place.before i (kept_object odr o))) (part_names place.from place.end is_from is_end).own
+          ∙ images_are odr seen live i place.before o part.at part.sound (before ∙ ap length so_far.are_units ∙ length-append (pool_units 4 (linked_names odr seen live)) (units_before objects i)
           ∙ ap (λ (n : ℕ). n + length (units_before objects i)) (pools_counted 4 (linked_names odr seen live)))
 
   -- the shape has no fewer units than those so far and the object's
-  pub units_long : (units : List ShapeUnit) (plain : List (List (Option ℕ))) (images : List (List (Option Target))) → IsShapedTo odr seen live units plain images i
+  pub units_long : (units : List ShapeUnit) (plain : List (List (Option ℕ))) (images : List (List (Option Target))) (places : List Place) → IsShapedTo odr seen live names units plain images places i
       → length units + length one.units.items ≤ length (shape_of odr seen live).units
-  units_long units plain images so_far =
+  units_long units plain images places so_far =
       let each : ℕ × Object → List ShapeUnit = λ o. units_of o.0 o.1 in
       let own : ℕ × Object = (i, kept_object odr part.its) in
       let there = kept_there odr seen live i part.its part.at in
@@ -250,39 +259,86 @@ module _ (odr : Bool) (seen : List Analysis) (live : List (List Bool)) (names : 
       objects = kept_objects odr seen live
 
 -- the units of all objects stand behind the pool's
-pub units_whole : (odr : Bool) (seen : List Analysis) (live : List (List Bool)) (i : ℕ) (units : List ShapeUnit) (plain : List (List (Option ℕ))) (images : List (List (Option Target))) → length live ≡ length seen → length seen ≤ i
-    → IsShapedTo odr seen live units plain images i → units ≡ pool_units 4 (linked_names odr seen live) ++ object_units odr seen live
-units_whole odr seen live i units plain images each le is =
+pub units_by : (odr : Bool) (seen : List Analysis) (live : List (List Bool)) (names : List Named) (i : ℕ) (units : List ShapeUnit) (plain : List (List (Option ℕ))) (images : List (List (Option Target))) (places : List Place) → names ≡ linked_names odr seen live
+    → length live ≡ length seen → length seen ≤ i → IsShapedTo odr seen live names units plain images places i → units ≡ pool_units 4 names ++ object_units odr seen live
+units_by odr seen live names i units plain images places same each le is =
     let objects = kept_objects odr seen live in
     let long : length objects ≡ length seen = length-map (objects_of seen live) (kept_object odr) ∙ length_objects seen live each in
     is.are_units ∙ ap (λ (us : List ShapeUnit). pool_units 4 (linked_names odr seen live) ++ us) (units_all objects i (omega (arith, le, long)) ∙ sym (units_shaped objects))
+    ∙ ap (λ (ns : List Named). pool_units 4 ns ++ object_units odr seen live) (sym same)
   where
     units_all : (objects : List Object) (i : ℕ) → length objects ≤ i → units_before objects i ≡ units_before objects (length objects)
     units_all objects i le =
         let long = length-enumerate_from 0 objects in
         ap (flat_map (λ (o : ℕ × Object). units_of o.0 o.1)) (take_all i (enumerate_from 0 objects) (omega (arith, le, long)) ∙ sym (take_all (length objects) (enumerate_from 0 objects) (omega (arith, long))))
 
--- by the names at hand
-pub units_by : (odr : Bool) (seen : List Analysis) (live : List (List Bool)) (names : List Named) (i : ℕ) (units : List ShapeUnit) (plain : List (List (Option ℕ))) (images : List (List (Option Target))) → names ≡ linked_names odr seen live → length live ≡ length seen
-    → length seen ≤ i → IsShapedTo odr seen live units plain images i → units ≡ pool_units 4 names ++ object_units odr seen live
-units_by odr seen live names i units plain images same each le is =
-    units_whole odr seen live i units plain images each le is ∙ ap (λ (ns : List Named). pool_units 4 ns ++ object_units odr seen live) (sym same)
-
--- all objects make the shape, once the pool's unit has its version
-pub shape_whole : (odr : Bool) (seen : List Analysis) (live : List (List Bool)) (i : ℕ) (units settled : List ShapeUnit) (plain : List (List (Option ℕ))) (images : List (List (Option Target))) → length live ≡ length seen → length seen ≤ i
+-- all objects make the shape, once the pool's unit has its version and each row is placed
+pub shape_whole : (odr : Bool) (seen : List Analysis) (live : List (List Bool)) (names : List Named) (i : ℕ) (units settled : List ShapeUnit) (plain : List (List (Option ℕ))) (images : List (List (Option Target))) (places : List Place)
+    → length live ≡ length seen → length seen ≡ i → length images ≡ i → length places ≡ i
     → settled ≡ pool_units (pool_version (object_units odr seen live)) (linked_names odr seen live) ++ object_units odr seen live
-    → IsShapedTo odr seen live units plain images i → record { units = settled; plain = plain; images = images } ≡ shape_of odr seen live
-shape_whole odr seen live i units settled plain images each le a is =
-    let objects = kept_objects odr seen live in
-    let long : length objects ≡ length seen = length-map (objects_of seen live) (kept_object odr) ∙ length_objects seen live each in
+    → IsShapedTo odr seen live names units plain images places i → IsUnplaced odr seen live names (record { units = settled; plain = plain; images = images }) places
+shape_whole odr seen live names i units settled plain images places each whole long wide a is later became =
+    let kept_long : length kept ≡ length seen = length-map objects (kept_object odr) ∙ objects_long in
     let all = pool_units (pool_version (object_units odr seen live)) (linked_names odr seen live) ++ object_units odr seen live in
-    let b : plain ≡ map plain_in objects = is.are_plain ∙ ap (map plain_in) (take_all i objects (omega (arith, le, long))) in
-    let c : images ≡ map (images_in odr seen live) (enumerate_from 0 (objects_of seen live)) =
-    is.are_images ∙ ap (map (images_in odr seen live)) (take_all i (enumerate_from 0 (objects_of seen live)) (omega (arith, le, length-enumerate_from 0 (objects_of seen live), length_objects seen live each))) in
-    ap (λ (us : List ShapeUnit). made us plain images) a ∙ ap (λ (rows : List (List (Option ℕ))). made all rows images) b ∙ ap (made all (map plain_in objects)) c
+    let b : plain ≡ map plain_in kept = is.are_plain ∙ ap (map plain_in) (take_all i kept (omega (arith, whole, kept_long))) in
+    ap (λ (us : List ShapeUnit). made us plain later) a ∙ ap (λ (rows : List (List (Option ℕ))). made all rows later) b ∙ ap (made all (map plain_in kept)) rows
   where
+    objects : List heads.Object
+    objects = objects_of seen live
+
+    kept : List Object
+    kept = kept_objects odr seen live
+
+    objects_long : length objects ≡ length seen
+    objects_long = length_objects seen live each
+
     made : List ShapeUnit → List (List (Option ℕ)) → List (List (Option Target)) → Shape
     made us rows ims = record { units = us; plain = rows; images = ims }
+
+    row : ℕ × heads.Object → List (Option Target)
+    row = images_in odr seen live
+
+    rows_long : length (map row (enumerate_from 0 objects)) ≡ length objects
+    rows_long = length-map (enumerate_from 0 objects) row ∙ length-enumerate_from 0 objects
+
+    here : (k : ℕ) (d : List (Option Target)) (o : heads.Object) → slice_get objects k ≡ Some o → k < i → get_or later k d ≡ get_or (map row (enumerate_from 0 objects)) k d
+    here k d o at lt =
+        let within : k < length objects = slice_get_within objects k o at in
+        became.each k d (omega (arith, lt, long))
+        ∙ is.are_placed k (place_at places k) (get_or images k d) (slice_get-get_or places k _ (omega (arith, lt, wide))) (slice_get-get_or images k d (omega (arith, lt, long))) o at
+        ∙ sym (get_or-map row (enumerate_from 0 objects) k (k, o) d (omega (arith, within, length-enumerate_from 0 objects))
+        ∙ ap row (enumerate_at objects k (k, o) within ∙ ap (λ (x : heads.Object). (k, x)) (get_or_from_slice_get objects k o o at)))
+
+    rows : later ≡ map row (enumerate_from 0 objects)
+    rows = same_lists later (map row (enumerate_from 0 objects)) (became.len ∙ long ∙ sym whole ∙ sym objects_long ∙ sym rows_long)
+        (λ k d lt. elim (slice_get_cases objects k).1 [
+          | inl w ↦ here k d w.0 w.2 (omega (arith, lt, became.len, long))
+          | inr w ↦ absurd (omega (arith, w.0, lt, became.len, long, whole, objects_long))
+        ])
+
+-- who places rows may be given each of these, where it has the nodes and the places of all
+pub all_may : (names : List Named) (nodes lent_nodes : List (Option ℕ)) (places lent : List Place) (images rows : List (List (Option Target))) → AreNodes names nodes → HavePlaces names places images → lent_nodes ≡ nodes → lent ≡ places → rows ≡ images
+    → (i : ℕ) (row : List (Option Target)) → slice_get rows i ≡ Some row → (i < length lent) × AreNodes names lent_nodes × MayPlace names (place_at lent i) row
+all_may names nodes lent_nodes places lent images rows are have nodes_are places_are rows_are i row at =
+    let here : slice_get images i ≡ Some row = ap (λ (xs : List (List (Option Target))). slice_get xs i) (sym rows_are) ∙ at in
+    let within : i < length places = omega (arith, slice_get_within images i row here, have.len) in (
+      omega (arith, within, ap length places_are),
+      subst (AreNodes names) (sym nodes_are) are,
+      subst (λ (ps : List Place). MayPlace names (place_at ps i) row) (sym places_are) (have.each i (place_at places i) row (slice_get-get_or places i _ within) here),
+    )
+
+-- rows that were lent, and placed, make the shape
+pub joined_is : (odr : Bool) (seen : List Analysis) (live : List (List Bool)) (names : List Named) (shape : Shape) (places lent : List Place) (rows became : List (List (Option Target))) → IsUnplaced odr seen live names shape places → lent ≡ places → rows ≡ shape.images
+    → Became (λ i row. placed names (place_at lent i) row) rows became
+    → record { units = shape.units; plain = shape.plain; images = take (length shape.images) (became ++ drop (length became) shape.images) } ≡ shape_of odr seen live
+joined_is odr seen live names shape places lent rows became is places_are rows_are all =
+    let here : Became (λ i row. placed names (place_at places i) row) shape.images became =
+    subst (λ (ps : List Place). Became (λ i row. placed names (place_at ps i) row) shape.images became) places_are
+    (subst (λ (old : List (List (Option Target))). Became (λ i row. placed names (place_at lent i) row) old became) rows_are all) in
+    ap made (lent_all became shape.images here.len) ∙ is became here
+  where
+    made : List (List (Option Target)) → Shape
+    made images = record { units = shape.units; plain = shape.plain; images = images }
 
 -- ---- the objects of the shape
 

@@ -4,6 +4,7 @@ pub mod Stretches
 pub mod Nodes
 pub mod Rows
 pub mod Gathered
+pub mod Pairs
 pub mod Objects
 pub mod Merging
 pub mod KeptRows

@@ -1,4 +1,5 @@
 pub mod Graph
+pub mod Joining
 pub mod Merged
 pub mod OwnShapes
 pub mod Passes

@@ -10,9 +10,10 @@ ghost use Rattle.std.specs.Option.{ForSome};
 ghost use Rattle.odr_names.specs.Book.{path_at};
 ghost use Rattle.odr_names.specs.Winners.{AreWinners};
 ghost use Rattle.link_graph.specs.Graph.{pool_version};
+ghost use Rattle.link_graph.specs.Joining.{ArePathNodes};
 ghost use Rattle.link_graph.specs.Merged.{pool_origin, pool_root, pool_units};
 ghost use Rattle.link_graph.specs.Passes.{with_version};
-ghost use Rattle.link_graph.specs.Pool.{node_above, node_of_path, pool_names};
+ghost use Rattle.link_graph.specs.Pool.{node_above, pool_names};
 ghost use Rattle.link_graph.specs.PoolOrder.{AreApart, AreChildrenTo, AreInOrder, AreLowerTo, AreNodes, AreNodesFrom, AreStarts, IsFamily, IsLinkedUp, IsPreorder, IsRunOf, IsStart, key_of, name_at};
 
 use ds_base::dwarf::{DWARF_4, DWARF_5};
@@ -21,13 +22,13 @@ use dwarf_types::{Origin, ShapeUnit};
 use odr_names::{PathBook, above, count, number, occurrence};
 use std::alloc::Global;
 
-/// The nodes of merged entries.
+/// The nodes of merged entries: one for each path of the names of a link.
 #[derive(Drop)]
-pub(crate) struct Pool {
-    /// The unit that they stand in, if any entry is merged.
-    pub(crate) units: Vec<ShapeUnit>,
+pub struct PathNodes {
+    /// The unit that they stand in, if any entry is merged. It has version 4 until those of the objects are known.
+    pub units: Vec<ShapeUnit>,
     /// The node of each name's path.
-    pub(crate) nodes: Vec<Option<u32>>,
+    pub nodes: Vec<Option<u32>>,
 }
 
 /// A winner, and what stands above it.
@@ -55,11 +56,13 @@ pub(crate) struct Tree<'a, 'b> {
 }
 
 /// The nodes of merged entries: of each path the winner has one, in preorder, siblings by their bids.
-pub(crate) fn pool_of(alloc: Global, names: &PathBook, winners: &[u32]) -> Result<Pool, NoMemory>
+///
+/// `winners` tells of each name the one that wins its path. What the objects give is not asked for, so it may be made
+/// beside this.
+pub fn path_nodes(alloc: Global, names: &PathBook, winners: &[u32]) -> Result<PathNodes, NoMemory>
     requires apart { AreApart names.now }
     requires winners { AreWinners names.now winners.now }
-    ensures units { IfOk result (λ pool. pool.units.items ≡ pool_units 4 names.now) }
-    ensures nodes { IfOk result (λ pool. (length pool.nodes.items ≡ length names.now) × ((x : ℕ) → x < length names.now → slice_index_or pool.nodes.items x None ≡ node_of_path names.now (path_at names.now x))) }
+    ensures { IfOk result (ArePathNodes names.now) }
 {
     let mut children = children_of(alloc, names, winners)?;
     sort_children(&mut children);
@@ -71,7 +74,7 @@ pub(crate) fn pool_of(alloc: Global, names: &PathBook, winners: &[u32]) -> Resul
     let order = order_of(alloc, &tree)?;
     let nodes = nodes_of(alloc, names, winners, &order)?;
     let units = units_of(alloc, names, &order, &nodes)?;
-    Ok(Pool { units, nodes })
+    Ok(PathNodes { units, nodes })
 }
 
 /// The winners, as they stand.

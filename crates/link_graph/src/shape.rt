@@ -12,6 +12,7 @@ ghost use Rattle.link_graph.specs.OwnShapes.{IsOwnShapeAt};
 use crate::joining::joined_shape;
 use crate::merged::merged_shape;
 use crate::object::ObjectShape;
+use crate::pool::path_nodes;
 use crate::shape_error::ShapeError;
 use ds_base::{BitRow, NoMemory};
 use dwarf_types::{Analysis, Shape};
@@ -46,7 +47,8 @@ pub fn build(
     for i in 0..seen.len() {
         own.push(object_shape(alloc, seen, live, names, i as u32)?)?;
     }
-    joined_shape(alloc, names, winners, own)
+    let merged = path_nodes(alloc, names, winners)?;
+    joined_shape(alloc, names, merged, own)
 }
 
 /// What an object gives to the shape of a link, whatever the other objects give.

@@ -1,5 +1,5 @@
 use Rattle.link_graph.proofs.Families.{family_sorted}
-use Rattle.link_graph.proofs.pool.pool_of.Goals as goal
+use Rattle.link_graph.proofs.pool.path_nodes.Goals as goal
 
 pub order_of-requires-clause-few : goal.order_of-requires-clause-few
 order_of-requires-clause-few c = c.in_ok-children.ensures.few
