@@ -1,39 +1,38 @@
 -- The winners of a book, read from its closed table.
-use Rattle.std.proofs.Common.{◌≡◌, ℕ, ◌+◌, ◌<◌, ◌⊎◌, inl, inr, ⊎_elim, List, [], ◌∷◌, ◌++◌, length, map, Option, Some, None, slice_get, get_or, sym, refl, ap, ◌∙◌, subst, arith}
+use Rattle.std.proofs.Common.{◌≡◌, ℕ, ◌+◌, ◌<◌, ◌⊎◌, inl, inr, ⊎_elim, List, [], ◌∷◌, ◌++◌, length, map, Option, Some, None, slice_get, slice_set, get_or, sym, refl, ap, ◌∙◌, subst, arith}
 use Rattle.std.specs.List.{All, Contains}
 use Rattle.std.specs.Option.{option_map}
-use Rattle.std.proofs.lemmas.Bool.{cases_lt}
-use Rattle.std.proofs.lemmas.List.{get_or_default, length-map, length_push}
+use Rattle.std.proofs.lemmas.Bool.{cases_eq, cases_lt}
+use Rattle.std.proofs.lemmas.List.{get_or-set_other, get_or-set_same, get_or-map, get_or_default, length-map, length-set, same_lists}
 use Rattle.std.proofs.lemmas.List.Elements.{Contains-append_left, Contains-push, Contains-push_cases}
 use Rattle.std.proofs.lemmas.Option.{get_or_from_slice_get, none-some, same_Some, slice_get-get_or, slice_get-map, slice_get_cases, slice_get_within}
-use Rattle.odr_names.specs.Book.{SamePath}
+use Rattle.odr_names.specs.Book.{SamePath, bid_at}
 use Rattle.odr_names.specs.Winners.{ArePut, AreWholePaths, AreWinners, IsWinner}
-use Rattle.odr_names.proofs.BookPaths.{get_before, get_last}
 use Rattle.pool_core.specs.declared.state.PoolState.{PoolState}
 use Rattle.type_names.specs.Names.{Named}
-use Rattle.name_bids.specs.Reading.{AreCells, AreCellsTo, AreCrowdedTo, AreInside, AreLeastTo, HasLeast, IsCellOf, winner_at}
+use Rattle.name_bids.specs.declared.finding.Found.{Found}
+use Rattle.name_bids.specs.declared.finding.Found.TheVariants as finds
+use Rattle.name_bids.specs.Reading.{AreCells, AreCrowdedTo, AreFound, AreInside, AreLeastTo, HasLeast, IsCellOf, IsFound, cell_in, cells_in, winner_at}
 use Rattle.name_bids.specs.Tables.{IsAt, IsLeftOver, IsTable}
 use Rattle.name_bids.proofs.Tables.{at_one_cell_of, cell_inside, known_in, one_cell}
 
 -- ---- cells
 
-pub cells_begun : (names : List Named) (words : List ℕ) → AreCellsTo names words [] 0
-cells_begun names words = record { len = refl; each = λ x cell at. absurd (none-some cell at) }
+cell_found : (names : List Named) (state : PoolState) (x : ℕ) (its : Found) → IsFound names state x its → IsCellOf names state.cells x (cell_in its)
+cell_found names state x finds.Nowhere is = is
+cell_found names state x (finds.At cell) is = is.0
+cell_found names state x (finds.Least cell) is = is.0
 
-pub cells_more : (names : List Named) (words : List ℕ) (cells : List (Option ℕ)) (n : ℕ) (cell : Option ℕ) → IsCellOf names words n cell → AreCellsTo names words cells n → AreCellsTo names words (cells ++ cell ∷ []) (n + 1)
-cells_more names words cells n cell is so_far = record {
-  len = length_push cells cell ∙ ap (λ k. k + 1) so_far.len;
-  each = λ x other at. elim (cases_lt x (length cells)) [
-    | inl earlier ↦ so_far.each x other (sym (get_before cells (cell ∷ []) x earlier) ∙ at)
-    | inr later ↦ (
-        let last : x ≡ length cells = omega (arith, slice_get_within (cells ++ cell ∷ []) x other at, length_push cells cell) in
-        let same : cell ≡ other = same_Some cell other (sym (ap (slice_get (cells ++ cell ∷ [])) last ∙ get_last cells cell) ∙ at) in
-        subst (λ (y : ℕ). IsCellOf names words y other) (sym (last ∙ so_far.len)) (subst (IsCellOf names words n) same is))
+pub cells_found : (names : List Named) (state : PoolState) (found : List Found) → AreFound names state found → AreCells names state.cells (cells_in found)
+cells_found names state found are = record {
+  len = length-map found cell_in ∙ are.len;
+  each = λ x cell at. elim (slice_get_cases found x).1 [
+    | inl some ↦ (
+        let same : cell_in some.0 ≡ cell = same_Some (cell_in some.0) cell (sym (slice_get-map cell_in found x ∙ ap (option_map cell_in) some.2) ∙ at) in
+        subst (IsCellOf names state.cells x) same (cell_found names state x some.0 (are.each x some.0 some.2)))
+    | inr past ↦ absurd (omega (arith, past.0, slice_get_within (cells_in found) x cell at, length-map found cell_in))
   ];
 }
-
-pub cells_done : (names : List Named) (words : List ℕ) (cells : List (Option ℕ)) (n : ℕ) → n ≡ length names → AreCellsTo names words cells n → AreCells names words cells
-cells_done names words cells n is so_far = subst (AreCellsTo names words cells) is so_far
 
 pub are_inside : (names : List Named) (state : PoolState) (cells : List (Option ℕ)) → IsTable names state → AreCells names state.cells cells → AreInside state.least cells
 are_inside names state cells table are = λ x cell at. (
@@ -42,6 +41,67 @@ are_inside names state cells table are = λ x cell at. (
 
 pub inside_of : (least winners : List ℕ) (cells : List (Option ℕ)) → length winners ≡ length least → AreInside least cells → AreInside winners cells
 inside_of least winners cells len inside = λ x cell at. omega (arith, len, inside x cell at)
+
+-- ---- who bid the least
+
+pub least_begun : (names : List Named) (state : PoolState) (found : List Found) (winners : List ℕ) → length winners ≡ length state.least → AreLeastTo names state.least (cells_in found) winners 0
+least_begun names state found winners len = record { len = len; each = λ x cell lt. absurd (omega (arith, lt)) }
+
+its_cell : (found : List Found) (x : ℕ) (its : Found) (cell : Option ℕ) → slice_get found x ≡ Some its → slice_get (cells_in found) x ≡ Some cell → cell_in its ≡ cell
+its_cell found x its cell at of = same_Some (cell_in its) cell (sym (slice_get-map cell_in found x ∙ ap (option_map cell_in) at) ∙ of)
+
+pub found_within : (found : List Found) (words : List ℕ) (n cell : ℕ) (d : Found) → AreInside words (cells_in found) → n < length found → cell_in (get_or found n d) ≡ Some cell → cell < length words
+found_within found words n cell d inside within is = inside n cell (slice_get-map cell_in found n ∙ ap (option_map cell_in) (slice_get-get_or found n d within) ∙ ap (λ (c : Option ℕ). Some c) is)
+
+-- the cell of a name that bid the least is one of these words
+pub cell_within : (found : List Found) (words : List ℕ) (n cell : ℕ) (d : Found) → AreInside words (cells_in found) → n < length found → get_or found n d ≡ finds.Least cell → cell < length words
+cell_within found words n cell d inside within is = found_within found words n cell d inside within (ap cell_in is)
+
+-- the name at hand bid the least at its cell
+pub least_more : (names : List Named) (state : PoolState) (found : List Found) (winners : List ℕ) (n cell : ℕ) (d : Found) → AreFound names state found → n < length found → get_or found n d ≡ finds.Least cell → cell < length winners
+    → AreLeastTo names state.least (cells_in found) winners n → AreLeastTo names state.least (cells_in found) (slice_set winners cell n) (n + 1)
+least_more names state found winners n cell d are there is within so_far = record {
+  len = length-set winners cell n ∙ so_far.len;
+  each = λ x c lt its bid. elim (cases_eq c cell) [
+    | inl same ↦ subst (HasLeast names state.least (cells_in found) c) (sym (ap (λ (k : ℕ). get_or (slice_set winners cell n) k 0) same ∙ get_or-set_same winners cell n 0 within))
+        (subst (λ (k : ℕ). HasLeast names state.least (cells_in found) k n) (sym same) here)
+    | inr other ↦ elim (cases_lt x n) [
+      | inl before ↦ subst (HasLeast names state.least (cells_in found) c) (sym (get_or-set_other winners cell c n 0 other)) (so_far.each x c before its bid)
+      | inr last ↦ absurd (other (
+          let now : n ≡ x = omega (arith, last, lt) in
+          sym (same_Some cell c (its_cell found n (finds.Least cell) (Some c) at (ap (slice_get (cells_in found)) now ∙ its)))))
+    ]
+  ];
+} where
+  at : slice_get found n ≡ Some (finds.Least cell)
+  at = slice_get-get_or found n d there ∙ ap (λ (f : Found). Some f) is
+
+  here : HasLeast names state.least (cells_in found) cell n
+  here = record {
+    within = omega (arith, there, are.len);
+    at = slice_get-map cell_in found n ∙ ap (option_map cell_in) at;
+    bid = (are.each n (finds.Least cell) at).1;
+  }
+
+-- it did not
+pub least_other : (names : List Named) (state : PoolState) (found : List Found) (winners : List ℕ) (n : ℕ) (d : Found) → AreFound names state found → n < length found → ((cell : ℕ) → get_or found n d ≡ finds.Least cell → ⊥)
+    → AreLeastTo names state.least (cells_in found) winners n → AreLeastTo names state.least (cells_in found) winners (n + 1)
+least_other names state found winners n d are there other so_far = record {
+  len = so_far.len;
+  each = λ x c lt its bid. elim (cases_lt x n) [
+    | inl before ↦ so_far.each x c before its bid
+    | inr last ↦ (
+        let now : n ≡ x = omega (arith, last, lt) in
+        absurd (go (get_or found n d) c (are.each n (get_or found n d) at) other (its_cell found n (get_or found n d) (Some c) at (ap (slice_get (cells_in found)) now ∙ its)) (bid ∙ ap (bid_at names) (sym now))))
+  ];
+} where
+  at : slice_get found n ≡ Some (get_or found n d)
+  at = slice_get-get_or found n d there
+
+  go : (f : Found) (c : ℕ) → IsFound names state n f → ((cell : ℕ) → f ≡ finds.Least cell → ⊥) → cell_in f ≡ Some c → get_or state.least c 0 ≡ bid_at names n → ⊥
+  go finds.Nowhere c is never same bid = none-some c same
+  go (finds.At cell) c is never same bid = is.1 (ap (λ (k : ℕ). get_or state.least k 0) (same_Some cell c same) ∙ bid)
+  go (finds.Least cell) c is never same bid = never cell refl
 
 -- ---- crowded names
 
@@ -69,14 +129,27 @@ crowded_other cells crowded n other so_far = λ x. (
   ]),
 )
 
-pub none_at : (cells : List (Option ℕ)) (n : ℕ) (d : Option ℕ) → n < length cells → get_or cells n d ≡ None → slice_get cells n ≡ Some None
-none_at cells n d within is = slice_get-get_or cells n d within ∙ ap (λ (o : Option ℕ). Some o) is
+pub none_at : (found : List Found) (n : ℕ) (d : Found) → n < length found → get_or found n d ≡ finds.Nowhere → slice_get (cells_in found) n ≡ Some None
+none_at found n d within is = slice_get-map cell_in found n ∙ ap (option_map cell_in) (slice_get-get_or found n d within ∙ ap (λ (f : Found). Some f) is)
 
-pub some_at : (cells : List (Option ℕ)) (n : ℕ) (d : Option ℕ) → n < length cells → (get_or cells n d ≡ None → ⊥) → slice_get cells n ≡ Some None → ⊥
-some_at cells n d within is at = is (same_Some (get_or cells n d) None (sym (slice_get-get_or cells n d within) ∙ at))
+pub some_at : (found : List Found) (n : ℕ) (d : Found) → n < length found → (get_or found n d ≡ finds.Nowhere → ⊥) → slice_get (cells_in found) n ≡ Some None → ⊥
+some_at found n d within is of = go (get_or found n d) is (its_cell found n (get_or found n d) None (slice_get-get_or found n d within) of)
+  where
+    go : (f : Found) → (f ≡ finds.Nowhere → ⊥) → cell_in f ≡ None → ⊥
+    go finds.Nowhere never same = never refl
+    go (finds.At cell) never same = none-some cell (sym same)
+    go (finds.Least cell) never same = none-some cell (sym same)
 
 pub crowded_done : (names : List Named) (cells : List (Option ℕ)) (crowded : List ℕ) (n : ℕ) → n ≡ length names → AreCrowdedTo cells crowded n → AreCrowdedTo cells crowded (length names)
 crowded_done names cells crowded n is so_far = subst (AreCrowdedTo cells crowded) is so_far
+
+-- ---- the winner at each cell
+
+pub winners_read : (winners : List ℕ) (cells : List (Option ℕ)) (all : List ℕ) → length all ≡ length cells → ((i : ℕ) → i < length cells → get_or all i 0 ≡ winner_at winners (get_or cells i None)) → all ≡ map (winner_at winners) cells
+winners_read winners cells all long each = same_lists all (map (winner_at winners) cells) (long ∙ sym (length-map cells (winner_at winners)))
+    (λ i d lt. (
+    let within : i < length cells = omega (arith, lt, long) in
+    get_or_default all i d 0 lt ∙ each i within ∙ sym (get_or-map (winner_at winners) cells i None d within)))
 
 -- ---- all winners
 

@@ -1,13 +1,14 @@
-//! The cell of each name in a closed table, found by several threads.
+//! Of each name its cell in a closed table, and whether it bid the least there, found by several threads.
 
 ghost use Rattle.std.specs.Prelude.{◌≡◌, ◌+◌, ◌*◌, ◌<◌, ◌≤◌, ◌^◌, ℕ, List as Listed, length, IfOk, OnOk};
+ghost use Rattle.pool_core.specs.declared.state.PoolState.{PoolState};
 ghost use Rattle.type_names.specs.Names.{Named};
-ghost use Rattle.name_bids.specs.Finding.{AreCellsFrom, FindsAll, FindsAt, MayFind, stretch_start};
-ghost use Rattle.name_bids.specs.Reading.{AreCells, AreCellsTo, IsCellOf};
+ghost use Rattle.name_bids.specs.Finding.{AreFoundFrom, FindsAll, FindsAt, MayFind, stretch_start};
+ghost use Rattle.name_bids.specs.Reading.{AreFound, AreFoundTo, IsFound};
 
 use ds_base::NoMemory;
 use ds_files::OpenGate;
-use odr_names::{PathBook, count};
+use odr_names::{PathBook, count, number};
 use std::alloc::Global;
 use std::thread::Threads;
 use type_pool::{ClosedPool, find};
@@ -19,6 +20,17 @@ const FIND: u32 = 2;
 /// How many names are found at a time.
 const STRETCH: u32 = 1 << 14;
 
+/// What is found of a name.
+#[derive(Clone, Copy)]
+pub(crate) enum Found {
+    /// It stands at no cell.
+    Nowhere,
+    /// It stands at this cell, where another name of its path bid less.
+    At(u32),
+    /// It stands at this cell, and its bid is the least there.
+    Least(u32),
+}
+
 /// A stretch of names is found.
 #[derive(Drop)]
 struct Finding<'a> {
@@ -28,28 +40,28 @@ struct Finding<'a> {
 }
 
 impl<'a> Job for Finding<'a> {
-    type Out = Result<Vec<Option<u32>>, NoMemory>;
+    type Out = Result<Vec<Found>, NoMemory>;
 
     ghost takes = { λ job item. MayFind job.names.now job.closed.now item };
 
-    ghost gives = { λ job item out. FindsAt job.names.now job.closed.now.state.cells item out };
+    ghost gives = { λ job item out. FindsAt job.names.now job.closed.now.state item out };
 
-    fn run(&self, item: u32) -> Result<Vec<Option<u32>>, NoMemory> {
-        cells_in(self.alloc, self.closed, self.names, item)
+    fn run(&self, item: u32) -> Result<Vec<Found>, NoMemory> {
+        found_in(self.alloc, self.closed, self.names, item)
     }
 }
 
-/// Of each name the cell at which it stands, by at most so many threads.
-pub(crate) fn cells_of<R: Threads + Sync>(
+/// What is found of each name, by at most so many threads.
+pub(crate) fn found_names<R: Threads + Sync>(
     rt: &R,
     alloc: Global,
     workers: u32,
     closed: &ClosedPool,
     names: &PathBook,
-) -> Result<Vec<Option<u32>>, NoMemory>
+) -> Result<Vec<Found>, NoMemory>
     requires workers { (1 ≤ workers) × (workers ≤ 64) }
     requires book { closed.now.names ≡ length names.now }
-    ensures { IfOk result (λ cells. AreCells names.now closed.now.state.cells cells.items) }
+    ensures { IfOk result (λ found. AreFound names.now closed.now.state found.items) }
 {
     let size = count(names);
     let job = Finding {
@@ -70,59 +82,64 @@ fn stretches(names: u32) -> u32
     names / STRETCH + 1
 }
 
-/// The cells of the names of a stretch.
-fn cells_in(
+/// What is found of the names of a stretch.
+fn found_in(
     alloc: Global,
     closed: &ClosedPool,
     names: &PathBook,
     item: u32,
-) -> Result<Vec<Option<u32>>, NoMemory>
+) -> Result<Vec<Found>, NoMemory>
     requires { MayFind names.now closed.now item }
-    ensures { FindsAt names.now closed.now.state.cells item result }
+    ensures { FindsAt names.now closed.now.state item result }
 {
     let all = count(names);
     let first = item * STRETCH;
-    cells_from(alloc, closed, names, first, (all - first).min(STRETCH))
+    found_from(alloc, closed, names, first, (all - first).min(STRETCH))
 }
 
-/// The cells of so many names from this one on.
-fn cells_from(
+/// What is found of so many names from this one on.
+fn found_from(
     alloc: Global,
     closed: &ClosedPool,
     names: &PathBook,
     first: u32,
     size: u32,
-) -> Result<Vec<Option<u32>>, NoMemory>
+) -> Result<Vec<Found>, NoMemory>
     requires book { closed.now.names ≡ length names.now }
     requires inside { first + size ≤ length names.now }
     requires small { first + size < 2 ^ 32 }
-    ensures { IfOk result (λ cells. AreCellsFrom names.now closed.now.state.cells first cells.items size) }
+    ensures { IfOk result (λ found. AreFoundFrom names.now closed.now.state first found.items size) }
 {
-    let mut cells = Vec::with_capacity(alloc, size as usize)?;
+    let mut found = Vec::with_capacity(alloc, size as usize)?;
     for i in 0..size {
-        cells.push(cell_of(closed, names, first + i))?;
+        found.push(found_of(closed, names, first + i))?;
     }
-    Ok(cells)
+    Ok(found)
 }
 
-/// The cell at which a name stands.
-fn cell_of(closed: &ClosedPool, names: &PathBook, x: u32) -> Option<u32>
+/// What is found of a name.
+fn found_of(closed: &ClosedPool, names: &PathBook, x: u32) -> Found
     requires book { (closed.now.names ≡ length names.now) × (x < length names.now) }
-    ensures { IsCellOf names.now closed.now.state.cells x result }
+    ensures { IsFound names.now closed.now.state x result }
 {
     match find(closed, names, x) {
-        Some(found) => Some(found.cell),
-        None => None,
+        Some(its) => {
+            if its.least == number(names, x) {
+                return Found::Least(its.cell);
+            }
+            Found::At(its.cell)
+        }
+        None => Found::Nowhere,
     }
 }
 
-/// The cells of all stretches, one behind the other. There are `size` of them.
+/// What is found of all stretches, one behind the other. There are `size` names.
 fn all_found(
     alloc: Global,
-    outs: &[Result<Vec<Option<u32>>, NoMemory>],
+    outs: &[Result<Vec<Found>, NoMemory>],
     size: usize,
-) -> Result<Vec<Option<u32>>, NoMemory>
-    ensures { (names : Listed Named) (words : Listed ℕ) → FindsAll names words outs.now → IfOk result (λ cells. AreCellsTo names words cells.items (stretch_start (length names) (length outs.now))) }
+) -> Result<Vec<Found>, NoMemory>
+    ensures { (names : Listed Named) (state : PoolState) → FindsAll names state outs.now → IfOk result (λ found. AreFoundTo names state found.items (stretch_start (length names) (length outs.now))) }
 {
     let mut all = Vec::with_capacity(alloc, size)?;
     for i in 0..outs.len() {
@@ -131,15 +148,12 @@ fn all_found(
     Ok(all)
 }
 
-/// Puts the cells of a stretch behind these.
-fn put_found(
-    out: &Result<Vec<Option<u32>>, NoMemory>,
-    all: &mut Vec<Option<u32>>,
-) -> Result<(), NoMemory>
-    ensures { (names : Listed Named) (words : Listed ℕ) (i : ℕ) → FindsAt names words i out.now → AreCellsTo names words all.old.items (stretch_start (length names) i) → OnOk result (AreCellsTo names words all.new.items (stretch_start (length names) (i + 1))) }
+/// Puts what is found of a stretch behind these.
+fn put_found(out: &Result<Vec<Found>, NoMemory>, all: &mut Vec<Found>) -> Result<(), NoMemory>
+    ensures { (names : Listed Named) (state : PoolState) (i : ℕ) → FindsAt names state i out.now → AreFoundTo names state all.old.items (stretch_start (length names) i) → OnOk result (AreFoundTo names state all.new.items (stretch_start (length names) (i + 1))) }
 {
     match out {
-        Ok(cells) => all.extend_from_slice(cells)?,
+        Ok(found) => all.extend_from_slice(found)?,
         Err(_) => return Err(NoMemory),
     }
     Ok(())

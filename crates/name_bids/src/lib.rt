@@ -3,9 +3,9 @@
 //! Layer: names. [`shared_book`] makes the book of a link: several workers make the names of its objects, and one joins
 //! them (`making`). [`bid_objects`] is what one worker does over a shared table of `type_pool` and a counter of
 //! `work_share`: it claims one object after the other, and bids for each of its names at the cell of its path.
-//! [`shared_winners`] does that by several workers (`sharing`), closes the table, finds the cell of each name by
-//! several workers (`finding`), bids crowded names by themselves, and reads the winner of each path from the least bids
-//! (`winners`). What is bid stands in `specs/Bids.antt`, what the closed table says in `specs/Tables.antt`. The answer
+//! [`shared_winners`] does that by several workers (`sharing`), and closes the table. Several workers find of each name
+//! its cell, and whether it bid the least there (`finding`); one puts those that did in the places of their cells, and
+//! several read from these the winner of each name, where crowded names are bid for by themselves (`winners`). What is bid stands in `specs/Bids.antt`, what the closed table says in `specs/Tables.antt`. The answer
 //! is that of `odr_names`' `winners_plain`, whatever the number of workers.
 #![tactic(auto)]
 

@@ -1,18 +1,19 @@
 //! The winner of each path, read from the closed table.
 
-ghost use Rattle.std.specs.Prelude.{◌≡◌, ◌+◌, ◌<◌, ◌≤◌, length, map, slice_index_or, None, IfOk, OnOk};
-ghost use Rattle.std.specs.List.{All};
-ghost use Rattle.name_bids.specs.Reading.{AreCrowdedTo, AreInside, AreLeastTo, winner_at};
+ghost use Rattle.std.specs.Prelude.{◌≡◌, ◌+◌, ◌<◌, ◌≤◌, ℕ, List as Listed, length, map, slice_index, slice_index_or, None, IfOk, OnOk};
+ghost use Rattle.pool_core.specs.declared.state.PoolState.{PoolState};
+ghost use Rattle.type_names.specs.Names.{Named};
+ghost use Rattle.name_bids.specs.Reading.{AreCrowdedTo, AreFound, AreInside, AreLeastTo, cell_in, cells_in, winner_at};
 ghost use Rattle.name_bids.specs.Tables.{IsTable};
 ghost use Rattle.odr_names.specs.Winners.{AreWinners};
 
-use crate::finding::cells_of;
+use crate::finding::{Found, found_names};
 use crate::sharing::bid_names;
 use ds_base::NoMemory;
 use ds_files::Gate;
-use odr_names::{PathBook, count, number, put_winners};
+use odr_names::{PathBook, count, put_winners};
 use std::alloc::Global;
-use std::thread::Threads;
+use std::thread::{Threads, for_each_chunk_mut};
 use type_pool::ClosedPool;
 
 /// Of each name the one that wins its path, by at most `workers` threads, with the closed table in which they were bid for.
@@ -49,10 +50,10 @@ fn winners_in<R: Threads + Sync>(
     requires book { closed.now.names ≡ length names.now }
     ensures { IfOk result (λ winners. AreWinners names.now winners.items) }
 {
-    let cells = cells_of(rt, alloc, workers, closed, names)?;
-    let least = least_names(alloc, closed, names, &cells)?;
-    let mut winners = winners_at_cells(alloc, &cells, &least)?;
-    let crowded = crowded_names(alloc, names, &cells)?;
+    let found = found_names(rt, alloc, workers, closed, names)?;
+    let least = least_names(alloc, closed, names, &found)?;
+    let mut winners = winners_at_cells(rt, alloc, workers, &found, &least)?;
+    let crowded = crowded_names(alloc, names, &found)?;
     put_winners(alloc, names, &crowded, &mut winners)?;
     Ok(winners)
 }
@@ -62,85 +63,122 @@ fn least_names(
     alloc: Global,
     closed: &ClosedPool,
     names: &PathBook,
-    cells: &[Option<u32>],
+    found: &[Found],
 ) -> Result<Vec<u32>, NoMemory>
-    requires cells { (length cells.now ≡ length names.now) × AreInside closed.now.state.least cells.now }
-    ensures { IfOk result (λ winners. AreLeastTo names.now closed.now.state.least cells.now winners.items (length names.now)) }
+    requires found { AreFound names.now closed.now.state found.now }
+    requires cells { AreInside closed.now.state.least (cells_in found.now) }
+    ensures { IfOk result (λ winners. AreLeastTo names.now closed.now.state.least (cells_in found.now) winners.items (length names.now)) }
 {
-    let least = closed.state().least.as_slice();
-    let mut winners = vec![in alloc; 0; least.len()]?;
+    let mut winners = vec![in alloc; 0; closed.state().least.len()]?;
     for x in 0..count(names) {
-        try_least(names, least, cells, x, &mut winners);
+        put_least(found, x, &mut winners);
     }
     Ok(winners)
 }
 
 /// Puts the name in the place of its cell, where it bid the least word.
-fn try_least(names: &PathBook, least: &[u64], cells: &[Option<u32>], x: u32, winners: &mut Vec<u32>)
-    requires cells { (length cells.now ≡ length names.now) × AreInside least.now cells.now }
-    requires name { x < length names.now }
-    requires so_far { AreLeastTo names.now least.now cells.now winners.old.items x }
-    ensures { AreLeastTo names.now least.now cells.now winners.new.items (x + 1) }
+fn put_least(found: &[Found], x: u32, winners: &mut Vec<u32>)
+    requires name { x < length found.now }
+    requires cells { AreInside winners.old.items (cells_in found.now) }
+    ensures { (names : Listed Named) (state : PoolState) → AreFound names state found.now → AreLeastTo names state.least (cells_in found.now) winners.old.items x → AreLeastTo names state.least (cells_in found.now) winners.new.items (x + 1) }
 {
-    let Some(cell) = cells[x as usize] else {
+    let Found::Least(cell) = found[x as usize] else {
         return;
     };
-    if least[cell as usize] != number(names, x) {
-        return;
-    }
     winners[cell as usize] = x;
 }
 
-/// Of each name that stands at a cell the winner there.
-fn winners_at_cells(
+/// Of each name that stands at a cell the winner there, by at most so many threads.
+fn winners_at_cells<R: Threads + Sync>(
+    rt: &R,
     alloc: Global,
-    cells: &[Option<u32>],
+    workers: u32,
+    found: &[Found],
     winners: &[u32],
 ) -> Result<Vec<u32>, NoMemory>
-    requires { AreInside winners.now cells.now }
-    ensures { IfOk result (λ all. all.items ≡ map (winner_at winners.now) cells.now) }
+    requires workers { (1 ≤ workers) × (workers ≤ 64) }
+    requires cells { AreInside winners.now (cells_in found.now) }
+    ensures { IfOk result (λ all. all.items ≡ map (winner_at winners.now) (cells_in found.now)) }
 {
-    let mut all = Vec::with_capacity(alloc, cells.len())?;
-    for i in 0..cells.len() {
-        all.push(winner_at(cells, winners, i))?;
-    }
+    let mut all = vec![in alloc; 0; found.len()]?;
+    put_winners_read(rt, workers, found, winners, all.as_mut_slice());
     Ok(all)
 }
 
-/// The winner at the cell of a name, where it stands at one.
-fn winner_at(cells: &[Option<u32>], winners: &[u32], i: usize) -> u32
-    requires { (i < length cells.now) × AreInside winners.now cells.now }
-    ensures { result ≡ winner_at winners.now (slice_index_or cells.now i None) }
+/// Puts the winners of all names in their places, each thread those of some names one behind the other.
+fn put_winners_read<R: Threads + Sync>(
+    rt: &R,
+    workers: u32,
+    found: &[Found],
+    winners: &[u32],
+    all: &mut [u32],
+)
+    requires workers { (1 ≤ workers) × (workers ≤ 64) }
+    requires cells { AreInside winners.now (cells_in found.now) }
+    requires len { length all.old ≡ length found.now }
+    ensures { (i : ℕ) → i < length all.old → slice_index all.new i ≡ winner_at winners.now (slice_index_or (cells_in found.now) i None) }
 {
-    match cells[i] {
+    let size = all.len() / workers as usize + 1;
+    for_each_chunk_mut(
+        rt,
+        all,
+        size,
+        &|start, part| read_winners(found, winners, start, part),
+    );
+}
+
+/// Puts the winners of the names from this one on in their places.
+fn read_winners(found: &[Found], winners: &[u32], start: usize, part: &mut [u32])
+    requires cells { AreInside winners.now (cells_in found.now) }
+    requires within { start + length part.old ≤ length found.now }
+    ensures { (k : ℕ) → k < length part.old → slice_index part.new k ≡ winner_at winners.now (slice_index_or (cells_in found.now) (start + k) None) }
+{
+    for k in 0..part.len() {
+        part[k] = winner_of(found, winners, start + k);
+    }
+}
+
+/// The winner at the cell of a name, where it stands at one.
+fn winner_of(found: &[Found], winners: &[u32], i: usize) -> u32
+    requires { (i < length found.now) × AreInside winners.now (cells_in found.now) }
+    ensures { result ≡ winner_at winners.now (slice_index_or (cells_in found.now) i None) }
+{
+    match cell_of(found[i]) {
         Some(cell) => winners[cell as usize],
         None => 0,
     }
 }
 
+/// The cell at which a name was found.
+fn cell_of(found: Found) -> Option<u32>
+    ensures { result ≡ cell_in found }
+{
+    match found {
+        Found::Nowhere => None,
+        Found::At(cell) => Some(cell),
+        Found::Least(cell) => Some(cell),
+    }
+}
+
 /// The names that stand at no cell.
-fn crowded_names(
-    alloc: Global,
-    names: &PathBook,
-    cells: &[Option<u32>],
-) -> Result<Vec<u32>, NoMemory>
-    requires { length cells.now ≡ length names.now }
-    ensures { IfOk result (λ crowded. AreCrowdedTo cells.now crowded.items (length names.now)) }
+fn crowded_names(alloc: Global, names: &PathBook, found: &[Found]) -> Result<Vec<u32>, NoMemory>
+    requires { length found.now ≡ length names.now }
+    ensures { IfOk result (λ crowded. AreCrowdedTo (cells_in found.now) crowded.items (length names.now)) }
 {
     let mut crowded = Vec::new(alloc);
     for x in 0..count(names) {
-        push_crowded(cells, x, &mut crowded)?;
+        push_crowded(found, x, &mut crowded)?;
     }
     Ok(crowded)
 }
 
 /// Puts the name behind these, where it stands at no cell.
-fn push_crowded(cells: &[Option<u32>], x: u32, crowded: &mut Vec<u32>) -> Result<(), NoMemory>
-    requires name { x < length cells.now }
-    requires so_far { AreCrowdedTo cells.now crowded.old.items x }
-    ensures { OnOk result (AreCrowdedTo cells.now crowded.new.items (x + 1)) }
+fn push_crowded(found: &[Found], x: u32, crowded: &mut Vec<u32>) -> Result<(), NoMemory>
+    requires name { x < length found.now }
+    requires so_far { AreCrowdedTo (cells_in found.now) crowded.old.items x }
+    ensures { OnOk result (AreCrowdedTo (cells_in found.now) crowded.new.items (x + 1)) }
 {
-    let None = cells[x as usize] else {
+    let Found::Nowhere = found[x as usize] else {
         return Ok(());
     };
     crowded.push(x)?;
