@@ -1,29 +1,32 @@
--- Winners with what stands above them: put in order, and the children of each path in one run.
-use Rattle.std.proofs.Common.{◌≡◌, ◌⊎◌, inl, inr, ℕ, zero, suc, ◌+◌, ◌-◌, ◌<◌, ◌≤◌, ◌==◌, eqb, Bool, false, cond, List, [], ◌∷◌, ◌++◌, length, map, Option, Some, None, slice_get, get_or, refl, sym, ap, ◌∙◌, arith, subst}
-use Rattle.std.specs.Cmp.{IsEquivalence, IsTotalOrder}
-use Rattle.std.specs.List.{IsDistinct, flat_map, list_any}
-use Rattle.std.specs.List.Sorted.{IsNonDecreasingBy, IsPermutation, IsSortedBy}
+-- Winners with what stands above them: the families of paths, and their chains.
+use Rattle.std.proofs.Common.{◌≡◌, ◌⊎◌, inl, inr, ℕ, zero, suc, ◌+◌, ◌-◌, ◌^◌, ◌<◌, ◌≤◌, eqb, Bool, false, cond, List, [], ◌∷◌, ◌++◌, length, map, replicate, Option, Some, None, slice_get, slice_set, get_or, refl, sym, ap, ◌∙◌, arith, subst}
+use Rattle.std.specs.List.{flat_map}
 use Rattle.std.specs.Option.{ForSome, option_map_or}
-use Rattle.std.specs.Ordering.{is_lt, nat_cmp, ordering_then}
-use Rattle.std.proofs.lemmas.Bool.{both_ways, cases_Bool, cases_eq, cases_lt, eq-eqb, eqb-true, ne_eqb}
-use Rattle.std.proofs.lemmas.Cmp.{nat_cmp_total, on_total, then_total}
-use Rattle.std.proofs.lemmas.List.{length_push, same_from_push}
-use Rattle.std.proofs.lemmas.List.Sorted.{Contains-permutation, IsPermutation-sym, ranks_by, sorted_far}
-use Rattle.std.proofs.lemmas.Map.Keys.{IsDistinct-IsPermutation, IsDistinct-push, apart_from_distinct}
-use Rattle.std.proofs.lemmas.Option.{get_or_from_slice_get, same_Some, slice_get-get_or, slice_get_read, slice_get_within}
-use Rattle.odr_names.proofs.BookPaths.{get_before, get_last}
-use Rattle.odr_names.proofs.Winning.{told}
+use Rattle.std.proofs.lemmas.Bool.{cases_eq, cases_lt, eq-eqb, ne_eqb}
+use Rattle.std.proofs.Math.Seq.{get_or-append_seam}
+use Rattle.std.proofs.lemmas.List.{get_or_append_left, get_or-replicate, get_or-set_other, get_or-set_same, length-replicate, length-set, length_push, same_from_push}
+use Rattle.std.proofs.lemmas.Option.{same_Some, slice_get-get_or, slice_get_within}
 use Rattle.odr_names.specs.Book.{bid_at, path_at}
 use Rattle.odr_names.specs.Winners.{AreWinners}
 use Rattle.type_names.specs.Names.{Named}
 use Rattle.type_names.specs.Paths.{Piece}
-use Rattle.link_graph.specs.declared.pool.Child.{Child}
-use Rattle.link_graph.specs.declared.pool.Run.{Run}
 use Rattle.link_graph.specs.Pool.{children_of, is_outbid}
-use Rattle.link_graph.specs.PoolOrder.{AreApart, AreChildrenTo, AreInOrder, IsChildOf, IsFamily, IsKey, IsLinkedUp, AreLowerTo, IsRunOf, IsStart, Wins, below, key_of, key_path, name_at, run_gives, run_in}
+use Rattle.link_graph.specs.PoolOrder.{AnyName, AreApart, AreChains, AreRanked, Hangs, IsChildOf, IsFamily, IsKey, IsLinkedUp, IsRightBelow, Passed, Wins, below, key_of, key_path, name_at}
 use Rattle.link_graph.proofs.PoolPaths.{child_path, is_child_from, not_empty}
 use Rattle.link_graph.proofs.PoolTrees.{AreShort, below_unfolds, child_from, child_is, children_rise, not_outbid, outbid_none}
-use Rattle.link_graph.proofs.Rising.{Differ, Has, Rises, differ_from, flat_map_of_map, from_map, has_at, has_map, has_part, only_rising, part_at, place_of, rises_from, rises_map}
+use Rattle.link_graph.proofs.Rising.{Differ, Has, differ_from, flat_map_of_map, from_map, has_at, has_map, only_rising, place_of, rises_map}
+
+-- ---- bids
+
+-- ranked names have different bids
+pub ranked_apart : (names : List Named) → AreRanked names → AreApart names
+ranked_apart names ranked i j v w at_i at_j same = elim (cases_lt i j) [
+  | inl lt ↦ absurd (let less = ranked i j v w lt at_i at_j (λ late. omega (arith, late, same)) in omega (arith, less, same))
+  | inr le ↦ elim (cases_lt j i) [
+    | inl lt ↦ absurd (let less = ranked j i w v lt at_j at_i (λ late. omega (arith, late, same)) in omega (arith, less, same))
+    | inr ge ↦ omega (arith, le, ge)
+  ]
+]
 
 -- ---- names by their numbers
 
@@ -147,236 +150,252 @@ key_above names winners x (Some p) apart are within before =
     let w = get_or winners p 0 in
     (inr (w, refl, winner_wins names winners p apart are p_in), key_path_up names w ∙ (are.each p p_in).same)
 
--- ---- winners one by one
+pub keys_more : (names : List Named) (winners keys : List ℕ) (n key : ℕ) → length keys ≡ n → IsRightBelow names winners key n → ((x : ℕ) → x < n → IsRightBelow names winners (get_or keys x 0) x)
+    → (x : ℕ) → x < n + 1 → IsRightBelow names winners (get_or (keys ++ key ∷ []) x 0) x
+keys_more names winners keys n key long is so_far x lt = elim (cases_eq x n) [
+  | inl same ↦ subst (λ (k : ℕ). IsRightBelow names winners k x) (sym (ap (λ (i : ℕ). get_or (keys ++ key ∷ []) i 0) (same ∙ sym long) ∙ get_or-append_seam keys key [] 0)) (subst (IsRightBelow names winners key) (sym same) is)
+  | inr other ↦ subst (λ (k : ℕ). IsRightBelow names winners k x) (sym (get_or_append_left keys (key ∷ []) 0 x (omega (arith, other, lt, long)))) (so_far x (omega (arith, other, lt)))
+]
 
-pub child_names : IsEquivalence (λ (a b : Child). a.name == b.name)
-child_names = record {
-  refl = λ x. eq-eqb x.name x.name refl;
-  symm = λ x y. turned x.name y.name;
-  congr = λ x y z is. ap (λ (n : ℕ). eqb n z.name) (eqb-true x.name y.name is);
-} where
-  turned : (m n : ℕ) → eqb m n ≡ eqb n m
-  turned m n = elim (cases_Bool (eqb m n)) [
-    | inl same ↦ same ∙ sym (eq-eqb n m (sym (eqb-true m n same)))
-    | inr other ↦ other ∙ sym (ne_eqb n m (λ e. both_ways _ other (eq-eqb m n (sym e))))
-  ]
-
-none_of : (x : ℕ) (cs : List Child) (c : Child) → c.name ≡ x → ((i : ℕ) (d : Child) → slice_get cs i ≡ Some d → d.name < x) → list_any (λ (d : Child). c.name == d.name) cs ≡ false
-none_of x [] c is lower = refl
-none_of x (d ∷ cs) c is lower =
-    let here : eqb c.name d.name ≡ false = ne_eqb c.name d.name (λ e. (let lt = lower zero d refl in omega (arith, lt, e, is))) in
-    rw here (none_of x cs c is (λ i d at. lower (suc i) d at))
-
-pub children_none : (names : List Named) (winners : List ℕ) → AreChildrenTo names winners [] 0
-unfolding IsDistinct
-children_none names winners = record {
-  linked = λ x below. absurd (omega arith);
-  each = λ i c at. absurd (none i c at);
-  found = λ x below wins. absurd (omega arith);
-  once = tt;
-} where
-  none : (i : ℕ) (c : Child) → slice_get [] i ≡ Some c → ⊥
-  none i c at = cc
-
-linked_more : (names : List Named) (n : ℕ) → IsLinkedUp names n → ((x : ℕ) → x < n → IsLinkedUp names x) → (x : ℕ) → x < n + 1 → IsLinkedUp names x
+pub linked_more : (names : List Named) (n : ℕ) → IsLinkedUp names n → ((x : ℕ) → x < n → IsLinkedUp names x) → (x : ℕ) → x < n + 1 → IsLinkedUp names x
 linked_more names n linked so_far x lower = elim (cases_eq x n) [ inl same ↦ subst (IsLinkedUp names) (sym same) linked | inr other ↦ so_far x (omega arith) ]
 
--- one name more, which doesn't win
-pub children_past : (names : List Named) (winners : List ℕ) (cs : List Child) (n : ℕ) → IsLinkedUp names n → (get_or winners n 0 ≡ n → ⊥) → AreChildrenTo names winners cs n → AreChildrenTo names winners cs (n + 1)
-children_past names winners cs n linked loses so_far = record {
-  linked = linked_more names n linked so_far.linked;
-  each = λ i c at. (let it = so_far.each i c at in (omega (arith, it.0), it.1));
-  found = λ x below wins. elim (cases_eq x n) [
-    | inl same ↦ absurd (loses (ap (λ (y : ℕ). get_or winners y 0) (sym same) ∙ wins ∙ same))
-    | inr other ↦ so_far.found x (omega arith) wins
-  ];
-  once = so_far.once;
-}
-
--- one name more, which wins
-pub children_more : (names : List Named) (winners : List ℕ) (cs : List Child) (n : ℕ) (c : Child) → IsLinkedUp names n → IsChildOf names winners c → c.name ≡ n → AreChildrenTo names winners cs n → AreChildrenTo names winners (cs ++ c ∷ []) (n + 1)
-children_more names winners cs n c linked is named so_far = record {
-  linked = linked_more names n linked so_far.linked;
-  each = λ i d at. elim (cases_lt i (length cs)) [
-    | inl earlier ↦ (let it = so_far.each i d (sym (get_before cs (c ∷ []) i earlier) ∙ at) in (omega (arith, it.0), it.1))
-    | inr later ↦ (
-        let last : i ≡ length cs = omega (arith, slice_get_within (cs ++ c ∷ []) i d at, length_push cs c) in
-        let same : c ≡ d = same_Some c d (sym (ap (slice_get (cs ++ c ∷ [])) last ∙ get_last cs c) ∙ at) in
-        subst (λ (d : Child). (d.name < n + 1) × IsChildOf names winners d) same (omega (arith, named), is))
-  ];
-  found = λ x below wins. elim (cases_eq x n) [
-    | inl same ↦ (length cs, c, get_last cs c, named ∙ sym same)
-    | inr other ↦ (
-        let it = so_far.found x (omega arith) wins in
-        (it.0, it.1, get_before cs (c ∷ []) it.0 (slice_get_within cs it.0 it.1 it.2) ∙ it.2, it.3))
-  ];
-  once = IsDistinct-push child_names cs c so_far.once (none_of n cs c named (λ i d at. (so_far.each i d at).0));
-}
-
--- a name that wins, with what stands above it
-pub child_of_names : (names : List Named) (winners : List ℕ) (x parent bid : ℕ) (up : Option ℕ) → AreApart names → AreWinners names winners → (linked : IsLinkedUp names x) → linked.up ≡ up → x < length names → get_or winners x 0 ≡ x
-    → parent ≡ key_of winners up → bid ≡ bid_at names x → IsChildOf names winners (record { parent = parent; bid = bid; name = x })
-child_of_names names winners x parent bid up apart are linked is_up within wins key bid_is_x =
+-- the number of the path above a name
+pub right_below : (names : List Named) (winners : List ℕ) (x key : ℕ) (linked : IsLinkedUp names x) → AreApart names → AreWinners names winners → x < length names → key ≡ key_of winners linked.up → IsRightBelow names winners key x
+right_below names winners x key linked apart are within is =
     let above = key_above names winners x linked.up apart are within linked.before in
-    let same : key_of winners linked.up ≡ parent = ap (key_of winners) is_up ∙ sym key in
     record {
-      wins = record { within = within; itself = wins };
-      bid = bid_is_x;
-      key = subst (IsKey names winners) same above.0;
+      key_is = subst (IsKey names winners) (sym is) above.0;
       piece = linked.piece;
-      path = linked.path ∙ ap (λ (path : List Piece). path ++ linked.piece ∷ []) (sym above.1 ∙ ap (key_path names) same);
+      path = linked.path ∙ ap (λ (path : List Piece). path ++ linked.piece ∷ []) (sym above.1 ∙ ap (key_path names) (sym is));
     }
 
--- ---- in order
+-- a name stands right below one path
+pub one_key : (names : List Named) (winners : List ℕ) (a b x : ℕ) → AreApart names → AreWinners names winners → ((x : ℕ) → x < length names → IsLinkedUp names x) → IsRightBelow names winners a x → IsRightBelow names winners b x → a ≡ b
+one_key names winners a b x apart are linked is_a is_b =
+    same_key names winners a b apart are linked is_a.key_is is_b.key_is (same_from_push (key_path names a) (key_path names b) is_a.piece is_b.piece (sym is_a.path ∙ is_b.path)).0
 
-by_parent : IsTotalOrder (λ (x y : Child). ordering_then (nat_cmp x.parent y.parent) (nat_cmp x.bid y.bid))
-by_parent = then_total (on_total (λ (c : Child). c.parent) nat_cmp_total) (on_total (λ (c : Child). c.bid) nat_cmp_total)
+-- a number is that of none, or 1 more than that of a name
+pub key_few : (names : List Named) (winners : List ℕ) (key : ℕ) → IsKey names winners key → key < length names + 2
+key_few names winners key (inl is) = omega (arith, is)
+key_few names winners key (inr w) = omega (arith, w.1, w.2.within)
 
-pub in_order : (cs : List Child) → IsSortedBy (λ x y. is_lt (ordering_then (nat_cmp x.parent y.parent) (nat_cmp x.bid y.bid))) cs → AreInOrder cs
-in_order cs sorted = λ i j a b le at_i at_j. (
-    let d : Child = record { parent = 0; bid = 0; name = 0 } in
-    let far = sorted_far (λ (x y : Child). is_lt (ordering_then (nat_cmp x.parent y.parent) (nat_cmp x.bid y.bid))) (ranks_by by_parent (λ (c : Child). c)) cs sorted i j d le (slice_get_within cs j b at_j) in
-    let a_is = get_or_from_slice_get cs i a d at_i in
-    let b_is = get_or_from_slice_get cs j b d at_j in
-    told a.parent b.parent a.bid b.bid (rw (a_is, b_is) at far))
+-- ---- families
 
-pub parents_rise : (cs : List Child) → AreInOrder cs → IsNonDecreasingBy (λ c. c.parent) cs
-parents_rise cs order = λ i j d le within. go (get_or cs i d) (get_or cs j d) (order i j (get_or cs i d) (get_or cs j d) le (slice_get-get_or cs i d (omega (arith, le, within))) (slice_get-get_or cs j d within)) where
-  go : (a b : Child) → (a.parent < b.parent) ⊎ ((a.parent ≡ b.parent) × (a.bid ≤ b.bid)) → a.parent ≤ b.parent
-  go a b (inl lt) = omega (arith, lt)
-  go a b (inr same) = omega (arith, same.0)
-
-pub family_sorted : (names : List Named) (winners : List ℕ) (cs moved : List Child) → AreChildrenTo names winners cs (length names) → IsPermutation cs moved → AreInOrder moved → IsFamily names winners moved
-family_sorted names winners cs moved are same order = record {
-  are = record {
-    linked = are.linked;
-    each = λ i c at. (
-        let there = Contains-permutation moved cs c (IsPermutation-sym cs moved same) (i, slice_get_within moved i c at, get_or_from_slice_get moved i c c at) in
-        are.each there.0 c (slice_get_read cs _ there.0 c refl there.1 (sym there.2)));
-    found = λ x within wins. (
-        let it = are.found x within wins in
-        let there = Contains-permutation cs moved it.1 same (it.0, slice_get_within cs it.0 it.1 it.2, get_or_from_slice_get cs it.0 it.1 it.1 it.2) in
-        (there.0, it.1, slice_get_read moved _ there.0 it.1 refl there.1 (sym there.2), it.3));
-    once = IsDistinct-IsPermutation (λ (a b : Child). a.name == b.name) child_names.symm cs moved same are.once;
-  };
-  order = order;
-}
-
--- ---- runs
-
-pub run_from : (cs : List Child) (key next end : ℕ) → IsStart cs key next → IsStart cs (key + 1) end → IsRunOf cs key (record { next = next; end = end })
-run_from cs key next end low high = record {
-  within = high.before.within;
-  front = low.before.lower;
-  here = λ i c at from lt. (
-      let one : key ≤ c.parent = low.behind i c at from in
-      let two : c.parent < key + 1 = high.before.lower i c at lt in
-      omega (arith, one, two));
-  behind = λ i c at from. let far : key + 1 ≤ c.parent = high.behind i c at from in omega (arith, far);
-}
-
--- one more is of a lower number
-pub lower_more : (cs : List Child) (key place : ℕ) (d : Child) → place < length cs → (get_or cs place d).parent < key → AreLowerTo cs key place → AreLowerTo cs key (place + 1)
-lower_more cs key place d lt low so_far = record {
-  within = omega (arith, lt);
-  lower = λ i c at within. elim (cases_lt i place) [
-    | inl before ↦ so_far.lower i c at before
-    | inr le ↦ (
-        let same : place ≡ i = omega (arith, le, within) in
-        subst (λ (c : Child). c.parent < key) (ap (λ (n : ℕ). get_or cs n d) same ∙ get_or_from_slice_get cs i c d at) low)
-  ];
-}
-
--- the first one that is not of a lower number
-pub start_here : (cs : List Child) (key place : ℕ) (d : Child) → IsNonDecreasingBy (λ c. c.parent) cs → key ≤ (get_or cs place d).parent → AreLowerTo cs key place → IsStart cs key place
-start_here cs key place d order far so_far = record {
-  before = so_far;
-  behind = λ i c at le. (
-      let rise = order place i d le (slice_get_within cs i c at) in
-      omega (arith, far, rise, ap (λ (c : Child). c.parent) (get_or_from_slice_get cs i c d at)));
-}
-
--- none is left
-pub start_end : (cs : List Child) (key place : ℕ) → length cs ≤ place → AreLowerTo cs key place → IsStart cs key place
-start_end cs key place le so_far = record { before = so_far; behind = λ i d at from. absurd (omega (arith, le, from, slice_get_within cs i d at)) }
-
--- a run has the winners right below a path, by their bids
-pub run_children : (names : List Named) (winners : List ℕ) (cs : List Child) (key : ℕ) (run : Run) → AreApart names → AreWinners names winners → IsFamily names winners cs → IsKey names winners key → IsRunOf cs key run
-    → map (λ (c : Child). name_at names c.name) (run_in cs run) ≡ children_of names (key_path names key)
-run_children names winners cs key run apart are family is_key is_run =
-    only_rising (λ (w : Named). w.bid) (map named (run_in cs run)) (children_of names path) rises (children_rise names path (names_differ names apart)) into from
+-- a family of a path is its children
+family_children : (names : List Named) (winners : List ℕ) (key : ℕ) (family : List ℕ) → AreApart names → AreWinners names winners → IsKey names winners key → IsFamily names winners AnyName key family
+    → map (name_at names) family ≡ children_of names (key_path names key)
+family_children names winners key family apart are is_key is =
+    only_rising (λ (w : Named). w.bid) (map (name_at names) family) (children_of names (key_path names key))
+    (rises_map (λ (w : Named). w.bid) (name_at names) (bid_at names) family (λ x has. bid_is names x ((is.each x has).1.0).within) is.rises)
+    (children_rise names (key_path names key) (names_differ names apart)) into from
   where
-    path : List Piece
-    path = key_path names key
-
-    named : Child → Named
-    named c = name_at names c.name
-
-    place : (c : Child) → Has (run_in cs run) c → (i : ℕ) × (i < run.end - run.next) × (slice_get cs (run.next + i) ≡ Some c)
-    place c has =
-        let at = place_of (run_in cs run) c has in
-        let there = part_at run.next (run.end - run.next) at.0 cs c at.1 in
-        (at.0, there.0, there.1)
-
-    bids : (c : Child) → Has (run_in cs run) c → c.bid ≡ (name_at names c.name).bid
-    bids c has =
-        let at = place c has in
-        let is = (family.are.each (run.next + at.0) c at.2).1 in
-        is.bid ∙ bid_is names c.name is.wins.within
-
-    up : (i j : ℕ) (a b : Child) → i < j → slice_get (run_in cs run) i ≡ Some a → slice_get (run_in cs run) j ≡ Some b → a.bid < b.bid
-    up i j a b lt at_i at_j =
-        let a_at = part_at run.next (run.end - run.next) i cs a at_i in
-        let b_at = part_at run.next (run.end - run.next) j cs b at_j in
-        let a_here = is_run.here (run.next + i) a a_at.1 (omega arith) (omega (arith, a_at.0)) in
-        let b_here = is_run.here (run.next + j) b b_at.1 (omega arith) (omega (arith, b_at.0)) in
-        let a_is = (family.are.each (run.next + i) a a_at.1).1 in
-        let b_is = (family.are.each (run.next + j) b b_at.1).1 in
-        let other : eqb a.name b.name ≡ false = rw (get_or_from_slice_get cs (run.next + i) a a a_at.1, get_or_from_slice_get cs (run.next + j) b a b_at.1) at
-        (apart_from_distinct (λ (a b : Child). a.name == b.name) cs (run.next + i) (run.next + j) a family.are.once (omega (arith, lt)) (slice_get_within cs (run.next + j) b b_at.1)) in
-        strictly a b (family.order (run.next + i) (run.next + j) a b (omega (arith, lt)) a_at.1 b_at.1) (a_here ∙ sym b_here) (λ same. both_ways _ other (eq-eqb a.name b.name
-        (same_name names a.name b.name apart a_is.wins.within b_is.wins.within (sym (a_is.bid ∙ bid_is names a.name a_is.wins.within) ∙ same ∙ b_is.bid ∙ bid_is names b.name b_is.wins.within))))
-      where
-        strictly : (a b : Child) → (a.parent < b.parent) ⊎ ((a.parent ≡ b.parent) × (a.bid ≤ b.bid)) → a.parent ≡ b.parent → (a.bid ≡ b.bid → ⊥) → a.bid < b.bid
-        strictly a b (inl lt) same differ = absurd (omega (arith, lt, same))
-        strictly a b (inr le) same differ = elim (cases_lt a.bid b.bid) [ inl lt ↦ lt | inr ge ↦ absurd (differ (omega (arith, ge, le.1))) ]
-
-    rises : Rises (λ (w : Named). w.bid) (map (λ (c : Child). name_at names c.name) (run_in cs run))
-    rises = rises_map (λ (w : Named). w.bid) (λ (c : Child). name_at names c.name) (λ (c : Child). c.bid) (run_in cs run) bids (rises_from (λ (c : Child). c.bid) (run_in cs run) up)
-
-    into : (z : Named) → Has (map (λ (c : Child). name_at names c.name) (run_in cs run)) z → Has (children_of names (key_path names key)) z
+    into : (z : Named) → Has (map (name_at names) family) z → Has (children_of names (key_path names key)) z
     into z has =
-        let it = from_map (λ (c : Child). name_at names c.name) (run_in cs run) z has in
-        let at = place it.0 it.1 in
-        let is = (family.are.each (run.next + at.0) it.0 at.2).1 in
-        let parent = is_run.here (run.next + at.0) it.0 at.2 (omega arith) (omega (arith, at.1)) in
-        subst (Has (children_of names (key_path names key))) it.2 (child_from names (key_path names key) (name_at names it.0.name) (record {
-          among = name_in names it.0.name is.wins.within;
-          wins = wins_path names winners it.0.name are is.wins;
-          child = is_child_from (key_path names key) (name_at names it.0.name) is.piece (sym (path_is names it.0.name is.wins.within) ∙ is.path ∙ ap (λ (k : ℕ). key_path names k ++ is.piece ∷ []) parent);
+        let it = from_map (name_at names) family z has in
+        let child = (is.each it.0 it.1).1 in
+        subst (Has (children_of names (key_path names key))) it.2 (child_from names (key_path names key) (name_at names it.0) (record {
+          among = name_in names it.0 child.0.within;
+          wins = wins_path names winners it.0 are child.0;
+          child = is_child_from (key_path names key) (name_at names it.0) child.1.piece (sym (path_is names it.0 child.0.within) ∙ child.1.path);
         }))
 
-    from : (z : Named) → Has (children_of names (key_path names key)) z → Has (map (λ (c : Child). name_at names c.name) (run_in cs run)) z
+    from : (z : Named) → Has (children_of names (key_path names key)) z → Has (map (name_at names) family) z
     from z has =
         let child = child_is names (key_path names key) z has in
         let it = number_of names z child.among in
         let wins = wins_from names winners it.0 apart are it.1 (ap (is_outbid names) it.2 ∙ child.wins) in
-        let found = family.are.found it.0 it.1 wins.itself in
-        let c = found.1 in
-        let is = (family.are.each found.0 c found.2).1 in
         let split = child_path (key_path names key) z child.child in
-        let above : key_path names c.parent ≡ key_path names key = (same_from_push (key_path names c.parent) (key_path names key) is.piece split.0
-        (sym is.path ∙ ap (path_at names) found.3 ∙ path_is names it.0 it.1 ∙ ap (λ (w : Named). w.path) it.2 ∙ split.1)).0 in
-        let parent = same_key names winners c.parent key apart are family.are.linked is.key is_key above in
-        let low : run.next ≤ found.0 = elim (cases_lt found.0 run.next) [ inl lt ↦ absurd (let less = is_run.front found.0 c found.2 lt in omega (arith, less, parent)) | inr le ↦ le ] in
-        let high : found.0 < run.end = elim (cases_lt found.0 run.end) [ inl lt ↦ lt | inr le ↦ absurd (let more = is_run.behind found.0 c found.2 le in omega (arith, more, parent)) ] in
-        subst (Has (map (λ (c : Child). name_at names c.name) (run_in cs run))) (ap (name_at names) found.3 ∙ it.2)
-        (has_map (λ (c : Child). name_at names c.name) (run_in cs run) c (has_part run.next (run.end - run.next) found.0 cs c found.2 low (omega (arith, low, high))))
+        let here : IsRightBelow names winners key it.0 =
+        record { key_is = is_key; piece = split.0; path = path_is names it.0 it.1 ∙ ap (λ (w : Named). w.path) it.2 ∙ split.1 } in
+        subst (Has (map (name_at names) family)) it.2 (has_map (name_at names) family it.0 (is.found it.0 tt (wins, here)))
 
--- and it gives all below the path
-pub run_below : (names : List Named) (winners : List ℕ) (cs : List Child) (key : ℕ) (run : Run) → AreApart names → AreWinners names winners → IsFamily names winners cs → IsKey names winners key → IsRunOf cs key run
-    → run_gives names cs run ≡ below names (key_path names key)
-run_below names winners cs key run apart are family is_key is_run =
-    sym (flat_map_of_map (λ (c : Child). name_at names c.name) (λ (w : Named). w ∷ below names w.path) (run_in cs run))
-    ∙ ap (flat_map (λ (w : Named). w ∷ below names w.path)) (run_children names winners cs key run apart are family is_key is_run)
-    ∙ sym (below_unfolds names (key_path names key) (short_names names family.are.linked))
+-- what a chain gives: each winner, and all below it
+abbrev pub chain_gives : List Named → List ℕ → List Named
+chain_gives names family = flat_map (λ x. name_at names x ∷ below names (name_at names x).path) family
+
+-- a family gives all below its path
+pub family_below : (names : List Named) (winners : List ℕ) (key : ℕ) (family : List ℕ) → AreApart names → AreWinners names winners → ((x : ℕ) → x < length names → IsLinkedUp names x) → IsKey names winners key
+    → IsFamily names winners AnyName key family → chain_gives names family ≡ below names (key_path names key)
+family_below names winners key family apart are linked is_key is =
+    sym (flat_map_of_map (name_at names) (λ (w : Named). w ∷ below names w.path) family)
+    ∙ ap (flat_map (λ (w : Named). w ∷ below names w.path)) (family_children names winners key family apart are is_key is)
+    ∙ sym (below_unfolds names (key_path names key) (short_names names linked))
+
+-- ---- chains
+
+pub hangs_set : (next : List (Option ℕ)) (n : ℕ) (v first : Option ℕ) (xs : List ℕ) → (Has xs n → ⊥) → Hangs next first xs → Hangs (slice_set next n v) first xs
+hangs_set next n v first [] fresh hangs = hangs
+hangs_set next n v first (x ∷ xs) fresh hangs = (
+  hangs.0,
+  subst (λ (o : Option ℕ). Hangs (slice_set next n v) o xs) (sym (get_or-set_other next n x v None (λ same. fresh (inl same))))
+      (hangs_set next n v (get_or next x None) xs (λ has. fresh (inr has)) hangs.1),
+)
+
+-- no winner hangs at first
+pub no_chains : (names : List Named) (winners : List ℕ) (some : ℕ → Type 0) (first next : List (Option ℕ)) → length first ≡ length names + 2 → length next ≡ length names → ((key : ℕ) → key < length first → get_or first key None ≡ None)
+    → ((x : ℕ) → some x → x < length names → ⊥) → AreChains names winners some first next
+no_chains names winners some first next wide long empty none = record {
+  wide = wide;
+  long = long;
+  family = λ key. [];
+  hang = λ key lt. empty key lt;
+  are = λ key lt. record { rises = tt; each = λ x has. absurd has; found = λ x among child. absurd (none x among child.0.within) };
+}
+
+-- the same chains of other names, if they have the same winners
+pub chains_same : (names : List Named) (winners : List ℕ) (some other : ℕ → Type 0) (first next : List (Option ℕ)) → ((x : ℕ) → some x → other x) → ((x : ℕ) → other x → Wins names winners x → some x)
+    → AreChains names winners some first next → AreChains names winners other first next
+chains_same names winners some other first next into from are = record {
+  wide = are.wide;
+  long = are.long;
+  family = are.family;
+  hang = are.hang;
+  are = λ key lt. (
+      let is = are.are key lt in
+      record { rises = is.rises; each = λ x has. (into x (is.each x has).0, (is.each x has).1); found = λ x among child. is.found x (from x among child.0) child });
+}
+
+-- one winner more, before those that hang
+module _ (names : List Named) (winners : List ℕ) (some more : ℕ → Type 0) (first next : List (Option ℕ)) (key x : ℕ) (apart : AreApart names) (are : AreWinners names winners) (linked : (x : ℕ) → x < length names → IsLinkedUp names x)
+    (child : IsChildOf names winners key x) (fresh : some x → ⊥) (new : more x) (into : (y : ℕ) → some y → more y) (from : (y : ℕ) → more y → some y ⊎ (y ≡ x)) (later : (y : ℕ) → some y → y < length names → bid_at names x < bid_at names y)
+    (so_far : AreChains names winners some first next) where
+  key_in : key < length first
+  key_in = omega (arith, key_few names winners key child.1.key_is, so_far.wide)
+
+  abbrev first' : List (Option ℕ)
+  first' = slice_set first key (Some x)
+
+  abbrev next' : List (Option ℕ)
+  next' = slice_set next x (get_or first key None)
+
+  not_there : (k : ℕ) → k < length first → Has (so_far.family k) x → ⊥
+  not_there k lt has = fresh ((so_far.are k lt).each x has).0
+
+  hangs : (k : ℕ) → k < length first → Hangs next' (get_or first k None) (so_far.family k)
+  hangs k lt = hangs_set next x (get_or first key None) (get_or first k None) (so_far.family k) (not_there k lt) (so_far.hang k lt)
+
+  hangs_here : Hangs next' (get_or first' key None) (x ∷ so_far.family key)
+  hangs_here = (
+    get_or-set_same first key (Some x) None key_in,
+    subst (λ (o : Option ℕ). Hangs next' o (so_far.family key)) (sym (get_or-set_same next x (get_or first key None) None (omega (arith, child.0.within, so_far.long)))) (hangs key key_in),
+  )
+
+  family_here : IsFamily names winners more key (x ∷ so_far.family key)
+  family_here = record {
+    rises = ((λ y has. later y (is.each y has).0 ((is.each y has).1.0).within), is.rises);
+    each = each;
+    found = λ y among its. elim (from y among) [ inl before ↦ inr (is.found y before its) | inr same ↦ inl (sym same) ];
+  } where
+    is : IsFamily names winners some key (so_far.family key)
+    is = so_far.are key key_in
+
+    each : (y : ℕ) → (x ≡ y) ⊎ Has (so_far.family key) y → more y × IsChildOf names winners key y
+    each y (inl same) = (subst more same new, subst (IsChildOf names winners key) same child)
+    each y (inr has) = (into y (is.each y has).0, (is.each y has).1)
+
+  family_other : (k : ℕ) → k < length first → (k ≡ key → ⊥) → IsFamily names winners more k (so_far.family k)
+  family_other k lt other = record {
+    rises = is.rises;
+    each = λ y has. (into y (is.each y has).0, (is.each y has).1);
+    found = λ y among its. elim (from y among) [
+      | inl before ↦ is.found y before its
+      | inr same ↦ absurd (other (one_key names winners k key x apart are linked (subst (IsRightBelow names winners k) same its.1) child.1))
+    ];
+  } where
+    is : IsFamily names winners some k (so_far.family k)
+    is = so_far.are k lt
+
+  pub chains_more : AreChains names winners more first' next'
+  chains_more = record {
+    wide = length-set first key (Some x) ∙ so_far.wide;
+    long = length-set next x (get_or first key None) ∙ so_far.long;
+    family = family;
+    hang = λ k lt. (
+        let within : k < length first = omega (arith, lt, length-set first key (Some x)) in
+        elim (cases_eq k key) [
+          | inl same ↦ subst (λ (n : ℕ). Hangs next' (get_or first' n None) (family n)) (sym same) (subst (λ (b : Bool). Hangs next' (get_or first' key None) (cond b (x ∷ so_far.family key) (so_far.family key))) (sym (eq-eqb key key refl)) hangs_here)
+          | inr other ↦ subst (λ (b : Bool). Hangs next' (get_or first' k None) (cond b (x ∷ so_far.family key) (so_far.family k))) (sym (ne_eqb k key other))
+              (subst (λ (o : Option ℕ). Hangs next' o (so_far.family k)) (sym (get_or-set_other first key k (Some x) None other)) (hangs k within))
+        ]);
+    are = λ k lt. (
+        let within : k < length first = omega (arith, lt, length-set first key (Some x)) in
+        elim (cases_eq k key) [
+          | inl same ↦ subst (λ (n : ℕ). IsFamily names winners more n (family n)) (sym same) (subst (λ (b : Bool). IsFamily names winners more key (cond b (x ∷ so_far.family key) (so_far.family key))) (sym (eq-eqb key key refl)) family_here)
+          | inr other ↦ subst (λ (b : Bool). IsFamily names winners more k (cond b (x ∷ so_far.family key) (so_far.family k))) (sym (ne_eqb k key other)) (family_other k within other)
+        ]);
+  } where
+    family : ℕ → List ℕ
+    family k = cond (eqb k key) (x ∷ so_far.family key) (so_far.family k)
+
+-- ---- names that were passed
+
+module _ (names : List Named) (winners : List ℕ) (from to n : ℕ) where
+  pub passed_on : (y : ℕ) → Passed names from to (n + 1) y → Passed names from to n y
+  passed_on y (inl late) = inl late
+  passed_on y (inr p) = inr (p.0, omega (arith, p.1))
+
+  pub passed_split : (y : ℕ) → Passed names from to n y → Passed names from to (n + 1) y ⊎ (y ≡ n)
+  passed_split y (inl late) = inl (inl late)
+  passed_split y (inr p) = elim (cases_eq y n) [ inl same ↦ inr same | inr other ↦ inl (inr (p.0, omega (arith, p.1, other))) ]
+
+  -- the name at hand doesn't win
+  pub passed_loser : (get_or winners n 0 ≡ n → ⊥) → (y : ℕ) → Passed names from to n y → Wins names winners y → Passed names from to (n + 1) y
+  passed_loser loses y passed wins = elim (passed_split y passed) [ inl before ↦ before | inr same ↦ absurd (loses (ap (λ (k : ℕ). get_or winners k 0) (sym same) ∙ wins.itself ∙ same)) ]
+
+  -- its bid is out of bounds
+  pub passed_low : bid_at names n < from → (y : ℕ) → Passed names from to n y → Wins names winners y → Passed names from to (n + 1) y
+  passed_low low y (inl late) wins = inl late
+  passed_low low y (inr p) wins = elim (cases_eq y n) [
+    | inl same ↦ absurd (let its = ap (bid_at names) same in omega (arith, p.0, its, low))
+    | inr other ↦ inr (p.0, omega (arith, p.1, other))
+  ]
+
+  pub passed_high : to ≤ bid_at names n → (y : ℕ) → Passed names from to n y → Wins names winners y → Passed names from to (n + 1) y
+  passed_high high y (inl late) wins = inl late
+  passed_high high y (inr p) wins = elim (cases_eq y n) [
+    | inl same ↦ inl (let its = ap (bid_at names) same in omega (arith, its, high))
+    | inr other ↦ inr (p.0, omega (arith, p.1, other))
+  ]
+
+-- a winner in bounds bids less than those that were passed
+pub passed_later : (names : List Named) (from to n : ℕ) → AreRanked names → n < length names → (2 ^ 63 ≤ from) ⊎ (to ≤ 2 ^ 63) → bid_at names n < to → (y : ℕ) → Passed names from to (n + 1) y → y < length names → bid_at names n < bid_at names y
+passed_later names from to n ranked within bounds low y (inl late) there = omega (arith, late, low)
+passed_later names from to n ranked within bounds low y (inr p) there =
+    let bid_n = bid_is names n within in
+    let bid_y = bid_is names y there in
+    let less = ranked n y (name_at names n) (name_at names y) (omega (arith, p.1)) (name_is names n within) (name_is names y there) (λ declared. kind bounds (omega (arith, declared, bid_n)) (omega (arith, p.0, bid_y))) in
+    omega (arith, less, bid_n, bid_y)
+  where
+    kind : (2 ^ 63 ≤ from) ⊎ (to ≤ 2 ^ 63) → 2 ^ 63 ≤ bid_at names n → from ≤ (name_at names y).bid → 2 ^ 63 ≤ (name_at names y).bid
+    kind (inl high) declared le = omega (arith, high, le)
+    kind (inr lower) declared le = absurd (omega (arith, lower, declared, low))
+
+pub passed_fresh : (names : List Named) (from to n : ℕ) → bid_at names n < to → Passed names from to (n + 1) n → ⊥
+passed_fresh names from to n low (inl late) = omega (arith, late, low)
+passed_fresh names from to n low (inr p) = omega (arith, p.1)
+
+pub passed_none : (names : List Named) (from to : ℕ) → ((x : ℕ) → x < length names → bid_at names x < to) → (x : ℕ) → Passed names from to (length names) x → x < length names → ⊥
+passed_none names from to lower x (inl late) within = let low = lower x within in omega (arith, late, low)
+passed_none names from to lower x (inr p) within = omega (arith, p.1, within)
+
+-- the names from one bid on have been passed, and those below it have not
+pub passed_half : (names : List Named) (from to : ℕ) → from ≤ to → (x : ℕ) → Passed names from to 0 x → Passed names 0 from (length names) x
+passed_half names from to le x (inl late) = inl (omega (arith, late, le))
+passed_half names from to le x (inr p) = inl p.0
+
+pub half_passed : (names : List Named) (winners : List ℕ) (from to : ℕ) (x : ℕ) → Passed names 0 from (length names) x → Wins names winners x → Passed names from to 0 x
+half_passed names winners from to x (inl late) wins = inr (late, omega arith)
+half_passed names winners from to x (inr p) wins = absurd (omega (arith, p.1, wins.within))
+
+pub passed_new : (names : List Named) (from to n : ℕ) → from ≤ bid_at names n → Passed names from to n n
+passed_new names from to n low = inr (low, omega arith)
+
+-- where the rows were just made
+pub none_yet : (names : List Named) (winners : List ℕ) (some : ℕ → Type 0) (first next : List (Option ℕ)) (n m : ℕ) → first ≡ replicate n None → next ≡ replicate m None → n ≡ m + 2 → m ≡ length names → ((x : ℕ) → some x → x < length names → ⊥) → AreChains names winners some first next
+none_yet names winners some first next n m first_is next_is more all none =
+    no_chains names winners some first next (ap length first_is ∙ length-replicate n nothing ∙ more ∙ ap (λ (k : ℕ). k + 2) all) (ap length next_is ∙ length-replicate m nothing ∙ all)
+    (λ key lt. ap (λ (xs : List (Option ℕ)). get_or xs key None) first_is ∙ get_or-replicate n key nothing None (omega (arith, lt, ap length first_is, length-replicate n nothing))) none
+  where
+    nothing : Option ℕ
+    nothing = None

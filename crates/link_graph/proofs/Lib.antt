@@ -15,7 +15,7 @@ pub mod Rising
 pub mod PoolPaths
 pub mod PoolTrees
 pub mod Families
-pub mod PoolRuns
+pub mod PoolWalks
 pub mod PoolNodes
-pub mod LinkedApart
+pub mod LinkedRanks
 pub mod Growing

@@ -6,12 +6,9 @@ use Rattle.std.specs.List.{AllByRecursion, IsDistinct, filter, flat_map, list_an
 use Rattle.std.proofs.lemmas.Bool.{both_ways, cases_Bool, eq-eqb, eqb-true, ne_eqb}
 use Rattle.std.proofs.lemmas.Map.Made.{length-le_from_is_member}
 use Rattle.std.proofs.lemmas.Option.{none-some, same_Some}
+pub use Rattle.link_graph.specs.Rising.{Has, Rises}
 
 -- ---- elements
-
-abbrev pub Has : {A : Type 0} → List A → A → Type 0
-Has [] x = ⊥
-Has (y ∷ ys) x = (y ≡ x) ⊎ Has ys x
 
 pub has_at : {A : Type 0} (xs : List A) (i : ℕ) (x : A) → slice_get xs i ≡ Some x → Has xs x
 has_at [] i x at = absurd (none-some x at)
@@ -124,10 +121,6 @@ part_at {A} (suc s) n i (y ∷ xs) x at =
     (rest.0, ap (slice_get (y ∷ xs)) here ∙ rest.1)
 
 -- ---- lists that rise
-
-abbrev pub Rises : {A : Type 0} → (A → ℕ) → List A → Type 0
-Rises f [] = ⊤
-Rises {A} f (x ∷ xs) = ((y : A) → Has xs y → f x < f y) × Rises f xs
 
 pub rises_from : {A : Type 0} (f : A → ℕ) (xs : List A) → ((i j : ℕ) (a b : A) → i < j → slice_get xs i ≡ Some a → slice_get xs j ≡ Some b → f a < f b) → Rises f xs
 rises_from f [] up = tt

@@ -6,3 +6,4 @@ pub mod Passes
 pub mod Pool
 pub mod PoolFiles
 pub mod PoolOrder
+pub mod Rising

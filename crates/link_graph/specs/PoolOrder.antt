@@ -1,13 +1,13 @@
--- How the nodes of merged entries are found: the winners with what stands above them, in order, and gone over in preorder.
-use Rattle.std.specs.Prelude.{◌≡◌, ◌⊎◌, ℕ, ◌+◌, ◌-◌, ◌<◌, ◌≤◌, ◌==◌, List, [], ◌∷◌, ◌++◌, map, take, drop, length, slice_get, slice_index_or, Option, Some, None, if◌then◌else◌}
-use Rattle.std.specs.List.{All, IsDistinct, flat_map, position_from}
+-- How the nodes of merged entries are found: the winners in chains, those right below each path by their bids, and gone over in preorder.
+use Rattle.std.specs.Prelude.{◌≡◌, ◌⊎◌, ℕ, ◌+◌, ◌-◌, ◌^◌, ◌<◌, ◌≤◌, ◌==◌, List, [], ◌∷◌, ◌++◌, map, drop, length, slice_get, slice_index_or, Option, Some, None, if◌then◌else◌}
+use Rattle.std.specs.Bool.{⊤}
+use Rattle.std.specs.List.{All, position_from}
 use Rattle.std.specs.Option.{ForSome, option_map_or}
 use Rattle.odr_names.specs.Book.{bid_at, path_at}
 use Rattle.type_names.specs.Names.{Named}
 use Rattle.type_names.specs.Paths.{Piece}
-use Rattle.link_graph.specs.declared.pool.Child.{Child}
-use Rattle.link_graph.specs.declared.pool.Run.{Run}
 use Rattle.link_graph.specs.Pool.{node_of_path, pool_names, preorder}
+use Rattle.link_graph.specs.Rising.{Has, Rises}
 
 -- ---- names
 
@@ -27,6 +27,10 @@ pub record Wins (names : List Named) (winners : List ℕ) (x : ℕ) : Type 0 whe
   pub within : x < length names
   pub itself : slice_index_or winners x 0 ≡ x
 
+-- of names of one kind, and of a definition and a declaration, the earlier one has the lower bid
+abbrev pub AreRanked : List Named → Type 0
+AreRanked names = (i j : ℕ) (v w : Named) → i < j → slice_get names i ≡ Some v → slice_get names j ≡ Some w → (2 ^ 63 ≤ v.bid → 2 ^ 63 ≤ w.bid) → v.bid < w.bid
+
 -- the name of a number
 abbrev pub name_at : List Named → ℕ → Named
 name_at names x = slice_index_or names x (record { object = 0; entry = 0; path = []; bid = 0 })
@@ -44,74 +48,54 @@ key_path names key = if key == 0 then [] else path_at names (key - 1)
 abbrev pub IsKey : List Named → List ℕ → ℕ → Type 0
 IsKey names winners key = (key ≡ 0) ⊎ ((w : ℕ) × (key ≡ w + 1) × Wins names winners w)
 
-pub record IsChildOf (names : List Named) (winners : List ℕ) (c : Child) : Type 0 where
-  pub wins : Wins names winners c.name
-  pub bid : c.bid ≡ bid_at names c.name
-  pub key : IsKey names winners c.parent
+-- name x stands right below the path that has this number
+pub record IsRightBelow (names : List Named) (winners : List ℕ) (key x : ℕ) : Type 0 where
+  pub key_is : IsKey names winners key
   pub piece : Piece
-  pub path : path_at names c.name ≡ key_path names c.parent ++ piece ∷ []
+  pub path : path_at names x ≡ key_path names key ++ piece ∷ []
 
--- the winners among the first n names
-pub record AreChildrenTo (names : List Named) (winners : List ℕ) (children : List Child) (n : ℕ) : Type 0 where
-  pub linked : (x : ℕ) → x < n → IsLinkedUp names x
-  pub each : (i : ℕ) (c : Child) → slice_get children i ≡ Some c → (c.name < n) × IsChildOf names winners c
-  pub found : (x : ℕ) → x < n → slice_index_or winners x 0 ≡ x → (i : ℕ) × (c : Child) × (slice_get children i ≡ Some c) × (c.name ≡ x)
-  pub once : IsDistinct (λ (a b : Child). a.name == b.name) children
+-- it does, and wins
+abbrev pub IsChildOf : List Named → List ℕ → ℕ → ℕ → Type 0
+IsChildOf names winners key x = Wins names winners x × IsRightBelow names winners key x
 
--- by what stands above, and then by bid
-abbrev pub AreInOrder : List Child → Type 0
-AreInOrder children = (i j : ℕ) (a b : Child) → i ≤ j → slice_get children i ≡ Some a → slice_get children j ≡ Some b → (a.parent < b.parent) ⊎ ((a.parent ≡ b.parent) × (a.bid ≤ b.bid))
+-- of each name the number of the path above
+pub record AreKeys (names : List Named) (winners keys : List ℕ) : Type 0 where
+  pub len : length keys ≡ length names
+  pub each : (x : ℕ) → x < length names → IsRightBelow names winners (slice_index_or keys x 0) x
 
--- all winners in order
-pub record IsFamily (names : List Named) (winners : List ℕ) (children : List Child) : Type 0 where
-  pub are : AreChildrenTo names winners children (length names)
-  pub order : AreInOrder children
+-- ---- chains
 
--- those before a place are of lower numbers
-pub record AreLowerTo (children : List Child) (key place : ℕ) : Type 0 where
-  pub within : place ≤ length children
-  pub lower : (i : ℕ) (c : Child) → slice_get children i ≡ Some c → i < place → c.parent < key
+-- a chain begins with this name, if with any, and has these names
+abbrev pub Hangs : List (Option ℕ) → Option ℕ → List ℕ → Type 0
+Hangs next first [] = first ≡ None
+Hangs next first (x ∷ xs) = (first ≡ Some x) × Hangs next (slice_index_or next x None) xs
 
--- where the children of a number begin
-pub record IsStart (children : List Child) (key start : ℕ) : Type 0 where
-  pub before : AreLowerTo children key start
-  pub behind : (i : ℕ) (c : Child) → slice_get children i ≡ Some c → start ≤ i → key ≤ c.parent
+-- of some winners those right below the path of a number, by their bids
+pub record IsFamily (names : List Named) (winners : List ℕ) (some : ℕ → Type 0) (key : ℕ) (family : List ℕ) : Type 0 where
+  pub rises : Rises (bid_at names) family
+  pub each : (x : ℕ) → Has family x → some x × IsChildOf names winners key x
+  pub found : (x : ℕ) → some x → IsChildOf names winners key x → Has family x
 
--- of each of n numbers where its children begin
-pub record AreStarts (children : List Child) (starts : List ℕ) (n : ℕ) : Type 0 where
-  pub len : length starts ≡ n
-  pub each : (key : ℕ) → key < n → IsStart children key (slice_index_or starts key 0)
+-- they hang in chains: the first one of each number is told, and the next one of each winner
+pub record AreChains (names : List Named) (winners : List ℕ) (some : ℕ → Type 0) (first next : List (Option ℕ)) : Type 0 where
+  pub wide : length first ≡ length names + 2
+  pub long : length next ≡ length names
+  pub family : ℕ → List ℕ
+  pub hang : (key : ℕ) → key < length first → Hangs next (slice_index_or first key None) (family key)
+  pub are : (key : ℕ) → key < length first → IsFamily names winners some key (family key)
 
--- the run of the children of one number
-pub record IsRunOf (children : List Child) (key : ℕ) (run : Run) : Type 0 where
-  pub within : run.end ≤ length children
-  pub front : (i : ℕ) (c : Child) → slice_get children i ≡ Some c → i < run.next → c.parent < key
-  pub here : (i : ℕ) (c : Child) → slice_get children i ≡ Some c → run.next ≤ i → i < run.end → c.parent ≡ key
-  pub behind : (i : ℕ) (c : Child) → slice_get children i ≡ Some c → run.end ≤ i → key < c.parent
+-- it is a later name whose bid is not below the first bound, or its bid is not below the second
+abbrev pub Passed : List Named → ℕ → ℕ → ℕ → ℕ → Type 0
+Passed names from to x y = (to ≤ bid_at names y) ⊎ ((from ≤ bid_at names y) × (x ≤ y))
+
+abbrev pub AnyName : ℕ → Type 0
+AnyName x = ⊤
 
 -- ---- preorder
 
 -- all below a path
 abbrev pub below : List Named → List Piece → List Named
 below names path = preorder (length names) names path
-
-abbrev pub run_in : List Child → Run → List Child
-run_in children run = take (run.end - run.next) (drop run.next children)
-
--- what a run gives: each child, and all below it
-abbrev pub run_gives : List Named → List Child → Run → List Named
-run_gives names children run = flat_map (λ c. name_at names c.name ∷ below names (name_at names c.name).path) (run_in children run)
-
--- what runs give, the last one first
-abbrev pub runs_give : List Named → List Child → List Run → List Named
-runs_give names children [] = []
-runs_give names children (run ∷ runs) = runs_give names children runs ++ run_gives names children run
-
--- winners in preorder so far, and the runs that are left
-pub record IsGoing (names : List Named) (winners : List ℕ) (children : List Child) (order : List ℕ) (open_runs : List Run) : Type 0 where
-  pub whole : map (name_at names) order ++ runs_give names children open_runs ≡ pool_names names
-  pub wins : All (Wins names winners) order
-  pub within : All (λ (run : Run). run.end ≤ length children) open_runs
 
 -- all winners that have a node, in preorder
 pub record IsPreorder (names : List Named) (winners : List ℕ) (order : List ℕ) : Type 0 where

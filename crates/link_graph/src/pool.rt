@@ -1,11 +1,12 @@
 //! The nodes of merged entries: one for each path of the names of a link.
 //!
-//! The winners are put in order by what stands above them and then by their bids, so those right below a path are one
-//! run. Where each run begins is told by one pass. The runs are gone over in preorder with a stack of the runs that are not yet done.
+//! The winners right below a path hang in a chain, by their bids. Names stand in the order of their bids but for
+//! declarations, which bid higher, so each pass over the names from the last one puts its winners before those that hang
+//! already: first the declarations, and then the others. The chains are gone over in preorder, with a stack of those that
+//! are not yet done.
 
-ghost use Rattle.std.specs.Prelude.{◌≡◌, ◌<◌, ◌≤◌, ◌+◌, ◌^◌, ◌==◌, ◌++◌, ℕ, ◌∷◌, None, length, map, slice_index_or, IfOk, List as Listed};
+ghost use Rattle.std.specs.Prelude.{◌≡◌, ◌<◌, ◌≤◌, ◌+◌, ◌^◌, ◌==◌, ◌⊎◌, ◌++◌, ℕ, ◌∷◌, None, Some, length, map, replicate, slice_index_or, slice_set, IfOk, List as Listed};
 ghost use Rattle.std.specs.List.{All, list_any};
-ghost use Rattle.std.specs.List.Sorted.{IsNonDecreasingBy, IsPermutation};
 ghost use Rattle.std.specs.Option.{ForSome};
 ghost use Rattle.odr_names.specs.Book.{path_at};
 ghost use Rattle.odr_names.specs.Winners.{AreWinners};
@@ -14,12 +15,12 @@ ghost use Rattle.link_graph.specs.Joining.{ArePathNodes};
 ghost use Rattle.link_graph.specs.Merged.{pool_origin, pool_root, pool_units};
 ghost use Rattle.link_graph.specs.Passes.{with_version};
 ghost use Rattle.link_graph.specs.Pool.{node_above, pool_names};
-ghost use Rattle.link_graph.specs.PoolOrder.{AreApart, AreChildrenTo, AreInOrder, AreLowerTo, AreNodes, AreNodesFrom, AreStarts, IsFamily, IsLinkedUp, IsPreorder, IsRunOf, IsStart, key_of, name_at};
+ghost use Rattle.link_graph.specs.PoolOrder.{AnyName, AreApart, AreChains, AreKeys, AreNodes, AreNodesFrom, AreRanked, IsLinkedUp, IsPreorder, Passed, key_of, name_at};
 
 use ds_base::dwarf::{DWARF_4, DWARF_5};
 use ds_base::{List, NoMemory};
 use dwarf_types::{Origin, ShapeUnit};
-use odr_names::{PathBook, above, count, number, occurrence};
+use odr_names::{PathBook, above, bids_are_some, count, number, occurrence};
 use std::alloc::Global;
 
 /// The nodes of merged entries: one for each path of the names of a link.
@@ -31,45 +32,41 @@ pub struct PathNodes {
     pub nodes: Vec<Option<u32>>,
 }
 
-/// A winner, and what stands above it.
-#[derive(Clone, Copy)]
-pub(crate) struct Child {
-    /// 1 more than the winner of the path above, or 0 where that has no piece.
-    pub(crate) parent: u32,
-    pub(crate) bid: u64,
-    pub(crate) name: u32,
+/// Winners in chains: those right below each path, by their bids.
+#[derive(Drop)]
+pub(crate) struct Chains {
+    /// The first one right below each path, by the path's number: 0 is that of none, and 1 more than its winner that of
+    /// another.
+    pub(crate) first: Vec<Option<u32>>,
+    /// Of each winner the next one right below the same path.
+    pub(crate) next: Vec<Option<u32>>,
 }
 
-/// Children of one parent, which stand one after the other.
-#[derive(Clone, Copy)]
-pub(crate) struct Run {
-    pub(crate) next: usize,
-    pub(crate) end: usize,
-}
-
-/// The winners of a book's names, by what stands above them and then by their bids.
+/// The winners of a book's names in chains.
 #[derive(Drop)]
 pub(crate) struct Tree<'a, 'b> {
     pub(crate) names: &'a PathBook<'b>,
     pub(crate) winners: &'a [u32],
-    pub(crate) children: Vec<Child>,
+    pub(crate) chains: Chains,
 }
+
+/// Bids from this one on are of declarations.
+const DECLARED: u64 = 1 << 63;
 
 /// The nodes of merged entries: of each path the winner has one, in preorder, siblings by their bids.
 ///
 /// `winners` tells of each name the one that wins its path. What the objects give is not asked for, so it may be made
 /// beside this.
 pub fn path_nodes(alloc: Global, names: &PathBook, winners: &[u32]) -> Result<PathNodes, NoMemory>
-    requires apart { AreApart names.now }
+    requires ranked { AreRanked names.now }
     requires winners { AreWinners names.now winners.now }
     ensures { IfOk result (ArePathNodes names.now) }
 {
-    let mut children = children_of(alloc, names, winners)?;
-    sort_children(&mut children);
+    let chains = chains_of(alloc, names, winners)?;
     let tree = Tree {
         names,
         winners,
-        children,
+        chains,
     };
     let order = order_of(alloc, &tree)?;
     let nodes = nodes_of(alloc, names, winners, &order)?;
@@ -77,28 +74,46 @@ pub fn path_nodes(alloc: Global, names: &PathBook, winners: &[u32]) -> Result<Pa
     Ok(PathNodes { units, nodes })
 }
 
-/// The winners, as they stand.
-fn children_of(alloc: Global, names: &PathBook, winners: &[u32]) -> Result<Vec<Child>, NoMemory>
-    requires apart { AreApart names.now }
+/// The winners in chains.
+fn chains_of(alloc: Global, names: &PathBook, winners: &[u32]) -> Result<Chains, NoMemory>
+    requires ranked { AreRanked names.now }
     requires winners { AreWinners names.now winners.now }
-    ensures few { IfOk result (λ children. length names.now < 2 ^ 32) }
-    ensures all { IfOk result (λ children. AreChildrenTo names.now winners.now children.items (length names.now)) }
+    ensures linked { IfOk result (λ chains. (x : ℕ) → x < length names.now → IsLinkedUp names.now x) }
+    ensures chains { IfOk result (λ chains. AreChains names.now winners.now AnyName chains.first.items chains.next.items) }
 {
-    let mut children = Vec::new(alloc);
-    for x in 0..count(names) {
-        let parent = key_of(winners, above(names, x));
-        if winners[x as usize] == x {
-            children.push(Child {
-                parent,
-                bid: number(names, x),
-                name: x,
-            })?;
-        }
-    }
-    Ok(children)
+    let keys = keys_of(alloc, names, winners)?;
+    bids_are_some(names);
+    let size = count(names) as usize;
+    let first = no_names(alloc, size + 2)?;
+    let next = no_names(alloc, size)?;
+    let mut chains = Chains { first, next };
+    hang_winners(names, winners, &keys, DECLARED, u64::MAX, &mut chains);
+    hang_winners(names, winners, &keys, 0, DECLARED, &mut chains);
+    Ok(chains)
 }
 
-/// The parent of a child, by a name of the path above it: 1 more than the winner of that path, or 0 where it has no piece.
+/// So many places for names, where none stands yet.
+fn no_names(alloc: Global, count: usize) -> Result<Vec<Option<u32>>, NoMemory>
+    ensures { IfOk result (λ places. places.items ≡ replicate count None) }
+{
+    Ok(vec![in alloc; None; count]?)
+}
+
+/// Of each name the number of the path above.
+fn keys_of(alloc: Global, names: &PathBook, winners: &[u32]) -> Result<Vec<u32>, NoMemory>
+    requires ranked { AreRanked names.now }
+    requires winners { AreWinners names.now winners.now }
+    ensures linked { IfOk result (λ keys. (x : ℕ) → x < length names.now → IsLinkedUp names.now x) }
+    ensures keys { IfOk result (λ keys. AreKeys names.now winners.now keys.items) }
+{
+    let mut keys = Vec::with_capacity(alloc, count(names) as usize)?;
+    for x in 0..count(names) {
+        keys.push(key_of(winners, above(names, x)))?;
+    }
+    Ok(keys)
+}
+
+/// The number of the path above a name, by a name of that path: 1 more than its winner, or 0 where it has no piece.
 fn key_of(winners: &[u32], above: Option<u32>) -> u32
     requires { ForSome above (λ p. (p < length winners.now) × (slice_index_or winners.now p 0 + 1 < 2 ^ 32)) }
     ensures { result ≡ key_of winners.now above }
@@ -109,82 +124,76 @@ fn key_of(winners: &[u32], above: Option<u32>) -> u32
     }
 }
 
-/// Puts winners in order: by what stands above them, and then by bid.
-fn sort_children(children: &mut Vec<Child>)
-    ensures same { IsPermutation children.old.items children.new.items }
-    ensures order { AreInOrder children.new.items }
+/// Puts the winners whose bids are in these bounds before those in the chains, the last one first.
+///
+/// `keys` tells of each name the number of the path above. Those that hang already bid no less than `to`.
+fn hang_winners(
+    names: &PathBook,
+    winners: &[u32],
+    keys: &[u32],
+    from: u64,
+    to: u64,
+    chains: &mut Chains,
+)
+    requires bounds { (2 ^ 63 ≤ from) ⊎ (to ≤ 2 ^ 63) }
+    requires ranked { AreRanked names.now }
+    requires winners { AreWinners names.now winners.now }
+    requires linked { (x : ℕ) → x < length names.now → IsLinkedUp names.now x }
+    requires keys { AreKeys names.now winners.now keys.now }
+    requires chains { AreChains names.now winners.now (Passed names.now from to (length names.now)) chains.old.first.items chains.old.next.items }
+    ensures { AreChains names.now winners.now (Passed names.now from to 0) chains.new.first.items chains.new.next.items }
 {
-    children.sort_unstable_by_key(|c| (c.parent, c.bid));
+    let mut x = count(names);
+    while x > 0 {
+        x -= 1;
+        if winners[x as usize] != x {
+            continue;
+        }
+        let bid = number(names, x);
+        if bid < from {
+            continue;
+        }
+        if bid >= to {
+            continue;
+        }
+        hang(chains, keys[x as usize], x);
+    }
+}
+
+/// Puts a winner before those right below the path of this number.
+fn hang(chains: &mut Chains, key: u32, x: u32)
+    requires key { key < length chains.old.first.items }
+    requires name { x < length chains.old.next.items }
+    ensures first { chains.new.first.items ≡ slice_set chains.old.first.items key (Some x) }
+    ensures next { chains.new.next.items ≡ slice_set chains.old.next.items x (slice_index_or chains.old.first.items key None) }
+{
+    let behind = chains.first[key as usize];
+    chains.next[x as usize] = behind;
+    chains.first[key as usize] = Some(x);
 }
 
 /// The winners that have nodes, in preorder.
 fn order_of(alloc: Global, tree: &Tree) -> Result<Vec<u32>, NoMemory>
-    requires few { length tree.now.names.now < 2 ^ 32 }
-    requires apart { AreApart tree.now.names.now }
+    requires ranked { AreRanked tree.now.names.now }
     requires winners { AreWinners tree.now.names.now tree.now.winners.now }
-    requires family { IsFamily tree.now.names.now tree.now.winners.now tree.now.children.items }
+    requires linked { (x : ℕ) → x < length tree.now.names.now → IsLinkedUp tree.now.names.now x }
+    requires chains { AreChains tree.now.names.now tree.now.winners.now AnyName tree.now.chains.first.items tree.now.chains.next.items }
     ensures { IfOk result (λ order. IsPreorder tree.now.names.now tree.now.winners.now order.items) }
 {
-    let children = tree.children.as_slice();
-    let starts = starts_of(alloc, children, count(tree.names) as usize + 2)?;
+    let first = tree.chains.first.as_slice();
+    let next = tree.chains.next.as_slice();
     let mut order = Vec::new(alloc);
     let mut open = Vec::new(alloc);
-    open.push(run_of(children, &starts, 0))?;
-    while let Some(run) = open.pop() {
-        if run.next >= run.end {
+    open.push(first[0])?;
+    while let Some(top) = open.pop() {
+        let Some(name) = top else {
             continue;
-        }
-        let name = children[run.next].name;
+        };
         order.push(name)?;
-        open.push(Run {
-            next: run.next + 1,
-            end: run.end,
-        })?;
-        open.push(run_of(children, &starts, name as usize + 1))?;
+        open.push(next[name as usize])?;
+        open.push(first[name as usize + 1])?;
     }
     Ok(order)
-}
-
-/// Where the children of each parent begin, of so many parents.
-fn starts_of(alloc: Global, children: &[Child], parents: usize) -> Result<Vec<usize>, NoMemory>
-    requires { IsNonDecreasingBy (λ c. c.parent) children.now }
-    ensures { IfOk result (λ starts. AreStarts children.now starts.items parents) }
-{
-    let mut starts = Vec::with_capacity(alloc, parents)?;
-    let mut start = 0;
-    for parent in 0..parents {
-        start = start_from(children, start, parent);
-        starts.push(start)?;
-    }
-    Ok(starts)
-}
-
-/// Where the children of a parent begin, from a place on before which all are of lower parents.
-fn start_from(children: &[Child], from: usize, parent: usize) -> usize
-    requires order { IsNonDecreasingBy (λ c. c.parent) children.now }
-    requires lower { AreLowerTo children.now parent from }
-    ensures { IsStart children.now parent result }
-{
-    let mut start = from;
-    while start < children.len() {
-        if children[start].parent as usize >= parent {
-            return start;
-        }
-        start += 1;
-    }
-    start
-}
-
-/// The run of the children of a parent.
-fn run_of(children: &[Child], starts: &[usize], parent: usize) -> Run
-    requires within { parent + 1 < length starts.now }
-    requires starts { AreStarts children.now starts.now (length starts.now) }
-    ensures { IsRunOf children.now parent result }
-{
-    Run {
-        next: starts[parent],
-        end: starts[parent + 1],
-    }
 }
 
 /// The node of each name's path.

@@ -1,70 +1,58 @@
-use Rattle.std.proofs.Common.{◌++◌, ◌∷◌, [], List, arith, ap, sym, subst, ◌∙◌}
-use Rattle.link_graph.specs.declared.pool.Child.{Child}
-use Rattle.link_graph.specs.declared.pool.Run.{Run}
-use Rattle.link_graph.specs.PoolOrder.{IsFamily}
-use Rattle.link_graph.proofs.Families.{parents_rise}
-use Rattle.link_graph.proofs.PoolRuns.{child_few, going_first, going_more, going_past, smaller_more, smaller_past}
+use Rattle.std.proofs.Common.{◌+◌, ◌++◌, ◌∷◌, ◌∙◌, [], ℕ, List, Option, None, slice_index_or, ap, subst, sym, arith}
+use Rattle.link_graph.specs.PoolOrder.{AnyName, AreChains}
+use Rattle.link_graph.proofs.Families.{ranked_apart}
+use Rattle.link_graph.proofs.PoolWalks.{name_wins, smaller_more, walk_first, walk_more, walk_past}
 use Rattle.link_graph.proofs.pool.order_of.Goals as goal
 
-pub loop-run-init : goal.loop-run-init
-loop-run-init c =
+pub loop-top-init : goal.loop-top-init
+loop-top-init c =
     let tree = c.args.tree.now in
-    let children = c.as_slice-children.result.now in
-    let family : IsFamily tree.names.now tree.winners.now children = subst (IsFamily tree.names.now tree.winners.now) (sym c.as_slice-children.ensures.value) c.requires.family in
-    going_first tree.names.now tree.winners.now children c.requires.apart c.requires.winners family c.new-order.result.items c.push.new.self.items c.run_of.result
-    c.new-order.ensures.items (c.in_ok-push.ensures.items ∙ ap (λ (runs : List Run). runs ++ c.run_of.result ∷ []) c.new-open.ensures.items) c.run_of.ensures
+    let names = tree.names.now in
+    let winners = tree.winners.now in
+    let first = c.as_slice-first.result.now in
+    let next = c.as_slice-next.result.now in
+    let chains : AreChains names winners AnyName first next =
+    subst (λ (xs : List (Option ℕ)). AreChains names winners AnyName xs next) (sym c.as_slice-first.ensures.value) (subst (λ (xs : List (Option ℕ)). AreChains names winners AnyName tree.chains.first.items xs) (sym c.as_slice-next.ensures.value) c.requires.chains) in
+    walk_first names winners next first c.new-order.result.items c.push.new.self.items (ranked_apart names c.requires.ranked) c.requires.winners c.requires.linked chains c.new-order.ensures.items
+    (c.in_ok-push.ensures.items ∙ ap (λ (opened : List (Option ℕ)). opened ++ slice_index_or first 0 None ∷ []) c.new-open.ensures.items)
 
-pub loop-run-smaller-then-run : goal.loop-run-smaller-then-run
-loop-run-smaller-then-run c =
+pub loop-top-preserved-in_default-top : goal.loop-top-preserved-in_default-top
+loop-top-preserved-in_default-top c =
     let tree = c.args.tree.now in
-    let children = c.as_slice-children.result.now in
-    let family : IsFamily tree.names.now tree.winners.now children = subst (IsFamily tree.names.now tree.winners.now) (sym c.as_slice-children.ensures.value) c.requires.family in
-    smaller_past tree.names.now tree.winners.now children c.requires.apart c.requires.winners family c.loop-run.order.items c.loop-run.open.items c.pop.new.self.items c.in-Some.run' c.in-Some.ensures.items c.loop-run.invariant c.if-run.true
+    walk_past tree.names.now tree.winners.now c.as_slice-next.result.now c.loop-top.order.items c.loop-top.open.items c.pop.new.self.items c.in-Some.top c.in-Some.ensures.items c.in_default-top.is c.loop-top.invariant
 
-pub loop-run-preserved-then-run : goal.loop-run-preserved-then-run
-loop-run-preserved-then-run c =
+pub bounds-next-name : goal.bounds-next-name
+bounds-next-name c =
     let tree = c.args.tree.now in
-    let children = c.as_slice-children.result.now in
-    let family : IsFamily tree.names.now tree.winners.now children = subst (IsFamily tree.names.now tree.winners.now) (sym c.as_slice-children.ensures.value) c.requires.family in
-    going_past tree.names.now tree.winners.now children c.requires.apart c.requires.winners family c.loop-run.order.items c.loop-run.open.items c.pop.new.self.items c.in-Some.run' c.in-Some.ensures.items c.loop-run.invariant c.if-run.true
+    let wins = name_wins tree.names.now tree.winners.now c.as_slice-next.result.now c.loop-top.order.items c.loop-top.open.items c.pop.new.self.items c.in-Some.top c.in-Some-top.name c.in-Some.ensures.items c.in-Some-top.is c.loop-top.invariant in
+    omega (arith, wins.within, c.requires.chains.long, c.as_slice-next.ensures.len)
 
-pub overflow_add-name : goal.overflow_add-name
-overflow_add-name c =
+pub bounds-first-name : goal.bounds-first-name
+bounds-first-name c =
     let tree = c.args.tree.now in
-    let children = c.as_slice-children.result.now in
-    let d : Child = record { parent = 0; bid = 0; name = 0 } in
-    let family : IsFamily tree.names.now tree.winners.now children = subst (IsFamily tree.names.now tree.winners.now) (sym c.as_slice-children.ensures.value) c.requires.family in
-    let few = child_few tree.names.now tree.winners.now children c.requires.apart c.requires.winners family c.loop-run.order.items c.loop-run.open.items c.pop.new.self.items c.in-Some.run' c.in-Some.ensures.items c.loop-run.invariant d c.if-run.false in
-    omega (arith, few, c.requires.few)
+    let wins = name_wins tree.names.now tree.winners.now c.as_slice-next.result.now c.loop-top.order.items c.loop-top.open.items c.pop.new.self.items c.in-Some.top c.in-Some-top.name c.in-Some.ensures.items c.in-Some-top.is c.loop-top.invariant in
+    omega (arith, wins.within, c.requires.chains.wide, c.as_slice-first.ensures.len)
 
-pub starts_of-requires : goal.starts_of-requires
-starts_of-requires c = rw c.as_slice-children.ensures.value (parents_rise c.args.tree.now.children.items c.requires.family.order)
-
-pub run_of-requires-in-Some-clause-within : goal.run_of-requires-in-Some-clause-within
-run_of-requires-in-Some-clause-within c =
+pub loop-top-smaller : goal.loop-top-smaller
+loop-top-smaller c =
     let tree = c.args.tree.now in
-    let children = c.as_slice-children.result.now in
-    let d : Child = record { parent = 0; bid = 0; name = 0 } in
-    let family : IsFamily tree.names.now tree.winners.now children = subst (IsFamily tree.names.now tree.winners.now) (sym c.as_slice-children.ensures.value) c.requires.family in
-    let few = child_few tree.names.now tree.winners.now children c.requires.apart c.requires.winners family c.loop-run.order.items c.loop-run.open.items c.pop.new.self.items c.in-Some.run' c.in-Some.ensures.items c.loop-run.invariant d c.if-run.false in
-    omega (arith, few, c.in_ok-starts.ensures.len, c.count.ensures)
+    let next = c.as_slice-next.result.now in
+    let first = c.as_slice-first.result.now in
+    let x = c.in-Some-top.name in
+    smaller_more tree.names.now tree.winners.now next c.loop-top.order.items c.loop-top.open.items c.pop.new.self.items c.in-Some.top x c.in-Some.ensures.items c.in-Some-top.is c.loop-top.invariant
+    c.push-in-Some.new.self.items c.push-in-Some-3.new.self.items (slice_index_or next x None) (slice_index_or first (x + 1) None) c.in_ok-push-2.ensures.items
+    (c.in_ok-push-4.ensures.items ∙ ap (λ (opened : List (Option ℕ)). opened ++ slice_index_or first (x + 1) None ∷ []) c.in_ok-push-3.ensures.items)
 
-pub loop-run-smaller : goal.loop-run-smaller
-loop-run-smaller c =
+pub loop-top-preserved : goal.loop-top-preserved
+loop-top-preserved c =
     let tree = c.args.tree.now in
-    let children = c.as_slice-children.result.now in
-    let d : Child = record { parent = 0; bid = 0; name = 0 } in
-    let family : IsFamily tree.names.now tree.winners.now children = subst (IsFamily tree.names.now tree.winners.now) (sym c.as_slice-children.ensures.value) c.requires.family in
-    smaller_more tree.names.now tree.winners.now children c.requires.apart c.requires.winners family c.loop-run.order.items c.loop-run.open.items c.pop.new.self.items c.in-Some.run' c.in-Some.ensures.items c.loop-run.invariant
-    d c.push-in-Some.new.self.items c.push-in-Some-3.new.self.items c.run_of-in-Some.result c.if-run.false c.run_of-in-Some.ensures
-    (c.in_ok-push-4.ensures.items ∙ ap (λ (runs : List Run). runs ++ c.run_of-in-Some.result ∷ []) c.in_ok-push-3.ensures.items)
-
-pub loop-run-preserved : goal.loop-run-preserved
-loop-run-preserved c =
-    let tree = c.args.tree.now in
-    let children = c.as_slice-children.result.now in
-    let d : Child = record { parent = 0; bid = 0; name = 0 } in
-    let family : IsFamily tree.names.now tree.winners.now children = subst (IsFamily tree.names.now tree.winners.now) (sym c.as_slice-children.ensures.value) c.requires.family in
-    going_more tree.names.now tree.winners.now children c.requires.apart c.requires.winners family c.loop-run.order.items c.loop-run.open.items c.pop.new.self.items c.in-Some.run' c.in-Some.ensures.items c.loop-run.invariant
-    d c.push-in-Some.new.self.items c.push-in-Some-3.new.self.items c.run_of-in-Some.result c.if-run.false c.run_of-in-Some.ensures
-    (c.in_ok-push-4.ensures.items ∙ ap (λ (runs : List Run). runs ++ c.run_of-in-Some.result ∷ []) c.in_ok-push-3.ensures.items) c.in_ok-push-2.ensures.items
+    let names = tree.names.now in
+    let winners = tree.winners.now in
+    let next = c.as_slice-next.result.now in
+    let first = c.as_slice-first.result.now in
+    let x = c.in-Some-top.name in
+    let chains : AreChains names winners AnyName first next =
+    subst (λ (xs : List (Option ℕ)). AreChains names winners AnyName xs next) (sym c.as_slice-first.ensures.value) (subst (λ (xs : List (Option ℕ)). AreChains names winners AnyName tree.chains.first.items xs) (sym c.as_slice-next.ensures.value) c.requires.chains) in
+    walk_more names winners next c.loop-top.order.items c.loop-top.open.items c.pop.new.self.items c.in-Some.top x c.in-Some.ensures.items c.in-Some-top.is c.loop-top.invariant
+    first c.push-in-Some.new.self.items c.push-in-Some-3.new.self.items (ranked_apart names c.requires.ranked) c.requires.winners c.requires.linked chains c.in_ok-push-2.ensures.items
+    (c.in_ok-push-4.ensures.items ∙ ap (λ (opened : List (Option ℕ)). opened ++ slice_index_or first (x + 1) None ∷ []) c.in_ok-push-3.ensures.items)

@@ -2,9 +2,9 @@ use Rattle.std.proofs.Common.{◌≡◌, ◌+◌, ◌∷◌, ◌∙◌, [], ℕ,
 use Rattle.std.proofs.lemmas.Result.{IfOk-weaker}
 use Rattle.link_graph.specs.Merged.{kept_objects}
 use Rattle.link_graph.specs.OwnShapes.{AreOwnShapes}
-use Rattle.link_graph.specs.PoolOrder.{AreApart}
+use Rattle.link_graph.specs.PoolOrder.{AreRanked}
 use Rattle.link_graph.proofs.Joined.{own_more}
-use Rattle.link_graph.proofs.LinkedApart.{linked_apart}
+use Rattle.link_graph.proofs.LinkedRanks.{linked_ranked}
 use Rattle.link_graph.proofs.shape.build.Goals as goal
 
 pub loop-i-preserved : goal.loop-i-preserved
@@ -48,5 +48,5 @@ returns-clause-units c = λ e odr named. (
     record { sound = c.requires.sound; marked = c.requires.marked; few = c.requires.few; named = named; len = c.loop-i.invariant.len ∙ all; each = c.loop-i.invariant.each odr named } in
     c.joined_shape.ensures.units e odr c.args.seen.now c.args.live.now are)
 
-pub path_nodes-requires-clause-apart : goal.path_nodes-requires-clause-apart
-path_nodes-requires-clause-apart c = subst AreApart (sym c.requires.book.1) (linked_apart c.requires.book.0 c.args.seen.now c.args.live.now c.requires.sound c.requires.few)
+pub path_nodes-requires-clause-ranked : goal.path_nodes-requires-clause-ranked
+path_nodes-requires-clause-ranked c = subst AreRanked (sym c.requires.book.1) (linked_ranked c.requires.book.0 c.args.seen.now c.args.live.now c.requires.sound c.requires.few)

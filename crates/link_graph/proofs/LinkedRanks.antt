@@ -1,8 +1,7 @@
--- Different names of a link have different bids: a bid tells the object and the entry, and each pair stands once.
+-- The names of a link stand in the order of their bids but for declarations: a bid tells whether it is one, the object, and the entry.
 use Rattle.std.proofs.Common.{◌≡◌, ◌⊎◌, inl, inr, ℕ, zero, suc, ◌+◌, ◌-◌, ◌*◌, ◌^◌, ◌<◌, ◌≤◌, Bool, true, false, cond, List, [], ◌∷◌, length, Some, None, slice_get, All, refl, ap, arith, subst, filter_map, flat_map}
 use Rattle.std.specs.Prelude.{if◌then◌else◌}
 use Rattle.std.specs.List.{cons_option, enumerate_from}
-use Rattle.std.proofs.lemmas.Bool.{cases_lt}
 use Rattle.std.proofs.lemmas.Option.{get_or_from_slice_get, none-some, same_Some, slice_get_within}
 use Rattle.dwarf_types.specs.declared.analysis.Analysis.{Analysis}
 use Rattle.dwarf_types.specs.declared.entry.Entry.{Entry}
@@ -13,7 +12,7 @@ use Rattle.type_names.specs.Entries.{is_declaration}
 use Rattle.type_names.specs.Heads.{Object, entries_of, is_pooled}
 use Rattle.type_names.specs.Names.{Named, named_of, names, names_in}
 use Rattle.link_graph.specs.Merged.{linked_names}
-use Rattle.link_graph.specs.PoolOrder.{AreApart}
+use Rattle.link_graph.specs.PoolOrder.{AreRanked}
 use Rattle.link_graph.proofs.Rising.{Has, Rises, has_at, has_either, place_of, rises_append}
 
 -- a name of an object from number n on, of which there are so many
@@ -104,27 +103,21 @@ rises_at f (x ∷ xs) i zero v w up lt at_i at_j = absurd (omega (arith, lt))
 rises_at {A} f (x ∷ xs) zero (suc j) v w up lt at_i at_j = subst (λ (x : A). f x < f w) (same_Some x v at_i) (up.0 w (has_at xs j w at_j))
 rises_at f (x ∷ xs) (suc i) (suc j) v w up lt at_i at_j = rises_at f xs i j v w up.1 (omega (arith, lt)) at_i at_j
 
--- a bid tells where the entry stands
-same_place : (v w : Named) → IsNamed 1 (2 ^ 16 - 1) v → IsNamed 1 (2 ^ 16 - 1) w → v.bid ≡ w.bid → v.object * 2 ^ 32 + v.entry ≡ w.object * 2 ^ 32 + w.entry
-same_place v w is_v is_w same = go is_v.declared is_w.declared is_v.bid is_w.bid where
-  go : (a b : Bool) → v.bid ≡ cond a (2 ^ 63) 0 + v.object * 2 ^ 32 + v.entry → w.bid ≡ cond b (2 ^ 63) 0 + w.object * 2 ^ 32 + w.entry → v.object * 2 ^ 32 + v.entry ≡ w.object * 2 ^ 32 + w.entry
-  go true true x y = omega (arith, x, y, same)
-  go false false x y = omega (arith, x, y, same)
-  go true false x y = absurd (omega (arith, x, y, same, is_w.below, is_w.few))
-  go false true x y = absurd (omega (arith, x, y, same, is_v.below, is_v.few))
+-- of two places the bids go by the entries', but where a declaration stands before a definition
+place_ranked : (v w : Named) → IsNamed 1 (2 ^ 16 - 1) v → IsNamed 1 (2 ^ 16 - 1) w → v.object * 2 ^ 32 + v.entry < w.object * 2 ^ 32 + w.entry → (2 ^ 63 ≤ v.bid → 2 ^ 63 ≤ w.bid) → v.bid < w.bid
+place_ranked v w is_v is_w less kind = go is_v.declared is_w.declared is_v.bid is_w.bid where
+  go : (a b : Bool) → v.bid ≡ cond a (2 ^ 63) 0 + v.object * 2 ^ 32 + v.entry → w.bid ≡ cond b (2 ^ 63) 0 + w.object * 2 ^ 32 + w.entry → v.bid < w.bid
+  go true true x y = omega (arith, x, y, less)
+  go false false x y = omega (arith, x, y, less)
+  go false true x y = omega (arith, x, y, less)
+  go true false x y = absurd (let late = kind (omega (arith, x)) in omega (arith, y, late, is_w.below, is_w.few))
 
-pub names_apart : (objects : List Object) → length objects < 2 ^ 16 → ((o : Object) → Has objects o → length (entries_of o) ≤ 2 ^ 24) → AreApart (names objects)
+pub names_ranked : (objects : List Object) → length objects < 2 ^ 16 → ((o : Object) → Has objects o → length (entries_of o) ≤ 2 ^ 24) → AreRanked (names objects)
 unfolding names_from
-names_apart objects few short = λ i j v w at_i at_j same. (
+names_ranked objects few short = λ i j v w lt at_i at_j kind. (
     let up = rises_all 1 objects short in
-    let place_is = same_place v w (bounded v (named_of_all 1 objects v short (has_at (names objects) i v at_i))) (bounded w (named_of_all 1 objects w short (has_at (names objects) j w at_j))) same in
-    elim (cases_lt i j) [
-      | inl lt ↦ absurd (let less = rises_at (λ (w : Named). w.object * 2 ^ 32 + w.entry) (names objects) i j v w up lt at_i at_j in omega (arith, less, place_is))
-      | inr le ↦ elim (cases_lt j i) [
-        | inl lt ↦ absurd (let less = rises_at (λ (w : Named). w.object * 2 ^ 32 + w.entry) (names objects) j i w v up lt at_j at_i in omega (arith, less, place_is))
-        | inr ge ↦ omega (arith, le, ge)
-      ]
-    ]) where
+    place_ranked v w (bounded v (named_of_all 1 objects v short (has_at (names objects) i v at_i))) (bounded w (named_of_all 1 objects w short (has_at (names objects) j w at_j)))
+    (rises_at (λ (w : Named). w.object * 2 ^ 32 + w.entry) (names objects) i j v w up lt at_i at_j) kind) where
       bounded : (w : Named) → IsNamed 1 (length objects) w → IsNamed 1 (2 ^ 16 - 1) w
       bounded w it = record { from = it.from; below = omega (arith, it.below, few); few = it.few; declared = it.declared; bid = it.bid }
 
@@ -135,10 +128,10 @@ no_more_objects [] live = omega arith
 no_more_objects (a ∷ seen) [] = omega arith
 no_more_objects (a ∷ seen) (row ∷ live) = let rest = no_more_objects seen live in omega (arith, rest)
 
-pub linked_apart : (odr : Bool) (seen : List Analysis) (live : List (List Bool)) → All IsSound seen → length seen < 2 ^ 16 → AreApart (linked_names odr seen live)
-linked_apart true seen live sound few = names_apart (objects_of seen live) (omega (arith, no_more_objects seen live, few)) (λ o has. (
+pub linked_ranked : (odr : Bool) (seen : List Analysis) (live : List (List Bool)) → All IsSound seen → length seen < 2 ^ 16 → AreRanked (linked_names odr seen live)
+linked_ranked true seen live sound few = names_ranked (objects_of seen live) (omega (arith, no_more_objects seen live, few)) (λ o has. (
     let at = place_of (objects_of seen live) o has in
     let a = (object_parts seen live at.0 o at.1).0 in
     let is : IsSound o.seen = subst IsSound (get_or_from_slice_get seen at.0 o.seen o.seen a) (sound at.0 o.seen (slice_get_within seen at.0 o.seen a)) in
     is.few))
-linked_apart false seen live sound few = names_apart [] (omega arith) (λ o has. absurd has)
+linked_ranked false seen live sound few = names_ranked [] (omega arith) (λ o has. absurd has)
