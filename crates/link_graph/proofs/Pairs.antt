@@ -1,8 +1,7 @@
 -- What holds of the items at each place of two lists, and items that are made anew one after the other.
-use Rattle.std.proofs.Common.{◌≡◌, ◌+◌, inl, inr, ℕ, ◌<◌, ◌≤◌, List, [], ◌∷◌, ◌++◌, length, get_or, slice_get, slice_index_or, slice_set, Some, refl, sym, ap, subst, ◌∙◌, arith, length-append}
+use Rattle.std.proofs.Common.{◌≡◌, inl, inr, ℕ, ◌<◌, ◌≤◌, List, [], ◌∷◌, ◌++◌, length, slice_get, slice_index_or, Some, refl, sym, ap, subst, ◌∙◌, arith, length-append}
 use Rattle.std.proofs.lemmas.Bool.{cases_lt}
-use Rattle.std.proofs.lemmas.List.{get_or-set_other, get_or-set_same, length-set}
-use Rattle.std.proofs.lemmas.Option.{get_or_from_slice_get, same_Some, slice_get_within}
+use Rattle.std.proofs.lemmas.Option.{same_Some, slice_get_within}
 use Rattle.odr_names.proofs.BookPaths.{get_before}
 use Rattle.link_graph.specs.Joining.{EachPair}
 
@@ -30,19 +29,3 @@ pub record IsMadeTo {A : Type 0} (make : ℕ → A → A) (old now : List A) (n 
   pub len : length now ≡ length old
   pub made : (k : ℕ) (d : A) → k < n → k < length old → slice_index_or now k d ≡ make k (slice_index_or old k d)
   pub left : (k : ℕ) (d : A) → n ≤ k → slice_index_or now k d ≡ slice_index_or old k d
-
-pub made_none : {A : Type 0} (make : ℕ → A → A) (old : List A) → IsMadeTo make old old 0
-made_none make old = record { len = refl; made = λ k d lt within. absurd (omega (arith, lt)); left = λ k d le. refl }
-
-pub made_more : {A : Type 0} (make : ℕ → A → A) (old now : List A) (n : ℕ) (x y : A) → n < length old → slice_get now n ≡ Some x → y ≡ make n x → IsMadeTo make old now n → IsMadeTo make old (slice_set now n y) (n + 1)
-made_more {A} make old now n x y within at is so_far = record {
-  len = length-set now n y ∙ so_far.len;
-  made = λ k d lt there. elim (cases_lt k n) [
-    | inl below ↦ get_or-set_other now n k y d (λ e. omega (arith, e, below)) ∙ so_far.made k d below there
-    | inr le ↦ (
-        let here : n ≡ k = omega (arith, le, lt) in
-        subst (λ (m : ℕ). get_or (slice_set now n y) m d ≡ make m (get_or old m d)) here
-        (get_or-set_same now n y d (omega (arith, within, so_far.len)) ∙ is ∙ ap (make n) (sym (get_or_from_slice_get now n x d at) ∙ so_far.left n d (omega arith))))
-  ];
-  left = λ k d le. get_or-set_other now n k y d (λ e. omega (arith, e, le)) ∙ so_far.left k d (omega (arith, le));
-}

@@ -7,7 +7,7 @@ use Rattle.std.proofs.lemmas.Option.{none-some, same_Some}
 use Rattle.odr_names.specs.Winners.{AreWinners}
 use Rattle.type_names.specs.Names.{Named}
 use Rattle.link_graph.specs.Pool.{pool_names}
-use Rattle.link_graph.specs.PoolOrder.{AnyName, AreApart, AreChains, Hangs, IsFamily, IsLinkedUp, IsPreorder, Wins, below, name_at}
+use Rattle.link_graph.specs.PoolOrder.{AnyName, AreApart, AreChains, Hangs, IsFamily, IsLinkedUp, Wins, below, name_at}
 use Rattle.link_graph.proofs.Families.{chain_gives, family_below, key_path_up, path_is}
 use Rattle.link_graph.proofs.Rising.{Has}
 
@@ -82,12 +82,6 @@ module _ (names : List Named) (winners : List ℕ) (next : List (Option ℕ)) wh
   done [] is = refl
   done (x ∷ xs) is = absurd (none-some x is.hangs.0)
 
-  pub walk_done : (order : List ℕ) (opened : List (Option ℕ)) → opened ≡ [] → IsWalking order opened → IsPreorder names winners order
-  walk_done order opened none so_far = record { whole = go so_far.chains (subst (λ (o : List (Option ℕ)). AllHung o so_far.chains) none so_far.hung) so_far.whole; wins = so_far.wins } where
-    go : (chains : List (List ℕ)) → AllHung [] chains → map (name_at names) order ++ chains_give names chains ≡ pool_names names → map (name_at names) order ≡ pool_names names
-    go [] all whole = sym (append-nil (map (name_at names) order)) ∙ whole
-    go (xs ∷ chains) all whole = absurd all
-
   -- the chain on top is done
   pub walk_past : (order : List ℕ) (opened left : List (Option ℕ)) (top : Option ℕ) → opened ≡ left ++ top ∷ [] → top ≡ None → IsWalking order opened → IsWalking order left
   walk_past order opened left top is_open none so_far =
@@ -100,9 +94,6 @@ module _ (names : List Named) (winners : List ℕ) (next : List (Option ℕ)) wh
             (sym (ap (chains_give names) it.whole ∙ chains_push names it.front it.xs ∙ ap (λ (xs : List ℕ). chain_gives names xs ++ chains_give names it.front) nothing)) ∙ so_far.whole;
         wins = so_far.wins;
       }
-
-  pub smaller_past : (order : List ℕ) (opened left : List (Option ℕ)) (top : Option ℕ) → opened ≡ left ++ top ∷ [] → measure_of order left < measure_of order opened
-  smaller_past order opened left top is_open = omega (arith, ap length is_open, length_push left top)
 
   -- the first one of the chain on top
   module _ (order : List ℕ) (opened left : List (Option ℕ)) (top : Option ℕ) (x : ℕ) (is_open : opened ≡ left ++ top ∷ []) (some : top ≡ Some x) (so_far : IsWalking order opened) where

@@ -3,7 +3,7 @@ use Rattle.std.proofs.Common.{◌≡◌, ℕ, ◌+◌, ◌<◌, ◌⊎◌, inl, 
 use Rattle.std.specs.List.{All, Contains}
 use Rattle.std.specs.Option.{option_map}
 use Rattle.std.proofs.lemmas.Bool.{cases_eq, cases_lt}
-use Rattle.std.proofs.lemmas.List.{get_or-set_other, get_or-set_same, get_or-map, get_or_default, length-map, length-set, same_lists}
+use Rattle.std.proofs.lemmas.List.{get_or-set_other, get_or-set_same, get_or_default, length-map, length-set}
 use Rattle.std.proofs.lemmas.List.Elements.{Contains-append_left, Contains-push, Contains-push_cases}
 use Rattle.std.proofs.lemmas.Option.{get_or_from_slice_get, none-some, same_Some, slice_get-get_or, slice_get-map, slice_get_cases, slice_get_within}
 use Rattle.odr_names.specs.Book.{SamePath, bid_at}
@@ -43,9 +43,6 @@ pub inside_of : (least winners : List ℕ) (cells : List (Option ℕ)) → lengt
 inside_of least winners cells len inside = λ x cell at. omega (arith, len, inside x cell at)
 
 -- ---- who bid the least
-
-pub least_begun : (names : List Named) (state : PoolState) (found : List Found) (winners : List ℕ) → length winners ≡ length state.least → AreLeastTo names state.least (cells_in found) winners 0
-least_begun names state found winners len = record { len = len; each = λ x cell lt. absurd (omega (arith, lt)) }
 
 its_cell : (found : List Found) (x : ℕ) (its : Found) (cell : Option ℕ) → slice_get found x ≡ Some its → slice_get (cells_in found) x ≡ Some cell → cell_in its ≡ cell
 its_cell found x its cell at of = same_Some (cell_in its) cell (sym (slice_get-map cell_in found x ∙ ap (option_map cell_in) at) ∙ of)
@@ -142,14 +139,6 @@ some_at found n d within is of = go (get_or found n d) is (its_cell found n (get
 
 pub crowded_done : (names : List Named) (cells : List (Option ℕ)) (crowded : List ℕ) (n : ℕ) → n ≡ length names → AreCrowdedTo cells crowded n → AreCrowdedTo cells crowded (length names)
 crowded_done names cells crowded n is so_far = subst (AreCrowdedTo cells crowded) is so_far
-
--- ---- the winner at each cell
-
-pub winners_read : (winners : List ℕ) (cells : List (Option ℕ)) (all : List ℕ) → length all ≡ length cells → ((i : ℕ) → i < length cells → get_or all i 0 ≡ winner_at winners (get_or cells i None)) → all ≡ map (winner_at winners) cells
-winners_read winners cells all long each = same_lists all (map (winner_at winners) cells) (long ∙ sym (length-map cells (winner_at winners)))
-    (λ i d lt. (
-    let within : i < length cells = omega (arith, lt, long) in
-    get_or_default all i d 0 lt ∙ each i within ∙ sym (get_or-map (winner_at winners) cells i None d within)))
 
 -- ---- all winners
 
