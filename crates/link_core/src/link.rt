@@ -77,11 +77,10 @@ pub fn link_objects<R: Threads + Sync, G: Gate + Sync>(
     )
 }
 
-/// Links the objects of a program to its bundle, as [`link_objects`] does, and lets each file go once the objects of it
-/// are read.
+/// Links the objects of a program to its bundle, as [`link_objects`] does, and lets the files go once they are read.
 ///
-/// Where nothing is merged, the units of a batch of objects are drafted once it is read, and their analyses go. The gate is
-/// not passed for names then.
+/// Where nothing is merged, objects are read batch by batch: the units of one are drafted, and its analyses go and the
+/// files of which no later object is, before the next is read. The gate is not passed for names then.
 pub fn link_files<R: Threads + Sync, G: Gate + Sync>(
     rt: &R,
     alloc: Global,

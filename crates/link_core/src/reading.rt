@@ -6,10 +6,10 @@ ghost use Rattle.work_share.specs.Results.{GivesAll};
 ghost use Rattle.link_core.specs.Linked.{Source, sources_of};
 ghost use Rattle.link_core.specs.Passes.{HoldsFrom, MayRead, Reads, ReadsAt, ReadsBatch};
 
-use crate::files::{FilesLeft, all_files, batch_end, drop_files};
+use crate::files::{FilesLeft, batch_end, drop_files};
 use crate::objects::{ReadObject, members_of, read_object};
 use crate::refusal::Refusal;
-use crate::results::{in_turn, put_behind};
+use crate::results::in_turn;
 use ar_read::Members;
 use ds_base::{BitRow, Bytes, List, NoMemory};
 use ds_files::{Gate, OpenGate};
@@ -112,10 +112,7 @@ pub(crate) fn read_objects<R: Threads + Sync, G: Gate + Sync>(
     all_read(alloc, outs)
 }
 
-/// The same by files that go, each once the last object of it is read.
-///
-/// Objects are read in batches, behind each of which files go. Archives are walked once for each batch, of which there are
-/// few.
+/// The same by files that go once all objects are read.
 pub(crate) fn read_files<R: Threads + Sync, G: Gate + Sync>(
     rt: &R,
     alloc: Global,
@@ -133,18 +130,8 @@ pub(crate) fn read_files<R: Threads + Sync, G: Gate + Sync>(
     requires small { All (λ file. length file < 2 ^ 32) files }
     ensures { Reads cpu (sources_of objects.now files source.now) result }
 {
-    let mut files = all_files(alloc, files, source, workers)?;
-    let mut outs = Vec::new(alloc);
-    let mut first = 0;
-    while (first as usize) < objects.len() {
-        let batch = read_next(
-            rt, alloc, workers, gate, cpu, objects, source, &mut files, first,
-        )?;
-        let ReadBatch { end, outs: more } = batch;
-        put_behind(&mut outs, more)?;
-        first = end;
-    }
-    all_read(alloc, outs)
+    let files = files.as_slice();
+    read_objects(rt, alloc, workers, gate, cpu, objects, files, source)
 }
 
 /// What is read of the batch of objects that begins with `first`. Files go of which no later object is.

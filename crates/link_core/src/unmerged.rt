@@ -48,8 +48,9 @@ pub(crate) struct Unmerged {
 
 /// Links the objects of a program to its bundle, where nothing is merged.
 ///
-/// Objects are read in batches, as by [`read_files`](crate::reading::read_files), behind each of which the units of its
-/// objects are drafted and their analyses go. A limit is told once no object has a fault.
+/// Objects are read in batches, behind each of which the units of its objects are drafted, and their analyses go and the
+/// files of which no later object is. Archives are walked once for each batch, of which there are few. A limit is told once
+/// no object has a fault.
 pub(crate) fn link_unmerged<R: Threads + Sync, G: Gate + Sync>(
     rt: &R,
     alloc: Global,
