@@ -31,12 +31,12 @@ struct Wanted<'a> {
 
 impl Ahead {
     /// No file.
-    pub fn new() -> Ahead {
+    pub(crate) fn new() -> Ahead {
         Ahead { files: None }
     }
 
     /// The bytes of the named file, if it is the one that is to be asked for next.
-    pub fn take(&mut self, name: &str) -> Option<Bytes> {
+    pub(crate) fn take(&mut self, name: &str) -> Option<Bytes> {
         match &mut self.files {
             Some(files) => take_last(files, name),
             None => None,
