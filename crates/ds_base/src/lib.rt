@@ -36,8 +36,3 @@ pub use list::List;
 pub use pieces::{bytes_from, cut};
 pub use put::{put_bytes, put_sleb, put_u8, put_u16, put_u32, put_u64, put_uleb, put_uleb4};
 pub use sums::{plus, times};
-
-#[cfg(test)]
-mod tests;
-#[cfg(test)]
-mod tests_leb;

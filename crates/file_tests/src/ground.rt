@@ -1,6 +1,6 @@
 //! Lists, bytes, marks, items from the front, and items written into a room.
 
-use crate::{
+use ds_base::{
     BitRow, Bytes, Cursor, Fault, Kind, List, Part, emit_bytes, emit_u8, emit_u16, emit_u32,
     emit_u64, emit_uleb4, put_bytes, put_u8, put_u16, put_u32, put_u64,
 };

@@ -1,6 +1,6 @@
 //! LEB numbers: the examples of DWARF 4, figures 22 and 23, padded ones, and the limits.
 
-use crate::{Cursor, Fault, Kind, Part, put_sleb, put_uleb, put_uleb4, sleb_len, uleb_len};
+use ds_base::{Cursor, Fault, Kind, Part, put_sleb, put_uleb, put_uleb4, sleb_len, uleb_len};
 use std::process::Abort;
 
 /// Bytes mean a number without a sign, which the cursor passes.
