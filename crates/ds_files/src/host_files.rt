@@ -9,11 +9,14 @@ use crate::streams::{read_sized, write_whole};
 use crate::tally::Tally;
 use ds_base::Bytes;
 use std::alloc::Global;
-use std::fs::{File, OpenFile};
-use std::io::ErrorKind;
+use std::fs::{File, OpenFile, OpenOptions};
+use std::io::{ErrorKind, Seek, SeekFrom};
 use std::marker::Model;
 use std::path::Path;
 use std::{fs, io, rt};
+
+/// How many bytes of a file are written last: as many as the magic number of a Mach-O file has.
+const MARK: usize = 4;
 
 /// The files of the system, each by its path. What they hold is not told; a contract sees the counts alone.
 ///
@@ -149,11 +152,27 @@ fn open_error(kind: ErrorKind) -> FileError
     }
 }
 
-/// Makes the folders that are missing, and the file anew.
+/// Makes the folders that are missing, and the file of these bytes, whether or not there was one.
+///
+/// A file that is there is written over: to empty it first may take longer than to write it. Its first bytes are cleared
+/// before all others are written, and come last, so that nobody takes what is left half written for a whole file.
 fn replace_file<R: rt::Files>(rt: &R, name: &str, bytes: &[u8]) -> io::Result<()> {
     if let Some(folder) = Path::new(name).parent() {
         fs::create_dir_all(rt, folder)?;
     }
-    let mut file = File::create(rt, name)?;
-    write_whole(&mut file, bytes)
+    let mut file = OpenOptions::new().write(true).create(true).open(rt, name)?;
+    let (mark, rest) = bytes.split_at(bytes.len().min(MARK));
+    write_whole(&mut file, &[0; MARK][..mark.len()])?;
+    write_whole(&mut file, rest)?;
+    cut_off(&file, bytes.len() as u64)?;
+    file.seek(SeekFrom::Start(0))?;
+    write_whole(&mut file, mark)
+}
+
+/// Ends a file behind its first `len` bytes, if it has more.
+fn cut_off<F: OpenFile>(file: &F, len: u64) -> io::Result<()> {
+    if file.metadata()?.len() > len {
+        file.set_len(len)?;
+    }
+    Ok(())
 }

@@ -149,11 +149,12 @@ fn bytes_are_written_to_the_last(rt: HostRuntime) {
 }
 
 // The files are gone when they are asked for, so that only what was read ahead can be answered: the first two, whose eight
-// bytes are as many as may be kept. Each is given out once.
+// bytes are as many as may be kept. Each is given out once. The first was written over a longer one.
 #[test]
 fn files_that_were_read_ahead_are_answered_as_others(rt: HostRuntime) {
     let alloc = rt.alloc();
     let mut files = HostFiles::new(&rt);
+    assert_eq!(rt; files.replace(alloc, "first", b"longer"), Ok(()));
     assert_eq!(rt; files.replace(alloc, "first", b"abc"), Ok(()));
     assert_eq!(rt; files.replace(alloc, "second", b"defgh"), Ok(()));
     assert_eq!(rt; files.replace(alloc, "third", b"i"), Ok(()));
