@@ -7,25 +7,46 @@ use crate::memory_sink::MemorySink;
 use crate::sink::{Sink, SinkFailed};
 use crate::streams::{read_whole, write_whole};
 use ds_base::{Bytes, List};
+use std::alloc::Global;
 use std::fs::remove_file;
-use std::io;
 use std::io::{ErrorKind, Read, Write};
 use std::process::Abort;
+use std::{io, rt};
 
 /// A read answers these bytes, or this error.
 fn reads(rt: &impl Abort, answer: Result<Bytes, FileError>, want: Result<&[u8], FileError>) {
+    assert!(rt; is_answer(&answer, want));
+}
+
+fn is_answer(answer: &Result<Bytes, FileError>, want: Result<&[u8], FileError>) -> bool {
     match answer {
-        Ok(bytes) => assert_eq!(rt; Ok(bytes.as_slice()), want),
-        Err(error) => assert_eq!(rt; Err(error), want),
+        Ok(bytes) => want == Ok(bytes.as_slice()),
+        Err(error) => want == Err(*error),
+    }
+}
+
+/// Files are replaced.
+fn puts<F: Files>(rt: &impl Abort, alloc: Global, files: &mut F, rows: &[(&str, &[u8])]) {
+    for (name, bytes) in rows {
+        assert!(rt; files.replace(alloc, name, bytes).is_ok());
+    }
+}
+
+/// Reads of at most so many bytes answer these, one after the other.
+fn answers<F: Files>(
+    rt: &impl Abort,
+    alloc: Global,
+    files: &mut F,
+    rows: &[(&str, u64, Result<&[u8], FileError>)],
+) {
+    for (name, most, want) in rows {
+        reads(rt, files.read(alloc, name, *most), *want);
     }
 }
 
 /// The named file is there and has these bytes.
 fn keeps(rt: &impl Abort, files: &MemoryFiles, name: &str, want: &[u8]) {
-    match files.file(name) {
-        Some(bytes) => assert_eq!(rt; bytes, want),
-        None => panic!(rt; "no file {name}"),
-    }
+    assert!(rt; files.file(name) == Some(want));
 }
 
 // The second and the third call fail.
@@ -36,13 +57,19 @@ fn memory_files_keep_what_was_put_and_fail_at_their_numbers(rt: HostRuntime) {
     assert_eq!(rt; failing.push(2), Ok(()));
     assert_eq!(rt; failing.push(3), Ok(()));
     let mut files = MemoryFiles::new(alloc, failing);
-    assert_eq!(rt; files.set(alloc, "a", b"abc"), Ok(()));
-    reads(&rt, files.read(alloc, "a", 3), Ok(b"abc"));
-    reads(&rt, files.read(alloc, "a", 3), Err(FileError::Failed));
-    assert_eq!(rt; files.replace(alloc, "a", b"new"), Err(FileError::Failed));
-    reads(&rt, files.read(alloc, "a", 2), Err(FileError::TooLong));
-    reads(&rt, files.read(alloc, "b", 3), Err(FileError::Missing));
-    assert_eq!(rt; files.replace(alloc, "b", b"new"), Ok(()));
+    assert!(rt; files.set(alloc, "a", b"abc").is_ok());
+    let rows = [
+        ("a", 3, Ok(b"abc".as_slice())),
+        ("a", 3, Err(FileError::Failed)),
+    ];
+    answers(&rt, alloc, &mut files, &rows);
+    assert!(rt; files.replace(alloc, "a", b"new") == Err(FileError::Failed));
+    let rows = [
+        ("a", 2, Err(FileError::TooLong)),
+        ("b", 3, Err(FileError::Missing)),
+    ];
+    answers(&rt, alloc, &mut files, &rows);
+    puts(&rt, alloc, &mut files, &[("b", b"new")]);
     keeps(&rt, &files, "a", b"abc");
     keeps(&rt, &files, "b", b"new");
 }
@@ -148,24 +175,35 @@ fn bytes_are_written_to_the_last(rt: HostRuntime) {
     fills(&rt, 4, false);
 }
 
+/// Files of the system are removed.
+fn removes<R: Abort + rt::Files>(rt: &R, names: &[&str]) {
+    for name in names {
+        assert!(rt; remove_file(rt, *name).is_ok());
+    }
+}
+
 // The files are gone when they are asked for, so that only what was read ahead can be answered: the first two, whose eight
 // bytes are as many as may be kept. Each is given out once. The first was written over a longer one.
 #[test]
 fn files_that_were_read_ahead_are_answered_as_others(rt: HostRuntime) {
     let alloc = rt.alloc();
     let mut files = HostFiles::new(&rt);
-    assert_eq!(rt; files.replace(alloc, "first", b"longer"), Ok(()));
-    assert_eq!(rt; files.replace(alloc, "first", b"abc"), Ok(()));
-    assert_eq!(rt; files.replace(alloc, "second", b"defgh"), Ok(()));
-    assert_eq!(rt; files.replace(alloc, "third", b"i"), Ok(()));
+    let rows = [
+        ("first", b"longer".as_slice()),
+        ("first", b"abc"),
+        ("second", b"defgh"),
+        ("third", b"i"),
+    ];
+    puts(&rt, alloc, &mut files, &rows);
     let names = ["first", "none", "second", "third"];
     read_ahead(&rt, alloc, 2, &names, 8, &mut files);
-    assert_eq!(rt; remove_file(&rt, "first").is_ok(), true);
-    assert_eq!(rt; remove_file(&rt, "second").is_ok(), true);
-    assert_eq!(rt; remove_file(&rt, "third").is_ok(), true);
-    reads(&rt, files.read(alloc, "first", 3), Ok(b"abc"));
-    reads(&rt, files.read(alloc, "first", 3), Err(FileError::Missing));
-    reads(&rt, files.read(alloc, "none", 3), Err(FileError::Missing));
-    reads(&rt, files.read(alloc, "second", 4), Err(FileError::TooLong));
-    reads(&rt, files.read(alloc, "third", 9), Err(FileError::Missing));
+    removes(&rt, &["first", "second", "third"]);
+    let rows = [
+        ("first", 3, Ok(b"abc".as_slice())),
+        ("first", 3, Err(FileError::Missing)),
+        ("none", 3, Err(FileError::Missing)),
+        ("second", 4, Err(FileError::TooLong)),
+        ("third", 9, Err(FileError::Missing)),
+    ];
+    answers(&rt, alloc, &mut files, &rows);
 }
