@@ -5,11 +5,11 @@ use Rattle.std.specs.HashMap.{HashMap, get_by}
 use Rattle.std.specs.Ordering.{nat_cmp, ordering_then}
 use Rattle.std.specs.declared.cmp.Ordering.{Ordering}
 use Rattle.std.specs.Str.{bytes_eq}
-use denote.Ref.{Bor}
+use Rattle.ds_base.specs.declared.text_key.TextKey.{TextKey}
 
 -- the index that a table has for a name
-abbrev pub index_in : {S : Type 0} → HashMap (Bor (List ℕ)) ℕ S → List ℕ → Option ℕ
-index_in table name = get_by (λ key. bytes_eq name key.now) table
+abbrev pub index_in : {S : Type 0} → HashMap TextKey ℕ S → List ℕ → Option ℕ
+index_in table name = get_by (λ key. bytes_eq name key.text.now) table
 
 -- places by their sections, and then by their addresses
 abbrev pub place_cmp : ℕ × ℕ → ℕ × ℕ → Ordering

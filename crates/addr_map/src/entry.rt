@@ -9,6 +9,7 @@ ghost use Rattle.addr_map.specs.Tables.{index_in, place_cmp};
 
 use crate::map::{MapName, MapRange};
 use crate::places::next_address;
+use ds_base::TextKey;
 use macho_read::{Image, Standing, SymbolRef, standing_of};
 use stab_map::MapEntry;
 use std::collections::HashMap;
@@ -24,7 +25,7 @@ pub(crate) enum Given {
 pub(crate) fn given_by(
     entry: &MapEntry,
     image: &Image,
-    symbols: &HashMap<&[u8], u32>,
+    symbols: &HashMap<TextKey, u32>,
     places: &[(u8, u64)],
 ) -> Option<Given>
     requires symbols { (name : Listed ℕ) → index_in symbols.now name ≡ option_map (λ s. s.0) (named image.now name) }
@@ -49,13 +50,13 @@ pub(crate) fn given_by(
 /// The first symbol of a name that isn't a stab, with its index from 0.
 fn find_named<'a>(
     image: &'a Image,
-    symbols: &HashMap<&[u8], u32>,
+    symbols: &HashMap<TextKey, u32>,
     name: &[u8],
 ) -> Option<(u32, SymbolRef<'a>)>
     requires { (name : Listed ℕ) → index_in symbols.now name ≡ option_map (λ s. s.0) (named image.now name) }
     ensures { option_map (λ s. (s.0, symbol_seen s.1)) result ≡ named image.now name.now }
 {
-    let index = *symbols.get(name)?;
+    let index = *symbols.get(&TextKey { text: name })?;
     let symbol = image.symbols.get(index as usize)?;
     Some((index, symbol))
 }

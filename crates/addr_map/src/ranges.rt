@@ -14,7 +14,7 @@ use crate::entry::{Given, given_by};
 use crate::map::{AddrMap, MapName, MapRange};
 use crate::places::places_in_order;
 use crate::symbols::symbols_by_name;
-use ds_base::{List, NoMemory};
+use ds_base::{List, NoMemory, TextKey};
 use macho_read::Image;
 use stab_map::{MapEntry, MapObject};
 use std::alloc::Global;
@@ -45,7 +45,7 @@ fn all_given(
     alloc: Global,
     entries: &[MapEntry],
     image: &Image,
-    symbols: &HashMap<&[u8], u32>,
+    symbols: &HashMap<TextKey, u32>,
     places: &[(u8, u64)],
 ) -> Result<Vec<Given>, NoMemory>
     requires symbols { (name : Listed ℕ) → index_in symbols.now name ≡ option_map (λ s. s.0) (named image.now name) }

@@ -6,7 +6,7 @@ ghost use Rattle.std.specs.Option.{option_map};
 ghost use Rattle.addr_map.specs.Entries.{has_name};
 ghost use Rattle.addr_map.specs.Tables.{index_in};
 
-use ds_base::NoMemory;
+use ds_base::{NoMemory, TextKey};
 use macho_read::{Symbols, is_stab};
 use std::alloc::Global;
 use std::collections::HashMap;
@@ -15,7 +15,7 @@ use std::collections::HashMap;
 pub(crate) fn symbols_by_name<'a>(
     alloc: Global,
     symbols: &'a Symbols,
-) -> Result<HashMap<&'a [u8], u32>, NoMemory>
+) -> Result<HashMap<TextKey<'a>, u32>, NoMemory>
     requires { length symbols.now < 2 ^ 32 }
     ensures { IfOk result (λ table. (name : Listed ℕ) → index_in table name ≡ option_map (λ s. s.0) (find (has_name name) (enumerate_from 0 symbols.now))) }
 {
@@ -24,7 +24,7 @@ pub(crate) fn symbols_by_name<'a>(
     for i in (0..symbols.len()).rev() {
         let symbol = symbols.symbol(i);
         if !is_stab(symbol) {
-            table.insert(symbol.name, i as u32)?;
+            table.insert(TextKey { text: symbol.name }, i as u32)?;
         }
     }
     Ok(table)

@@ -12,5 +12,6 @@ pub mod Onward
 pub mod Passing
 pub mod Refusals
 pub mod Rooms
+pub mod TextKeys
 pub mod Walking
 pub mod Zeros

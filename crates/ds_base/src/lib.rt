@@ -20,6 +20,7 @@ pub mod macho;
 mod pieces;
 mod put;
 mod sums;
+mod text_key;
 
 pub use bit_row::BitRow;
 pub use bytes::Bytes;
@@ -36,3 +37,4 @@ pub use list::List;
 pub use pieces::{bytes_from, cut};
 pub use put::{put_bytes, put_sleb, put_u8, put_u16, put_u32, put_u64, put_uleb, put_uleb4};
 pub use sums::{plus, times};
+pub use text_key::TextKey;

@@ -4,7 +4,7 @@ use Rattle.std.specs.List.{find}
 use Rattle.std.specs.Option.{option_map}
 use Rattle.std.specs.HashMap.{HashMap, get_by}
 use Rattle.std.specs.Str.{bytes_eq}
-use denote.Ref.{Bor}
+use Rattle.ds_base.specs.declared.text_key.TextKey.{TextKey}
 use Rattle.macho_read.specs.declared.image.Image.{Image}
 use Rattle.macho_read.specs.declared.image.Symbol.{Symbol}
 use Rattle.macho_read.specs.Standings.{is_defined}
@@ -18,5 +18,5 @@ abbrev pub address_of : Image → List ℕ → Option ℕ
 address_of image name = address_among image image.symbols name
 
 -- what a table of addresses has of a name
-abbrev pub address_in : {S : Type 0} → HashMap (Bor (List ℕ)) ℕ S → List ℕ → Option ℕ
-address_in addresses name = get_by (λ key. bytes_eq name key.now) addresses
+abbrev pub address_in : {S : Type 0} → HashMap TextKey ℕ S → List ℕ → Option ℕ
+address_in addresses name = get_by (λ key. bytes_eq name key.text.now) addresses

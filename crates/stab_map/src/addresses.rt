@@ -3,7 +3,7 @@
 ghost use Rattle.std.specs.Prelude.{◌≡◌, ℕ, List as Listed, IfOk};
 ghost use Rattle.stab_map.specs.Addresses.{address_in};
 
-use ds_base::NoMemory;
+use ds_base::{NoMemory, TextKey};
 use macho_read::{Image, is_defined};
 use std::alloc::Global;
 use std::collections::HashMap;
@@ -12,7 +12,7 @@ use std::collections::HashMap;
 pub(crate) fn addresses_by_name<'a>(
     alloc: Global,
     image: &'a Image,
-) -> Result<HashMap<&'a [u8], u64>, NoMemory>
+) -> Result<HashMap<TextKey<'a>, u64>, NoMemory>
     ensures { IfOk result (λ addresses. (name : Listed ℕ) → address_in addresses name ≡ Rattle.stab_map.specs.Addresses.address_of image.now name) }
 {
     let symbols = &image.symbols;
@@ -21,7 +21,7 @@ pub(crate) fn addresses_by_name<'a>(
     for i in (0..symbols.len()).rev() {
         let symbol = symbols.symbol(i);
         if is_defined(image, symbol) {
-            addresses.insert(symbol.name, symbol.value)?;
+            addresses.insert(TextKey { text: symbol.name }, symbol.value)?;
         }
     }
     Ok(addresses)

@@ -13,7 +13,7 @@ ghost use Rattle.stab_map.specs.declared.pass.State.TheVariants as states;
 use crate::object::{MapEntry, MapObject};
 use crate::origin::find_origin;
 use crate::stab::{Stab, read_stab};
-use ds_base::{Bytes, Fault, Kind, List, NoMemory, Part, ReadError};
+use ds_base::{Bytes, Fault, Kind, List, NoMemory, Part, ReadError, TextKey};
 use macho_read::SymbolRef;
 use std::alloc::Global;
 use std::collections::HashMap;
@@ -49,7 +49,7 @@ pub(crate) enum State<'a> {
 /// The state behind one more symbol, which has this index. An object that ends goes to `objects`.
 pub(crate) fn step<'a>(
     alloc: Global,
-    addresses: &HashMap<&'a [u8], u64>,
+    addresses: &HashMap<TextKey<'a>, u64>,
     objects: &mut List<MapObject>,
     state: State<'a>,
     index: usize,
@@ -86,7 +86,7 @@ fn step_outside<'a>(
 /// The same, in an object and not behind a function.
 fn step_inside<'a>(
     alloc: Global,
-    addresses: &HashMap<&'a [u8], u64>,
+    addresses: &HashMap<TextKey<'a>, u64>,
     objects: &mut List<MapObject>,
     current: Open<'a>,
     stab: Stab,
@@ -120,7 +120,7 @@ fn step_inside<'a>(
             let entry = entry(alloc, name, symbol.value, None)?;
             Ok(State::Inside(with_entry(current, entry)?))
         }
-        Stab::Global => match addresses.get(name) {
+        Stab::Global => match addresses.get(&TextKey { text: name }) {
             Some(address) => {
                 let entry = entry(alloc, name, *address, None)?;
                 Ok(State::Inside(with_entry(current, entry)?))

@@ -1,5 +1,5 @@
 use Rattle.std.proofs.Common.{◌∙◌, List, ap, arith, drop, sym}
-use Rattle.std.proofs.lemmas.Map.Text.{hash_map_updates_str}
+use Rattle.ds_base.proofs.TextKeys.{text_updates}
 use Rattle.macho_read.specs.declared.image.Symbol.{Symbol}
 use Rattle.macho_read.specs.Seen.{symbol_seen}
 use Rattle.stab_map.specs.Addresses.{address_among}
@@ -12,5 +12,5 @@ loop-i-preserved-in_ok-insert c name =
     let symbols = c.args.image.now.symbols in
     let here = from_here symbols c.loop-i.i (symbol_seen c.symbol-symbol.result) (omega arith) (omega (arith, c.loop-i.auto.i, c.len-i.ensures)) c.symbol-symbol.ensures.item in
     address_put c.args.image.now (symbol_seen c.symbol-symbol.result) (drop c.loop-i.i symbols) name _ _ _ (sym c.is_defined.ensures ∙ c.if-is_defined.true) refl
-    (hash_map_updates_str c.symbol-symbol.result.name.now c.loop-i.addresses c.insert.new.self _ c.in_ok-insert.ensures.updates name) (c.loop-i.invariant name)
+    (text_updates c.symbol-symbol.result.name.now c.loop-i.addresses c.insert.new.self _ c.in_ok-insert.ensures.updates name) (c.loop-i.invariant name)
     ∙ ap (λ (ss : List Symbol). address_among c.args.image.now ss name) here
