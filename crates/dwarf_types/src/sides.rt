@@ -136,9 +136,9 @@ impl Sides {
         line_strings: &[u8],
     ) -> Result<Sides, NoMemory> {
         let mut sides = Sides::new(alloc);
-        sides
-            .bytes
-            .reserve(strings.len().saturating_add(line_strings.len()))?;
+        let size = strings.len().saturating_add(line_strings.len());
+        // A little more, so that the few bytes that stand in attributes find room behind the texts.
+        sides.bytes.reserve(size.saturating_add(size / 16))?;
         sides.bytes.extend_from_slice(strings)?;
         sides.bytes.extend_from_slice(line_strings)?;
         Ok(sides)

@@ -134,7 +134,7 @@ fn spell_derived_all(
     requires common { IsRow (is_common (object_of seen.now live.now)) (length seen.now.entries) types.now.may_open.now }
     ensures { IfOk result (λ texts. AreTexts texts (derived_name (object_of seen.now live.now)) (length seen.now.entries)) }
 {
-    let mut texts = TextTable::new(alloc);
+    let mut texts = TextTable::with_capacity(alloc, seen.entries.len())?;
     let mut out = Vec::new(alloc);
     for i in 0..seen.entries.len() {
         out.clear();
@@ -355,7 +355,7 @@ fn spell_pieces(
     requires all { IsRow (λ _. true) (length types.now.entries.now) types.now.may_open.now }
     ensures { IfOk result (λ texts. AreTexts texts (piece_text (object_of seen.now live.now)) (length seen.now.entries)) }
 {
-    let mut texts = TextTable::new(alloc);
+    let mut texts = TextTable::with_capacity(alloc, seen.entries.len())?;
     let mut out = Vec::new(alloc);
     for i in 0..seen.entries.len() {
         out.clear();

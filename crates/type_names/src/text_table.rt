@@ -1,6 +1,6 @@
 //! Texts of entries, held one behind the other.
 
-ghost use Rattle.std.specs.Prelude.{◌≡◌, ◌<◌, [], ◌∷◌, ◌++◌, length, slice_index_or, Some, None, OnOk, if◌then◌else◌};
+ghost use Rattle.std.specs.Prelude.{◌≡◌, ◌<◌, [], ◌∷◌, ◌++◌, length, slice_index_or, Some, None, IfOk, OnOk, if◌then◌else◌};
 ghost use Rattle.std.specs.Option.{ForSome, option_map};
 ghost use Rattle.type_names.specs.TextTable.{IsInside, text_of};
 
@@ -37,14 +37,14 @@ impl Model for TextTable {
 }
 
 impl TextTable {
-    /// No texts.
-    pub(crate) fn new(alloc: Global) -> TextTable
-        ensures { result ≡ [] }
+    /// No texts, and room for the places of so many.
+    pub(crate) fn with_capacity(alloc: Global, count: usize) -> Result<TextTable, NoMemory>
+        ensures { IfOk result (λ texts. texts ≡ []) }
     {
-        TextTable {
+        Ok(TextTable {
             bytes: Vec::new(alloc),
-            places: Vec::new(alloc),
-        }
+            places: Vec::with_capacity(alloc, count)?,
+        })
     }
 
     /// The text of a number, where there is one.
