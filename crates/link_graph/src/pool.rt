@@ -182,7 +182,7 @@ fn order_of(alloc: Global, tree: &Tree) -> Result<Vec<u32>, NoMemory>
 {
     let first = tree.chains.first.as_slice();
     let next = tree.chains.next.as_slice();
-    let mut order = Vec::new(alloc);
+    let mut order = Vec::with_capacity(alloc, next.len())?;
     let mut open = Vec::new(alloc);
     open.push(first[0])?;
     while let Some(top) = open.pop() {
@@ -314,7 +314,7 @@ fn origins_of(
     requires nodes { AreNodes names.now nodes.now }
     ensures { IfOk result (λ origins. origins ≡ pool_root ∷ map (λ w. pool_origin names.now (name_at names.now w)) order.now) }
 {
-    let mut origins = List::new(alloc);
+    let mut origins = List::with_capacity(alloc, order.len().saturating_add(1))?;
     origins.push(Origin {
         object: 0,
         entry: 0,

@@ -47,6 +47,16 @@ impl Buffer {
         }
     }
 
+    /// Makes room for so many bytes more, and for so many holes of each kind. Nothing that is seen changes.
+    pub fn reserve(&mut self, bytes: usize, holes: usize) -> Result<(), NoMemory>
+        ensures { self.new ≡ self.old }
+    {
+        self.bytes.reserve(bytes)?;
+        self.own.reserve(holes)?;
+        self.outer.reserve(holes)?;
+        Ok(())
+    }
+
     /// Makes the buffer as a new one, which keeps its memory.
     pub fn clear(&mut self)
         ensures { (f : Filling) → filled self.new f ≡ [] }
