@@ -1,14 +1,49 @@
 -- The path of a row is that of the row above, and its piece.
-use Rattle.std.proofs.Common.{◌≡◌, Bool, true, false, not, ℕ, zero, suc, ◌+◌, ◌<◌, ◌↔◌, List, [], ◌∷◌, ◌++◌, length, map, Option, Some, None, refl, sym, ap, ◌∙◌, arith, slice_get, inl, inr}
+use Rattle.std.proofs.Common.{◌≡◌, Bool, true, false, cond, eqb, not, ℕ, zero, suc, ◌+◌, ◌-◌, ◌<◌, ◌≤◌, ◌↔◌, List, [], ◌∷◌, ◌++◌, length, map, Option, Some, None, refl, sym, ap, ◌∙◌, arith, slice_get, inl, inr}
 use Rattle.std.specs.Option.{ForSome, is_some, option_map, option_map_or}
 use Rattle.std.specs.Bool.{IsTrue}
+use Rattle.std.proofs.lemmas.Bool.{eqb-false, ne_eqb}
 use Rattle.std.proofs.lemmas.List.{length-map, same_from_push}
-use Rattle.std.proofs.lemmas.Option.{slice_get-map, slice_get_cases, same_Some, slice_get_within}
+use Rattle.std.proofs.lemmas.Option.{none-some, slice_get-map, slice_get_cases, same_Some, slice_get_within}
 use Rattle.type_names.specs.Heads.{Object}
 use Rattle.type_names.specs.Paths.{Piece}
 use Rattle.type_names.specs.Start.{path_hash}
 use Rattle.odr_names.specs.declared.path_book.Row.{Row}
-use Rattle.odr_names.specs.Book.{AreRows, Compared, bid_at, path_above, path_at, path_in, row_bid, row_name, row_path, row_piece}
+use Rattle.odr_names.specs.Book.{AreRows, Compared, IsLinked, bid_at, path_above, path_at, path_in, row_above, row_bid, row_name, row_path, row_piece}
+use Rattle.odr_names.specs.Entering.{rows_up}
+
+-- ---- the row above
+
+-- it stands before
+pub above_lower : (x : ℕ) (row : Row) → row.up ≤ x → ForSome (row_above x row) (λ p. p < x)
+above_lower x row before = go (eqb row.up 0) refl where
+  go : (b : Bool) → eqb row.up 0 ≡ b → ForSome (cond b None (Some (x - row.up))) (λ p. p < x)
+  go true is = λ p same. absurd (none-some p same)
+  go false is = λ p same. (
+      let some = eqb-false row.up 0 is in
+      let it = same_Some (x - row.up) p same in
+      omega (arith, it, before, some))
+
+-- a row means the same with so many rows more before it
+pub above_moved : (b x : ℕ) (row : Row) → row.up ≤ x → row_above (b + x) row ≡ option_map (λ (p : ℕ). b + p) (row_above x row)
+above_moved b x row before = go (eqb row.up 0) where
+  go : (none : Bool) → cond none None (Some (b + x - row.up)) ≡ option_map (λ (p : ℕ). b + p) (cond none None (Some (x - row.up)))
+  go true = refl
+  go false = ap (λ (p : ℕ). Some p) (let e : b + x - row.up ≡ b + (x - row.up) = omega (arith, before) in e)
+
+-- a row so many rows behind one is below it
+pub above_found : (x : ℕ) (row : Row) (parent : Option ℕ) → row.up ≡ rows_up x parent → ForSome parent (λ p. p < x) → row_above x row ≡ parent
+above_found x row None is lower = ap (λ (up : ℕ). cond (eqb up 0) None (Some (x - up))) is
+above_found x row (Some p) is lower =
+    ap (λ (up : ℕ). cond (eqb up 0) None (Some (x - up))) is
+    ∙ ap (λ (b : Bool). cond b None (Some (x - (x - p)))) (ne_eqb (x - p) 0 (λ same. (let low = lower p refl in omega arith)))
+    ∙ ap (λ (p : ℕ). Some p) (let low = lower p refl in let e : x - (x - p) ≡ p = omega arith in e)
+
+pub up_within : (x : ℕ) (parent : Option ℕ) → rows_up x parent ≤ x
+up_within x None = omega arith
+up_within x (Some p) = omega arith
+
+-- ---- paths
 
 pub row_in : (rows : List Row) (x : ℕ) → x < length rows → (row : Row) × (slice_get rows x ≡ Some row)
 row_in rows x within = elim (slice_get_cases rows x).1 [
@@ -17,20 +52,20 @@ row_in rows x within = elim (slice_get_cases rows x).1 [
 ]
 
 path_of_row : (objects : List Object) (rows : List Row) (x : ℕ) (row : Row) (sound : AreRows objects rows) (at : slice_get rows x ≡ Some row)
-    → path_in objects rows x ≡ path_above objects rows row.parent ++ (sound.linked x row at).piece ∷ []
+    → path_in objects rows x ≡ path_above objects rows (row_above x row) ++ (sound.linked x row at).piece ∷ []
 path_of_row objects rows x row sound at = ap (λ (o : Option Row). option_map_or (row_path objects) o []) at ∙ (sound.linked x row at).path
 
 -- two rows with one piece have one path where those above have
 same_above : (objects : List Object) (rows : List Row) (x y : ℕ) (left right : Row) → AreRows objects rows → slice_get rows x ≡ Some left → slice_get rows y ≡ Some right → row_piece objects left ≡ row_piece objects right
-    → (path_in objects rows x ≡ path_in objects rows y) ↔ (path_above objects rows left.parent ≡ path_above objects rows right.parent)
+    → (path_in objects rows x ≡ path_in objects rows y) ↔ (path_above objects rows (row_above x left) ≡ path_above objects rows (row_above y right))
 same_above objects rows x y left right sound at_x at_y same =
     let p = (sound.linked x left at_x).piece in
     let q = (sound.linked y right at_y).piece in
     let one : p ≡ q = same_Some p q (sym (sound.linked x left at_x).its_piece ∙ same ∙ (sound.linked y right at_y).its_piece) in
     let of_x = path_of_row objects rows x left sound at_x in
     let of_y = path_of_row objects rows y right sound at_y in (
-      (λ e. (same_from_push (path_above objects rows left.parent) (path_above objects rows right.parent) p q (sym of_x ∙ e ∙ of_y)).0),
-      (λ e. of_x ∙ ap (λ (path : List Piece). path ++ p ∷ []) e ∙ ap (λ (piece : Piece). path_above objects rows right.parent ++ piece ∷ []) one ∙ sym of_y),
+      (λ e. (same_from_push (path_above objects rows (row_above x left)) (path_above objects rows (row_above y right)) p q (sym of_x ∙ e ∙ of_y)).0),
+      (λ e. of_x ∙ ap (λ (path : List Piece). path ++ p ∷ []) e ∙ ap (λ (piece : Piece). path_above objects rows (row_above y right) ++ piece ∷ []) one ∙ sym of_y),
     )
 
 same_piece : (objects : List Object) (rows : List Row) (x y : ℕ) (left right : Row) → AreRows objects rows → slice_get rows x ≡ Some left → slice_get rows y ≡ Some right
@@ -38,7 +73,7 @@ same_piece : (objects : List Object) (rows : List Row) (x y : ℕ) (left right :
 same_piece objects rows x y left right sound at_x at_y e =
     let p = (sound.linked x left at_x).piece in
     let q = (sound.linked y right at_y).piece in
-    let one : p ≡ q = (same_from_push (path_above objects rows left.parent) (path_above objects rows right.parent) p q (sym (path_of_row objects rows x left sound at_x) ∙ e ∙ path_of_row objects rows y right sound at_y)).1 in
+    let one : p ≡ q = (same_from_push (path_above objects rows (row_above x left)) (path_above objects rows (row_above y right)) p q (sym (path_of_row objects rows x left sound at_x) ∙ e ∙ path_of_row objects rows y right sound at_y)).1 in
     (sound.linked x left at_x).its_piece ∙ ap (λ (piece : Piece). Some piece) one ∙ sym (sound.linked y right at_y).its_piece
 
 pub hash_is : (objects : List Object) (rows : List Row) (x : ℕ) (row : Row) → AreRows objects rows → slice_get rows x ≡ Some row → row.hash ≡ path_hash (path_in objects rows x)
@@ -46,18 +81,18 @@ hash_is objects rows x row sound at = (sound.linked x row at).hash ∙ ap path_h
 
 -- a path has a piece
 not_empty : (objects : List Object) (rows : List Row) (x : ℕ) (row : Row) → AreRows objects rows → slice_get rows x ≡ Some row → [] ≡ path_in objects rows x → ⊥
-not_empty objects rows x row sound at none = go (path_above objects rows row.parent) (sound.linked x row at).piece (none ∙ path_of_row objects rows x row sound at) where
+not_empty objects rows x row sound at none = go (path_above objects rows (row_above x row)) (sound.linked x row at).piece (none ∙ path_of_row objects rows x row sound at) where
   go : (path : List Piece) (piece : Piece) → [] ≡ path ++ piece ∷ [] → ⊥
   go [] piece e = cc
   go (first ∷ path) piece e = cc
 
 -- ---- two rows compared
 
-above_in : (objects : List Object) (rows : List Row) (x : ℕ) (row : Row) → AreRows objects rows → slice_get rows x ≡ Some row → ForSome row.parent (λ p. p < length rows)
-above_in objects rows x row sound at = λ p is. omega (arith, (sound.linked x row at).parent p is, slice_get_within rows x row at)
+above_in : (objects : List Object) (rows : List Row) (x : ℕ) (row : Row) → AreRows objects rows → slice_get rows x ≡ Some row → ForSome (row_above x row) (λ p. p < length rows)
+above_in objects rows x row sound at = λ p is. omega (arith, above_lower x row (sound.linked x row at).before p is, slice_get_within rows x row at)
 
 pub compared_more : (objects : List Object) (rows : List Row) (a b x y : ℕ) (first second : Row) → AreRows objects rows → slice_get rows x ≡ Some first → slice_get rows y ≡ Some second
-    → (first.hash ≡ second.hash) × (row_piece objects first ≡ row_piece objects second) → Compared objects rows a b (Some x) (Some y) → Compared objects rows a b first.parent second.parent
+    → (first.hash ≡ second.hash) × (row_piece objects first ≡ row_piece objects second) → Compared objects rows a b (Some x) (Some y) → Compared objects rows a b (row_above x first) (row_above y second)
 compared_more objects rows a b x y first second sound at_x at_y same so_far =
     let above = same_above objects rows x y first second sound at_x at_y same.1 in
     record {
@@ -83,11 +118,11 @@ compared_end objects rows a b (Some y) true sound is so_far = absurd (cc)
 compared_end objects rows a b (Some y) false sound is so_far =
     ((λ t. absurd (cc)), (λ e. (let row = row_in rows y (so_far.right_in y refl) in absurd (not_empty objects rows y row.0 sound row.1 (so_far.same.0 e)))))
 
-pub parent_lower : (objects : List Object) (rows : List Row) (x : ℕ) (row : Row) → AreRows objects rows → slice_get rows x ≡ Some row → option_map_or (λ p. p + 1) row.parent 0 < x + 1
-parent_lower objects rows x row sound at = go row.parent refl where
-  go : (o : Option ℕ) → row.parent ≡ o → option_map_or (λ p. p + 1) o 0 < x + 1
-  go None is = omega arith
-  go (Some p) is = omega (arith, (sound.linked x row at).parent p is)
+pub parent_lower : (objects : List Object) (rows : List Row) (x : ℕ) (row : Row) → AreRows objects rows → slice_get rows x ≡ Some row → option_map_or (λ p. p + 1) (row_above x row) 0 < x + 1
+parent_lower objects rows x row sound at = go (row_above x row) (above_lower x row (sound.linked x row at).before) where
+  go : (above : Option ℕ) → ForSome above (λ p. p < x) → option_map_or (λ p. p + 1) above 0 < x + 1
+  go None lower = omega arith
+  go (Some p) lower = omega (arith, lower p refl)
 
 -- ---- the book as a list
 
@@ -108,12 +143,12 @@ hash_at_names objects rows x row sound at = hash_is objects rows x row sound at 
 
 -- the path of a name is that of the row above, and a piece
 pub above_in_names : (objects : List Object) (rows : List Row) (x : ℕ) (row : Row) → AreRows objects rows → slice_get rows x ≡ Some row
-    → (piece : Piece) × (path_at (map (row_name objects) rows) x ≡ option_map_or (path_at (map (row_name objects) rows)) row.parent [] ++ piece ∷ [])
+    → (piece : Piece) × (path_at (map (row_name objects) rows) x ≡ option_map_or (path_at (map (row_name objects) rows)) (row_above x row) [] ++ piece ∷ [])
 above_in_names objects rows x row sound at =
     let it = sound.linked x row at in (
       it.piece,
       path_at_names objects rows x (slice_get_within rows x row at) ∙ path_of_row objects rows x row sound at
-          ∙ ap (λ (path : List Piece). path ++ it.piece ∷ []) (go row.parent (above_in objects rows x row sound at)),
+          ∙ ap (λ (path : List Piece). path ++ it.piece ∷ []) (go (row_above x row) (above_in objects rows x row sound at)),
     ) where
       go : (parent : Option ℕ) → ForSome parent (λ p. p < length rows) → path_above objects rows parent ≡ option_map_or (path_at (map (row_name objects) rows)) parent []
       go None within = refl
@@ -129,3 +164,18 @@ get_before (z ∷ xs) ys (suc x) h = get_before xs ys x (omega arith)
 pub get_last : {X : Type 0} (xs : List X) (y : X) → slice_get (xs ++ y ∷ []) (length xs) ≡ Some y
 get_last [] y = refl
 get_last (x ∷ xs) y = get_last xs y
+
+-- ---- rows before others
+
+above_before : (objects : List Object) (before more : List Row) (above : Option ℕ) (x : ℕ) → x ≤ length before → ForSome above (λ p. p < x) → path_above objects (before ++ more) above ≡ path_above objects before above
+above_before objects before more None x within lower = refl
+above_before objects before more (Some p) x within lower = ap (λ (o : Option Row). option_map_or (row_path objects) o []) (get_before before more p (omega (arith, lower p refl)))
+
+pub link_before : (objects : List Object) (before more : List Row) (row : Row) (x : ℕ) → x ≤ length before → IsLinked objects before x row → IsLinked objects (before ++ more) x row
+link_before objects before more row x within link = record {
+  piece = link.piece;
+  its_piece = link.its_piece;
+  before = link.before;
+  path = link.path ∙ ap (λ (path : List Piece). path ++ link.piece ∷ []) (sym (above_before objects before more (row_above x row) x within (above_lower x row link.before)));
+  hash = link.hash;
+}

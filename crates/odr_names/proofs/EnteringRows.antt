@@ -12,7 +12,7 @@ use Rattle.std.proofs.Common.{Result, Err}
 use Rattle.odr_names.specs.declared.book_error.BookError.{BookError}
 use Rattle.odr_names.specs.declared.book_error.BookError.TheVariants as errors
 use Rattle.odr_names.specs.declared.path_book.Row.{Row}
-use Rattle.odr_names.specs.Book.{AreRows, IsLinked, IsRowOf, path_above, row_name, row_path}
+use Rattle.odr_names.specs.Book.{AreRows, IsLinked, IsRowOf, path_above, row_above, row_name, row_path}
 use Rattle.odr_names.specs.Entering.{AreEntered, AreLiveParents, Enters, IsEntered, IsEnteredTo, IsEntering, hash_above, names_to, new_row, piece_at}
 use Rattle.type_names.specs.Entries.{is_declaration}
 use Rattle.type_names.specs.Heads.{Object, entries_of, is_pooled}
@@ -22,7 +22,7 @@ use Rattle.type_names.specs.Start.{hash_from, path_hash, piece_bytes}
 use Rattle.type_names.specs.Tree.{ParentsStandBefore, parent_of}
 use Rattle.type_names.proofs.HeadTests.{enumerated_more}
 use Rattle.type_names.proofs.Lineages.{parent_before}
-use Rattle.odr_names.proofs.BookPaths.{get_before, get_last, hash_is, row_in}
+use Rattle.odr_names.proofs.BookPaths.{above_found, get_before, get_last, hash_is, link_before, row_in, up_within}
 use Rattle.odr_names.proofs.Closed.{path_below, path_top, pooled_parent, spelled_pooled, unit_is_plain}
 use Rattle.odr_names.proofs.Hashes.{path_hash_more}
 use Rattle.odr_names.proofs.Counting.{entry_at}
@@ -52,19 +52,6 @@ names_more n o k e at pooled = one_name n o k e at ∙ ap (λ (b : Bool). names_
 
 -- ---- rows
 
-above_kept : (objects : List Object) (rows : List Row) (row : Row) (parent : Option ℕ) (x : ℕ) → x ≤ length rows → ForSome parent (λ p. p < x) → path_above objects (rows ++ row ∷ []) parent ≡ path_above objects rows parent
-above_kept objects rows row None x within lower = refl
-above_kept objects rows row (Some p) x within lower = ap (λ (o : Option Row). option_map_or (row_path objects) o []) (get_before rows (row ∷ []) p (omega (arith, lower p refl)))
-
-link_kept : (objects : List Object) (rows : List Row) (row r : Row) (x : ℕ) → x ≤ length rows → IsLinked objects rows x r → IsLinked objects (rows ++ row ∷ []) x r
-link_kept objects rows row r x within link = record {
-  piece = link.piece;
-  its_piece = link.its_piece;
-  parent = link.parent;
-  path = link.path ∙ ap (λ (path : List Piece). path ++ link.piece ∷ []) (sym (above_kept objects rows row r.parent x within link.parent));
-  hash = link.hash;
-}
-
 pub rows_more : (objects : List Object) (rows : List Row) (row : Row) → AreRows objects rows → IsRowOf objects row → IsLinked objects rows (length rows) row → AreRows objects (rows ++ row ∷ [])
 rows_more objects rows row sound of_entry link = record {
   of_entries = λ x r at. elim (cases_lt x (length rows)) [
@@ -72,8 +59,8 @@ rows_more objects rows row sound of_entry link = record {
     | inr later ↦ subst (IsRowOf objects) (last x r later at).1 of_entry
   ];
   linked = λ x r at. elim (cases_lt x (length rows)) [
-    | inl earlier ↦ link_kept objects rows row r x (omega arith) (sound.linked x r (sym (get_before rows (row ∷ []) x earlier) ∙ at))
-    | inr later ↦ (let it = last x r later at in subst (λ (y : ℕ). IsLinked objects (rows ++ row ∷ []) y r) (sym it.0) (subst (IsLinked objects (rows ++ row ∷ []) (length rows)) it.1 (link_kept objects rows row row (length rows) (omega arith) link)))
+    | inl earlier ↦ link_before objects rows (row ∷ []) r x (omega arith) (sound.linked x r (sym (get_before rows (row ∷ []) x earlier) ∙ at))
+    | inr later ↦ (let it = last x r later at in subst (λ (y : ℕ). IsLinked objects (rows ++ row ∷ []) y r) (sym it.0) (subst (IsLinked objects (rows ++ row ∷ []) (length rows)) it.1 (link_before objects rows (row ∷ []) row (length rows) (omega arith) link)))
   ];
 } where
   last : (x : ℕ) (r : Row) → length rows ≤ x → slice_get (rows ++ row ∷ []) x ≡ Some r → (x ≡ length rows) × (row ≡ r)
@@ -128,19 +115,21 @@ skipped objects n o before rows numbers k e at plain so_far = record {
 pub entered : (objects : List Object) (n : ℕ) (o : Object) (before rows : List Row) (numbers : List (Option ℕ)) (k : ℕ) (e : Entry) (parent : Option ℕ) → ParentsStandBefore (entries_of o) → AreLiveParents o
     → slice_get objects (n - 1) ≡ Some o → 1 ≤ n → n < 2 ^ 16 → k < 2 ^ 24 → slice_get (entries_of o) k ≡ Some e → is_pooled o k ≡ true
     → parent ≡ option_and_then (λ (p : ℕ). get_or numbers p None) (parent_of (entries_of o) k) → IsEnteredTo objects n o before rows numbers k
-    → IsEnteredTo objects n o before (rows ++ new_row n o k e parent (hash_above rows parent) ∷ []) (numbers ++ Some (length rows) ∷ []) (k + 1)
+    → IsEnteredTo objects n o before (rows ++ new_row n o k e rows parent ∷ []) (numbers ++ Some (length rows) ∷ []) (k + 1)
 entered objects n o before rows numbers k e parent stand live its counted small few at pooled is so_far =
-    let row : Row = new_row n o k e parent (hash_above rows parent) in
+    let row : Row = new_row n o k e rows parent in
     let piece : Piece = piece_at n o k e in
     let above = above_is objects n o before rows numbers k stand live pooled so_far in
-    let over : path_above objects rows parent ≡ path_of n o above.0 = ap (path_above objects rows) is ∙ above.2 in
     let within : ForSome parent (λ x. x < length rows) = λ x same. above.3 x (sym is ∙ same) in
+    let up : row_above (length rows) row ≡ parent = above_found (length rows) row parent refl within in
+    let over : path_above objects rows (row_above (length rows) row) ≡ path_of n o above.0 = ap (path_above objects rows) (up ∙ is) ∙ above.2 in
     let own : row_path objects row ≡ path_of n o k = ap (λ (x : Option Object). option_map_or (λ (o : Object). path_of n o k) x []) its in
     let its_piece : piece_of n o k ≡ Some piece = ap (option_map (λ (e : Entry). piece_at n o k e)) at in
-    let path : row_path objects row ≡ path_above objects rows parent ++ piece ∷ [] = own ∙ path_below n o k above.0 piece stand above.1 its_piece ∙ ap (λ (path : List Piece). path ++ piece ∷ []) (sym over) in
-    let hash : row.hash ≡ path_hash (row_path objects row) = ap (λ (h : ℕ). hash_from h (piece_bytes piece)) (hash_above_is objects rows parent so_far.are_rows within) ∙ sym (path_hash_more (path_above objects rows parent) piece) ∙ ap path_hash (sym path) in
+    let path : row_path objects row ≡ path_above objects rows (row_above (length rows) row) ++ piece ∷ [] = own ∙ path_below n o k above.0 piece stand above.1 its_piece ∙ ap (λ (path : List Piece). path ++ piece ∷ []) (sym over) in
+    let hash : row.hash ≡ path_hash (row_path objects row) = ap (λ (h : ℕ). hash_from h (piece_bytes piece)) (hash_above_is objects rows parent so_far.are_rows within) ∙ sym (path_hash_more (path_above objects rows parent) piece)
+    ∙ ap path_hash (sym (path ∙ ap (λ (above : Option ℕ). path_above objects rows above ++ piece ∷ []) up)) in
     let of_entry : IsRowOf objects row = record { object = o; entry = e; its_object = its; stands = at; counted = (counted, small); few = few; declared = refl; spelled = spelled_pooled o k stand pooled; ordinal = refl } in
-    let link : IsLinked objects rows (length rows) row = record { piece = piece; its_piece = ap (option_and_then (λ (o : Object). piece_of n o k)) its ∙ its_piece; parent = within; path = path; hash = hash } in
+    let link : IsLinked objects rows (length rows) row = record { piece = piece; its_piece = ap (option_and_then (λ (o : Object). piece_of n o k)) its ∙ its_piece; before = up_within (length rows) parent; path = path; hash = hash } in
     let name : row_name objects row ≡ named_of n o k e = ap (λ (path : List Piece). record { object = n; entry = k; path = path; bid = (if is_declaration e then 2 ^ 63 else 0) + n * 2 ^ 32 + k }) own in
     record {
       are_rows = rows_more objects rows row so_far.are_rows of_entry link;
@@ -179,14 +168,14 @@ begun n o rows few = record {
 }
 
 pub entering : (n : ℕ) (o : Object) (before old new : List Row) (numbers : List (Option ℕ)) (k : ℕ) (e : Entry) (number : Option ℕ) → ParentsStandBefore (entries_of o) → AreLiveParents o → 1 ≤ n → n < 2 ^ 16 → k < 2 ^ 24 → slice_get (entries_of o) k ≡ Some e
-    → length new < 2 ^ 25 → IsEntered (is_pooled o k) (new_row n o k e (option_and_then (λ (p : ℕ). get_or numbers p None) (parent_of (entries_of o) k)) (hash_above old (option_and_then (λ (p : ℕ). get_or numbers p None) (parent_of (entries_of o) k)))) old new number
+    → length new < 2 ^ 25 → IsEntered (is_pooled o k) (new_row n o k e old (option_and_then (λ (p : ℕ). get_or numbers p None) (parent_of (entries_of o) k))) old new number
     → length numbers ≡ k → IsEntering n o before old numbers k → IsEntering n o before new (numbers ++ number ∷ []) (k + 1)
 entering n o before old new numbers k e number stand live counted small few at room step len so_far = go (is_pooled o k) refl step where
   parent : Option ℕ
   parent = option_and_then (λ (p : ℕ). get_or numbers p None) (parent_of (entries_of o) k)
 
   row : Row
-  row = new_row n o k e parent (hash_above old parent)
+  row = new_row n o k e old parent
 
   bound : (number : Option ℕ) → length old ≤ length new → ((x : ℕ) → number ≡ Some x → x < length new) → (j x : ℕ) → get_or (numbers ++ number ∷ []) j None ≡ Some x → x < length new
   bound number grown own j x is = elim (cases_lt j (length numbers)) [
@@ -236,11 +225,11 @@ bounded_above o numbers m k bounded x is = go (parent_of (entries_of o) k) is wh
 
 -- the same, where the numbers are handed on as a slice
 pub entering_given : (n : ℕ) (o : Object) (before old new : List Row) (given numbers : List (Option ℕ)) (k : ℕ) (e : Entry) (number : Option ℕ) → ParentsStandBefore (entries_of o) → AreLiveParents o → 1 ≤ n → n < 2 ^ 16 → k < 2 ^ 24 → slice_get (entries_of o) k ≡ Some e → given ≡ numbers
-    → (length new < 2 ^ 25) × IsEntered (is_pooled o k) (new_row n o k e (option_and_then (λ (p : ℕ). get_or given p None) (parent_of (entries_of o) k)) (hash_above old (option_and_then (λ (p : ℕ). get_or given p None) (parent_of (entries_of o) k)))) old new number
+    → (length new < 2 ^ 25) × IsEntered (is_pooled o k) (new_row n o k e old (option_and_then (λ (p : ℕ). get_or given p None) (parent_of (entries_of o) k))) old new number
     → IsEntering n o before old numbers k → IsEntering n o before new (numbers ++ number ∷ []) (k + 1)
 entering_given n o before old new given numbers k e number stand live counted small few at same step so_far =
     entering n o before old new numbers k e number stand live counted small few at step.0
-    (subst (λ (xs : List (Option ℕ)). IsEntered (is_pooled o k) (new_row n o k e (option_and_then (λ (p : ℕ). get_or xs p None) (parent_of (entries_of o) k)) (hash_above old (option_and_then (λ (p : ℕ). get_or xs p None) (parent_of (entries_of o) k)))) old new number) same step.1)
+    (subst (λ (xs : List (Option ℕ)). IsEntered (is_pooled o k) (new_row n o k e old (option_and_then (λ (p : ℕ). get_or xs p None) (parent_of (entries_of o) k))) old new number) same step.1)
     so_far.len so_far
 
 -- ---- the limit

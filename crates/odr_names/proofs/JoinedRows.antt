@@ -1,126 +1,68 @@
 -- The rows of one object put behind those of others.
 use Rattle.std.proofs.Common.{suc, zero, ◌≡◌, inl, inr, ℕ, ◌+◌, ◌-◌, ◌<◌, ◌≤◌, ◌^◌, List, [], ◌∷◌, ◌++◌, length, map, take, Option, Some, None, slice_get, get_or, refl, sym, ap, ◌∙◌, arith, subst, append_assoc, length-append}
 use Rattle.std.specs.List.{All, sum_by}
-use Rattle.std.specs.Option.{ForSome, option_map, option_map_or}
+use Rattle.std.specs.Option.{option_map, option_map_or}
 use Rattle.std.proofs.Math.Numerals.{add-one}
 use Rattle.std.proofs.lemmas.Bool.{cases_lt}
 use Rattle.std.proofs.lemmas.List.{length_push, map-append, take_all, take_more}
 use Rattle.std.proofs.lemmas.List.Sums.{sum_by_push}
-use Rattle.std.proofs.lemmas.Option.{get_or_from_slice_get, none-some, same_Some, slice_get-get_or, slice_get-map, slice_get_cases, slice_get_within}
+use Rattle.std.proofs.lemmas.Option.{get_or_from_slice_get, none-some, same_Some, slice_get-get_or, slice_get_cases, slice_get_within}
 use Rattle.odr_names.specs.declared.one_object.ObjectNames.{ObjectNames}
 use Rattle.odr_names.specs.declared.path_book.Objects.{Objects}
 use Rattle.odr_names.specs.declared.path_book.Row.{Row}
-use Rattle.odr_names.specs.Book.{AreRows, AreTold, IsLinked, IsRowOf, objects_in, path_above, row_name, row_path}
+use Rattle.odr_names.specs.Book.{AreRows, AreTold, IsLinked, objects_in, path_above, row_above, row_name, row_path}
 use Rattle.odr_names.specs.Entering.{AreEntered}
-use Rattle.odr_names.specs.Joining.{AreAllNames, AreJoinedTo, AreNamesOf, AreNamesTo, shifted}
+use Rattle.odr_names.specs.Joining.{AreAllNames, AreJoinedTo, AreNamesOf, AreNamesTo}
 use Rattle.type_names.specs.declared.pooled.TypeNames.{TypeNames}
 use Rattle.type_names.specs.Heads.{Object}
 use Rattle.type_names.specs.Names.{Named, names, names_in}
 use Rattle.type_names.specs.Objects.{object_of}
 use Rattle.type_names.specs.Paths.{Piece}
 use Rattle.type_names.specs.Pooled.{AreNames}
-use Rattle.odr_names.proofs.BookPaths.{get_before, get_last, length_names}
-use Rattle.odr_names.proofs.MakingBooks.{names_within, object_at, object_made, one_object}
+use Rattle.odr_names.proofs.BookPaths.{above_moved, get_before, get_last, length_names, link_before}
+use Rattle.odr_names.proofs.MakingBooks.{object_at, object_made, one_object}
 
 -- ---- rows behind others
-
--- the rows of an object behind those before
-abbrev pub behind : List Row → List Row → List Row
-behind before rows = before ++ map (shifted (length before)) rows
 
 pub get_behind : {X : Type 0} (xs ys : List X) (k n : ℕ) → n ≡ length xs + k → slice_get (xs ++ ys) n ≡ slice_get ys k
 get_behind [] ys k n is = ap (slice_get ys) (let e : n ≡ k = omega (arith, is) in e)
 get_behind (x ∷ xs) ys k zero is = absurd (omega (arith, is))
 get_behind (x ∷ xs) ys k (suc n) is = get_behind xs ys k n (omega (arith, is))
 
-above_before : (objects : List Object) (before more : List Row) (parent : Option ℕ) (x : ℕ) → x ≤ length before → ForSome parent (λ p. p < x) → path_above objects (before ++ more) parent ≡ path_above objects before parent
-above_before objects before more None x within lower = refl
-above_before objects before more (Some p) x within lower = ap (λ (o : Option Row). option_map_or (row_path objects) o []) (get_before before more p (omega (arith, lower p refl)))
-
-link_before : (objects : List Object) (before more : List Row) (row : Row) (x : ℕ) → x ≤ length before → IsLinked objects before x row → IsLinked objects (before ++ more) x row
-link_before objects before more row x within link = record {
-  piece = link.piece;
-  its_piece = link.its_piece;
-  parent = link.parent;
-  path = link.path ∙ ap (λ (path : List Piece). path ++ link.piece ∷ []) (sym (above_before objects before more row.parent x within link.parent));
-  hash = link.hash;
-}
-
-shifted_path : (objects : List Object) (by : ℕ) (o : Option Row) → option_map_or (row_path objects) (option_map (shifted by) o) [] ≡ option_map_or (row_path objects) o []
-shifted_path objects by None = refl
-shifted_path objects by (Some row) = refl
-
-above_behind : (objects : List Object) (before rows : List Row) (parent : Option ℕ) → path_above objects (behind before rows) (option_map (λ (p : ℕ). length before + p) parent) ≡ path_above objects rows parent
+above_behind : (objects : List Object) (before rows : List Row) (above : Option ℕ) → path_above objects (before ++ rows) (option_map (λ (p : ℕ). length before + p) above) ≡ path_above objects rows above
 above_behind objects before rows None = refl
-above_behind objects before rows (Some p) =
-    ap (λ (o : Option Row). option_map_or (row_path objects) o []) (get_behind before (map (shifted (length before)) rows) p (length before + p) refl ∙ slice_get-map (shifted (length before)) rows p)
-    ∙ shifted_path objects (length before) (slice_get rows p)
+above_behind objects before rows (Some p) = ap (λ (o : Option Row). option_map_or (row_path objects) o []) (get_behind before rows p (length before + p) refl)
 
-lower_behind : (b y : ℕ) (parent : Option ℕ) → ForSome parent (λ p. p < y) → ForSome (option_map (λ (p : ℕ). b + p) parent) (λ p. p < b + y)
-lower_behind b y None lower = λ p same. absurd (none-some p same)
-lower_behind b y (Some q) lower = λ p same. (let e : b + q ≡ p = same_Some (b + q) p same in omega (arith, e, lower q refl))
-
-link_behind : (objects : List Object) (before rows : List Row) (row : Row) (y : ℕ) → IsLinked objects rows y row → IsLinked objects (behind before rows) (length before + y) (shifted (length before) row)
+link_behind : (objects : List Object) (before rows : List Row) (row : Row) (y : ℕ) → IsLinked objects rows y row → IsLinked objects (before ++ rows) (length before + y) row
 link_behind objects before rows row y link = record {
   piece = link.piece;
   its_piece = link.its_piece;
-  parent = lower_behind (length before) y row.parent link.parent;
-  path = link.path ∙ ap (λ (path : List Piece). path ++ link.piece ∷ []) (sym (above_behind objects before rows row.parent));
+  before = omega (arith, link.before);
+  path = link.path ∙ ap (λ (path : List Piece). path ++ link.piece ∷ []) (sym (ap (path_above objects (before ++ rows)) (above_moved (length before) y row link.before) ∙ above_behind objects before rows (row_above y row)));
   hash = link.hash;
 }
 
-row_behind : (objects : List Object) (by : ℕ) (row : Row) → IsRowOf objects row → IsRowOf objects (shifted by row)
-row_behind objects by row is = record {
-  object = is.object;
-  entry = is.entry;
-  its_object = is.its_object;
-  stands = is.stands;
-  counted = is.counted;
-  few = is.few;
-  declared = is.declared;
-  spelled = is.spelled;
-  ordinal = is.ordinal;
-}
-
--- a row behind those before is one of the object's
-its_row : (before rows : List Row) (x : ℕ) (r : Row) → length before ≤ x → slice_get (behind before rows) x ≡ Some r
-    → (row : Row) × (slice_get rows (x - length before) ≡ Some row) × (shifted (length before) row ≡ r)
-its_row before rows x r later at = go (slice_get rows (x - length before)) refl where
-  there : option_map (shifted (length before)) (slice_get rows (x - length before)) ≡ Some r
-  there = sym (slice_get-map (shifted (length before)) rows (x - length before)) ∙ sym (get_behind before (map (shifted (length before)) rows) (x - length before) x (omega (arith, later))) ∙ at
-
-  go : (o : Option Row) → slice_get rows (x - length before) ≡ o → (row : Row) × (slice_get rows (x - length before) ≡ Some row) × (shifted (length before) row ≡ r)
-  go None none = absurd (none-some r (ap (option_map (shifted (length before))) (sym none) ∙ there))
-  go (Some row) some = (row, some, same_Some (shifted (length before) row) r (ap (option_map (shifted (length before))) (sym some) ∙ there))
-
-rows_behind : (objects : List Object) (before rows : List Row) → AreRows objects before → AreRows objects rows → AreRows objects (behind before rows)
+rows_behind : (objects : List Object) (before rows : List Row) → AreRows objects before → AreRows objects rows → AreRows objects (before ++ rows)
 rows_behind objects before rows first second = record {
   of_entries = λ x r at. elim (cases_lt x (length before)) [
-    | inl earlier ↦ first.of_entries x r (sym (get_before before (map (shifted (length before)) rows) x earlier) ∙ at)
-    | inr later ↦ (
-        let it = its_row before rows x r later at in
-        subst (IsRowOf objects) it.2 (row_behind objects (length before) it.0 (second.of_entries (x - length before) it.0 it.1)))
+    | inl earlier ↦ first.of_entries x r (sym (get_before before rows x earlier) ∙ at)
+    | inr later ↦ second.of_entries (x - length before) r (its_row x r later at)
   ];
   linked = λ x r at. elim (cases_lt x (length before)) [
-    | inl earlier ↦ link_before objects before (map (shifted (length before)) rows) r x (omega (arith, earlier)) (first.linked x r (sym (get_before before (map (shifted (length before)) rows) x earlier) ∙ at))
+    | inl earlier ↦ link_before objects before rows r x (omega (arith, earlier)) (first.linked x r (sym (get_before before rows x earlier) ∙ at))
     | inr later ↦ (
-        let it = its_row before rows x r later at in
         let here : length before + (x - length before) ≡ x = omega (arith, later) in
-        let link = link_behind objects before rows it.0 (x - length before) (second.linked (x - length before) it.0 it.1) in
-        subst (λ (y : ℕ). IsLinked objects (behind before rows) y r) here (subst (IsLinked objects (behind before rows) (length before + (x - length before))) it.2 link))
+        subst (λ (y : ℕ). IsLinked objects (before ++ rows) y r) here (link_behind objects before rows r (x - length before) (second.linked (x - length before) r (its_row x r later at))))
   ];
-}
-
-names_shifted : (objects : List Object) (by : ℕ) (rows : List Row) → map (row_name objects) (map (shifted by) rows) ≡ map (row_name objects) rows
-names_shifted objects by [] = refl
-names_shifted objects by (row ∷ rows) = ap (λ (xs : List Named). row_name objects row ∷ xs) (names_shifted objects by rows)
+} where
+  its_row : (x : ℕ) (r : Row) → length before ≤ x → slice_get (before ++ rows) x ≡ Some r → slice_get rows (x - length before) ≡ Some r
+  its_row x r later at = sym (get_behind before rows (x - length before) x (omega (arith, later))) ∙ at
 
 -- rows that were entered behind none are entered behind any
-pub entered_behind : (objects : List Object) (n : ℕ) (o : Object) (before rows : List Row) → AreRows objects before → AreEntered objects n o [] rows → AreEntered objects n o before (behind before rows)
+pub entered_behind : (objects : List Object) (n : ℕ) (o : Object) (before rows : List Row) → AreRows objects before → AreEntered objects n o [] rows → AreEntered objects n o before (before ++ rows)
 entered_behind objects n o before rows sound is = record {
   are_rows = rows_behind objects before rows sound is.are_rows;
-  names = map-append (row_name objects) before (map (shifted (length before)) rows)
-      ∙ ap (λ (xs : List Named). map (row_name objects) before ++ xs) (names_shifted objects (length before) rows ∙ is.names);
+  names = map-append (row_name objects) before rows ∙ ap (λ (xs : List Named). map (row_name objects) before ++ xs) is.names;
 }
 
 pub none_entered : (objects : List Object) → AreRows objects []
@@ -133,13 +75,6 @@ own_entered objects i o one at is = is.entered objects (ap (slice_get objects) (
 
 own_count : (objects : List Object) (i : ℕ) (o : Object) (one : ObjectNames) → slice_get objects i ≡ Some o → AreNamesOf (i + 1) o one → length one.rows.items ≡ length (names_in (i + 1) o)
 own_count objects i o one at is = sym (length_names objects one.rows.items) ∙ ap length (own_entered objects i o one at is).names
-
--- parents stand inside
-pub parents_inside : (objects : List Object) (i : ℕ) (o : Object) (one : ObjectNames) → slice_get objects i ≡ Some o → AreNamesOf (i + 1) o one → All (λ (row : Row). ForSome row.parent (λ p. p < 2 ^ 25)) one.rows.items
-parents_inside objects i o one at is = λ k d within p same. (
-    let rows = one.rows.items in
-    let low = ((own_entered objects i o one at is).are_rows.linked k (get_or rows k d) (slice_get-get_or rows k d within)).parent p same in
-    omega (arith, low, within, is.few))
 
 pub names_begun : (objects : List Object) → AreNamesTo objects [] 0
 names_begun objects = record { len = refl; each = λ i o one at_o at. absurd (none-some one at) }
@@ -201,7 +136,7 @@ pub joined_begun : (objects : List Object) → AreJoinedTo objects [] [] 0
 joined_begun objects = record { len = refl; each = λ j o t at_o at. absurd (none-some t at); are_rows = none_entered objects; names = refl }
 
 pub joined_more : (objects : List Object) (told : List TypeNames) (rows : List Row) (i : ℕ) (o : Object) (one : ObjectNames) → slice_get objects i ≡ Some o → AreNamesOf (i + 1) o one
-    → AreJoinedTo objects told rows i → AreJoinedTo objects (told ++ one.names ∷ []) (behind rows one.rows.items) (i + 1)
+    → AreJoinedTo objects told rows i → AreJoinedTo objects (told ++ one.names ∷ []) (rows ++ one.rows.items) (i + 1)
 joined_more objects told rows i o one at is so_far =
     let entered = entered_behind objects (i + 1) o rows one.rows.items so_far.are_rows (own_entered objects i o one at is) in
     record {
@@ -217,12 +152,6 @@ joined_more objects told rows i o one at is so_far =
       are_rows = entered.are_rows;
       names = entered.names ∙ ap (λ (xs : List Named). xs ++ names_in (i + 1) o) so_far.names ∙ sym (one_object objects i o at);
     }
-
-pub joined_few : (objects : List Object) (told : List TypeNames) (rows : List Row) (i : ℕ) → i ≤ length objects → AreJoinedTo objects told rows i → length rows ≤ length (names objects)
-joined_few objects told rows i le so_far =
-    let count = sym (length_names objects rows) ∙ ap length so_far.names in
-    let within = names_within objects (length objects - i) i (omega (arith, le)) in
-    omega (arith, count, within)
 
 pub joined_names : (objects : List Object) (told : List TypeNames) (rows : List Row) (i : ℕ) → length objects ≤ i → AreJoinedTo objects told rows i → map (row_name objects) rows ≡ names objects
 joined_names objects told rows i whole so_far = so_far.names ∙ ap (λ (os : List Object). names os) (take_all i objects whole)
@@ -248,14 +177,14 @@ module _ (objects : List Object) (all front left rest : List ObjectNames) (one :
   pub object_here : (o : Object) × (slice_get objects (length front) ≡ Some o) × AreNamesOf (length front + 1) o one
   object_here = (let o = object_at objects (length front) inside_here in (o.0, o.1, are.each (length front) o.0 one o.1 taken_here))
 
-  pub joined_next : (told new_told : List TypeNames) (rows given new_rows : List Row) → given ≡ one.rows.items → new_told ≡ told ++ one.names ∷ [] → new_rows ≡ rows ++ map (shifted (length rows)) given
+  pub joined_next : (told new_told : List TypeNames) (rows given new_rows : List Row) → given ≡ one.rows.items → new_told ≡ told ++ one.names ∷ [] → new_rows ≡ rows ++ given
       → AreJoinedTo objects told rows (length front) → AreJoinedTo objects new_told new_rows (length (front ++ one ∷ []))
   joined_next told new_told rows given new_rows same e f so_far =
       let o = object_here in
       let more = joined_more objects told rows (length front) o.0 one o.1 o.2 so_far in
       subst (AreJoinedTo objects new_told new_rows) (sym (length_push front one))
-      (subst (λ (rs : List Row). AreJoinedTo objects new_told rs (length front + 1)) (sym (f ∙ ap (λ (rs : List Row). rows ++ map (shifted (length rows)) rs) same))
-      (subst (λ (ts : List TypeNames). AreJoinedTo objects ts (behind rows one.rows.items) (length front + 1)) (sym e) more))
+      (subst (λ (rs : List Row). AreJoinedTo objects new_told rs (length front + 1)) (sym (f ∙ ap (λ (rs : List Row). rows ++ rs) same))
+      (subst (λ (ts : List TypeNames). AreJoinedTo objects ts (rows ++ one.rows.items) (length front + 1)) (sym e) more))
 
 -- ---- all objects
 

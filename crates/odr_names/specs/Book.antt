@@ -1,5 +1,5 @@
 -- The book of names: rows that each stand for a pooled entry and lead to the row above.
-use Rattle.std.specs.Prelude.{◌≡◌, ◌↔◌, ℕ, ◌+◌, ◌-◌, ◌*◌, ◌^◌, ◌<◌, ◌≤◌, Bool, List, [], ◌∷◌, ◌++◌, length, slice_get, Option, Some, if◌then◌else◌}
+use Rattle.std.specs.Prelude.{◌≡◌, ◌↔◌, ℕ, ◌+◌, ◌-◌, ◌*◌, ◌^◌, ◌<◌, ◌≤◌, ◌==◌, Bool, List, [], ◌∷◌, ◌++◌, length, slice_get, Option, Some, None, if◌then◌else◌}
 use Rattle.std.specs.List.Sorted.{IsNonDecreasingBy}
 use Rattle.std.specs.Option.{ForSome, option_and_then, option_map_or}
 use Rattle.dwarf_types.specs.declared.analysis.Analysis.{Analysis}
@@ -45,6 +45,10 @@ pub record AreTold (os : Objects) : Type 0 where
 
 -- ---- rows
 
+-- the number of the row of the entry above that of row x, where that is not the unit
+abbrev pub row_above : ℕ → Row → Option ℕ
+row_above x row = if row.up == 0 then None else Some (x - row.up)
+
 -- the object of a row; objects are counted from 1
 abbrev pub row_object : List Object → Row → Option Object
 row_object objects row = slice_get objects (row.object - 1)
@@ -65,7 +69,7 @@ abbrev pub path_in : List Object → List Row → ℕ → List Piece
 path_in objects rows x = option_map_or (row_path objects) (slice_get rows x) []
 
 abbrev pub path_above : List Object → List Row → Option ℕ → List Piece
-path_above objects rows parent = option_map_or (path_in objects rows) parent []
+path_above objects rows above = option_map_or (path_in objects rows) above []
 
 -- the row stands for an entry of an object
 pub record IsRowOf (objects : List Object) (row : Row) : Type 0 where
@@ -83,8 +87,8 @@ pub record IsRowOf (objects : List Object) (row : Row) : Type 0 where
 pub record IsLinked (objects : List Object) (rows : List Row) (x : ℕ) (row : Row) : Type 0 where
   pub piece : Piece
   pub its_piece : row_piece objects row ≡ Some piece
-  pub parent : ForSome row.parent (λ p. p < x)
-  pub path : row_path objects row ≡ path_above objects rows row.parent ++ piece ∷ []
+  pub before : row.up ≤ x
+  pub path : row_path objects row ≡ path_above objects rows (row_above x row) ++ piece ∷ []
   pub hash : row.hash ≡ path_hash (row_path objects row)
 
 pub record AreRows (objects : List Object) (rows : List Row) : Type 0 where

@@ -21,14 +21,18 @@ hash_above rows parent = option_map_or (λ p. option_map_or (λ row. row.hash) (
 abbrev pub piece_at : ℕ → Object → ℕ → Entry → Piece
 piece_at n o k e = record { parts = parts_of n o k e; ordinal = ordinal_of n o k e }
 
--- the row of entry k of object n, below a row whose path has this hash
-abbrev pub new_row : ℕ → Object → ℕ → Entry → Option ℕ → ℕ → Row
-new_row n o k e parent hash = record {
-  object = n;
+-- how many rows before row x that of its parent stands, or 0
+abbrev pub rows_up : ℕ → Option ℕ → ℕ
+rows_up x parent = option_map_or (λ p. x - p) parent 0
+
+-- the row of entry k of object n behind these rows, one of which is that of its parent, if it has one
+abbrev pub new_row : ℕ → Object → ℕ → Entry → List Row → Option ℕ → Row
+new_row n o k e rows parent = record {
+  hash = hash_from (hash_above rows parent) (piece_bytes (piece_at n o k e));
   entry = k;
-  hash = hash_from hash (piece_bytes (piece_at n o k e));
-  parent = parent;
   ordinal = ordinal_of n o k e;
+  up = rows_up (length rows) parent;
+  object = n;
   declared = is_declaration e;
 }
 
@@ -39,7 +43,7 @@ IsEntered false row old new number = (number ≡ None) × (new ≡ old)
 
 -- entry k of object n is entered; at the limit none is
 abbrev pub Enters : ℕ → Object → ℕ → Entry → Option ℕ → List Row → List Row → Result (Option ℕ) BookError → Type 0
-Enters n o k e parent old new (Ok number) = (length new < 2 ^ 25) × IsEntered (is_pooled o k) (new_row n o k e parent (hash_above old parent)) old new number
+Enters n o k e parent old new (Ok number) = (length new < 2 ^ 25) × IsEntered (is_pooled o k) (new_row n o k e old parent) old new number
 Enters n o k e parent old new (Err errors.Pooled) = (is_pooled o k ≡ true) × (2 ^ 25 ≤ length old + 1)
 Enters n o k e parent old new (Err errors.NoMemory) = Unit {0}
 

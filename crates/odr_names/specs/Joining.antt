@@ -1,6 +1,5 @@
 -- The names of each object, made by itself, and their rows behind one another.
 use Rattle.std.specs.Prelude.{◌≡◌, ℕ, ◌+◌, ◌-◌, ◌^◌, ◌<◌, List, [], length, map, take, slice_get, Some}
-use Rattle.std.specs.Option.{option_map}
 use Rattle.odr_names.specs.declared.one_object.ObjectNames.{ObjectNames}
 use Rattle.odr_names.specs.declared.path_book.Row.{Row}
 use Rattle.odr_names.specs.Book.{AreRows, row_name}
@@ -24,17 +23,6 @@ pub record AreNamesTo (objects : List Object) (own : List ObjectNames) (n : ℕ)
 -- those of each object
 abbrev pub AreAllNames : List Object → List ObjectNames → Type 0
 AreAllNames objects own = AreNamesTo objects own (length objects)
-
--- a row whose parent is counted from a row that stands so far before
-abbrev pub shifted : ℕ → Row → Row
-shifted by row = record {
-  object = row.object;
-  entry = row.entry;
-  hash = row.hash;
-  parent = option_map (λ p. by + p) row.parent;
-  ordinal = row.ordinal;
-  declared = row.declared;
-}
 
 -- ---- on the way
 

@@ -7,7 +7,7 @@ ghost use Rattle.odr_names.specs.declared.path_book.Row.{Row as ARow};
 ghost use Rattle.odr_names.specs.declared.book_error.BookError.TheVariants as errors;
 ghost use Rattle.type_names.specs.Names.{names_in};
 ghost use Rattle.odr_names.specs.Book.{AreRows};
-ghost use Rattle.odr_names.specs.Entering.{AreEntered, AreLiveParents, Enters, hash_above, new_row};
+ghost use Rattle.odr_names.specs.Entering.{AreEntered, AreLiveParents, Enters, hash_above, new_row, rows_up};
 ghost use Rattle.odr_names.specs.Twins.{is_inside, twins_before};
 ghost use Rattle.type_names.specs.Entries.{is_declaration};
 ghost use Rattle.type_names.specs.Heads.{Object, is_pooled};
@@ -45,6 +45,7 @@ pub(crate) fn enter_entry(
     requires len { length counts.now ≡ length seen.now.entries }
     requires counts { (j : ℕ) → j < length seen.now.entries → is_inside (object_of seen.now live.now) j ≡ true
         → slice_index_or counts.now j 0 ≡ twins_before object (object_of seen.now live.now) j }
+    requires counted { object < 2 ^ 16 }
     requires numbers { (x : ℕ) → option_and_then (λ p. slice_index_or numbers.now p None) (parent_of seen.now.entries k) ≡ Some x → x < length rows.old.items }
     requires few { length rows.old.items < 2 ^ 25 }
     ensures { (e : AnEntry) → slice_get seen.now.entries k ≡ Some e
@@ -93,21 +94,34 @@ fn row_of(
     requires len { length counts.now ≡ length seen.now.entries }
     requires counts { (j : ℕ) → j < length seen.now.entries → is_inside (object_of seen.now live.now) j ≡ true
         → slice_index_or counts.now j 0 ≡ twins_before object (object_of seen.now live.now) j }
+    requires counted { object < 2 ^ 16 }
+    requires few { length rows.now < 2 ^ 25 }
     requires parent { ForSome parent (λ p. p < length rows.now) }
     ensures { (e : AnEntry) → slice_get seen.now.entries k ≡ Some e
-        → result ≡ new_row object (object_of seen.now live.now) k e parent (hash_above rows.now parent) }
+        → result ≡ new_row object (object_of seen.now live.now) k e rows.now parent }
 {
     let entry = seen.entries.entry(k as usize);
     let parts = parts_at(seen, live, names, object, k);
     let ordinal = ordinal_at(seen, live, object, counts, &parts, k);
     let piece = PieceRef { parts, ordinal };
     Row {
-        object,
-        entry: k,
         hash: hash_piece(hash_above(rows, parent), &piece),
-        parent,
+        entry: k,
         ordinal,
+        up: rows_up(rows.len() as u32, parent),
+        object: object as u16,
         declared: is_declaration(&entry),
+    }
+}
+
+/// How many rows before row `x` that of its parent stands, or 0.
+fn rows_up(x: u32, parent: Option<u32>) -> u32
+    requires { ForSome parent (λ p. p < x) }
+    ensures { result ≡ rows_up x parent }
+{
+    match parent {
+        Some(p) => x - p,
+        None => 0,
     }
 }
 

@@ -1,7 +1,7 @@
 //! Names: the paths of pooled entries, which of them are equal, and which entry wins each.
 //!
 //! Layer: names. [`object_names`] makes the names of one object, whatever the others are: [`type_names::type_names`] tells
-//! which entries are pooled, and each of these gets a row (`enter`). A row takes 32 bytes and leads to the row above; names
+//! which entries are pooled, and each of these gets a row (`enter`). A row takes 24 bytes and leads to the row above; names
 //! and linkage names stay in the analyses. [`joined_book`] puts the rows of all objects behind one another (`joining`,
 //! `specs/Joining.antt`), and [`book`] makes and joins them one by one. What a book's names are stands in
 //! `type_names/specs/Names.antt`; when rows stand for them, in `specs/Book.antt`; which rows of live entries a book is made

@@ -17,7 +17,7 @@ use dwarf_types::Analysis;
 use std::alloc::Global;
 use type_names::{TypeNames, type_names};
 
-/// What is told of the names of an object, and its rows. Their parents are counted from the first of them.
+/// What is told of the names of an object, and its rows.
 #[derive(Drop)]
 pub struct ObjectNames {
     pub(crate) names: TypeNames,

@@ -6,7 +6,7 @@ ghost use Rattle.std.specs.List.Sorted.{IsNonDecreasingBy, IsPartitionPoint};
 ghost use Rattle.std.specs.Option.{ForSome, option_map, option_map_or};
 ghost use Rattle.dwarf_types.specs.Sound.{IsSound};
 ghost use Rattle.odr_names.specs.declared.book_error.BookError.TheVariants as errors;
-ghost use Rattle.odr_names.specs.Book.{AreRows, AreTold, IsBook, IsRowOf, SamePath, bid_at, objects_in, objects_of, path_at, path_in, row_bid, row_piece};
+ghost use Rattle.odr_names.specs.Book.{AreRows, AreTold, IsBook, IsRowOf, SamePath, bid_at, objects_in, objects_of, path_at, path_in, row_above, row_bid, row_piece};
 ghost use Rattle.odr_names.specs.Joining.{AreAllNames};
 ghost use Rattle.odr_names.specs.Making.{AreLiveRows, merged};
 ghost use Rattle.odr_names.specs.Stretches.{AreOfObjects, IsFirstOf};
@@ -36,20 +36,22 @@ pub struct Objects<'a> {
     pub(crate) names: Vec<TypeNames>,
 }
 
-/// A pooled entry.
+/// A pooled entry, in 24 bytes.
 #[derive(Clone, Copy)]
 pub struct Row {
-    /// Counted from 1.
-    pub(crate) object: u32,
-    pub(crate) entry: u32,
     /// The hash of the whole path.
     pub(crate) hash: u64,
-    /// The row of the entry above, where that is not the unit.
-    pub(crate) parent: Option<u32>,
+    pub(crate) entry: u32,
     pub(crate) ordinal: u32,
+    /// How many rows before this one that of the entry above stands, or 0 where that is the unit.
+    pub(crate) up: u32,
+    /// Counted from 1.
+    pub(crate) object: u16,
     /// Whether it is a declaration of a type.
     pub(crate) declared: bool,
 }
+
+const _: () = prove!(size_of::<Row>() == 24);
 
 /// The pooled entries of a link, in the order of objects and entries, with their paths and bids.
 ///
@@ -133,9 +135,8 @@ fn all_names(
 
 /// The book of the names of these objects, where the names of each are made.
 ///
-/// `own` are those of each object, in the order of the objects ([`object_names`]); their rows are joined, and the
-/// parent of a row is counted from the first row of all. Objects with 2^25 names or more together have no book
-/// ([`BookError::Pooled`]).
+/// `own` are those of each object, in the order of the objects ([`object_names`]); their rows are put behind one another.
+/// Objects with 2^25 names or more together have no book ([`BookError::Pooled`]).
 pub fn joined_book<'a>(
     alloc: Global,
     seen: &'a [Analysis],
@@ -185,7 +186,7 @@ pub fn occurrence(names: &PathBook, x: u32) -> Occurrence
 {
     let row = row_at(&names.rows, x);
     Occurrence {
-        object: row.object,
+        object: u32::from(row.object),
         entry: row.entry,
     }
 }
@@ -212,7 +213,7 @@ pub fn above(names: &PathBook, x: u32) -> Option<u32>
     ensures before { ForSome result (λ p. p < x) }
     ensures path { (piece : Piece) × (path_at names.now x ≡ option_map_or (path_at names.now) result [] ++ piece ∷ []) }
 {
-    row_at(&names.rows, x).parent
+    row_above(x, row_at(&names.rows, x))
 }
 
 /// Whether two names have the same path.
@@ -247,13 +248,21 @@ fn row_at(rows: &[Row], x: u32) -> Row
     rows[x as usize]
 }
 
+/// The number of the row of the entry above that of row `x`, where that is not the unit.
+fn row_above(x: u32, row: Row) -> Option<u32>
+    requires { row.up ≤ x }
+    ensures { result ≡ row_above x row }
+{
+    if row.up == 0 { None } else { Some(x - row.up) }
+}
+
 /// How many rows are of objects before this one.
 fn count_before(rows: &[Row], object: u32) -> usize
     requires { IsNonDecreasingBy (λ row. row.object) rows.now }
     ensures within { result ≤ length rows.now }
     ensures parted { IsPartitionPoint (λ row. row.object < object) (λ row. object ≤ row.object) rows.now result }
 {
-    rows.partition_point(|row| row.object < object)
+    rows.partition_point(|row| u32::from(row.object) < object)
 }
 
 /// The bid of a row.
@@ -297,8 +306,8 @@ fn rows_equal(objects: &Objects, rows: &[Row], a: u32, b: u32) -> bool
         if !may_be_equal(objects, first, second) {
             return false;
         }
-        left = first.parent;
-        right = second.parent;
+        left = row_above(x, first);
+        right = row_above(y, second);
     }
     right.is_none()
 }
@@ -323,7 +332,7 @@ fn piece_of<'b>(objects: &'b Objects, row: Row) -> PieceRef<'b>
         seen_at(objects, i),
         live_at(objects, i),
         names_at(objects, i),
-        row.object,
+        row.object as u32,
         row.entry,
     );
     PieceRef {

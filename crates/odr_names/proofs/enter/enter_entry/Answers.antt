@@ -2,7 +2,7 @@ use Rattle.std.proofs.Common.{◌≡◌, ◌∙◌, ◌++◌, ◌∷◌, [], ℕ
 use Rattle.std.specs.Option.{option_and_then}
 use Rattle.std.proofs.lemmas.List.{length_push}
 use Rattle.odr_names.specs.declared.path_book.Row.{Row}
-use Rattle.odr_names.specs.Entering.{IsEntered, hash_above, new_row}
+use Rattle.odr_names.specs.Entering.{IsEntered, new_row}
 use Rattle.type_names.specs.Heads.{Object, entries_of, is_pooled}
 use Rattle.type_names.specs.Objects.{object_of}
 use Rattle.type_names.specs.Tree.{parent_of}
@@ -16,7 +16,7 @@ returns-then-not-get c = λ e at. (
     let told : c.get.result ≡ is_pooled o k = c.get.ensures ∙ c.requires.names.pooled.each k c.requires.place in
     let rows = c.args.rows.now.items in
     let parent : Option ℕ = option_and_then (λ (p : ℕ). get_or c.args.numbers.now p None) (parent_of (entries_of o) k) in
-    (c.requires.few, subst (λ (b : Bool). IsEntered b (new_row c.args.object o k e parent (hash_above rows parent)) rows rows None) (sym (sym told ∙ c.if-not-get.true)) (refl, refl)))
+    (c.requires.few, subst (λ (b : Bool). IsEntered b (new_row c.args.object o k e rows parent) rows rows None) (sym (sym told ∙ c.if-not-get.true)) (refl, refl)))
 
 pub returns-then-number-ge-MOST_POOLED : goal.returns-then-number-ge-MOST_POOLED
 returns-then-number-ge-MOST_POOLED c = λ e at. (
@@ -33,12 +33,12 @@ returns c = λ e at. (
     let rows = c.args.rows.now.items in
     let parent : Option ℕ = option_and_then (λ (p : ℕ). get_or c.args.numbers.now p None) (parent_of (entries_of o) k) in
     let its : c.number_of-parent.result ≡ parent = c.number_of-parent.ensures ∙ ap (option_and_then (λ (p : ℕ). get_or c.args.numbers.now p None)) (c.parent.ensures ∙ sym (parent_at o k c.entry.result c.entry.ensures.stands)) in
-    let row : c.row_of-row.result ≡ new_row c.args.object o k e parent (hash_above rows parent) =
-    c.row_of-row.ensures e at ∙ ap (λ (rows : List Row). new_row c.args.object o k e c.number_of-parent.result (hash_above rows c.number_of-parent.result)) c.deref.ensures.value
-    ∙ ap (λ (parent : Option ℕ). new_row c.args.object o k e parent (hash_above rows parent)) its in
+    let row : c.row_of-row.result ≡ new_row c.args.object o k e rows parent =
+    c.row_of-row.ensures e at ∙ ap (λ (rows : List Row). new_row c.args.object o k e rows c.number_of-parent.result) c.deref.ensures.value
+    ∙ ap (λ (parent : Option ℕ). new_row c.args.object o k e rows parent) its in
     let pushed = c.in_ok-push.ensures.items ∙ ap (λ (row : Row). rows ++ row ∷ []) row in
     let small : c.len-number.result ≡ length rows = omega (arith, c.len-number.ensures) in
     let len = ap length c.in_ok-push.ensures.items ∙ length_push rows c.row_of-row.result in (
       omega (arith, len, c.if-number-ge-MOST_POOLED.false, small),
-      subst (λ (b : Bool). IsEntered b (new_row c.args.object o k e parent (hash_above rows parent)) rows c.push.new.self.items (Some c.len-number.result)) (sym (sym told ∙ c.if-not-get.false)) (ap (λ (x : ℕ). Some x) small, pushed),
+      subst (λ (b : Bool). IsEntered b (new_row c.args.object o k e rows parent) rows c.push.new.self.items (Some c.len-number.result)) (sym (sym told ∙ c.if-not-get.false)) (ap (λ (x : ℕ). Some x) small, pushed),
     ))

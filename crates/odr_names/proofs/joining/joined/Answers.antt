@@ -1,32 +1,11 @@
-use Rattle.std.proofs.Common.{◌≡◌, ◌∙◌, List, length, sym, subst, arith, rules}
+use Rattle.std.proofs.Common.{◌≡◌, ◌∙◌, List, length, sym, subst, rules}
 use Rattle.odr_names.specs.Book.{objects_of}
 use Rattle.odr_names.specs.Joining.{AreAllNames, AreJoinedTo}
 use Rattle.odr_names.specs.declared.path_book.Objects.{Objects}
 use Rattle.type_names.specs.Heads.{Object}
-use Rattle.odr_names.proofs.JoinedRows.{all_taken, goes_on, inside_here, joined_few, joined_next, joined_told, object_here, parents_inside}
+use Rattle.odr_names.proofs.JoinedRows.{all_taken, goes_on, joined_next, joined_told}
 use Rattle.odr_names.proofs.MakingBooks.{length_objects}
 use Rattle.odr_names.proofs.joining.joined.Goals as goal
-
-pub put_behind-requires-clause-few : goal.put_behind-requires-clause-few
-put_behind-requires-clause-few c =
-    let objects : List Object = objects_of c.args.seen.now c.args.live.now in
-    let all = c.into_iter-one-iterator.result.rest.items in
-    let are : AreAllNames objects all = subst (AreAllNames objects) (sym c.into_iter-one-iterator.ensures.into_iter_gives.0) c.requires.own in
-    let front = c.loop-one.yielded in
-    let left = c.loop-one.one-iterator.rest.items in
-    let rest = c.next.new.self.rest.items in
-    let inside = inside_here objects all front left rest c.in-Some.one c.loop-one.invariant.0 c.in-Some.ensures.steps.0 are in
-    let here = object_here objects all front left rest c.in-Some.one c.loop-one.invariant.0 c.in-Some.ensures.steps.0 are in
-    let few = joined_few objects c.loop-one.names.items c.loop-one.rows.items (length front) (omega (arith, inside)) c.loop-one.invariant.1 in
-    (omega (arith, few, c.requires.few), rw c.deref.ensures.value here.2.few)
-
-pub put_behind-requires-clause-inside : goal.put_behind-requires-clause-inside
-put_behind-requires-clause-inside c =
-    let objects : List Object = objects_of c.args.seen.now c.args.live.now in
-    let all = c.into_iter-one-iterator.result.rest.items in
-    let are : AreAllNames objects all = subst (AreAllNames objects) (sym c.into_iter-one-iterator.ensures.into_iter_gives.0) c.requires.own in
-    let here = object_here objects all c.loop-one.yielded c.loop-one.one-iterator.rest.items c.next.new.self.rest.items c.in-Some.one c.loop-one.invariant.0 c.in-Some.ensures.steps.0 are in
-    rw c.deref.ensures.value (parents_inside objects (length c.loop-one.yielded) here.0 c.in-Some.one here.1 here.2)
 
 pub loop-one-preserved : goal.loop-one-preserved
 loop-one-preserved c =
@@ -37,8 +16,8 @@ loop-one-preserved c =
     let left = c.loop-one.one-iterator.rest.items in
     let rest = c.next.new.self.rest.items in (
       goes_on all front left rest c.in-Some.one c.loop-one.invariant.0 c.in-Some.ensures.steps.0,
-      joined_next objects all front left rest c.in-Some.one c.loop-one.invariant.0 c.in-Some.ensures.steps.0 are c.loop-one.names.items c.push.new.self.items c.loop-one.rows.items c.deref.result.now c.put_behind.new.rows.items
-          c.deref.ensures.value c.in_ok-push.ensures.items c.in_ok-put_behind.ensures c.loop-one.invariant.1,
+      joined_next objects all front left rest c.in-Some.one c.loop-one.invariant.0 c.in-Some.ensures.steps.0 are c.loop-one.names.items c.push.new.self.items c.loop-one.rows.items c.deref.result.now c.extend_from_slice.new.self.items
+          c.deref.ensures.value c.in_ok-push.ensures.items c.in_ok-extend_from_slice.ensures.items c.loop-one.invariant.1,
     )
 
 pub returns-clause-told : goal.returns-clause-told

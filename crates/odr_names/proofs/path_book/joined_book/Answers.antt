@@ -24,12 +24,6 @@ returns-then-total-ge-MOST_POOLED-clause-pooled c = λ same. (
     let total : c.rows_in-total.result ≡ length (names objects) = c.rows_in-total.ensures ∙ ap (sum_by row_count) c.deref.ensures.value ∙ count_all objects c.args.own.items c.requires.own in
     omega (arith, total, c.if-total-ge-MOST_POOLED.true))
 
-pub joined-requires-clause-few : goal.joined-requires-clause-few
-joined-requires-clause-few c =
-    let objects : List Object = objects_of c.args.seen.now c.args.live.now in
-    let total : c.rows_in-total.result ≡ length (names objects) = c.rows_in-total.ensures ∙ ap (sum_by row_count) c.deref.ensures.value ∙ count_all objects c.args.own.items c.requires.own in
-    omega (arith, total, c.if-total-ge-MOST_POOLED.false)
-
 pub invariant_of-result : goal.invariant_of-result
 invariant_of-result c =
     let objects : List Object = objects_of c.args.seen.now c.args.live.now in

@@ -17,12 +17,18 @@ returns-then-not-may_be_equal c =
     let at_y : slice_get rows c.in-Some-right.y ≡ Some c.row_at-second.result = c.row_at-second.ensures in
     ((λ t. absurd (cc)), (λ e. absurd (compared_differ (objects_in c.args.objects.now) rows _ _ _ _ _ _ c.requires.book.are_rows at_x at_y (λ same. both_ways _ c.if-not-may_be_equal.true (c.may_be_equal.ensures.1 same)) so_far e)))
 
+pub row_above-left-requires : goal.row_above-left-requires
+row_above-left-requires c = (c.requires.book.are_rows.linked c.in-Some.x c.row_at-first.result c.row_at-first.ensures).before
+
+pub row_above-right-requires : goal.row_above-right-requires
+row_above-right-requires c = (c.requires.book.are_rows.linked c.in-Some-right.y c.row_at-second.result c.row_at-second.ensures).before
+
 pub loop-left-smaller : goal.loop-left-smaller
 loop-left-smaller c =
     let rows = c.args.rows.now in
     let so_far : Compared (objects_in c.args.objects.now) rows c.args.a c.args.b (Some c.in-Some.x) (Some c.in-Some-right.y) = rw (← c.in-Some.is, ← c.in-Some-right.is) c.loop-left.invariant in
     let at_x : slice_get rows c.in-Some.x ≡ Some c.row_at-first.result = c.row_at-first.ensures in
-    rw c.in-Some.is (parent_lower (objects_in c.args.objects.now) rows c.in-Some.x c.row_at-first.result c.requires.book.are_rows at_x)
+    rw (c.in-Some.is, c.row_above-left.ensures) (parent_lower (objects_in c.args.objects.now) rows c.in-Some.x c.row_at-first.result c.requires.book.are_rows at_x)
 
 pub loop-left-preserved : goal.loop-left-preserved
 loop-left-preserved c =
@@ -30,7 +36,8 @@ loop-left-preserved c =
     let so_far : Compared (objects_in c.args.objects.now) rows c.args.a c.args.b (Some c.in-Some.x) (Some c.in-Some-right.y) = rw (← c.in-Some.is, ← c.in-Some-right.is) c.loop-left.invariant in
     let at_x : slice_get rows c.in-Some.x ≡ Some c.row_at-first.result = c.row_at-first.ensures in
     let at_y : slice_get rows c.in-Some-right.y ≡ Some c.row_at-second.result = c.row_at-second.ensures in
-    compared_more (objects_in c.args.objects.now) rows _ _ _ _ _ _ c.requires.book.are_rows at_x at_y (c.may_be_equal.ensures.0 c.if-not-may_be_equal.false) so_far
+    rw (c.row_above-left.ensures, c.row_above-right.ensures)
+    (compared_more (objects_in c.args.objects.now) rows _ _ _ _ _ _ c.requires.book.are_rows at_x at_y (c.may_be_equal.ensures.0 c.if-not-may_be_equal.false) so_far)
 
 pub returns : goal.returns
 returns c =
