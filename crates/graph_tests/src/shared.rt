@@ -14,8 +14,8 @@ use ds_base::dwarf::{
 use ds_files::{Gate, OpenGate};
 use dwarf_types::Analysis;
 use liveness::live;
-use name_bids::{BID, shared_winners};
-use odr_names::book;
+use name_bids::{BID, open_table, shared_winners};
+use odr_names::{book, count};
 use std::alloc::Global;
 use std::hint::spin_loop;
 use std::process::Abort;
@@ -135,7 +135,8 @@ fn winners_of<R: Threads + Sync, G: Gate + Sync>(
     let Ok(names) = book(alloc, &seen, &rows, true) else {
         return Ok(None);
     };
-    let (winners, _closed) = shared_winners(rt, alloc, workers, gate, &names)?;
+    let table = open_table(alloc, count(&names))?;
+    let (winners, _closed) = shared_winners(rt, alloc, workers, gate, &names, table)?;
     Ok(Some(winners))
 }
 

@@ -2,6 +2,7 @@
 
 ghost use Rattle.std.specs.Prelude.{◌≡◌, ◌<◌, ◌≤◌, ◌^◌, ◌-◌, List as Listed, [], Ok, length, IfOk};
 ghost use Rattle.std.specs.List.{All, flat_map};
+ghost use Rattle.std.specs.Result.{result_map_both};
 ghost use Rattle.dwarf_types.specs.Sound.{IsSound};
 ghost use Rattle.link_graph.specs.Pool.{pool_names};
 ghost use Rattle.odr_names.specs.Winners.{AreWinners};
@@ -10,6 +11,7 @@ ghost use Rattle.link_core.specs.Linked.{IsClosed, MarkLive};
 ghost use Rattle.link_core.specs.declared.refusal.LimitKind.TheVariants as limits;
 ghost use Rattle.link_core.specs.declared.refusal.Refusal.TheVariants as refusals;
 ghost use Rattle.link_core.specs.Passes.{HasPool, Names, Shapes, ShapesAll};
+ghost use Rattle.name_bids.specs.Opening.{IsOpenFor};
 
 use crate::refusal::{LimitKind, Refusal};
 use crate::shaping::shared_shape;
@@ -18,7 +20,7 @@ use ds_base::{BitRow, List, NoMemory};
 use ds_files::Gate;
 use dwarf_types::{Analysis, OutFrames, Shape};
 use link_graph::ShapeError;
-use name_bids::{shared_book, shared_winners};
+use name_bids::{OpenTable, open_table, shared_names, shared_winners};
 use odr_names::{BookError, MOST_POOLED, PathBook, book, count};
 use std::alloc::Global;
 use std::thread::Threads;
@@ -53,8 +55,9 @@ pub(crate) fn shape_of<R: Threads + Sync, G: Gate + Sync>(
     requires few { length seen.now < 2 ^ 16 }
     ensures { Shapes odr seen.now live.now result }
 {
-    let names = names_of(rt, alloc, workers, odr, seen, live)?;
-    let bids = shared_winners(rt, alloc, workers, gate, &names)?;
+    let open = names_of(rt, alloc, workers, odr, seen, live)?;
+    let (names, table) = open;
+    let bids = shared_winners(rt, alloc, workers, gate, &names, table)?;
     let (winners, closed) = bids;
     let shape = few_units(rt, alloc, workers, odr, seen, live, &names, &winners)?;
     let pooled = count(&names);
@@ -82,12 +85,14 @@ pub(crate) fn no_names<R: Threads + Sync, G: Gate + Sync>(
         Err(BookError::Pooled) => unreachable!(),
         Err(BookError::NoMemory) => return Err(NoMemory),
     };
-    let bids = shared_winners(rt, alloc, workers, gate, &names)?;
+    let table = open_table(alloc, count(&names))?;
+    let bids = shared_winners(rt, alloc, workers, gate, &names, table)?;
     let (_, closed) = bids;
     Ok(closed)
 }
 
-/// The names of the entries that are merged, made by so many threads; or that there are too many.
+/// The names of the entries that are merged, made by so many threads, with a table that is open for them; or that there are
+/// too many.
 fn names_of<'a, R: Threads + Sync>(
     rt: &R,
     alloc: Global,
@@ -95,15 +100,16 @@ fn names_of<'a, R: Threads + Sync>(
     odr: bool,
     seen: &'a [Analysis],
     live: &'a [BitRow],
-) -> Result<PathBook<'a>, Refusal>
+) -> Result<(PathBook<'a>, OpenTable), Refusal>
     requires workers { (1 ≤ workers) × (workers ≤ 64) }
     requires sound { All IsSound seen.now }
     requires live { MarkLive seen.now live.now }
     requires few { length seen.now < 2 ^ 16 }
-    ensures { Names odr seen.now live.now result }
+    ensures names { Names odr seen.now live.now (result_map_both (λ r. r.0) (λ e. e) result) }
+    ensures table { IfOk result (λ r. IsOpenFor r.0 r.1) }
 {
-    match shared_book(rt, alloc, workers, seen, live, odr) {
-        Ok(names) => Ok(names),
+    match shared_names(rt, alloc, workers, seen, live, odr) {
+        Ok(open) => Ok(open),
         Err(BookError::Pooled) => Err(Refusal::Limit {
             which: LimitKind::Pooled,
             number: MOST_POOLED as u64,

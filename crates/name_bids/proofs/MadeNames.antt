@@ -1,14 +1,16 @@
 -- The names of each object, made by several workers.
-use Rattle.std.proofs.Common.{◌≡◌, ℕ, ◌+◌, ◌<◌, ◌≤◌, ◌^◌, List, [], ◌∷◌, ◌++◌, length, map, Some, Result, Ok, Err, IfOk, slice_get, refl, sym, ap, ◌∙◌, arith, subst, length-append}
+use Rattle.std.proofs.Common.{◌≡◌, Bool, ℕ, ◌+◌, ◌<◌, ◌≤◌, ◌^◌, List, [], ◌∷◌, ◌++◌, length, map, Some, Result, Ok, Err, IfOk, slice_get, refl, sym, ap, ◌∙◌, arith, subst, length-append}
 use Rattle.std.specs.Option.{option_map}
 use Rattle.std.proofs.lemmas.List.{length-map}
 use Rattle.std.proofs.lemmas.Option.{same_Some, slice_get-map}
+use Rattle.dwarf_types.specs.declared.analysis.Analysis.{Analysis}
 use Rattle.odr_names.specs.declared.book_error.BookError.{BookError}
 use Rattle.odr_names.specs.declared.book_error.BookError.TheVariants as errors
 use Rattle.odr_names.specs.declared.one_object.ObjectNames.{ObjectNames}
+use Rattle.odr_names.specs.Book.{objects_of}
 use Rattle.odr_names.specs.Joining.{AreAllNames, AreNamesOf}
 use Rattle.odr_names.proofs.BookPaths.{get_before, get_last}
-use Rattle.odr_names.proofs.MakingBooks.{object_at, one_too_many}
+use Rattle.odr_names.proofs.MakingBooks.{length_objects, object_at, one_too_many}
 use Rattle.type_names.specs.Heads.{Object}
 use Rattle.type_names.specs.Names.{names, names_in}
 use Rattle.work_share.specs.Results.{GivesAll}
@@ -40,3 +42,8 @@ some_refused objects outs before rest is all =
     let here : slice_get outs (length before) ≡ Some e = ap (λ (xs : List (Result ObjectNames BookError)). slice_get xs (length before)) (sym is) ∙ get_before (before ++ e ∷ []) rest (length before) (omega (arith, length-append before (e ∷ []))) ∙ get_last before e in
     let o = object_at objects (length before) within in
     one_too_many objects (length before) o.0 o.1 (all.1 (length before) e here o.0 o.1)
+
+-- what is given for each analysis is given for each object
+pub given_for : (seen : List Analysis) (live : List (List Bool)) (outs : List (Result ObjectNames BookError)) → length live ≡ length seen → GivesAll (GivesNames (objects_of seen live)) (length seen) outs
+    → GivesAll (GivesNames (objects_of seen live)) (length (objects_of seen live)) outs
+given_for seen live outs len each = subst (λ (n : ℕ). GivesAll (GivesNames (objects_of seen live)) n outs) (sym (length_objects seen live len)) each

@@ -6,7 +6,8 @@ use Rattle.dwarf_types.specs.Sound.{IsSound}
 use Rattle.odr_names.specs.declared.book_error.BookError.{BookError}
 use Rattle.odr_names.specs.declared.book_error.BookError.TheVariants as errors
 use Rattle.odr_names.specs.declared.one_object.ObjectNames.{ObjectNames}
-use Rattle.odr_names.specs.Joining.{AreNamesOf}
+use Rattle.odr_names.specs.Book.{objects_of}
+use Rattle.odr_names.specs.Joining.{AreAllNames, AreNamesOf}
 use Rattle.odr_names.specs.Making.{AreLiveRows}
 use Rattle.type_names.specs.Heads.{Object}
 use Rattle.type_names.specs.Names.{names_in}
@@ -23,3 +24,9 @@ abbrev pub GivesNames : List Object → ℕ → Result ObjectNames BookError →
 GivesNames objects item (Ok own) = (o : Object) → slice_get objects item ≡ Some o → AreNamesOf (item + 1) o own
 GivesNames objects item (Err errors.Pooled) = (o : Object) → slice_get objects item ≡ Some o → 2 ^ 25 ≤ length (names_in (item + 1) o)
 GivesNames objects item (Err errors.NoMemory) = Unit {0}
+
+-- the names of each object are made, and may be joined
+pub record MayJoin (seen : List Analysis) (live : List (List Bool)) (own : List ObjectNames) : Type 0 where
+  pub few : length seen < 2 ^ 16
+  pub len : length live ≡ length seen
+  pub made : AreAllNames (objects_of seen live) own

@@ -56,3 +56,9 @@ pub record HasEnded (names : List Named) (pool : Pool) (seat : PoolSeat) (turn :
   pub turn_share : (turn_view turn).share ≡ 64
   pub ended : is_some (turn_view turn).kept ≡ true
   pub bid : HasBid names pool.cells (first_view pool.cells pool.names) (seat_view seat) (IsOfTasks names (turn_view turn).drawn)
+
+-- a table at which nobody bid yet, with the seat that has every share
+pub record IsFresh (pool : Pool) (seat : PoolSeat) : Type 0 where
+  pub belongs : pool_seats.Belongs pool seat
+  pub cells : pool.cells ≡ cell_count pool.names
+  pub view : seat_view seat ≡ first_view pool.cells pool.names

@@ -1,20 +1,23 @@
 //! Names made and bid for by several threads, and the winner of each path.
 //!
-//! Layer: names. [`shared_book`] makes the book of a link: several workers make the names of its objects, and one joins
-//! them (`making`). [`bid_objects`] is what one worker does over a shared table of `type_pool` and a counter of
-//! `work_share`: it claims one object after the other, and bids for each of its names at the cell of its path.
-//! [`shared_winners`] does that by several workers (`sharing`), and closes the table. Several workers find of each name
-//! its cell, and whether it bid the least there (`finding`); one puts those that did in the places of their cells, and
-//! several read from these the winner of each name, where crowded names are bid for by themselves (`winners`). What is bid stands in `specs/Bids.antt`, what the closed table says in `specs/Tables.antt`. The answer
-//! is that of `odr_names`' `winners_plain`, whatever the number of workers.
+//! Layer: names. [`shared_names`] makes the book of a link, and a table of `type_pool` that is open for its names: several
+//! workers make the names of its objects, and then one joins them while another makes the table (`making`, `opening`).
+//! [`bid_objects`] is what one worker does over that table and a counter of `work_share`: it claims one object after the
+//! other, and bids for each of its names at the cell of its path. [`shared_winners`] does that by several workers
+//! (`sharing`), and closes the table. Several workers find of each name its cell, and whether it bid the least there
+//! (`finding`); one puts those that did in the places of their cells, and several read from these the winner of each name,
+//! where crowded names are bid for by themselves (`winners`). What is bid stands in `specs/Bids.antt`, what the closed
+//! table says in `specs/Tables.antt`. The answer is that of `odr_names`' `winners_plain`, whatever the number of workers.
 #![tactic(auto)]
 
 mod bidding;
 mod finding;
 mod making;
+mod opening;
 mod sharing;
 mod winners;
 
 pub use bidding::{BID, bid_objects};
-pub use making::shared_book;
+pub use making::shared_names;
+pub use opening::{OpenTable, open_table};
 pub use winners::shared_winners;

@@ -1,53 +1,43 @@
 //! What several workers do together: the closed table of a book.
 
-ghost use Rattle.std.specs.Prelude.{◌≡◌, ◌^◌, ◌≤◌, List, length, IfOk};
+ghost use Rattle.std.specs.Prelude.{◌≡◌, ◌≤◌, List, length, IfOk};
 ghost use Rattle.std.specs.Thread.{IsSync};
+ghost use Rattle.name_bids.specs.Opening.{IsOpenFor};
 ghost use Rattle.name_bids.specs.Sharing.{AreFor, HasEnded, HasWorked, MayShare, seat_view, turn_view};
-ghost use Rattle.name_bids.specs.Tables.{IsTable, cell_count};
+ghost use Rattle.name_bids.specs.Tables.{IsTable};
 ghost use Rattle.type_names.specs.Names.{Named};
 
 use crate::bidding::bid_objects;
+use crate::opening::OpenTable;
 use ds_base::NoMemory;
 use ds_files::Gate;
-use odr_names::{PathBook, bids_are_some, count, object_count};
+use odr_names::{PathBook, bids_are_some, object_count};
 use std::alloc::Global;
 use std::thread::{Threads, join};
-use type_pool::{ClosedPool, Pool, PoolSeat, pool};
+use type_pool::{ClosedPool, Pool, PoolSeat};
 use work_share::{TaskSeat, Tasks, tasks};
 
-/// The least and the greatest number of cells of a table.
-const LEAST_CELLS: u64 = 64;
-
-const MOST_CELLS: u64 = 1 << 24;
-
-/// The closed table in which at most so many threads bid for all names of a book.
+/// The table of a book, in which at most so many threads bid for all its names, closed.
 pub(crate) fn bid_names<R: Threads + Sync, G: Gate + Sync>(
     rt: &R,
     alloc: Global,
     workers: u32,
     gate: &G,
     names: &PathBook,
+    table: OpenTable,
 ) -> Result<ClosedPool, NoMemory>
     requires workers { (1 ≤ workers) × (workers ≤ 64) }
+    requires table { IsOpenFor names.now table }
     ensures table { IfOk result (λ closed. IsTable names.now closed.state) }
     ensures book { IfOk result (λ closed. closed.names ≡ length names.now) }
 {
-    let size = count(names);
+    let OpenTable { pool, seat } = table;
     let objects = object_count(names);
-    let (pool, seat) = pool(alloc, cells_for(size), size)?;
     let (work, turn) = tasks(alloc, objects)?;
     let workers = workers.min(objects.max(1));
     let bidder = Bidder { names, gate };
     let (seat, turn) = bid_by(rt, &pool, seat, &work, turn, workers, &bidder);
     closed(alloc, pool, seat, names, &turn)
-}
-
-/// The cells of a table for so many names.
-fn cells_for(names: u32) -> u32
-    ensures count { result ≡ cell_count names }
-    ensures bounds { (64 ≤ result) × (result ≤ 2 ^ 24) }
-{
-    (2 * u64::from(names)).max(LEAST_CELLS).min(MOST_CELLS) as u32
 }
 
 /// What a worker does with its seats.

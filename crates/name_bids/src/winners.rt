@@ -3,11 +3,13 @@
 ghost use Rattle.std.specs.Prelude.{◌≡◌, ◌+◌, ◌<◌, ◌≤◌, ℕ, List as Listed, length, map, slice_index, slice_index_or, None, IfOk, OnOk};
 ghost use Rattle.pool_core.specs.declared.state.PoolState.{PoolState};
 ghost use Rattle.type_names.specs.Names.{Named};
+ghost use Rattle.name_bids.specs.Opening.{IsOpenFor};
 ghost use Rattle.name_bids.specs.Reading.{AreCrowdedTo, AreFound, AreInside, AreLeastTo, cell_in, cells_in, winner_at};
 ghost use Rattle.name_bids.specs.Tables.{IsTable};
 ghost use Rattle.odr_names.specs.Winners.{AreWinners};
 
 use crate::finding::{Found, found_names};
+use crate::opening::OpenTable;
 use crate::sharing::bid_names;
 use ds_base::NoMemory;
 use ds_files::Gate;
@@ -18,6 +20,8 @@ use type_pool::ClosedPool;
 
 /// Of each name the one that wins its path, by at most `workers` threads, with the closed table in which they were bid for.
 ///
+/// `table` is open for as many names as the book has ([`crate::shared_names`], [`crate::open_table`]).
+///
 /// Each worker passes the gate once for each object that it claims, and then, by an open gate, finds the cells of names. A
 /// worker for which no thread can be started does its work in the caller's.
 pub fn shared_winners<R: Threads + Sync, G: Gate + Sync>(
@@ -26,13 +30,15 @@ pub fn shared_winners<R: Threads + Sync, G: Gate + Sync>(
     workers: u32,
     gate: &G,
     names: &PathBook,
+    table: OpenTable,
 ) -> Result<(Vec<u32>, ClosedPool), NoMemory>
     requires workers { (1 ≤ workers) × (workers ≤ 64) }
+    requires table { IsOpenFor names.now table }
     ensures winners { IfOk result (λ r. AreWinners names.now r.0.items) }
     ensures table { IfOk result (λ r. IsTable names.now r.1.state) }
     ensures book { IfOk result (λ r. r.1.names ≡ length names.now) }
 {
-    let closed = bid_names(rt, alloc, workers, gate, names)?;
+    let closed = bid_names(rt, alloc, workers, gate, names, table)?;
     let winners = winners_in(rt, alloc, workers, &closed, names)?;
     Ok((winners, closed))
 }
