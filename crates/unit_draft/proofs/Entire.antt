@@ -22,15 +22,13 @@ use Rattle.dwarf_types.specs.Layout.{text_of, texts_of_node}
 use Rattle.dwarf_types.specs.Lists.{ranges_bytes, locations_bytes}
 use Rattle.dwarf_types.specs.Places.{ListPlaces}
 use Rattle.dwarf_types.proofs.Lengths.{length-entries}
-use Rattle.patches.specs.declared.hole.Own.TheVariants as own
-use Rattle.patches.specs.declared.hole.Outer.TheVariants as outer
 use Rattle.patches.specs.Filling.{Filling, filled}
 use Rattle.unit_draft.specs.declared.drafting.Drafting.{Drafting}
 use Rattle.unit_draft.specs.declared.error.DraftError.{DraftError}
 use Rattle.unit_draft.specs.declared.error.DraftError.TheVariants as errors
 use Rattle.unit_draft.specs.Long.{RefusesLong}
 use Rattle.unit_draft.specs.World.{Stands, World}
-use Rattle.unit_draft.specs.Whole.{told}
+use Rattle.unit_draft.specs.Whole.{header_by, told}
 use Rattle.unit_draft.specs.Appends.{AppendsEntries, Fits, all_locations, all_ranges, all_texts, attrs_of, len_of, next_lists, nowhere, places_from, texts_in}
 use Rattle.unit_draft.specs.Drafted.{node_places}
 use Rattle.unit_draft.proofs.Appending.{same_next}
@@ -81,9 +79,6 @@ texts_of_attrs [] = refl
 texts_of_attrs (a ∷ attrs) = text_step a.value (all_texts attrs) ∙ ap (cons_option (text_of a.value)) (texts_of_attrs attrs)
 
 -- ---- the draft
-
-abbrev pub header_by : ℕ → Filling → List ℕ
-header_by version f = little_bytes 4 (f.own own.Size) ++ (little_bytes 2 version ++ header_fields version (f.outer outer.Table))
 
 -- the header, from the version on
 length_behind : (five : Bool) (version table : ℕ) → length (little_bytes 2 version ++ (if five then DW_UT_compile ∷ 8 ∷ little_bytes 4 table else little_bytes 4 table ++ (8 ∷ []))) ≡ (if five then 8 else 7)

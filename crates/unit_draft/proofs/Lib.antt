@@ -6,4 +6,5 @@ pub mod NodeDepths
 pub mod Pieces
 pub mod Placing
 pub mod Standing
+pub mod Stretching
 pub mod Valuing

@@ -6,5 +6,6 @@ pub mod Lines
 pub mod Long
 pub mod Outside
 pub mod Settled
+pub mod Stretches
 pub mod Whole
 pub mod World

@@ -1,64 +1,90 @@
-//! Entries (DWARF 4, section 7.5.2), in preorder.
+//! Entries (DWARF 4, section 7.5.2), appended in preorder, stretch by stretch.
 
-ghost use Rattle.std.specs.Prelude.{ℕ, ◌≡◌, ◌++◌, ◌+◌, ◌-◌, ◌<◌, ◌^◌, length, slice_index, IfOk, OnOk};
+ghost use Rattle.std.specs.Prelude.{◌≡◌, ◌++◌, ◌+◌, ◌<◌, ◌^◌, ◌≤◌, List as Listed, drop, length, take, IfOk, OnOk};
 ghost use Rattle.std.specs.List.{sum_by};
-ghost use Rattle.dwarf_types.specs.Abbreviations.{table_of};
-ghost use Rattle.dwarf_types.specs.Entries.{entries_of, entry_len};
+ghost use Rattle.dwarf_types.specs.Entries.{OutEntry, entry_len};
 ghost use Rattle.patches.specs.Filling.{Filling, filled};
 ghost use Rattle.unit_source.specs.declared.source.NodeHead.{NodeHead as AHead};
 ghost use Rattle.unit_source.specs.Given.{node_given};
-ghost use Rattle.unit_draft.specs.Appends.{AppendsEntries, AppendsEntry, len_of, nowhere, places_from};
+ghost use Rattle.unit_draft.specs.Appends.{AppendsEntry, len_of, nowhere};
 ghost use Rattle.unit_draft.specs.Long.{RefusesLong};
+ghost use Rattle.unit_draft.specs.Stretches.{GoesOn, HoldsStretch, IsStretch};
 
-use crate::depths::{depth_at, depths_in};
 use crate::drafting::Drafting;
 use crate::error::DraftError;
 use crate::numbers::append_zeros;
+use crate::stretch::Stretch;
+use crate::task::Task;
 use crate::values::append_values;
-use abbrev_write::{Declared, parents_in};
 use ds_base::{List, NoMemory};
 use patches::Buffer;
-use std::alloc::Global;
-use unit_source::{OutAttrRef, UnitSource};
+use unit_source::OutAttrRef;
 
 /// The size of a unit that is too long: a place in four LEB digits is below it.
 pub(crate) const UNIT_LIMIT: usize = 1 << 28;
 
-/// Appends the entries of a unit's nodes, tells where each stands, and gives what declares them.
-pub(crate) fn append_entries<'a, S: UnitSource>(
-    alloc: Global,
+/// What appends the entries of a unit to its draft.
+#[derive(Drop)]
+pub(crate) struct Appender<'a> {
+    pub(crate) drafting: Drafting<'a>,
+    /// Where each node stands, counted from the header.
+    pub(crate) places: List<u32>,
+    /// The number of the unit in the graph.
+    pub(crate) number: u32,
+    pub(crate) version: u16,
+    /// The nodes that are appended next.
+    pub(crate) stretch: Stretch<'a>,
+}
+
+impl<'a> Task for Appender<'a> {
+    type Out = Result<(), DraftError>;
+
+    ghost use Rattle.unit_draft.specs.Stretches.{AppendsStretch, HoldsStretch};
+
+    ghost can_run = { λ it. HoldsStretch it.stretch };
+
+    ghost run_gives = { AppendsStretch };
+
+    fn run(&mut self) -> Result<(), DraftError> {
+        append_stretch(
+            &mut self.drafting,
+            &mut self.places,
+            self.number,
+            self.version,
+            &self.stretch,
+        )
+    }
+}
+
+/// Appends the entries of a stretch, and tells where each stands.
+fn append_stretch<'a>(
     drafting: &mut Drafting<'a>,
     places: &mut List<u32>,
     number: u32,
-    unit: &'a S,
-) -> Result<Declared, DraftError>
-    requires few { length (S.unit unit.now).nodes < 2 ^ 28 }
-    ensures appended { OnOk result (AppendsEntries number (S.unit unit.now).version drafting.old drafting.new (entries_of number (S.unit unit.now))) }
-    ensures placed { OnOk result (places.new ≡ places.old ++ places_from (len_of drafting.old) (entries_of number (S.unit unit.now))) }
-    ensures declared { IfOk result (λ declared. declared ≡ table_of number (S.unit unit.now).nodes) }
-    ensures long { RefusesLong result (len_of drafting.old + sum_by entry_len (entries_of number (S.unit unit.now))) }
+    version: u16,
+    stretch: &Stretch<'a>,
+) -> Result<(), DraftError>
+    requires { HoldsStretch stretch.now }
+    ensures appended { (es rest : Listed OutEntry) → IsStretch es stretch.now → OnOk result (GoesOn number version drafting.old drafting.new places.old places.new (es ++ rest) rest) }
+    ensures long { (es rest : Listed OutEntry) → IsStretch es stretch.now → RefusesLong result (len_of drafting.old + sum_by entry_len (es ++ rest)) }
 {
-    let version = unit.version();
-    let depths = depths_in(alloc, unit)?;
-    let parents = parents_in(alloc, unit)?;
-    let mut declared = Declared::new(alloc);
-    let mut attrs = Vec::new(alloc);
-    for k in 0..unit.len() {
+    let all = stretch.attrs.as_slice();
+    let mut at = 0;
+    for node in stretch.nodes.as_slice() {
         places.push(end_of(&drafting.info)?)?;
-        let node = unit.node(alloc, k, &mut attrs)?;
-        let code = declared.code_of(alloc, number, node.tag, parents.get(k as u32), &attrs)?;
-        let ended = ended_behind(depths.as_slice(), k);
-        append_entry(drafting, number, version, code, &attrs, ended)?;
+        let attrs = attrs_at(all, at, node.attrs);
+        append_entry(drafting, number, version, node.code, attrs, node.ended)?;
+        at += node.attrs;
     }
-    Ok(declared)
+    Ok(())
 }
 
-/// How many lists of siblings end behind a node.
-fn ended_behind(depths: &[u32], node: usize) -> u32
-    requires { node < 2 ^ 28 }
-    ensures { result ≡ slice_index depths.now node - slice_index depths.now (node + 1) }
+/// So many attributes, from a place on.
+fn attrs_at<'a, 'b>(all: &'b [OutAttrRef<'a>], at: usize, count: usize) -> &'b [OutAttrRef<'a>]
+    requires { at + count ≤ length all.now }
+    ensures { result.now ≡ take count (drop at all.now) }
 {
-    depth_at(depths, node).saturating_sub(depth_at(depths, node + 1))
+    &all[at..at + count]
 }
 
 /// The place behind what there is of a unit.

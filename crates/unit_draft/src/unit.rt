@@ -1,6 +1,6 @@
 //! A unit, drafted from its clone alone.
 
-ghost use Rattle.std.specs.Prelude.{ℕ, length, ◌≡◌, ◌<◌, ◌^◌, [], Some, slice_get};
+ghost use Rattle.std.specs.Prelude.{ℕ, length, ◌≡◌, ◌<◌, ◌^◌, [], Some, slice_get, IfOk};
 ghost use Rattle.std.specs.List.{All};
 ghost use Rattle.dwarf_types.specs.declared.graph.Graph.{Graph as Program};
 ghost use Rattle.dwarf_types.specs.declared.graph.OutUnit.{OutUnit as Clone};
@@ -12,16 +12,18 @@ ghost use Rattle.patches.specs.Numbers.{outer_number, settled};
 ghost use Rattle.unit_draft.specs.Drafted.{Drafts, IsDraft};
 ghost use Rattle.unit_draft.specs.Outside.{IsOutside};
 ghost use Rattle.unit_draft.specs.Settled.{Settles};
+ghost use Rattle.unit_draft.specs.Whole.{IsWhole};
 ghost use Rattle.unit_draft.specs.World.{Stands, World};
 
 use crate::entries::UNIT_LIMIT;
 use crate::error::DraftError;
 use crate::parts::{DraftedLines, abbreviations_of, copy_of, lines_of};
-use crate::whole::{Whole, append_unit};
-use ds_base::{Bytes, List};
+use crate::whole::{Whole, append_unit, append_unit_by_two};
+use ds_base::{Bytes, List, NoMemory};
 use dwarf_types::Span;
 use patches::{Buffer, Outside};
 use std::alloc::Global;
+use std::thread::Threads;
 use text_pool::Names;
 use unit_source::UnitSource;
 
@@ -64,6 +66,34 @@ pub fn draft_unit<S: UnitSource>(alloc: Global, unit: &S, number: u32) -> Result
         return Err(DraftError::Unit);
     }
     let whole = append_unit(alloc, unit, number)?;
+    let draft = draft_of(alloc, unit, whole)?;
+    Ok(draft)
+}
+
+/// Drafts the unit of a number as [`draft_unit`] does, in two threads: one asks for nodes, and the other appends those
+/// that were asked for before. Where no thread can be started the caller does both.
+pub fn draft_unit_by_two<R: Threads + Sync, S: UnitSource + Sync>(
+    rt: &R,
+    alloc: Global,
+    unit: &S,
+    number: u32,
+) -> Result<Draft, DraftError>
+    ensures { Drafts number (S.unit unit.now) result }
+{
+    // Each node has a byte at least.
+    if unit.len() >= UNIT_LIMIT {
+        return Err(DraftError::Unit);
+    }
+    let whole = append_unit_by_two(rt, alloc, unit, number)?;
+    let draft = draft_of(alloc, unit, whole)?;
+    Ok(draft)
+}
+
+/// The draft of a unit that is whole.
+fn draft_of<S: UnitSource>(alloc: Global, unit: &S, whole: Whole) -> Result<Draft, NoMemory>
+    requires { (number : ℕ) × IsWhole number (S.unit unit.now) whole }
+    ensures { (number : ℕ) → IsWhole number (S.unit unit.now) whole.entry → IfOk result (IsDraft number (S.unit unit.now)) }
+{
     let names = whole.drafting.names.kept(alloc)?;
     let lines = lines_of(alloc, unit)?;
     let table = abbreviations_of(alloc, &whole.declared)?;

@@ -2,21 +2,26 @@
 
 ghost use Rattle.std.specs.Prelude.{ℕ, ◌≡◌, ◌++◌, ◌<◌, ◌^◌, length, IfOk, OnOk};
 ghost use Rattle.byteorder.specs.Endian.{little_bytes};
+ghost use Rattle.dwarf_types.specs.declared.graph.OutUnit.{OutUnit as AUnit};
 ghost use Rattle.dwarf_types.specs.Entries.{header_fields, unit_len};
 ghost use Rattle.patches.specs.declared.hole.Outer.TheVariants as outer_holes;
 ghost use Rattle.patches.specs.declared.hole.Own.TheVariants as own_holes;
 ghost use Rattle.patches.specs.Filling.{Filling, filled};
 ghost use Rattle.unit_draft.specs.Long.{RefusesLong};
-ghost use Rattle.unit_draft.specs.Whole.{IsWhole};
+ghost use Rattle.unit_draft.specs.Whole.{IsBegun, IsEntered, IsWhole};
 
 use crate::drafting::Drafting;
-use crate::entries::{append_entries, end_of};
+use crate::entries::{Appender, end_of};
 use crate::error::DraftError;
+use crate::preparer::{Preparer, preparer_of};
+use crate::stretch::Stretch;
+use crate::turns::{FAR, NEAR, append_by_two, append_in_turn};
 use abbrev_write::Declared;
 use ds_base::dwarf::{ADDRESS_SIZE, DW_UT_compile, DWARF_5};
 use ds_base::{List, NoMemory};
 use patches::{Buffer, Outer, Own};
 use std::alloc::Global;
+use std::thread::Threads;
 use unit_source::UnitSource;
 
 /// A unit whose own places are not filled in yet.
@@ -41,10 +46,62 @@ pub(crate) fn append_unit<'a, S: UnitSource>(
     ensures whole { IfOk result (IsWhole number (S.unit unit.now)) }
     ensures long { RefusesLong result (unit_len number (S.unit unit.now)) }
 {
+    let mut preparer = preparer_of(alloc, unit, number, NEAR)?;
+    let mut appender = appender_of(alloc, number, unit.version(), unit.len())?;
+    append_in_turn(unit, number, &mut preparer, &mut appender)?;
+    let Preparer { declared, .. } = preparer;
+    whole_of(appender, declared)
+}
+
+/// Drafts the unit of a number as [`append_unit`] does, in two threads.
+pub(crate) fn append_unit_by_two<'a, R: Threads + Sync, S: UnitSource + Sync>(
+    rt: &R,
+    alloc: Global,
+    unit: &'a S,
+    number: u32,
+) -> Result<Whole<'a>, DraftError>
+    requires few { length (S.unit unit.now).nodes < 2 ^ 28 }
+    ensures whole { IfOk result (IsWhole number (S.unit unit.now)) }
+    ensures long { RefusesLong result (unit_len number (S.unit unit.now)) }
+{
+    let mut preparer = preparer_of(alloc, unit, number, FAR)?;
+    let mut appender = appender_of(alloc, number, unit.version(), unit.len())?;
+    append_by_two(rt, unit, number, &mut preparer, &mut appender)?;
+    let Preparer { declared, .. } = preparer;
+    whole_of(appender, declared)
+}
+
+/// What appends the entries of a unit, once its header is appended. It has places for so many nodes.
+fn appender_of<'a>(
+    alloc: Global,
+    number: u32,
+    version: u16,
+    nodes: usize,
+) -> Result<Appender<'a>, NoMemory>
+    ensures { IfOk result (IsBegun number version) }
+{
     let mut drafting = Drafting::new(alloc);
-    append_header(&mut drafting.info, unit.version())?;
-    let mut places = List::with_capacity(alloc, unit.len())?;
-    let declared = append_entries(alloc, &mut drafting, &mut places, number, unit)?;
+    append_header(&mut drafting.info, version)?;
+    let places = List::with_capacity(alloc, nodes)?;
+    Ok(Appender {
+        drafting,
+        places,
+        number,
+        version,
+        stretch: Stretch::new(alloc),
+    })
+}
+
+/// A unit all of whose entries are appended.
+fn whole_of(appender: Appender, declared: Declared) -> Result<Whole, DraftError>
+    ensures whole { (number : ℕ) (unit : AUnit) → IsEntered number unit appender.entry declared → IfOk result (IsWhole number unit) }
+    ensures long { (number : ℕ) (unit : AUnit) → IsEntered number unit appender.entry declared → RefusesLong result (unit_len number unit) }
+{
+    let Appender {
+        drafting,
+        places,
+        ..
+    } = appender;
     let len = end_of(&drafting.info)?;
     Ok(Whole {
         drafting,
