@@ -1,8 +1,8 @@
 -- The table's rule at its beginning and at its end.
-use Rattle.std.proofs.Common.{◌≡◌, ◌≢◌, ℕ, zero, suc, ◌+◌, ◌*◌, ◌<◌, ◌≤◌, inl, List, [], ◌∷◌, ◌++◌, length, get_or, replicate, sym, refl, ap, ◌∙◌, subst, arith, length-append}
+use Rattle.std.proofs.Common.{◌≡◌, ◌≢◌, ℕ, zero, suc, ◌+◌, ◌-◌, ◌*◌, ◌<◌, ◌≤◌, inl, List, [], ◌∷◌, ◌++◌, length, get_or, replicate, sym, refl, ap, ◌∙◌, subst, arith, length-append}
 use Rattle.std.proofs.Math.ListN.{get_or-append}
 use Rattle.std.proofs.Math.Seq.{get_or-append_seam}
-use Rattle.std.proofs.lemmas.List.{ext_get_or, get_or_past, get_or-replicate, length-replicate}
+use Rattle.std.proofs.lemmas.List.{ext_get_or, get_or_past, get_or-append-add, get_or-replicate, length-replicate}
 use mathlib.Core.Logic.{dite}
 use mathlib.Core.Option.{some, some-injective, some-ne-none}
 use native.Mathlib.Decide.{dec_lt, ℕ_discrete}
@@ -138,6 +138,28 @@ empty_more cells words empty =
           let nearer : least_at cell < length words = omega arith in
           get_or-append middle (no_bid ∷ []) 0 (least_at cell) near ∙ get_or-append words (0 ∷ []) 0 (least_at cell) nearer ∙ empty.least cell (omega arith));
     }
+
+-- the words of more cells
+pub empty_behind : (cells more : ℕ) (words behind : List ℕ) → AreEmpty cells words → AreEmpty more behind → AreEmpty (cells + more) (words ++ behind)
+empty_behind cells more words behind first second =
+    let wide = first.wide in
+    let long = second.wide in
+    record {
+      wide = omega (arith, length-append words behind);
+      names = λ cell inside. dite (dec_lt cell cells)
+          (λ near. (let within : name_at cell < length words = omega arith in get_or-append words behind 0 (name_at cell) within ∙ first.names cell near))
+          (λ far.
+          let at : name_at cell ≡ length words + name_at (cell - cells) = omega arith in
+          ap (λ (i : ℕ). get_or (words ++ behind) i 0) at ∙ get_or-append-add words behind (name_at (cell - cells)) 0 ∙ second.names (cell - cells) (omega arith));
+      least = λ cell inside. dite (dec_lt cell cells)
+          (λ near. (let within : least_at cell < length words = omega arith in get_or-append words behind 0 (least_at cell) within ∙ first.least cell near))
+          (λ far.
+          let at : least_at cell ≡ length words + least_at (cell - cells) = omega arith in
+          ap (λ (i : ℕ). get_or (words ++ behind) i 0) at ∙ get_or-append-add words behind (least_at (cell - cells)) 0 ∙ second.least (cell - cells) (omega arith));
+    }
+
+pub no_cells : AreEmpty 0 []
+no_cells = record { wide = refl; names = λ cell inside. absurd (omega arith); least = λ cell inside. absurd (omega arith) }
 
 pub read_at : (words : List ℕ) (i word : ℕ) → get_elem? words i ≡ some word → get_or words i 0 ≡ word
 read_at [] i word at = absurd (some-ne-none word (sym at))

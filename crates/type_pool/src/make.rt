@@ -1,6 +1,6 @@
 //! A new table.
 
-ghost use Rattle.std.specs.Prelude.{◌≡◌, ◌*◌, ◌^◌, ◌≤◌, IfOk};
+ghost use Rattle.std.specs.Prelude.{◌≡◌, ◌+◌, ◌*◌, ◌^◌, ◌≤◌, ℕ, IfOk, OnOk};
 ghost use Rattle.type_pool.specs.Keeping.{AreEmpty};
 ghost use Rattle.type_pool.specs.Views.{first_view};
 ghost use Rattle.type_pool.specs.Seats.{Belongs, known};
@@ -34,15 +34,31 @@ pub fn pool(alloc: Global, cells: u32, names: u32) -> Result<(Pool, PoolSeat), N
     Ok((pool, seat))
 }
 
-// The words of a new table: for each cell that of no name, and that of no bid.
+// How many cells are written at a time.
+const BLOCK: u32 = 1 << 10;
+
+// The words of a new table: for each cell that of no name, and that of no bid. All blocks are copies of the first.
 fn empty_words(alloc: Global, cells: u32) -> Result<Vec<u64>, NoMemory>
     requires { cells ≤ 2 ^ 24 }
     ensures { IfOk result (λ words. AreEmpty cells words.items) }
 {
+    let mut block = Vec::with_capacity(alloc, 2 * BLOCK as usize)?;
+    put_cells(&mut block, BLOCK)?;
     let mut words = Vec::with_capacity(alloc, 2 * cells as usize)?;
-    for _ in 0..cells {
+    for _ in 0..cells / BLOCK {
+        words.extend_from_slice(&block)?;
+    }
+    put_cells(&mut words, cells % BLOCK)?;
+    Ok(words)
+}
+
+// Puts the words of so many cells behind these.
+fn put_cells(words: &mut Vec<u64>, count: u32) -> Result<(), NoMemory>
+    ensures { (cells : ℕ) → AreEmpty cells words.old.items → OnOk result (AreEmpty (cells + count) words.new.items) }
+{
+    for _ in 0..count {
         words.push(0)?;
         words.push(u64::MAX)?;
     }
-    Ok(words)
+    Ok(())
 }
