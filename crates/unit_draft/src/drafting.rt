@@ -1,9 +1,9 @@
 //! A unit that is being drafted.
 
-ghost use Rattle.std.specs.Prelude.{◌≡◌, []};
+ghost use Rattle.std.specs.Prelude.{◌≡◌, [], IfOk};
 ghost use Rattle.patches.specs.Filling.{Filling, filled};
 
-use ds_base::Bytes;
+use ds_base::{Bytes, NoMemory};
 use patches::Buffer;
 use std::alloc::Global;
 use text_pool::Naming;
@@ -27,16 +27,21 @@ pub(crate) struct Scratch {
     pub(crate) inner: Buffer,
 }
 
+/// Bytes of an entry for which room is taken ahead: as many as it has on average, and a few more.
+const BYTES_AN_ENTRY: usize = 24;
+
 impl<'a> Drafting<'a> {
-    /// Nothing so far. It asks the allocator for nothing.
-    pub(crate) fn new(alloc: Global) -> Drafting<'a>
-        ensures info { (f : Filling) → filled result.info f ≡ [] }
-        ensures locations { (f : Filling) → filled result.locations f ≡ [] }
-        ensures ranges { result.ranges ≡ [] }
-        ensures names { result.names ≡ [] }
+    /// Nothing so far, and room for the entries of so many nodes with a hole of each kind.
+    pub(crate) fn with_capacity(alloc: Global, nodes: usize) -> Result<Drafting<'a>, NoMemory>
+        ensures info { IfOk result (λ it. (f : Filling) → filled it.info f ≡ []) }
+        ensures locations { IfOk result (λ it. (f : Filling) → filled it.locations f ≡ []) }
+        ensures ranges { IfOk result (λ it. it.ranges ≡ []) }
+        ensures names { IfOk result (λ it. it.names ≡ []) }
     {
-        Drafting {
-            info: Buffer::new(alloc),
+        let mut info = Buffer::new(alloc);
+        info.reserve(nodes.saturating_mul(BYTES_AN_ENTRY), nodes)?;
+        Ok(Drafting {
+            info,
             locations: Buffer::new(alloc),
             ranges: Bytes::new(alloc),
             names: Naming::new(alloc),
@@ -44,6 +49,6 @@ impl<'a> Drafting<'a> {
                 expression: Buffer::new(alloc),
                 inner: Buffer::new(alloc),
             },
-        }
+        })
     }
 }

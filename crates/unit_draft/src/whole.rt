@@ -71,7 +71,7 @@ pub(crate) fn append_unit_by_two<'a, R: Threads + Sync, S: UnitSource + Sync>(
     whole_of(appender, declared)
 }
 
-/// What appends the entries of a unit, once its header is appended. It has places for so many nodes.
+/// What appends the entries of a unit, once its header is appended. It has room for so many nodes.
 fn appender_of<'a>(
     alloc: Global,
     number: u32,
@@ -80,7 +80,7 @@ fn appender_of<'a>(
 ) -> Result<Appender<'a>, NoMemory>
     ensures { IfOk result (IsBegun number version) }
 {
-    let mut drafting = Drafting::new(alloc);
+    let mut drafting = Drafting::with_capacity(alloc, nodes)?;
     append_header(&mut drafting.info, version)?;
     let places = List::with_capacity(alloc, nodes)?;
     Ok(Appender {
