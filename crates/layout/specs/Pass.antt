@@ -1,10 +1,9 @@
 -- Stations between the code and the definitions: draft by draft, and text by text.
-use Rattle.std.specs.Prelude.{◌≡◌, ℕ, ◌+◌, ◌^◌, ◌<◌, ◌==◌, Bool, true, false, List, [], ◌∷◌, ◌++◌, length, map, fold, if◌then◌else◌, Option, Some, None, Result, Ok, Err, nat_le, ◌-◌}
+use Rattle.std.specs.Prelude.{◌≡◌, ℕ, ◌+◌, ◌^◌, ◌<◌, ◌≤◌, ◌==◌, Bool, true, false, List, [], ◌∷◌, ◌++◌, length, map, fold, if◌then◌else◌, Option, Some, None, Result, Ok, Err, nat_le, ◌-◌}
 use Rattle.std.specs.List.{find, flat_map}
-use Rattle.std.specs.Option.{unwrap_or}
 use Rattle.ds_base.specs.declared.fault.Part.{Part}
 use Rattle.ds_base.specs.declared.fault.Part.TheVariants as parts
-use Rattle.ds_base.specs.Texts.{place_of, section_of, with_text}
+use Rattle.ds_base.specs.Texts.{section_of, with_text}
 use Rattle.dwarf_types.specs.declared.graph.Graph.{Graph}
 use Rattle.dwarf_types.specs.declared.graph.OutUnit.{OutUnit}
 use Rattle.dwarf_types.specs.Abbreviations.{table_bytes}
@@ -13,6 +12,9 @@ use Rattle.dwarf_types.specs.Entries.{unit_len}
 use Rattle.dwarf_types.specs.Layout.{lines_place, locations_before, ranges_before, table_place, unit_locations_len, unit_ranges_len, unit_start}
 use Rattle.dwarf_types.specs.Lists.{lists_header_len}
 use Rattle.patches.specs.Filling.{Filling, filled}
+use Rattle.text_pool.specs.declared.error.TextError.{TextError}
+use Rattle.text_pool.specs.declared.error.TextError.TheVariants as text_errors
+use Rattle.text_pool.specs.Joins.{place_in}
 use Rattle.unit_draft.specs.declared.unit.Draft.{Draft}
 use Rattle.unit_draft.specs.Drafted.{lines_len}
 use Rattle.layout.specs.declared.error.LayoutError.{LayoutError}
@@ -123,16 +125,23 @@ names_in owners.Lines d = d.line_names
 abbrev pub texts_by : TextsOf → List Draft → List (List ℕ)
 texts_by of drafts = fold with_text [] (flat_map (names_in of) drafts)
 
--- where a text stands among others, or 0
-abbrev pub place_in : List (List ℕ) → List ℕ → ℕ
-place_in texts t = unwrap_or (place_of texts t) 0
-
 -- the texts of drafts as a section, and where those of each draft stand in it
 abbrev pub texts_for : TextsOf → List Draft → Texts
 texts_for of drafts = record {
   section = section_of (texts_by of drafts);
   places = map (λ draft. map (place_in (texts_by of drafts)) (names_in of draft)) drafts;
 }
+
+-- what making them answers; want of memory says nothing
+abbrev pub MakesTexts : TextsOf → List Draft → Result Texts TextError → Type 0
+MakesTexts of drafts (Ok texts) = texts ≡ texts_for of drafts
+MakesTexts of drafts (Err text_errors.Long) = 2 ^ 32 - 1 ≤ length (section_of (texts_by of drafts))
+MakesTexts of drafts (Err text_errors.NoMemory) = Unit {0}
+
+-- what is refused where the texts of a section were not joined
+abbrev pub refused : Part → TextError → LayoutError
+refused part text_errors.Long = errors.Section part
+refused part text_errors.NoMemory = errors.NoMemory
 
 -- ---- drafts that have their places
 

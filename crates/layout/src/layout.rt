@@ -1,12 +1,12 @@
 //! The layout of a graph, and what writers ask of it.
 
-ghost use Rattle.std.specs.Prelude.{◌≡◌, ◌-◌, ◌^◌, ◌<◌, fold, length, Some, None, Ok, slice_get};
+ghost use Rattle.std.specs.Prelude.{◌≡◌, ◌-◌, ◌^◌, ◌<◌, ◌≤◌, fold, length, Some, None, Ok, slice_get};
 ghost use Rattle.std.specs.Option.{option_map};
 ghost use Rattle.dwarf_types.specs.declared.graph.Graph.{Graph as Program};
 ghost use Rattle.dwarf_types.specs.declared.graph.OutUnit.{OutUnit as Clone};
 ghost use Rattle.layout.specs.Laid.{AreDrafts, Measures, size_in};
 ghost use Rattle.layout.specs.declared.text.TextsOf.TheVariants as owners;
-ghost use Rattle.layout.specs.Pass.{AreBelow, behind_draft, long_front, no_starts, sized, texts_for};
+ghost use Rattle.layout.specs.Pass.{AreBelow, MakesTexts, behind_draft, long_front, no_starts, refused, sized, texts_for};
 ghost use Rattle.unit_draft.specs.declared.unit.Draft.{Draft as ADraft};
 ghost use Rattle.unit_draft.specs.Outside.{IsOutside};
 
@@ -15,13 +15,14 @@ use crate::error::LayoutError;
 use crate::placing::{PartPlaces, Placing, place_all};
 use crate::sizes::{Sizes, first_long, last_long, next_long, size_of, size_of_lists};
 use crate::starts::{Starts, ends_of};
-use crate::text::{Texts, TextsOf, texts_in};
+use crate::text::{Texts, TextsOf, texts_in, texts_in_by};
 use ds_base::{Bytes, List, Part};
 use dwarf_types::{Graph, OutFrames};
 use frame_write::append_frames;
 use patches::{Outside, Placed};
 use std::alloc::Global;
 use std::marker::Model;
+use std::thread::Threads;
 use text_pool::TextError;
 use unit_draft::Draft;
 
@@ -75,16 +76,50 @@ pub fn place_drafts(
     requires few { length drafts < 2 ^ 32 - 1 }
     ensures { (graph : Program) → AreDrafts graph drafts → graph.frames ≡ frames.now → Measures graph result }
 {
-    let texts = match texts_in(alloc, drafts.as_slice(), TextsOf::Entries) {
+    let texts = texts_in(alloc, drafts.as_slice(), TextsOf::Entries);
+    let line_texts = texts_in(alloc, drafts.as_slice(), TextsOf::Lines);
+    place_with(alloc, drafts, frames, texts, line_texts)
+}
+
+/// The layout as [`place_drafts`] gives it, where at most `workers` threads look the texts up.
+pub fn place_drafts_by<R: Threads + Sync>(
+    rt: &R,
+    alloc: Global,
+    workers: u32,
+    drafts: List<Draft>,
+    frames: &OutFrames,
+) -> Result<Layout, LayoutError>
+    requires workers { 1 ≤ workers }
+    requires few { length drafts < 2 ^ 32 - 1 }
+    ensures { (graph : Program) → AreDrafts graph drafts → graph.frames ≡ frames.now → Measures graph result }
+{
+    let texts = texts_in_by(rt, alloc, workers, drafts.as_slice(), TextsOf::Entries);
+    let line_texts = texts_in_by(rt, alloc, workers, drafts.as_slice(), TextsOf::Lines);
+    place_with(alloc, drafts, frames, texts, line_texts)
+}
+
+/// The layout by drafts whose texts are these, unless they are too long.
+fn place_with(
+    alloc: Global,
+    drafts: List<Draft>,
+    frames: &OutFrames,
+    texts: Result<Texts, TextError>,
+    line_texts: Result<Texts, TextError>,
+) -> Result<Layout, LayoutError>
+    requires few { length drafts < 2 ^ 32 - 1 }
+    requires texts { MakesTexts owners.Entries drafts texts }
+    requires line_texts { MakesTexts owners.Lines drafts line_texts }
+    ensures { (graph : Program) → AreDrafts graph drafts → graph.frames ≡ frames.now → Measures graph result }
+{
+    let texts = match texts {
         Ok(texts) => texts,
-        Err(TextError::Long) => return Err(LayoutError::Section { part: Part::Str }),
-        Err(TextError::NoMemory) => return Err(LayoutError::NoMemory),
+        Err(error) => return Err(refused(Part::Str, error)),
     };
     let ends = ends_of(drafts.as_slice());
     if let Some(part) = first_long(&ends, texts.section.len() as u64) {
         return Err(LayoutError::Section { part });
     }
-    place_behind(alloc, drafts, frames, texts, ends)
+    place_behind(alloc, drafts, frames, texts, line_texts, ends)
 }
 
 /// The layout by drafts whose texts are these and whose parts end there, none of the sections up to that of the line
@@ -94,20 +129,19 @@ fn place_behind(
     drafts: List<Draft>,
     frames: &OutFrames,
     texts: Texts,
+    line_texts: Result<Texts, TextError>,
     ends: Starts,
 ) -> Result<Layout, LayoutError>
     requires texts { texts ≡ texts_for owners.Entries drafts }
+    requires line_texts { MakesTexts owners.Lines drafts line_texts }
     requires ends { ends ≡ fold behind_draft no_starts drafts }
     requires room { AreBelow (2 ^ 127) ends }
     requires front { long_front ends (length texts.section) ≡ None }
     ensures { (graph : Program) → AreDrafts graph drafts → graph.frames ≡ frames.now → Measures graph result }
 {
-    let line_texts = match texts_in(alloc, drafts.as_slice(), TextsOf::Lines) {
+    let line_texts = match line_texts {
         Ok(texts) => texts,
-        Err(TextError::Long) => return Err(LayoutError::Section {
-            part: Part::LineStr,
-        }),
-        Err(TextError::NoMemory) => return Err(LayoutError::NoMemory),
+        Err(error) => return Err(refused(Part::LineStr, error)),
     };
     if let Some(part) = next_long(&ends, line_texts.section.len() as u64) {
         return Err(LayoutError::Section { part });
@@ -129,6 +163,16 @@ fn place_behind(
         sizes,
         drafts,
     })
+}
+
+/// The refusal, where the texts of a section were not joined.
+fn refused(part: Part, error: TextError) -> LayoutError
+    ensures { result ≡ refused part error }
+{
+    match error {
+        TextError::Long => LayoutError::Section { part },
+        TextError::NoMemory => LayoutError::NoMemory,
+    }
 }
 
 /// The sizes of the sections, of which none is too long.

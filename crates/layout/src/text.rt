@@ -1,13 +1,14 @@
 //! The texts of drafts.
 
-ghost use Rattle.std.specs.Prelude.{◌≡◌, ℕ, ◌-◌, ◌^◌, ◌<◌, ◌≤◌, List as Listed, Err, Some, IfOk, OnOk, fold, length, map, slice_get};
-ghost use Rattle.ds_base.specs.Texts.{section_of, with_text};
-ghost use Rattle.layout.specs.Pass.{names_in, place_in, texts_by, texts_for};
-ghost use Rattle.text_pool.specs.declared.pool.TextError.TheVariants as errors;
+ghost use Rattle.std.specs.Prelude.{◌≡◌, ◌-◌, ◌^◌, ◌≤◌, Err, IfOk, length, map};
+ghost use Rattle.ds_base.specs.Texts.{section_of};
+ghost use Rattle.layout.specs.Pass.{names_in, texts_by, texts_for};
+ghost use Rattle.text_pool.specs.declared.error.TextError.TheVariants as errors;
 
-use ds_base::{Bytes, List};
+use ds_base::{Bytes, List, NoMemory};
 use std::alloc::Global;
-use text_pool::{Names, TextError, TextPool, add, new_pool, section_bytes};
+use std::thread::Threads;
+use text_pool::{Joined, Names, TextError, join_texts, join_texts_by};
 use unit_draft::Draft;
 
 /// Whose texts they are. Each have a section.
@@ -33,14 +34,41 @@ pub(crate) fn texts_in(alloc: Global, drafts: &[Draft], of: TextsOf) -> Result<T
     ensures ok { IfOk result (λ texts. texts ≡ texts_for of drafts.now) }
     ensures long { result ≡ Err errors.Long → 2 ^ 32 - 1 ≤ length (section_of (texts_by of drafts.now)) }
 {
-    let mut pool = new_pool(alloc);
-    let mut places = List::with_capacity(alloc, drafts.len())?;
-    for draft in drafts {
-        let theirs = add_names(alloc, &mut pool, names_of(draft, of))?;
-        places.push(theirs)?;
-    }
-    let section = section_bytes(alloc, &pool)?;
+    let names = all_names(alloc, drafts, of)?;
+    let Joined { section, places } = join_texts(alloc, names.as_slice())?;
     Ok(Texts { section, places })
+}
+
+/// The same, where at most `workers` threads look the texts up.
+pub(crate) fn texts_in_by<R: Threads + Sync>(
+    rt: &R,
+    alloc: Global,
+    workers: u32,
+    drafts: &[Draft],
+    of: TextsOf,
+) -> Result<Texts, TextError>
+    requires { 1 ≤ workers }
+    ensures ok { IfOk result (λ texts. texts ≡ texts_for of drafts.now) }
+    ensures long { result ≡ Err errors.Long → 2 ^ 32 - 1 ≤ length (section_of (texts_by of drafts.now)) }
+{
+    let names = all_names(alloc, drafts, of)?;
+    let Joined { section, places } = join_texts_by(rt, alloc, workers, names.as_slice())?;
+    Ok(Texts { section, places })
+}
+
+/// The texts of each draft.
+fn all_names<'a>(
+    alloc: Global,
+    drafts: &'a [Draft],
+    of: TextsOf,
+) -> Result<Vec<&'a Names>, NoMemory>
+    ensures { IfOk result (λ all. map (λ names. names.now) all.items ≡ map (names_in of) drafts.now) }
+{
+    let mut all = Vec::with_capacity(alloc, drafts.len())?;
+    for draft in drafts {
+        all.push(names_of(draft, of))?;
+    }
+    Ok(all)
 }
 
 /// The texts of a draft.
@@ -50,34 +78,5 @@ fn names_of(draft: &Draft, of: TextsOf) -> &Names
     match of {
         TextsOf::Entries => &draft.names,
         TextsOf::Lines => &draft.line_names,
-    }
-}
-
-/// Adds the texts of a draft, and tells where each stands, whatever is added later.
-fn add_names<'a>(
-    alloc: Global,
-    pool: &mut TextPool<'a>,
-    names: &'a Names,
-) -> Result<List<u32>, TextError>
-    ensures ok { OnOk result (pool.new ≡ fold with_text pool.old names.now) }
-    ensures places { IfOk result (λ places. (later : Listed (Listed ℕ)) → places ≡ map (place_in (fold with_text pool.new later)) names.now) }
-    ensures long { result ≡ Err errors.Long → 2 ^ 32 - 1 ≤ length (section_of (fold with_text pool.old names.now)) }
-{
-    let mut places = List::with_capacity(alloc, names.len())?;
-    for i in 0..names.len() {
-        let place = add(pool, name_at(names, i))?;
-        places.push(place)?;
-    }
-    Ok(places)
-}
-
-/// The text of a number.
-fn name_at(names: &Names, i: usize) -> &[u8]
-    requires { i < length names.now }
-    ensures { slice_get names.now i ≡ Some result.now }
-{
-    match names.get(i) {
-        Some(text) => text,
-        None => unreachable!(),
     }
 }

@@ -1,6 +1,14 @@
+pub mod AllShards
+pub mod Collected
 pub mod Ends
+pub mod Filters
 pub mod FirstUses
+pub mod Growing
+pub mod Joints
 pub mod Keeping
 pub mod Keys
+pub mod Numbers
 pub mod Places
+pub mod Turns
+pub mod Uniting
 pub mod Uses

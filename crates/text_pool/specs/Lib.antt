@@ -1,2 +1,4 @@
+pub mod Joins
 pub mod Kept
 pub mod Named
+pub mod Shards

@@ -2,22 +2,25 @@
 //!
 //! Layer: writers. Texts stand one after the other, each as "a sequence of contiguous non-null bytes followed
 //! by one null byte" (DWARF 4, section 7.5.4, class string), and a value of form `DW_FORM_strp` names one by its
-//! offset. A [`TextPool`] is the list of its texts: [`add`] gives `with_text` of it and the text's `place_of`, and
-//! [`section_bytes`] gives `section_of` (`ds_base/specs/Texts.antt`). No text shares the end of another, and that a text
-//! has no zero byte is left to its user.
-//! [`Naming`] numbers the texts of a part of the output that is written before their places are known, and [`Names`] are
-//! these texts by their numbers. A pool and a naming hash each text once and copy none: they live no longer than the
-//! texts, and a key is hashed in one piece.
+//! offset. [`Naming`] numbers the texts of a part of the output that is written before their places are known, and
+//! [`Names`] are these texts by their numbers. [`join_texts`] gives the section of the texts of all parts, and where each
+//! begins: `joined` (`specs/Joins.antt`). No text shares the end of another, and that a text has no zero byte is left to
+//! its user. [`join_texts_by`] does the same where threads look the texts up: they are cut into shards, by some of their
+//! bytes, each thread numbers those of a shard, and one goes through all texts by these numbers. A text is hashed once,
+//! in one piece, and copied where it is kept.
 #![tactic(auto)]
 
+mod error;
+mod joining;
 mod key;
 mod names;
 mod naming;
-mod pool;
+mod shard;
+mod sharing;
+mod table;
 
+pub use error::TextError;
+pub use joining::Joined;
 pub use names::{Names, texts_by_first_use_in_each_part_are_those_of_all};
 pub use naming::Naming;
-pub use pool::{
-    TextError, TextPool, add, new_pool, offset_of, pool_of_uses_is_each_once, pool_size,
-    section_bytes,
-};
+pub use sharing::{join_texts, join_texts_by, joined_texts_are_each_once};
