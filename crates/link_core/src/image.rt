@@ -14,7 +14,7 @@ use ds_base::limits::{IMAGE_BYTES, SECTION_BYTES, UNIT_BYTES};
 use ds_base::{Bytes, List};
 use dsym_write::{WriteError, image_from, plist_text};
 use dwarf_types::OutFrames;
-use layout::{Layout, LayoutError, place_drafts};
+use layout::{Layout, LayoutError, place_drafts_by};
 use macho_read::Image;
 use std::alloc::Global;
 use std::thread::Threads;
@@ -74,17 +74,25 @@ fn image_of<R: Threads + Sync>(
     requires drafted { AreOfGraph drafts frames.now }
     ensures { (graph : AGraph) → AreDrafts graph drafts → graph.frames ≡ frames.now → Images program.now graph result }
 {
-    let layout = layout_of(alloc, drafts, frames)?;
+    let layout = layout_of(rt, alloc, workers, drafts, frames)?;
     let image = write_image(rt, alloc, workers, program, &layout)?;
     Ok(image)
 }
 
-/// The layout of the graph of these drafts and frames, or the first limit that it reaches.
-fn layout_of(alloc: Global, drafts: List<Draft>, frames: &OutFrames) -> Result<Layout, Refusal>
+/// The layout of the graph of these drafts and frames, or the first limit that it reaches. At most `workers` threads look
+/// the texts up.
+fn layout_of<R: Threads + Sync>(
+    rt: &R,
+    alloc: Global,
+    workers: u32,
+    drafts: List<Draft>,
+    frames: &OutFrames,
+) -> Result<Layout, Refusal>
+    requires workers { 1 ≤ workers }
     requires few { length drafts < 2 ^ 32 - 1 }
     ensures { (graph : AGraph) → AreDrafts graph drafts → graph.frames ≡ frames.now → Lays graph result }
 {
-    match place_drafts(alloc, drafts, frames) {
+    match place_drafts_by(rt, alloc, workers, drafts, frames) {
         Ok(layout) => Ok(layout),
         Err(LayoutError::Unit { .. }) => Err(Refusal::Limit {
             which: LimitKind::Unit,

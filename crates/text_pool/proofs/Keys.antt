@@ -7,7 +7,7 @@ use Rattle.std.proofs.lemmas.Option.{slice_get-map}
 use Rattle.std.proofs.lemmas.Slice.Eq.{bytes_eq-Decides}
 use Rattle.indexmap.specs.IndexSet.{insert_key}
 use Rattle.ds_base.specs.Texts.{place_of, with_text}
-use Rattle.text_pool.specs.declared.key.TextKey.{TextKey}
+use Rattle.ds_base.specs.declared.text_key.TextKey.{TextKey}
 use Rattle.text_pool.specs.Kept.{texts_of}
 use Rattle.text_pool.proofs.Places.{is_some-place_of}
 

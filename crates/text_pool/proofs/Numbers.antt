@@ -5,7 +5,7 @@ use Rattle.std.specs.Str.{bytes_eq}
 use Rattle.std.proofs.lemmas.List.Sums.{fold-append, prefix_len-le-length}
 use Rattle.indexmap.specs.IndexSet.{insert_key}
 use Rattle.ds_base.specs.Texts.{place_of, section_of, with_text}
-use Rattle.text_pool.specs.declared.key.TextKey.{TextKey}
+use Rattle.ds_base.specs.declared.text_key.TextKey.{TextKey}
 use Rattle.text_pool.specs.declared.table.Table.{Table}
 use Rattle.text_pool.specs.Kept.{texts_of}
 use Rattle.text_pool.specs.Shards.{Holds, numbers_from}

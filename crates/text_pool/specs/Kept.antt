@@ -1,6 +1,6 @@
 -- The texts of keys.
 use Rattle.std.specs.Prelude.{ℕ, List, map}
-use Rattle.text_pool.specs.declared.key.TextKey.{TextKey}
+use Rattle.ds_base.specs.declared.text_key.TextKey.{TextKey}
 
 -- the texts of keys
 abbrev pub texts_of : List TextKey → List (List ℕ)

@@ -12,7 +12,6 @@
 
 mod error;
 mod joining;
-mod key;
 mod names;
 mod naming;
 mod shard;

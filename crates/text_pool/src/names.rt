@@ -35,12 +35,16 @@ impl Model for Names {
 }
 
 impl Names {
-    /// No texts, with memory for the ends of `count`.
-    pub(crate) fn with_capacity(alloc: Global, count: usize) -> Result<Names, NoMemory>
+    /// No texts, with memory for `count` of them that have so many bytes together.
+    pub(crate) fn with_capacity(
+        alloc: Global,
+        count: usize,
+        bytes: usize,
+    ) -> Result<Names, NoMemory>
         ensures { IfOk result (λ names. names ≡ []) }
     {
         Ok(Names {
-            bytes: Vec::new(alloc),
+            bytes: Vec::with_capacity(alloc, bytes)?,
             ends: Vec::with_capacity(alloc, count)?,
         })
     }
@@ -53,13 +57,6 @@ impl Names {
         self.bytes.extend_from_slice(text)?;
         self.ends.push_reserved(self.bytes.as_slice().len());
         Ok(())
-    }
-
-    /// Gives back what memory it holds behind its last byte.
-    pub(crate) fn shrink_to_fit(&mut self)
-        ensures { self.new ≡ self.old }
-    {
-        self.bytes.shrink_to_fit();
     }
 
     /// How many texts there are.

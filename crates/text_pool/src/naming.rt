@@ -3,9 +3,8 @@
 ghost use Rattle.std.specs.Prelude.{◌≡◌, [], Some, IfOk, OnOk, slice_get};
 ghost use Rattle.ds_base.specs.Texts.{with_text};
 
-use crate::key::TextKey;
 use crate::names::Names;
-use ds_base::NoMemory;
+use ds_base::{NoMemory, TextKey};
 use indexmap::IndexSet;
 use std::alloc::Global;
 use std::marker::Model;
@@ -52,11 +51,20 @@ impl<'a> Naming<'a> {
     pub fn kept(&self, alloc: Global) -> Result<Names, NoMemory>
         ensures { IfOk result (λ names. names ≡ self.now) }
     {
-        let mut names = Names::with_capacity(alloc, self.texts.len())?;
+        let size = size_of_all(self.texts.as_slice());
+        let mut names = Names::with_capacity(alloc, self.texts.len(), size)?;
         for key in self.texts.as_slice() {
             names.push(key.text)?;
         }
-        names.shrink_to_fit();
         Ok(names)
     }
+}
+
+/// How many bytes the texts have together.
+fn size_of_all(texts: &[TextKey]) -> usize {
+    let mut size: usize = 0;
+    for key in texts {
+        size = size.saturating_add(key.text.len());
+    }
+    size
 }

@@ -6,8 +6,8 @@ ghost use Rattle.text_pool.specs.Shards.{Holds, byte_of, in_shard, shard_of};
 ghost use Rattle.text_pool.specs.declared.error.TextError.TheVariants as errors;
 
 use crate::error::TextError;
-use crate::key::TextKey;
 use crate::names::Names;
+use ds_base::TextKey;
 use indexmap::IndexSet;
 use std::alloc::Global;
 

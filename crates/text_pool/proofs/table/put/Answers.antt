@@ -1,7 +1,7 @@
 use Rattle.std.proofs.Common.{◌≡◌, Err, ap, arith, refl}
 use Rattle.std.proofs.lemmas.Result.{err_from_is_err_and}
 use Rattle.text_pool.specs.declared.error.TextError.TheVariants as errors
-use Rattle.text_pool.specs.declared.key.TextKey.{TextKey}
+use Rattle.ds_base.specs.declared.text_key.TextKey.{TextKey}
 use Rattle.text_pool.proofs.Numbers.{holds_more, long_with, number_small}
 use Rattle.text_pool.proofs.table.put.Goals as goal
 

@@ -1,6 +1,6 @@
 use Rattle.std.proofs.Common.{List, ℕ, ap, ◌∙◌}
 use Rattle.ds_base.specs.Texts.{with_text}
-use Rattle.text_pool.specs.declared.key.TextKey.{TextKey}
+use Rattle.ds_base.specs.declared.text_key.TextKey.{TextKey}
 use Rattle.text_pool.specs.Kept.{texts_of}
 use Rattle.text_pool.proofs.Keys.{text_found, texts_of-insert}
 use Rattle.text_pool.proofs.naming.Naming.number_of.Goals as goal
