@@ -62,6 +62,22 @@ given_more gives first end outs more le before here = (
 pub given_as : {O : Type 0} (gives gives' : ℕ → O → Type 0) (count : ℕ) (outs : List O) → ((k : ℕ) (o : O) → k < count → gives k o → gives' k o) → GivesAll gives count outs → GivesAll gives' count outs
 given_as gives gives' count outs turn given = (given.0, λ k o at. turn k o (subst (λ (n : ℕ). k < n) given.0 (slice_get_within outs k o at)) (given.1 k o at))
 
+-- the result of the first item, and those of the others behind it
+module _ {O : Type 0} (gives : ℕ → O → Type 0) where
+  given_one : (first : ℕ) (o : O) → gives first o → (k : ℕ) (x : O) → slice_get (o ∷ []) k ≡ Some x → gives (first + k) x
+  given_one first o one zero x at =
+      let same : o ≡ x = cc at in
+      let place : first ≡ first + 0 = omega arith in
+      subst (λ (n : ℕ). gives n x) place (subst (gives first) same one)
+  given_one first o one (suc k) x at = absurd cc
+
+  pub given_first : (first end : ℕ) (o : O) (more : List O) → first < end → gives first o → GivesAll (λ k out. gives (first + 1 + k) out) (end - (first + 1)) more → GivesAll (λ k out. gives (first + k) out) (end - first) (o ∷ more)
+  given_first first end o more lt one others =
+      let count : end - (first + 1) ≡ end - first - 1 = omega (arith, lt) in
+      let behind = given_as (λ k out. gives (first + 1 + k) out) (λ k out. gives (first + (1 + k)) out) (end - (first + 1)) more
+          (λ k out lt' given. let place : first + 1 + k ≡ first + (1 + k) = omega arith in subst (λ (n : ℕ). gives n out) place given) others in
+      given_more (λ k out. gives (first + k) out) 1 (end - first) (o ∷ []) more (omega (arith, lt)) (refl, given_one first o one) (subst (λ (n : ℕ). GivesAll (λ k out. gives (first + (1 + k)) out) n more) count behind)
+
 -- results are given as they stand in another list
 pub given_turn : {O V E : Type 0} (gives : ℕ → O → Type 0) (count : ℕ) (items : V → List O) (outs : List O) (r : Result V E) → IfOk r (λ v. items v ≡ outs) → GivesAll gives count outs → IfOk r (λ v. GivesAll gives count (items v))
 given_turn gives count items outs (Ok v) same given = subst (GivesAll gives count) (sym same) given

@@ -1,11 +1,14 @@
 //! The units of a linked graph, each cloned and drafted by one of several threads.
 
-ghost use Rattle.std.specs.Prelude.{◌≡◌, ◌<◌, ◌≤◌, ◌^◌, ◌+◌, ◌-◌, ℕ, List as Listed, length, IfOk, OnOk};
+ghost use Rattle.std.specs.Prelude.{◌≡◌, ◌<◌, ◌≤◌, ◌^◌, ◌+◌, ◌-◌, ℕ, List as Listed, length, slice_get, Some, IfOk, OnOk};
+ghost use Rattle.std.specs.Thread.{IsSync};
 ghost use Rattle.work_share.specs.Results.{GivesAll};
 ghost use Rattle.dwarf_types.specs.declared.graph.Graph.{Graph as Linked};
+ghost use Rattle.dwarf_types.specs.declared.graph.OutUnit.{OutUnit as AUnit};
 ghost use Rattle.dwarf_types.specs.declared.analysis.Analysis.{Analysis as Seen};
 ghost use Rattle.dwarf_types.specs.declared.shape.Shape.{Shape as Shaping};
 ghost use Rattle.link_graph.specs.Graph.{graph_in};
+ghost use Rattle.unit_draft.specs.Drafted.{Drafts as GivesDraft};
 ghost use Rattle.link_core.specs.Passes.{AreDrafting, DraftsBy, DraftsUnit, DraftsUnits, MayDraft, MayDraftAll};
 
 use crate::batches::{batch_end, drop_analyses, first_needed};
@@ -17,14 +20,20 @@ use ds_base::{List, NoMemory};
 use ds_files::{Gate, OpenGate};
 use dwarf_types::{Analysis, Shape};
 use std::alloc::Global;
-use std::thread::Threads;
-use unit_draft::{Draft, DraftError, draft_unit};
+use std::thread::{Threads, join};
+use unit_draft::{Draft, DraftError, draft_unit, draft_unit_by_two};
 use work_share::{Job, each};
 
 /// The numbers of the phases in which units are cloned and drafted.
 const CLONE: u32 = 2;
 
 const EMIT: u32 = 3;
+
+/// The least number of workers of which two draft one unit.
+const WORKERS_FOR_TWO: u32 = 4;
+
+/// The least number of nodes of a unit that two draft.
+const LARGE_UNIT: u64 = 1 << 16;
 
 /// Each unit of a batch is cloned and drafted.
 #[derive(Drop)]
@@ -139,7 +148,87 @@ pub(crate) fn drafts_of<R: Threads + Sync, G: Gate + Sync>(
 }
 
 /// What is drafted of the units from one up to another, by the analyses that are left.
+///
+/// No more than `workers` threads draft them: two of them the first unit, where it outweighs the others.
 fn batch<R: Threads + Sync, G: Gate + Sync>(
+    rt: &R,
+    alloc: Global,
+    workers: u32,
+    gate: &G,
+    left: &[Analysis],
+    shape: &Shape,
+    first: u32,
+    end: u32,
+) -> Result<Vec<Result<Draft, Refusal>>, NoMemory>
+    requires workers { (1 ≤ workers) × (workers ≤ 64) }
+    requires order { first ≤ end }
+    requires may { (u : ℕ) → first ≤ u → u < end → MayDraft left.now shape.now u }
+    ensures { IfOk result (λ outs. GivesAll (λ k out. DraftsBy left.now shape.now (first + k) out) (end - first) outs.items) }
+{
+    if first < end && workers >= WORKERS_FOR_TWO && outweighs(shape, first, end, workers) {
+        return first_by_two(rt, alloc, workers, gate, left, shape, first, end);
+    }
+    each_by_one(rt, alloc, workers, gate, left, shape, first, end)
+}
+
+/// Whether the first unit of a batch is large, and drafted alone would keep one thread busy after the others are done.
+fn outweighs(shape: &Shape, first: u32, end: u32, workers: u32) -> bool
+    requires order { first < end }
+    requires workers { 4 ≤ workers }
+{
+    let own = node_count(shape, first);
+    let mut others: u64 = 0;
+    for unit in first + 1..end {
+        others = others.saturating_add(node_count(shape, unit));
+    }
+    own >= LARGE_UNIT && others < own.saturating_mul(u64::from(workers - 2))
+}
+
+/// How many nodes a unit has.
+fn node_count(shape: &Shape, unit: u32) -> u64 {
+    match shape.units.get(unit as usize) {
+        Some(unit) => unit.nodes.len() as u64,
+        None => 0,
+    }
+}
+
+/// What is drafted of a batch whose first unit is drafted by two threads, beside the others.
+fn first_by_two<R: Threads + Sync, G: Gate + Sync>(
+    rt: &R,
+    alloc: Global,
+    workers: u32,
+    gate: &G,
+    left: &[Analysis],
+    shape: &Shape,
+    first: u32,
+    end: u32,
+) -> Result<Vec<Result<Draft, Refusal>>, NoMemory>
+    requires workers { (4 ≤ workers) × (workers ≤ 64) }
+    requires order { first < end }
+    requires may { (u : ℕ) → first ≤ u → u < end → MayDraft left.now shape.now u }
+    ensures { IfOk result (λ outs. GivesAll (λ k out. DraftsBy left.now shape.now (first + k) out) (end - first) outs.items) }
+{
+    let second = first + 1;
+    let beside = workers - 2;
+    let (draft, others) = join(
+        rt,
+        || -> Result<Draft, Refusal>
+            requires { IsSync R.row × IsSync G.row × MayDraft left.now shape.now first }
+            ensures { DraftsBy left.entry.now shape.entry.now first result }
+        { draft_by_two(rt, alloc, left, shape, first, gate) },
+        || -> Result<Vec<Result<Draft, Refusal>>, NoMemory>
+            requires { IsSync R.row × IsSync G.row × (1 ≤ beside) × (beside ≤ 64) × (second ≤ end) × ((u : ℕ) → second ≤ u → u < end → MayDraft left.now shape.now u) }
+            ensures { IfOk result (λ outs. GivesAll (λ k out. DraftsBy left.entry.now shape.entry.now (second + k) out) (end - second) outs.items) }
+        { each_by_one(rt, alloc, beside, gate, left, shape, second, end) },
+    );
+    let mut outs = Vec::new(alloc);
+    outs.push(draft)?;
+    put_behind(&mut outs, others?)?;
+    Ok(outs)
+}
+
+/// What is drafted of the units from one up to another, each by one of several threads.
+fn each_by_one<R: Threads + Sync, G: Gate + Sync>(
     rt: &R,
     alloc: Global,
     workers: u32,
@@ -182,7 +271,32 @@ fn draft_of<G: Gate>(
     gate.pass(CLONE, unit);
     let clone = clone_unit(alloc, left, shape, unit)?;
     gate.pass(EMIT, unit);
-    match draft_unit(alloc, &clone, unit) {
+    drafted(draft_unit(alloc, &clone, unit))
+}
+
+/// The draft of a unit of a shape, made by two threads, or that it is too long.
+fn draft_by_two<R: Threads + Sync, G: Gate>(
+    rt: &R,
+    alloc: Global,
+    left: &[Analysis],
+    shape: &Shape,
+    unit: u32,
+    gate: &G,
+) -> Result<Draft, Refusal>
+    requires { MayDraft left.now shape.now unit }
+    ensures { DraftsBy left.now shape.now unit result }
+{
+    gate.pass(CLONE, unit);
+    let clone = clone_unit(alloc, left, shape, unit)?;
+    gate.pass(EMIT, unit);
+    drafted(draft_unit_by_two(rt, alloc, &clone, unit))
+}
+
+/// The draft, or what is told where there is none.
+fn drafted(draft: Result<Draft, DraftError>) -> Result<Draft, Refusal>
+    ensures { (graph : Linked) (u : ℕ) (unit : AUnit) → slice_get graph.units u ≡ Some unit → GivesDraft u unit draft → DraftsUnit graph u result }
+{
+    match draft {
         Ok(draft) => Ok(draft),
         Err(DraftError::Unit) => Err(Refusal::Limit {
             which: LimitKind::Unit,
