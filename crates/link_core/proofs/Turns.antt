@@ -71,12 +71,18 @@ module _ {O : Type 0} (gives : ℕ → O → Type 0) where
       subst (λ (n : ℕ). gives n x) place (subst (gives first) same one)
   given_one first o one (suc k) x at = absurd cc
 
-  pub given_first : (first end : ℕ) (o : O) (more : List O) → first < end → gives first o → GivesAll (λ k out. gives (first + 1 + k) out) (end - (first + 1)) more → GivesAll (λ k out. gives (first + k) out) (end - first) (o ∷ more)
-  given_first first end o more lt one others =
+  given_front : (first end : ℕ) (o : O) (more : List O) → first < end → gives first o → GivesAll (λ k out. gives (first + 1 + k) out) (end - (first + 1)) more → GivesAll (λ k out. gives (first + k) out) (end - first) (o ∷ more)
+  given_front first end o more lt one others =
       let count : end - (first + 1) ≡ end - first - 1 = omega (arith, lt) in
       let behind = given_as (λ k out. gives (first + 1 + k) out) (λ k out. gives (first + (1 + k)) out) (end - (first + 1)) more
-          (λ k out lt' given. let place : first + 1 + k ≡ first + (1 + k) = omega arith in subst (λ (n : ℕ). gives n out) place given) others in
+      (λ k out lt' given. let place : first + 1 + k ≡ first + (1 + k) = omega arith in subst (λ (n : ℕ). gives n out) place given) others in
       given_more (λ k out. gives (first + k) out) 1 (end - first) (o ∷ []) more (omega (arith, lt)) (refl, given_one first o one) (subst (λ (n : ℕ). GivesAll (λ k out. gives (first + (1 + k)) out) n more) count behind)
+
+  pub given_first : (first end : ℕ) (o : O) (more none front all : List O) → first < end → none ≡ [] → front ≡ none ++ o ∷ [] → all ≡ front ++ more → gives first o
+      → GivesAll (λ k out. gives (first + 1 + k) out) (end - (first + 1)) more → GivesAll (λ k out. gives (first + k) out) (end - first) all
+  given_first first end o more none front all lt empty pushed put one others =
+      let is : all ≡ o ∷ more = put ∙ ap (λ (xs : List O). xs ++ more) (pushed ∙ ap (λ (xs : List O). xs ++ o ∷ []) empty) in
+      subst (GivesAll (λ k out. gives (first + k) out) (end - first)) (sym is) (given_front first end o more lt one others)
 
 -- results are given as they stand in another list
 pub given_turn : {O V E : Type 0} (gives : ℕ → O → Type 0) (count : ℕ) (items : V → List O) (outs : List O) (r : Result V E) → IfOk r (λ v. items v ≡ outs) → GivesAll gives count outs → IfOk r (λ v. GivesAll gives count (items v))

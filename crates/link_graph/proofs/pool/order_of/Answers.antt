@@ -13,7 +13,7 @@ loop-top-init c =
     let next = c.as_slice-next.result.now in
     let chains : AreChains names winners AnyName first next =
     subst (λ (xs : List (Option ℕ)). AreChains names winners AnyName xs next) (sym c.as_slice-first.ensures.value) (subst (λ (xs : List (Option ℕ)). AreChains names winners AnyName tree.chains.first.items xs) (sym c.as_slice-next.ensures.value) c.requires.chains) in
-    walk_first names winners next first c.new-order.result.items c.push.new.self.items (ranked_apart names c.requires.ranked) c.requires.winners c.requires.linked chains c.new-order.ensures.items
+    walk_first names winners next first c.in_ok-order.order.items c.push.new.self.items (ranked_apart names c.requires.ranked) c.requires.winners c.requires.linked chains c.in_ok-order.ensures.items
     (c.in_ok-push.ensures.items ∙ ap (λ (opened : List (Option ℕ)). opened ++ slice_index_or first 0 None ∷ []) c.new-open.ensures.items)
 
 pub loop-top-preserved-in_default-top : goal.loop-top-preserved-in_default-top
