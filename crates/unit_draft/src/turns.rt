@@ -17,8 +17,8 @@ use unit_source::UnitSource;
 /// The most nodes of a stretch that the thread appends which prepared it: they are still in a cache near by.
 pub(crate) const NEAR: usize = 1 << 9;
 
-/// The most nodes of a stretch that another thread appends: they take far longer than to start one.
-pub(crate) const FAR: usize = 1 << 14;
+/// The most nodes of a stretch that another thread appends: enough work that the system gives it a processor of its own.
+pub(crate) const FAR: usize = 1 << 16;
 
 /// Appends the entries of the unit of a number, in this thread.
 pub(crate) fn append_in_turn<'a, S: UnitSource>(
