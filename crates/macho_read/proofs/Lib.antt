@@ -1,4 +1,5 @@
 pub mod TextEnds
+mod ZeroPlaces
 pub mod Gathering
 pub mod ImageReadBack
 pub mod ReadBack

@@ -5,6 +5,7 @@ ghost use Rattle.std.specs.List.Sorted.{IsPartitionPoint, IsPartitionedBy};
 ghost use Rattle.macho_read.specs.Ends.{first_from, zeros_from};
 
 use ds_base::NoMemory;
+use memchr::memchr_iter;
 use std::alloc::Global;
 
 /// The places of the zero bytes, in order.
@@ -13,10 +14,8 @@ pub(crate) fn zeros_in(alloc: Global, strings: &[u8]) -> Result<Vec<u32>, NoMemo
     ensures { IfOk result (λ zeros. zeros.items ≡ zeros_from 0 strings.now) }
 {
     let mut zeros = Vec::new(alloc);
-    for (i, b) in strings.iter().enumerate() {
-        if *b == 0 {
-            zeros.push(i as u32)?;
-        }
+    for place in memchr_iter(0, strings) {
+        zeros.push(place as u32)?;
     }
     Ok(zeros)
 }

@@ -1,6 +1,8 @@
-use Rattle.std.proofs.Common.{◌≡◌, ◌++◌, drop}
+use Rattle.std.proofs.Common.{◌≡◌, ◌++◌, ◌<◌, All, length}
 use Rattle.macho_read.specs.Ends.{zeros_from}
 use Rattle.macho_read.proofs.ends.zeros_in.Given as goal
 
-abbrev pub invariant-loop-i : goal.invariant-loop-i
-invariant-loop-i l = l.zeros.items ++ zeros_from l.i (drop l.i l.strings) ≡ zeros_from 0 l.strings
+-- the places so far and those to come are all, and each is inside
+abbrev pub invariant-loop-place : goal.invariant-loop-place
+invariant-loop-place l =
+    (l.zeros.items ++ l.place-iterator ≡ zeros_from 0 l.strings) × All (λ k. k < length l.strings) l.place-iterator
