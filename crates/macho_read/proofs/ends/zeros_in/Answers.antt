@@ -12,9 +12,10 @@ loop-place-init c =
 pub loop-place-preserved : goal.loop-place-preserved
 loop-place-preserved c =
     let left = c.in-Some.ensures.steps in
-    let inside = subst (All (λ k. k < length c.args.strings.now)) left c.loop-place.invariant.1 in
-    (ap (λ (zs : List ℕ). zs ++ c.next.new.self) c.in_ok-push.ensures.items
-        ∙ append_assoc c.loop-place.zeros.items (c.in-Some.place ∷ []) c.next.new.self
-        ∙ ap (λ (zs : List ℕ). c.loop-place.zeros.items ++ zs) (sym left)
-        ∙ c.loop-place.invariant.0,
-     λ k d lt. inside (suc k) d (omega (arith, lt)))
+    let inside = subst (All (λ k. k < length c.args.strings.now)) left c.loop-place.invariant.1 in (
+      ap (λ (zs : List ℕ). zs ++ c.next.new.self) c.in_ok-push.ensures.items
+          ∙ append_assoc c.loop-place.zeros.items (c.in-Some.place ∷ []) c.next.new.self
+          ∙ ap (λ (zs : List ℕ). c.loop-place.zeros.items ++ zs) (sym left)
+          ∙ c.loop-place.invariant.0,
+      λ k d lt. inside (suc k) d (omega (arith, lt)),
+    )
