@@ -3,15 +3,14 @@ use Rattle.std.proofs.Common.{◌≡◌, ◌⊎◌, inl, inr, ℕ, zero, suc, �
 use Rattle.std.specs.List.{flat_map}
 use Rattle.std.specs.Option.{ForSome, option_map_or}
 use Rattle.std.proofs.lemmas.Bool.{cases_eq, cases_lt, eq-eqb, ne_eqb}
-use Rattle.std.proofs.Math.Seq.{get_or-append_seam}
-use Rattle.std.proofs.lemmas.List.{get_or_append_left, get_or-replicate, get_or-set_other, get_or-set_same, length-replicate, length-set, length_push, same_from_push}
+use Rattle.std.proofs.lemmas.List.{get_or-replicate, get_or-set_other, get_or-set_same, length-replicate, length-set, length_push, same_from_push}
 use Rattle.std.proofs.lemmas.Option.{same_Some, slice_get-get_or, slice_get_within}
 use Rattle.odr_names.specs.Book.{bid_at, path_at}
 use Rattle.odr_names.specs.Winners.{AreWinners}
 use Rattle.type_names.specs.Names.{Named}
 use Rattle.type_names.specs.Paths.{Piece}
 use Rattle.link_graph.specs.Pool.{children_of, is_outbid}
-use Rattle.link_graph.specs.PoolOrder.{AnyName, AreApart, AreChains, AreRanked, Hangs, IsChildOf, IsFamily, IsKey, IsLinkedUp, IsRightBelow, Passed, Wins, below, key_of, key_path, name_at}
+use Rattle.link_graph.specs.PoolOrder.{AnyName, AreApart, AreChains, AreHungFrom, AreRanked, Hangs, IsChildOf, IsFamily, IsKey, IsLinkedUp, IsRightBelow, Passed, Wins, below, key_of, key_path, name_at}
 use Rattle.link_graph.proofs.PoolPaths.{child_path, is_child_from, not_empty}
 use Rattle.link_graph.proofs.PoolTrees.{AreShort, below_unfolds, child_from, child_is, children_rise, not_outbid, outbid_none}
 use Rattle.link_graph.proofs.Rising.{Differ, Has, differ_from, flat_map_of_map, from_map, has_at, has_map, only_rising, place_of, rises_map}
@@ -150,15 +149,9 @@ key_above names winners x (Some p) apart are within before =
     let w = get_or winners p 0 in
     (inr (w, refl, winner_wins names winners p apart are p_in), key_path_up names w ∙ (are.each p p_in).same)
 
-pub keys_more : (names : List Named) (winners keys : List ℕ) (n key : ℕ) → length keys ≡ n → IsRightBelow names winners key n → ((x : ℕ) → x < n → IsRightBelow names winners (get_or keys x 0) x)
-    → (x : ℕ) → x < n + 1 → IsRightBelow names winners (get_or (keys ++ key ∷ []) x 0) x
-keys_more names winners keys n key long is so_far x lt = elim (cases_eq x n) [
-  | inl same ↦ subst (λ (k : ℕ). IsRightBelow names winners k x) (sym (ap (λ (i : ℕ). get_or (keys ++ key ∷ []) i 0) (same ∙ sym long) ∙ get_or-append_seam keys key [] 0)) (subst (IsRightBelow names winners key) (sym same) is)
-  | inr other ↦ subst (λ (k : ℕ). IsRightBelow names winners k x) (sym (get_or_append_left keys (key ∷ []) 0 x (omega (arith, other, lt, long)))) (so_far x (omega (arith, other, lt)))
-]
-
-pub linked_more : (names : List Named) (n : ℕ) → IsLinkedUp names n → ((x : ℕ) → x < n → IsLinkedUp names x) → (x : ℕ) → x < n + 1 → IsLinkedUp names x
-linked_more names n linked so_far x lower = elim (cases_eq x n) [ inl same ↦ subst (IsLinkedUp names) (sym same) linked | inr other ↦ so_far x (omega arith) ]
+-- what is told of the name above
+abbrev pub linked_up : (names : List Named) (x : ℕ) (up : Option ℕ) → ForSome up (λ p. p < x) → (piece : Piece) × (path_at names x ≡ option_map_or (path_at names) up [] ++ piece ∷ []) → IsLinkedUp names x
+linked_up names x up before path = record { up = up; before = before; piece = path.0; path = path.1 }
 
 -- the number of the path above a name
 pub right_below : (names : List Named) (winners : List ℕ) (x key : ℕ) (linked : IsLinkedUp names x) → AreApart names → AreWinners names winners → x < length names → key ≡ key_of winners linked.up → IsRightBelow names winners key x
@@ -391,11 +384,60 @@ half_passed names winners from to x (inr p) wins = absurd (omega (arith, p.1, wi
 pub passed_new : (names : List Named) (from to n : ℕ) → from ≤ bid_at names n → Passed names from to n n
 passed_new names from to n low = inr (low, omega arith)
 
+-- ---- names that are left
+
+-- the names from this one on are linked up
+linked_more : (names : List Named) (n : ℕ) → IsLinkedUp names n → ((y : ℕ) → n + 1 ≤ y → y < length names → IsLinkedUp names y) → (y : ℕ) → n ≤ y → y < length names → IsLinkedUp names y
+linked_more names n linked so_far y le within = elim (cases_eq y n) [ inl same ↦ subst (IsLinkedUp names) (sym same) linked | inr other ↦ so_far y (omega (arith, le, other)) within ]
+
+-- the name at hand hangs nowhere
+pub hung_past : (names : List Named) (winners : List ℕ) (from to n : ℕ) (first next : List (Option ℕ)) → IsLinkedUp names n → ((y : ℕ) → Passed names from to n y → Wins names winners y → Passed names from to (n + 1) y)
+    → AreHungFrom names winners from to (n + 1) first next → AreHungFrom names winners from to n first next
+hung_past names winners from to n first next linked past so_far = record {
+  wide = so_far.wide;
+  long = so_far.long;
+  linked = linked_more names n linked so_far.linked;
+  chains = λ all. chains_same names winners (Passed names from to (n + 1)) (Passed names from to n) first next (passed_on names winners from to n) past (so_far.chains all);
+}
+
+-- it hangs before those that were passed
+pub hung_more : (names : List Named) (winners : List ℕ) (from to n : ℕ) (first next : List (Option ℕ)) (key : ℕ) → AreRanked names → AreWinners names winners → (2 ^ 63 ≤ from) ⊎ (to ≤ 2 ^ 63)
+    → (linked : IsLinkedUp names n) → key ≡ key_of winners linked.up → Wins names winners n → from ≤ bid_at names n → bid_at names n < to
+    → AreHungFrom names winners from to (n + 1) first next → AreHungFrom names winners from to n (slice_set first key (Some n)) (slice_set next n (get_or first key None))
+hung_more names winners from to n first next key ranked are bounds linked is wins low high so_far = record {
+  wide = length-set first key (Some n) ∙ so_far.wide;
+  long = length-set next n (get_or first key None) ∙ so_far.long;
+  linked = linked_more names n linked so_far.linked;
+  chains = λ all. chains_more names winners (Passed names from to (n + 1)) (Passed names from to n) first next key n (ranked_apart names ranked) are all
+      (wins, right_below names winners n key linked (ranked_apart names ranked) are wins.within is) (passed_fresh names from to n high) (passed_new names from to n low) (passed_on names winners from to n) (passed_split names winners from to n)
+      (passed_later names from to n ranked wins.within bounds high) (so_far.chains all);
+}
+
 -- where the rows were just made
-pub none_yet : (names : List Named) (winners : List ℕ) (some : ℕ → Type 0) (first next : List (Option ℕ)) (n m : ℕ) → first ≡ replicate n None → next ≡ replicate m None → n ≡ m + 2 → m ≡ length names → ((x : ℕ) → some x → x < length names → ⊥) → AreChains names winners some first next
+none_yet : (names : List Named) (winners : List ℕ) (some : ℕ → Type 0) (first next : List (Option ℕ)) (n m : ℕ) → first ≡ replicate n None → next ≡ replicate m None → n ≡ m + 2 → m ≡ length names → ((x : ℕ) → some x → x < length names → ⊥) → AreChains names winners some first next
 none_yet names winners some first next n m first_is next_is more all none =
     no_chains names winners some first next (ap length first_is ∙ length-replicate n nothing ∙ more ∙ ap (λ (k : ℕ). k + 2) all) (ap length next_is ∙ length-replicate m nothing ∙ all)
     (λ key lt. ap (λ (xs : List (Option ℕ)). get_or xs key None) first_is ∙ get_or-replicate n key nothing None (omega (arith, lt, ap length first_is, length-replicate n nothing))) none
   where
     nothing : Option ℕ
     nothing = None
+
+pub none_hung : (names : List Named) (winners : List ℕ) (from to : ℕ) (first next : List (Option ℕ)) (n m : ℕ) → first ≡ replicate n None → next ≡ replicate m None → n ≡ m + 2 → m ≡ length names → ((x : ℕ) → x < length names → bid_at names x < to)
+    → AreHungFrom names winners from to (length names) first next
+none_hung names winners from to first next n m first_is next_is more all lower = record {
+  wide = chains.wide;
+  long = chains.long;
+  linked = λ y le within. absurd (omega (arith, le, within));
+  chains = λ linked. chains;
+} where
+  chains : AreChains names winners (Passed names from to (length names)) first next
+  chains = none_yet names winners (Passed names from to (length names)) first next n m first_is next_is more all (passed_none names from to lower)
+
+-- those from one bid on hang, and those below it are to
+pub hung_half : (names : List Named) (winners : List ℕ) (from to : ℕ) (first next : List (Option ℕ)) → from ≤ to → AreHungFrom names winners from to 0 first next → AreHungFrom names winners 0 from (length names) first next
+hung_half names winners from to first next le hung = record {
+  wide = hung.wide;
+  long = hung.long;
+  linked = λ y late within. hung.linked y (omega arith) within;
+  chains = λ linked. chains_same names winners (Passed names from to 0) (Passed names 0 from (length names)) first next (passed_half names from to le) (half_passed names winners from to) (hung.chains linked);
+}

@@ -2,7 +2,7 @@
 use Rattle.std.proofs.Common.{◌≡◌, ◌⊎◌, inl, inr, ℕ, ◌+◌, ◌<◌, ◌≤◌, ◌==◌, not, nat_lt, Bool, true, false, cond, List, [], ◌∷◌, ◌++◌, length, map, Option, Some, None, get_or, refl, sym, ap, ◌∙◌, arith, All, position, option_and_then, option_map}
 use Rattle.std.specs.List.{position_from, position_or_len}
 use Rattle.std.proofs.lemmas.Bool.{both_ways, cases_eq, eq-eqb, le-ltb, lt-ltb, ltb-true, ne_eqb, cases_lt, false_from_ne_true}
-use Rattle.std.proofs.lemmas.List.{get_or-map, length-map}
+use Rattle.std.proofs.lemmas.List.{length-map}
 use Rattle.std.proofs.lemmas.List.Elements.{All-head, All-tail}
 use Rattle.odr_names.specs.Book.{path_at}
 use Rattle.odr_names.specs.Winners.{AreWinners}
@@ -12,7 +12,7 @@ use Rattle.dwarf_types.specs.declared.shape.Origin.{Origin}
 use Rattle.dwarf_types.specs.declared.shape.ShapeUnit.{ShapeUnit}
 use Rattle.link_graph.specs.Merged.{pool_origin, pool_root, pool_units}
 use Rattle.link_graph.specs.Pool.{node_above, node_of_path, path_above, pool_names, same_path}
-use Rattle.link_graph.specs.PoolOrder.{AreApart, AreNodes, AreNodesFrom, IsLinkedUp, IsPreorder, Wins, name_at, node_in_order}
+use Rattle.link_graph.specs.PoolOrder.{AreApart, AreGivenTo, AreNodes, AreNodesFrom, IsLinkedUp, IsPreorder, Wins, name_at, node_in_order}
 use Rattle.link_graph.proofs.Families.{names_differ, path_is, same_winner, some_path, winner_wins}
 use Rattle.link_graph.proofs.PoolPaths.{above_push, path_same, same_path_from}
 use Rattle.link_graph.proofs.PoolTrees.{preorder_few}
@@ -100,12 +100,11 @@ node_is names winners order x apart are is linked within =
     ]
 
 pub nodes_are : (names : List Named) (winners order : List ℕ) (first nodes : List (Option ℕ)) → AreApart names → AreWinners names winners → IsPreorder names winners order → ((x : ℕ) → x < length names → IsLinkedUp names x)
-    → AreNodesFrom order first (length names) 0 → nodes ≡ map (λ (w : ℕ). get_or first w None) winners → AreNodes names nodes
+    → AreNodesFrom order first (length names) 0 → AreGivenTo winners first nodes (length winners) → AreNodes names nodes
 nodes_are names winners order first nodes apart are is linked from made = record {
-  len = ap length made ∙ length-map winners (λ (w : ℕ). get_or first w None) ∙ are.len;
+  len = made.len ∙ from.len;
   each = λ x within.
-      ap (λ (xs : List (Option ℕ)). get_or xs x None) made ∙ get_or-map (λ (w : ℕ). get_or first w None) winners x 0 None (omega (arith, within, are.len))
-      ∙ from.each (get_or winners x 0) (are.each x within).within ∙ node_is names winners order x apart are is (linked x within) within;
+      made.given x (omega (arith, within, are.len)) ∙ from.each (get_or winners x 0) (are.each x within).within ∙ node_is names winners order x apart are is (linked x within) within;
 }
 
 -- ---- the node above

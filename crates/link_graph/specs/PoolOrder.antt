@@ -58,11 +58,6 @@ pub record IsRightBelow (names : List Named) (winners : List ℕ) (key x : ℕ) 
 abbrev pub IsChildOf : List Named → List ℕ → ℕ → ℕ → Type 0
 IsChildOf names winners key x = Wins names winners x × IsRightBelow names winners key x
 
--- of each name the number of the path above
-pub record AreKeys (names : List Named) (winners keys : List ℕ) : Type 0 where
-  pub len : length keys ≡ length names
-  pub each : (x : ℕ) → x < length names → IsRightBelow names winners (slice_index_or keys x 0) x
-
 -- ---- chains
 
 -- a chain begins with this name, if with any, and has these names
@@ -87,6 +82,13 @@ pub record AreChains (names : List Named) (winners : List ℕ) (some : ℕ → T
 -- it is a later name whose bid is not below the first bound, or its bid is not below the second
 abbrev pub Passed : List Named → ℕ → ℕ → ℕ → ℕ → Type 0
 Passed names from to x y = (to ≤ bid_at names y) ⊎ ((from ≤ bid_at names y) × (x ≤ y))
+
+-- each name from this one on is linked up, and if all are, then those that were passed hang in chains
+pub record AreHungFrom (names : List Named) (winners : List ℕ) (from to x : ℕ) (first next : List (Option ℕ)) : Type 0 where
+  pub wide : length first ≡ length names + 2
+  pub long : length next ≡ length names
+  pub linked : (y : ℕ) → x ≤ y → y < length names → IsLinkedUp names y
+  pub chains : ((y : ℕ) → y < length names → IsLinkedUp names y) → AreChains names winners (Passed names from to x) first next
 
 abbrev pub AnyName : ℕ → Type 0
 AnyName x = ⊤
@@ -113,6 +115,16 @@ pub record AreNodesFrom (order : List ℕ) (nodes : List (Option ℕ)) (n i : �
   pub within : i ≤ length order
   pub len : length nodes ≡ n
   pub each : (w : ℕ) → w < n → slice_index_or nodes w None ≡ position_from (λ v. v == w) (i + 1) (drop i order)
+
+-- each winner wins its own path
+abbrev pub WinThemselves : List ℕ → Type 0
+WinThemselves winners = (x : ℕ) → x < length winners → slice_index_or winners (slice_index_or winners x 0) 0 ≡ slice_index_or winners x 0
+
+-- the first n names were given the nodes of their winners, and the others have their own
+pub record AreGivenTo (winners : List ℕ) (old new : List (Option ℕ)) (n : ℕ) : Type 0 where
+  pub len : length new ≡ length old
+  pub given : (x : ℕ) → x < n → slice_index_or new x None ≡ slice_index_or old (slice_index_or winners x 0) None
+  pub others : (x : ℕ) → n ≤ x → slice_index_or new x None ≡ slice_index_or old x None
 
 -- of each name the node of its path
 pub record AreNodes (names : List Named) (nodes : List (Option ℕ)) : Type 0 where

@@ -15,7 +15,7 @@ ghost use Rattle.link_graph.specs.Joining.{ArePathNodes};
 ghost use Rattle.link_graph.specs.Merged.{pool_origin, pool_root, pool_units};
 ghost use Rattle.link_graph.specs.Passes.{with_version};
 ghost use Rattle.link_graph.specs.Pool.{node_above, pool_names};
-ghost use Rattle.link_graph.specs.PoolOrder.{AnyName, AreApart, AreChains, AreKeys, AreNodes, AreNodesFrom, AreRanked, IsLinkedUp, IsPreorder, Passed, key_of, name_at};
+ghost use Rattle.link_graph.specs.PoolOrder.{AnyName, AreApart, AreChains, AreGivenTo, AreHungFrom, AreNodes, AreNodesFrom, AreRanked, IsLinkedUp, IsPreorder, WinThemselves, key_of, name_at};
 
 use ds_base::dwarf::{DWARF_4, DWARF_5};
 use ds_base::{List, NoMemory};
@@ -81,14 +81,13 @@ fn chains_of(alloc: Global, names: &PathBook, winners: &[u32]) -> Result<Chains,
     ensures linked { IfOk result (λ chains. (x : ℕ) → x < length names.now → IsLinkedUp names.now x) }
     ensures chains { IfOk result (λ chains. AreChains names.now winners.now AnyName chains.first.items chains.next.items) }
 {
-    let keys = keys_of(alloc, names, winners)?;
     bids_are_some(names);
     let size = count(names) as usize;
     let first = no_names(alloc, size + 2)?;
     let next = no_names(alloc, size)?;
     let mut chains = Chains { first, next };
-    hang_winners(names, winners, &keys, DECLARED, u64::MAX, &mut chains);
-    hang_winners(names, winners, &keys, 0, DECLARED, &mut chains);
+    hang_winners(names, winners, DECLARED, u64::MAX, &mut chains);
+    hang_winners(names, winners, 0, DECLARED, &mut chains);
     Ok(chains)
 }
 
@@ -97,20 +96,6 @@ fn no_names(alloc: Global, count: usize) -> Result<Vec<Option<u32>>, NoMemory>
     ensures { IfOk result (λ places. places.items ≡ replicate count None) }
 {
     Ok(vec![in alloc; None; count]?)
-}
-
-/// Of each name the number of the path above.
-fn keys_of(alloc: Global, names: &PathBook, winners: &[u32]) -> Result<Vec<u32>, NoMemory>
-    requires ranked { AreRanked names.now }
-    requires winners { AreWinners names.now winners.now }
-    ensures linked { IfOk result (λ keys. (x : ℕ) → x < length names.now → IsLinkedUp names.now x) }
-    ensures keys { IfOk result (λ keys. AreKeys names.now winners.now keys.items) }
-{
-    let mut keys = Vec::with_capacity(alloc, count(names) as usize)?;
-    for x in 0..count(names) {
-        keys.push(key_of(winners, above(names, x)))?;
-    }
-    Ok(keys)
 }
 
 /// The number of the path above a name, by a name of that path: 1 more than its winner, or 0 where it has no piece.
@@ -126,26 +111,19 @@ fn key_of(winners: &[u32], above: Option<u32>) -> u32
 
 /// Puts the winners whose bids are in these bounds before those in the chains, the last one first.
 ///
-/// `keys` tells of each name the number of the path above. Those that hang already bid no less than `to`.
-fn hang_winners(
-    names: &PathBook,
-    winners: &[u32],
-    keys: &[u32],
-    from: u64,
-    to: u64,
-    chains: &mut Chains,
-)
+/// Those that hang already bid no less than `to`. Each name is asked for the one above, so after this all are known to be
+/// linked up.
+fn hang_winners(names: &PathBook, winners: &[u32], from: u64, to: u64, chains: &mut Chains)
     requires bounds { (2 ^ 63 ≤ from) ⊎ (to ≤ 2 ^ 63) }
     requires ranked { AreRanked names.now }
     requires winners { AreWinners names.now winners.now }
-    requires linked { (x : ℕ) → x < length names.now → IsLinkedUp names.now x }
-    requires keys { AreKeys names.now winners.now keys.now }
-    requires chains { AreChains names.now winners.now (Passed names.now from to (length names.now)) chains.old.first.items chains.old.next.items }
-    ensures { AreChains names.now winners.now (Passed names.now from to 0) chains.new.first.items chains.new.next.items }
+    requires hung { AreHungFrom names.now winners.now from to (length names.now) chains.old.first.items chains.old.next.items }
+    ensures { AreHungFrom names.now winners.now from to 0 chains.new.first.items chains.new.next.items }
 {
     let mut x = count(names);
     while x > 0 {
         x -= 1;
+        let up = above(names, x);
         if winners[x as usize] != x {
             continue;
         }
@@ -156,7 +134,7 @@ fn hang_winners(
         if bid >= to {
             continue;
         }
-        hang(chains, keys[x as usize], x);
+        hang(chains, key_of(winners, up), x);
     }
 }
 
@@ -209,8 +187,8 @@ fn nodes_of(
     requires linked { (x : ℕ) → x < length names.now → IsLinkedUp names.now x }
     ensures { IfOk result (λ nodes. AreNodes names.now nodes.items) }
 {
-    let first = first_nodes(alloc, count(names) as usize, order)?;
-    let nodes = nodes_by(alloc, winners, &first)?;
+    let mut nodes = first_nodes(alloc, count(names) as usize, order)?;
+    give_nodes(winners, &mut nodes);
     Ok(nodes)
 }
 
@@ -229,20 +207,18 @@ fn first_nodes(alloc: Global, count: usize, order: &[u32]) -> Result<Vec<Option<
     Ok(nodes)
 }
 
-/// Of each name the node of its winner.
-fn nodes_by(
-    alloc: Global,
-    winners: &[u32],
-    first: &[Option<u32>],
-) -> Result<Vec<Option<u32>>, NoMemory>
-    requires within { All (λ w. w < length first.now) winners.now }
-    ensures { IfOk result (λ nodes. nodes.items ≡ map (λ w. slice_index_or first.now w None) winners.now) }
+/// Gives each name the node of its winner.
+///
+/// A winner wins its own path and keeps its node, so it doesn't matter which of the two comes first.
+fn give_nodes(winners: &[u32], nodes: &mut Vec<Option<u32>>)
+    requires len { length nodes.old.items ≡ length winners.now }
+    requires within { All (λ w. w < length nodes.old.items) winners.now }
+    requires own { WinThemselves winners.now }
+    ensures { AreGivenTo winners.now nodes.old.items nodes.new.items (length winners.now) }
 {
-    let mut nodes = Vec::with_capacity(alloc, winners.len())?;
-    for winner in winners {
-        nodes.push(first[*winner as usize])?;
+    for x in 0..winners.len() {
+        nodes[x] = nodes[winners[x] as usize];
     }
-    Ok(nodes)
 }
 
 /// The unit of merged entries, if there is any, before the units of the objects are known.
