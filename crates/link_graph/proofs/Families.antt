@@ -169,7 +169,7 @@ one_key names winners a b x apart are linked is_a is_b =
     same_key names winners a b apart are linked is_a.key_is is_b.key_is (same_from_push (key_path names a) (key_path names b) is_a.piece is_b.piece (sym is_a.path ∙ is_b.path)).0
 
 -- a number is that of none, or 1 more than that of a name
-pub key_few : (names : List Named) (winners : List ℕ) (key : ℕ) → IsKey names winners key → key < length names + 2
+pub key_few : (names : List Named) (winners : List ℕ) (key : ℕ) → IsKey names winners key → key < length names + 1
 key_few names winners key (inl is) = omega (arith, is)
 key_few names winners key (inr w) = omega (arith, w.1, w.2.within)
 
@@ -226,7 +226,7 @@ hangs_set next n v first (x ∷ xs) fresh hangs = (
 )
 
 -- no winner hangs at first
-pub no_chains : (names : List Named) (winners : List ℕ) (some : ℕ → Type 0) (first next : List (Option ℕ)) → length first ≡ length names + 2 → length next ≡ length names → ((key : ℕ) → key < length first → get_or first key None ≡ None)
+pub no_chains : (names : List Named) (winners : List ℕ) (some : ℕ → Type 0) (first next : List (Option ℕ)) → length first ≡ length names + 1 → length next ≡ length names → ((key : ℕ) → key < length first → get_or first key None ≡ None)
     → ((x : ℕ) → some x → x < length names → ⊥) → AreChains names winners some first next
 no_chains names winners some first next wide long empty none = record {
   wide = wide;
@@ -414,15 +414,15 @@ hung_more names winners from to n first next key ranked are bounds linked is win
 }
 
 -- where the rows were just made
-none_yet : (names : List Named) (winners : List ℕ) (some : ℕ → Type 0) (first next : List (Option ℕ)) (n m : ℕ) → first ≡ replicate n None → next ≡ replicate m None → n ≡ m + 2 → m ≡ length names → ((x : ℕ) → some x → x < length names → ⊥) → AreChains names winners some first next
+none_yet : (names : List Named) (winners : List ℕ) (some : ℕ → Type 0) (first next : List (Option ℕ)) (n m : ℕ) → first ≡ replicate n None → next ≡ replicate m None → n ≡ m + 1 → m ≡ length names → ((x : ℕ) → some x → x < length names → ⊥) → AreChains names winners some first next
 none_yet names winners some first next n m first_is next_is more all none =
-    no_chains names winners some first next (ap length first_is ∙ length-replicate n nothing ∙ more ∙ ap (λ (k : ℕ). k + 2) all) (ap length next_is ∙ length-replicate m nothing ∙ all)
+    no_chains names winners some first next (ap length first_is ∙ length-replicate n nothing ∙ more ∙ ap (λ (k : ℕ). k + 1) all) (ap length next_is ∙ length-replicate m nothing ∙ all)
     (λ key lt. ap (λ (xs : List (Option ℕ)). get_or xs key None) first_is ∙ get_or-replicate n key nothing None (omega (arith, lt, ap length first_is, length-replicate n nothing))) none
   where
     nothing : Option ℕ
     nothing = None
 
-pub none_hung : (names : List Named) (winners : List ℕ) (from to : ℕ) (first next : List (Option ℕ)) (n m : ℕ) → first ≡ replicate n None → next ≡ replicate m None → n ≡ m + 2 → m ≡ length names → ((x : ℕ) → x < length names → bid_at names x < to)
+pub none_hung : (names : List Named) (winners : List ℕ) (from to : ℕ) (first next : List (Option ℕ)) (n m : ℕ) → first ≡ replicate n None → next ≡ replicate m None → n ≡ m + 1 → m ≡ length names → ((x : ℕ) → x < length names → bid_at names x < to)
     → AreHungFrom names winners from to (length names) first next
 none_hung names winners from to first next n m first_is next_is more all lower = record {
   wide = chains.wide;

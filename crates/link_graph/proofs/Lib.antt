@@ -15,6 +15,7 @@ pub mod Rising
 pub mod PoolPaths
 pub mod PoolTrees
 pub mod Families
+pub mod Links
 pub mod PoolWalks
 pub mod PoolNodes
 pub mod LinkedRanks

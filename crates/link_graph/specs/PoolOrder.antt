@@ -6,6 +6,7 @@ use Rattle.std.specs.Option.{ForSome, option_map_or}
 use Rattle.odr_names.specs.Book.{bid_at, path_at}
 use Rattle.type_names.specs.Names.{Named}
 use Rattle.type_names.specs.Paths.{Piece}
+use Rattle.link_graph.specs.declared.pool.Link.{Link}
 use Rattle.link_graph.specs.Pool.{node_of_path, pool_names, preorder}
 use Rattle.link_graph.specs.Rising.{Has, Rises}
 
@@ -60,6 +61,18 @@ IsChildOf names winners key x = Wins names winners x × IsRightBelow names winne
 
 -- ---- chains
 
+-- the winner that a number in a link stands for: 0 is none, and 1 more than its number a winner
+abbrev pub name_of : ℕ → Option ℕ
+name_of n = if n == 0 then None else Some (n - 1)
+
+-- the first one right below each path, by the path's number
+abbrev pub firsts : List Link → List (Option ℕ)
+firsts links = map (λ link. name_of link.first) links
+
+-- of each winner the next one right below the same path
+abbrev pub nexts : List Link → List (Option ℕ)
+nexts links = drop 1 (map (λ link. name_of link.next) links)
+
 -- a chain begins with this name, if with any, and has these names
 abbrev pub Hangs : List (Option ℕ) → Option ℕ → List ℕ → Type 0
 Hangs next first [] = first ≡ None
@@ -73,7 +86,7 @@ pub record IsFamily (names : List Named) (winners : List ℕ) (some : ℕ → Ty
 
 -- they hang in chains: the first one of each number is told, and the next one of each winner
 pub record AreChains (names : List Named) (winners : List ℕ) (some : ℕ → Type 0) (first next : List (Option ℕ)) : Type 0 where
-  pub wide : length first ≡ length names + 2
+  pub wide : length first ≡ length names + 1
   pub long : length next ≡ length names
   pub family : ℕ → List ℕ
   pub hang : (key : ℕ) → key < length first → Hangs next (slice_index_or first key None) (family key)
@@ -85,7 +98,7 @@ Passed names from to x y = (to ≤ bid_at names y) ⊎ ((from ≤ bid_at names y
 
 -- each name from this one on is linked up, and if all are, then those that were passed hang in chains
 pub record AreHungFrom (names : List Named) (winners : List ℕ) (from to x : ℕ) (first next : List (Option ℕ)) : Type 0 where
-  pub wide : length first ≡ length names + 2
+  pub wide : length first ≡ length names + 1
   pub long : length next ≡ length names
   pub linked : (y : ℕ) → x ≤ y → y < length names → IsLinkedUp names y
   pub chains : ((y : ℕ) → y < length names → IsLinkedUp names y) → AreChains names winners (Passed names from to x) first next

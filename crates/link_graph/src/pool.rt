@@ -15,7 +15,7 @@ ghost use Rattle.link_graph.specs.Joining.{ArePathNodes};
 ghost use Rattle.link_graph.specs.Merged.{pool_origin, pool_root, pool_units};
 ghost use Rattle.link_graph.specs.Passes.{with_version};
 ghost use Rattle.link_graph.specs.Pool.{node_above, pool_names};
-ghost use Rattle.link_graph.specs.PoolOrder.{AnyName, AreApart, AreChains, AreGivenTo, AreHungFrom, AreNodes, AreNodesFrom, AreRanked, IsLinkedUp, IsPreorder, WinThemselves, key_of, name_at};
+ghost use Rattle.link_graph.specs.PoolOrder.{AnyName, AreApart, AreChains, AreGivenTo, AreHungFrom, AreNodes, AreNodesFrom, AreRanked, IsLinkedUp, IsPreorder, WinThemselves, firsts, key_of, name_at, nexts};
 
 use ds_base::dwarf::{DWARF_4, DWARF_5};
 use ds_base::{List, NoMemory};
@@ -32,22 +32,26 @@ pub struct PathNodes {
     pub nodes: Vec<Option<u32>>,
 }
 
-/// Winners in chains: those right below each path, by their bids.
-#[derive(Drop)]
-pub(crate) struct Chains {
-    /// The first one right below each path, by the path's number: 0 is that of none, and 1 more than its winner that of
-    /// another.
-    pub(crate) first: Vec<Option<u32>>,
-    /// Of each winner the next one right below the same path.
-    pub(crate) next: Vec<Option<u32>>,
+/// What a path and its winner lead to in chains: those right below each path, by their bids.
+///
+/// The path of none has the first link, and each winner the one behind its number. The winners are kept likewise: 0 is
+/// none, and 1 more than its number a winner.
+#[derive(Clone, Copy)]
+pub(crate) struct Link {
+    /// The first one right below the path.
+    pub(crate) first: u32,
+    /// The next one right below the same path.
+    pub(crate) next: u32,
 }
+
+const _: () = prove!(size_of::<Link>() == 8);
 
 /// The winners of a book's names in chains.
 #[derive(Drop)]
 pub(crate) struct Tree<'a, 'b> {
     pub(crate) names: &'a PathBook<'b>,
     pub(crate) winners: &'a [u32],
-    pub(crate) chains: Chains,
+    pub(crate) chains: Vec<Link>,
 }
 
 /// Bids from this one on are of declarations.
@@ -75,27 +79,24 @@ pub fn path_nodes(alloc: Global, names: &PathBook, winners: &[u32]) -> Result<Pa
 }
 
 /// The winners in chains.
-fn chains_of(alloc: Global, names: &PathBook, winners: &[u32]) -> Result<Chains, NoMemory>
+fn chains_of(alloc: Global, names: &PathBook, winners: &[u32]) -> Result<Vec<Link>, NoMemory>
     requires ranked { AreRanked names.now }
     requires winners { AreWinners names.now winners.now }
     ensures linked { IfOk result (λ chains. (x : ℕ) → x < length names.now → IsLinkedUp names.now x) }
-    ensures chains { IfOk result (λ chains. AreChains names.now winners.now AnyName chains.first.items chains.next.items) }
+    ensures chains { IfOk result (λ chains. AreChains names.now winners.now AnyName (firsts chains.items) (nexts chains.items)) }
 {
     bids_are_some(names);
-    let size = count(names) as usize;
-    let first = no_names(alloc, size + 2)?;
-    let next = no_names(alloc, size)?;
-    let mut chains = Chains { first, next };
+    let mut chains = no_links(alloc, count(names) as usize + 1)?;
     hang_winners(names, winners, DECLARED, u64::MAX, &mut chains);
     hang_winners(names, winners, 0, DECLARED, &mut chains);
     Ok(chains)
 }
 
-/// So many places for names, where none stands yet.
-fn no_names(alloc: Global, count: usize) -> Result<Vec<Option<u32>>, NoMemory>
-    ensures { IfOk result (λ places. places.items ≡ replicate count None) }
+/// So many links, where no winner hangs yet.
+fn no_links(alloc: Global, count: usize) -> Result<Vec<Link>, NoMemory>
+    ensures { IfOk result (λ links. links.items ≡ replicate count (record { first = 0; next = 0 })) }
 {
-    Ok(vec![in alloc; None; count]?)
+    Ok(vec![in alloc; Link { first: 0, next: 0 }; count]?)
 }
 
 /// The number of the path above a name, by a name of that path: 1 more than its winner, or 0 where it has no piece.
@@ -113,12 +114,12 @@ fn key_of(winners: &[u32], above: Option<u32>) -> u32
 ///
 /// Those that hang already bid no less than `to`. Each name is asked for the one above, so after this all are known to be
 /// linked up.
-fn hang_winners(names: &PathBook, winners: &[u32], from: u64, to: u64, chains: &mut Chains)
+fn hang_winners(names: &PathBook, winners: &[u32], from: u64, to: u64, chains: &mut Vec<Link>)
     requires bounds { (2 ^ 63 ≤ from) ⊎ (to ≤ 2 ^ 63) }
     requires ranked { AreRanked names.now }
     requires winners { AreWinners names.now winners.now }
-    requires hung { AreHungFrom names.now winners.now from to (length names.now) chains.old.first.items chains.old.next.items }
-    ensures { AreHungFrom names.now winners.now from to 0 chains.new.first.items chains.new.next.items }
+    requires hung { AreHungFrom names.now winners.now from to (length names.now) (firsts chains.old.items) (nexts chains.old.items) }
+    ensures { AreHungFrom names.now winners.now from to 0 (firsts chains.new.items) (nexts chains.new.items) }
 {
     let mut x = count(names);
     while x > 0 {
@@ -139,15 +140,15 @@ fn hang_winners(names: &PathBook, winners: &[u32], from: u64, to: u64, chains: &
 }
 
 /// Puts a winner before those right below the path of this number.
-fn hang(chains: &mut Chains, key: u32, x: u32)
-    requires key { key < length chains.old.first.items }
-    requires name { x < length chains.old.next.items }
-    ensures first { chains.new.first.items ≡ slice_set chains.old.first.items key (Some x) }
-    ensures next { chains.new.next.items ≡ slice_set chains.old.next.items x (slice_index_or chains.old.first.items key None) }
+fn hang(chains: &mut Vec<Link>, key: u32, x: u32)
+    requires key { key < length chains.old.items }
+    requires name { (x + 1 < length chains.old.items) × (x + 1 < 2 ^ 32) }
+    ensures first { firsts chains.new.items ≡ slice_set (firsts chains.old.items) key (Some x) }
+    ensures next { nexts chains.new.items ≡ slice_set (nexts chains.old.items) x (slice_index_or (firsts chains.old.items) key None) }
 {
-    let behind = chains.first[key as usize];
-    chains.next[x as usize] = behind;
-    chains.first[key as usize] = Some(x);
+    let behind = chains[key as usize].first;
+    chains[x as usize + 1].next = behind;
+    chains[key as usize].first = x + 1;
 }
 
 /// The winners that have nodes, in preorder.
@@ -155,21 +156,21 @@ fn order_of(alloc: Global, tree: &Tree) -> Result<Vec<u32>, NoMemory>
     requires ranked { AreRanked tree.now.names.now }
     requires winners { AreWinners tree.now.names.now tree.now.winners.now }
     requires linked { (x : ℕ) → x < length tree.now.names.now → IsLinkedUp tree.now.names.now x }
-    requires chains { AreChains tree.now.names.now tree.now.winners.now AnyName tree.now.chains.first.items tree.now.chains.next.items }
+    requires chains { AreChains tree.now.names.now tree.now.winners.now AnyName (firsts tree.now.chains.items) (nexts tree.now.chains.items) }
     ensures { IfOk result (λ order. IsPreorder tree.now.names.now tree.now.winners.now order.items) }
 {
-    let first = tree.chains.first.as_slice();
-    let next = tree.chains.next.as_slice();
-    let mut order = Vec::with_capacity(alloc, next.len())?;
+    let links = tree.chains.as_slice();
+    let mut order = Vec::with_capacity(alloc, links.len())?;
     let mut open = Vec::new(alloc);
-    open.push(first[0])?;
+    open.push(links[0].first)?;
     while let Some(top) = open.pop() {
-        let Some(name) = top else {
+        if top == 0 {
             continue;
-        };
-        order.push(name)?;
-        open.push(next[name as usize])?;
-        open.push(first[name as usize + 1])?;
+        }
+        let link = links[top as usize];
+        order.push(top - 1)?;
+        open.push(link.next)?;
+        open.push(link.first)?;
     }
     Ok(order)
 }

@@ -1,6 +1,8 @@
 use Rattle.std.proofs.Common.{◌≡◌, ◌+◌, ◌-◌, ◌<◌, ◌≤◌, ℕ, length, subst, arith}
 use Rattle.odr_names.specs.Book.{bid_at}
-use Rattle.link_graph.specs.PoolOrder.{AreHungFrom, Wins}
+use Rattle.std.proofs.lemmas.List.{length-map}
+use Rattle.link_graph.specs.declared.pool.Link.{Link}
+use Rattle.link_graph.specs.PoolOrder.{AreHungFrom, Wins, firsts, name_of, nexts}
 use Rattle.link_graph.proofs.Families.{hung_more, hung_past, key_few, linked_up, passed_high, passed_loser, passed_low, ranked_apart, right_below}
 use Rattle.link_graph.proofs.pool.hang_winners.Goals as goal
 
@@ -11,8 +13,8 @@ loop-x-preserved-then-winners-x c =
     let from = c.args.from in
     let to = c.args.to in
     let n = c.loop-x.x - 1 in
-    let first = c.loop-x.chains.first.items in
-    let next = c.loop-x.chains.next.items in
+    let first = firsts c.loop-x.chains.items in
+    let next = nexts c.loop-x.chains.items in
     let one : c.loop-x.x ≡ n + 1 = omega (arith, c.loop-x-test.true) in
     let so_far = subst (λ (k : ℕ). AreHungFrom names winners from to k first next) one c.loop-x.invariant.hung in
     let linked = linked_up names n c.above-up.result c.above-up.ensures.before c.above-up.ensures.path in
@@ -25,8 +27,8 @@ loop-x-preserved-then-bid-from c =
     let from = c.args.from in
     let to = c.args.to in
     let n = c.loop-x.x - 1 in
-    let first = c.loop-x.chains.first.items in
-    let next = c.loop-x.chains.next.items in
+    let first = firsts c.loop-x.chains.items in
+    let next = nexts c.loop-x.chains.items in
     let one : c.loop-x.x ≡ n + 1 = omega (arith, c.loop-x-test.true) in
     let so_far = subst (λ (k : ℕ). AreHungFrom names winners from to k first next) one c.loop-x.invariant.hung in
     let linked = linked_up names n c.above-up.result c.above-up.ensures.before c.above-up.ensures.path in
@@ -40,8 +42,8 @@ loop-x-preserved-then-bid-to c =
     let from = c.args.from in
     let to = c.args.to in
     let n = c.loop-x.x - 1 in
-    let first = c.loop-x.chains.first.items in
-    let next = c.loop-x.chains.next.items in
+    let first = firsts c.loop-x.chains.items in
+    let next = nexts c.loop-x.chains.items in
     let one : c.loop-x.x ≡ n + 1 = omega (arith, c.loop-x-test.true) in
     let so_far = subst (λ (k : ℕ). AreHungFrom names winners from to k first next) one c.loop-x.invariant.hung in
     let linked = linked_up names n c.above-up.result c.above-up.ensures.before c.above-up.ensures.path in
@@ -55,14 +57,20 @@ hang-requires-clause-key c =
     let from = c.args.from in
     let to = c.args.to in
     let n = c.loop-x.x - 1 in
-    let first = c.loop-x.chains.first.items in
-    let next = c.loop-x.chains.next.items in
+    let first = firsts c.loop-x.chains.items in
+    let next = nexts c.loop-x.chains.items in
     let one : c.loop-x.x ≡ n + 1 = omega (arith, c.loop-x-test.true) in
     let so_far = subst (λ (k : ℕ). AreHungFrom names winners from to k first next) one c.loop-x.invariant.hung in
     let linked = linked_up names n c.above-up.result c.above-up.ensures.before c.above-up.ensures.path in
     let within : n < length names = omega (arith, one, c.loop-x.invariant.within) in
     let below = right_below names winners n c.key_of.result linked (ranked_apart names c.requires.ranked) c.requires.winners within c.key_of.ensures in
-    omega (arith, key_few names winners c.key_of.result below.key_is, so_far.wide)
+    omega (arith, key_few names winners c.key_of.result below.key_is, so_far.wide, length-map c.loop-x.chains.items (λ (link : Link). name_of link.first))
+
+pub hang-requires-clause-name : goal.hang-requires-clause-name
+hang-requires-clause-name c =
+    let wide = c.loop-x.invariant.hung.wide in
+    let long = length-map c.loop-x.chains.items (λ (link : Link). name_of link.first) in
+    (omega (arith, c.loop-x-test.true, c.loop-x.invariant.within, wide, long), omega (arith, c.loop-x-test.true))
 
 pub loop-x-preserved : goal.loop-x-preserved
 loop-x-preserved c =
@@ -71,8 +79,8 @@ loop-x-preserved c =
     let from = c.args.from in
     let to = c.args.to in
     let n = c.loop-x.x - 1 in
-    let first = c.loop-x.chains.first.items in
-    let next = c.loop-x.chains.next.items in
+    let first = firsts c.loop-x.chains.items in
+    let next = nexts c.loop-x.chains.items in
     let one : c.loop-x.x ≡ n + 1 = omega (arith, c.loop-x-test.true) in
     let so_far = subst (λ (k : ℕ). AreHungFrom names winners from to k first next) one c.loop-x.invariant.hung in
     let linked = linked_up names n c.above-up.result c.above-up.ensures.before c.above-up.ensures.path in
