@@ -25,8 +25,8 @@ fn numbers_below(alloc: Global, count: u32) -> Result<Vec<Option<u32>>, NoMemory
 /// How many cells of a closed table hold a name.
 fn filled(closed: &ClosedPool) -> u64 {
     let mut filled: u64 = 0;
-    for cell in closed.state().cells.as_slice() {
-        if *cell != 0 {
+    for cell in 0..closed.cell_count() {
+        if closed.name_word(cell) != 0 {
             filled = filled.saturating_add(1);
         }
     }

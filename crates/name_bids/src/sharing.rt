@@ -37,7 +37,7 @@ pub(crate) fn bid_names<R: Threads + Sync, G: Gate + Sync>(
     let workers = workers.min(objects.max(1));
     let bidder = Bidder { names, gate };
     let (seat, turn) = bid_by(rt, &pool, seat, &work, turn, workers, &bidder);
-    closed(alloc, pool, seat, names, &turn)
+    Ok(closed(alloc, pool, seat, names, &turn))
 }
 
 /// What a worker does with its seats.
@@ -146,15 +146,15 @@ fn closed(
     seat: PoolSeat,
     names: &PathBook,
     turn: &TaskSeat,
-) -> Result<ClosedPool, NoMemory>
+) -> ClosedPool
     requires ended { HasEnded names.now pool seat turn.now }
-    ensures table { IfOk result (λ closed. IsTable names.now closed.state) }
-    ensures book { IfOk result (λ closed. closed.names ≡ length names.now) }
+    ensures table { IsTable names.now result.state }
+    ensures book { result.names ≡ length names.now }
 {
     turn.fairness();
     bids_are_some(names);
     match pool.close(alloc, seat) {
-        Ok(closed) => Ok(closed),
-        Err(_) => Err(NoMemory),
+        Ok(closed) => closed,
+        Err(_) => unreachable!(),
     }
 }

@@ -75,7 +75,7 @@ fn least_names(
     requires cells { AreInside closed.now.state.least (cells_in found.now) }
     ensures { IfOk result (λ winners. AreLeastTo names.now closed.now.state.least (cells_in found.now) winners.items (length names.now)) }
 {
-    let mut winners = vec![in alloc; 0; closed.state().least.len()]?;
+    let mut winners = vec![in alloc; 0; closed.cell_count()]?;
     for x in 0..count(names) {
         put_least(found, x, &mut winners);
     }

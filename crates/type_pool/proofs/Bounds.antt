@@ -165,34 +165,3 @@ pub read_at : (words : List ℕ) (i word : ℕ) → get_elem? words i ≡ some w
 read_at [] i word at = absurd (some-ne-none word (sym at))
 read_at (w ∷ words) zero word at = some-injective w word at
 read_at (w ∷ words) (suc i) word at = read_at words i word at
-
--- every second word, copied over zeros
-pub record IsCopied (count first : ℕ) (words out : List ℕ) : Type 0 where
-  pub len : length out ≡ count
-  pub each : (i : ℕ) → i < count → get_or out i 0 ≡ get_or words (2 * i + first) 0
-
-pub copied : (count first : ℕ) (zeros copy out words : List ℕ) → zeros ≡ replicate count 0 → out ≡ copy → length copy ≡ length zeros
-    → ((i : ℕ) → i < length zeros → get_or copy i 0 ≡ get_or words (2 * i + first) 0) → IsCopied count first words out
-copied count first zeros copy out words empty same long each =
-    let wide : length zeros ≡ count = ap (λ (l : List ℕ). length l) empty ∙ length-replicate {A = ℕ} count 0 in
-    record {
-      len = ap (λ (l : List ℕ). length l) same ∙ long ∙ wide;
-      each = λ i inside. ap (λ (l : List ℕ). get_or l i 0) same ∙ each i (omega arith);
-    }
-
--- no word of a name passes the book
-pub named_all : (k : Size) (words out : List ℕ) (views : List View) → Keeps k words views → IsCopied k.cells 0 words out → (i : ℕ) → get_or out i 0 ≤ k.names
-named_all k words out views rule copy i = dite (dec_lt i k.cells)
-    (λ inside.
-    let same : 2 * i + 0 ≡ name_at i = omega arith in
-    let is : get_or out i 0 ≡ name_word words i = copy.each i inside ∙ ap (λ (j : ℕ). get_or words j 0) same in
-    let most = rule.named i inside in
-    omega arith)
-    (λ past. (let none = get_or_past out i 0 (let len = copy.len in omega arith) in omega arith))
-
-pub closes_copied : (k : Size) (words : List ℕ) (views : List View) (id : ℕ) (v : View) (state : PoolState) → Keeps k words views → get_elem? views id ≡ some v → v.share ≡ 64
-    → IsCopied k.cells 0 words state.cells → IsCopied k.cells 1 words state.least → Closes k.cells v state
-closes_copied k words views id v state rule at whole cells least =
-    closes k words views id v state rule at whole cells.len least.len
-    (λ i inside. (let same : 2 * i + 0 ≡ name_at i = omega arith in cells.each i inside ∙ ap (λ (j : ℕ). get_or words j 0) same))
-    least.each

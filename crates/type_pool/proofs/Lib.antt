@@ -6,3 +6,4 @@ pub mod Keep
 pub mod Seating
 pub mod Places
 pub mod Bounds
+pub mod ClosedWords

@@ -5,3 +5,4 @@ pub mod Told
 pub mod Seats
 pub mod Standing
 pub mod Ends
+pub mod ClosedWords

@@ -1,7 +1,8 @@
 //! A table that no thread shares any more: how it is closed, and what is found in it.
 
-ghost use Rattle.std.specs.Prelude.{◌≡◌, ℕ, ◌+◌, ◌*◌, ◌^◌, ◌<◌, ◌≤◌, length, slice_index, IfErr, IfOk, replicate};
+ghost use Rattle.std.specs.Prelude.{◌≡◌, ◌*◌, ◌^◌, ◌<◌, ◌≤◌, length, slice_index, IfErr, IfOk, IsOk};
 ghost use Rattle.std.specs.Mem.Slots.{IsFull, slots_items, slots_len};
+ghost use Rattle.type_pool.specs.ClosedWords.{AreOfTable, state_of};
 ghost use Rattle.type_pool.specs.Ends.{Closes, Finds};
 ghost use Rattle.type_pool.specs.Standing.{EqualNamesShareACell};
 
@@ -9,19 +10,28 @@ use crate::probing::{PROBES, probed};
 use crate::seat::PoolSeat;
 use crate::table::Pool;
 use atomic_table::Closed;
-use ds_base::List;
-use pool_core::{NameBook, PoolState};
-use std::alloc::{AllocError, Global};
+use pool_core::NameBook;
+use std::alloc::Global;
+use std::marker::Model;
 
 /// A closed table. Contracts see its words as those of the plain machine, and the size of its books.
+///
+/// The two words of a cell stand side by side, so that whoever probes it looks at one place in memory.
 #[derive(Drop)]
 pub struct ClosedPool {
-    state: PoolState,
+    words: Vec<u64>,
     cells: u32,
     names: u32,
-    ghost sized: { (length state.cells ≡ cells) × (length state.least ≡ cells) },
-    ghost ample: { (64 ≤ cells) × (cells ≤ 2 ^ 24) },
-    ghost named: { (i : ℕ) → slice_index state.cells i ≤ names },
+}
+
+impl Model for ClosedPool {
+    ghost use Rattle.type_pool.specs.ClosedWords.{AreOfTable, ClosedTable, state_of};
+
+    ghost Value = { ClosedTable };
+
+    ghost view = { λ c. record { state = state_of c.words.items; cells = c.cells; names = c.names } };
+
+    ghost invariant = { λ c. AreOfTable c.cells c.names c.words.items };
 }
 
 /// Where a name stands in a closed table, and the least number that was bid there, or 2^64 - 1.
@@ -32,46 +42,48 @@ pub struct Found {
 }
 
 impl ClosedPool {
-    /// All words.
-    pub fn state(&self) -> &PoolState
-        ensures { result.now ≡ self.now.state }
+    /// How many cells there are.
+    pub fn cell_count(&self) -> usize
+        ensures cells { result ≡ length self.now.state.cells }
+        ensures least { result ≡ length self.now.state.least }
     {
-        &self.state
+        self.cells as usize
+    }
+
+    /// The word of the name in a cell: 0 where it is empty, and `x + 1` for the name x.
+    pub fn name_word(&self, cell: usize) -> u64
+        requires { cell < length self.now.state.cells }
+        ensures { result ≡ slice_index self.now.state.cells cell }
+    {
+        self.words.as_slice()[2 * cell]
     }
 }
 
 impl Pool {
     ghost use Rattle.type_pool.specs.Seats.{Belongs, known};
 
-    /// Closes the table, by the seat that has every share. Where there is no memory, pool and seat come back unchanged.
-    pub fn close(self, alloc: Global, seat: PoolSeat) -> Result<ClosedPool, (Pool, PoolSeat)>
+    /// Closes the table, by the seat that has every share. It asks for no memory: the words go into those that the pool
+    /// was made of.
+    pub fn close(self, _alloc: Global, seat: PoolSeat) -> Result<ClosedPool, (Pool, PoolSeat)>
         requires belongs { Belongs self seat }
         requires whole { (known seat).share ≡ 64 }
         ensures closed { IfOk result (λ closed. Closes self.cells (known seat) closed.state × (closed.names ≡ self.names)) }
         ensures unchanged { IfErr result (λ back. back ≡ (self, seat)) }
+        ensures always { IsOk result }
     {
-        let Ok(cells) = zeros(alloc, self.cells) else {
-            return Err((self, seat));
-        };
-        let Ok(least) = zeros(alloc, self.cells) else {
-            return Err((self, seat));
-        };
         let Pool {
             table,
-            cells: count,
+            words,
+            cells,
             names,
         } = self;
         let PoolSeat { seat, share: _ } = seat;
         let closed = table.close_with(seat);
-        let cells = every_second(&closed, 0, cells);
-        let least = every_second(&closed, 1, least);
+        let words = copied(&closed, words);
         closed.free();
         Ok(ClosedPool {
-            state: PoolState {
-                cells: List::from_vec(cells),
-                least: List::from_vec(least),
-            },
-            cells: count,
+            words,
+            cells,
             names,
         })
     }
@@ -82,18 +94,27 @@ pub fn find<N: NameBook>(closed: &ClosedPool, names: &N, x: u32) -> Option<Found
     requires book { (N.size names.now ≡ closed.now.names) × (x < N.size names.now) }
     ensures { Finds (N.same names.now) (N.start_of names.now) closed.now.state x result }
 {
-    let start = names.start(x, closed.cells);
-    let words = closed.state.cells.as_slice();
+    find_among(closed.words.as_slice(), closed.cells, names, x)
+}
+
+// The same among these words.
+fn find_among<N: NameBook>(words: &[u64], cells: u32, names: &N, x: u32) -> Option<Found>
+    requires words { AreOfTable cells (N.size names.now) words.now }
+    requires name { x < N.size names.now }
+    ensures { Finds (N.same names.now) (N.start_of names.now) (state_of words.now) x result }
+{
+    let start = names.start(x, cells);
     for turn in 0..PROBES {
-        let cell = probed(start, closed.cells, turn);
-        let word = words[cell as usize];
+        let cell = probed(start, cells, turn);
+        let at = 2 * cell as usize;
+        let word = words[at];
         if word == 0 {
             return None;
         }
         if names.equal((word - 1) as u32, x) {
             return Some(Found {
                 cell,
-                least: closed.state.least.as_slice()[cell as usize],
+                least: words[at + 1],
             });
         }
     }
@@ -105,22 +126,13 @@ pub fn equal_names_share_a_cell<N: NameBook>(names: &N)
     ensures { EqualNamesShareACell (N.size names.now) (N.same names.now) (N.start_of names.now) }
 {}
 
-// So many zeros.
-fn zeros(alloc: Global, count: u32) -> Result<Vec<u64>, AllocError>
-    ensures { IfOk result (λ zeros. zeros.items ≡ replicate count 0) }
-{
-    vec![in alloc; 0; count as usize]
-}
-
-// Every second word, from the first given on.
-fn every_second(closed: &Closed<(), Global>, first: usize, mut to: Vec<u64>) -> Vec<u64>
-    requires words { (slots_len closed.now.words ≡ 2 * length to.items) × IsFull closed.now.words }
-    requires first { first ≤ 1 }
-    ensures len { length result.items ≡ length to.items }
-    ensures words { (i : ℕ) → i < length to.items → slice_index result.items i ≡ slice_index (slots_items closed.now.words) (2 * i + first) }
+// The words of the closed table, written over these.
+fn copied(closed: &Closed<(), Global>, mut to: Vec<u64>) -> Vec<u64>
+    requires { (slots_len closed.now.words ≡ length to.items) × IsFull closed.now.words }
+    ensures { result.items ≡ slots_items closed.now.words }
 {
     for i in 0..to.len() {
-        to[i] = closed.word(2 * i + first);
+        to[i] = closed.word(i);
     }
     to
 }

@@ -24,6 +24,7 @@ pub fn pool(alloc: Global, cells: u32, names: u32) -> Result<(Pool, PoolSeat), N
     let (table, seat) = Table::of_words(alloc, words.as_slice(), &Size { cells, names })?;
     let pool = Pool {
         table,
+        words,
         cells,
         names,
     };

@@ -1,6 +1,6 @@
 //! The table that threads share.
 
-ghost use Rattle.std.specs.Prelude.{◌≡◌, ℕ, ◌-◌, ◌*◌, ◌^◌, ◌<◌, ◌≤◌, ◌==◌, if◌then◌else◌, IfSome, IfNone};
+ghost use Rattle.std.specs.Prelude.{◌≡◌, ℕ, ◌-◌, ◌*◌, ◌^◌, ◌<◌, ◌≤◌, ◌==◌, if◌then◌else◌, length, IfSome, IfNone};
 
 use crate::placing::Placing;
 use crate::probing::{PROBES, probed};
@@ -15,9 +15,12 @@ use std::alloc::Global;
 #[derive(Drop)]
 pub struct Pool {
     pub(crate) table: Table<(), View, Size, Interning, Global>,
+    // As many words as the table has: what it was made of, and the place of its words when it is closed.
+    pub(crate) words: Vec<u64>,
     pub(crate) cells: u32,
     pub(crate) names: u32,
     ghost sized: { (table.shared.key.cells ≡ cells) × (table.shared.key.names ≡ names) × (table.shared.table_id.words ≡ 2 * cells) × (table.shared.table_id.slots ≡ 0) },
+    ghost wide: { length words.items ≡ 2 * cells },
     ghost ample: { (64 ≤ cells) × (cells ≤ 2 ^ 24) },
 }
 

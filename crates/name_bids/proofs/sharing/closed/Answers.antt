@@ -1,6 +1,6 @@
 use Rattle.name_bids.proofs.Workers.{closed_table}
 use Rattle.name_bids.proofs.sharing.closed.Goals as goal
 
-pub returns-in-Ok-clause-table : goal.returns-in-Ok-clause-table
-returns-in-Ok-clause-table c =
+pub returns-clause-table : goal.returns-clause-table
+returns-clause-table c =
     closed_table c.args.names.now c.args.pool c.args.seat c.args.turn.now c.in-Ok.closed.state c.requires.ended c.fairness.ensures c.in-Ok.ensures.closed.0 c.args.pool.ample.0 c.bids_are_some.ensures
