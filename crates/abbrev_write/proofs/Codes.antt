@@ -5,10 +5,10 @@ use Rattle.std.specs.Cmp.Lexicographic.{nat_list_eq_equiv, pointwise}
 use Rattle.std.specs.List.{flat_map, list_any}
 use Rattle.std.specs.Option.{option_map, option_or}
 use Rattle.std.specs.Str.{bytes_eq}
-use Rattle.std.specs.declared.vec.Vec.{Vec}
 use Rattle.indexmap.specs.IndexMap.{IndexMap, get_by}
 use Rattle.dwarf_types.specs.declared.abbrev.Declaration.{Declaration}
 use Rattle.dwarf_types.specs.Abbreviations.{code_in, same_declaration, same_flag}
+use Rattle.abbrev_write.specs.declared.key.Key.{Key}
 use Rattle.abbrev_write.specs.Keys.{AreKnown, code_among, key_of}
 use Rattle.abbrev_write.specs.Table.{with_declaration}
 
@@ -100,7 +100,7 @@ with_among ds d = by (code_among ds d) refl
 
 -- ---- the look-up
 
-module _ {A S : Type 0} where
+module _ {S : Type 0} where
   -- what is found by a key
-  pub looked_up : (codes : IndexMap (Vec ℕ A) ℕ S) (ds : List Declaration) (d : Declaration) (key : List ℕ) → AreKnown codes ds → key ≡ key_of d → get_by (λ k. bytes_eq key k.items) codes ≡ code_among ds d
-  looked_up codes ds d key known is = ap (λ (ks : List ℕ). get_by (λ k. bytes_eq ks k.items) codes) is ∙ known d
+  pub looked_up : (codes : IndexMap Key ℕ S) (ds : List Declaration) (d : Declaration) (key : List ℕ) → AreKnown codes ds → key ≡ key_of d → get_by (λ (k : Key). bytes_eq key k.numbers.items) codes ≡ code_among ds d
+  looked_up codes ds d key known is = ap (λ (ks : List ℕ). get_by (λ (k : Key). bytes_eq ks k.numbers.items) codes) is ∙ known d

@@ -7,6 +7,7 @@ ghost use Rattle.abbrev_write.specs.Keys.{AreKnown, code_among, key_of};
 ghost use Rattle.abbrev_write.specs.Table.{declaring, with_declaration};
 
 use crate::declare::{declare, make_key};
+use crate::key::Key;
 use ds_base::{List, NoMemory};
 use dwarf_types::Declaration;
 use indexmap::IndexMap;
@@ -20,10 +21,10 @@ use unit_source::OutAttrRef;
 #[derive(Drop)]
 pub struct Declared {
     /// The code of each by its key.
-    codes: IndexMap<Vec<u32>, u32>,
+    codes: IndexMap<Key, u32>,
     declarations: List<Declaration>,
     /// Where keys are made. One serves all nodes.
-    key: Vec<u32>,
+    key: Key,
 }
 
 impl Model for Declared {
@@ -46,7 +47,9 @@ impl Declared {
         Declared {
             codes: IndexMap::new(alloc),
             declarations: List::new(alloc),
-            key: Vec::new(alloc),
+            key: Key {
+                numbers: Vec::new(alloc),
+            },
         }
     }
 
@@ -66,8 +69,8 @@ impl Declared {
         ensures code { IfOk result (λ code. code ≡ code_in self.new (declaring number tag children (map attr_given attrs.now))) }
         ensures unchanged { OnErr result (self.new ≡ self.old) }
     {
-        make_key(&mut self.key, number, tag, children, attrs)?;
-        if let Some(code) = self.codes.get(self.key.as_slice()) {
+        make_key(&mut self.key.numbers, number, tag, children, attrs)?;
+        if let Some(code) = self.codes.get(&self.key) {
             return Ok(*code);
         }
         let declared = declare(alloc, number, tag, children, attrs)?;
@@ -75,7 +78,7 @@ impl Declared {
             alloc,
             &mut self.codes,
             &mut self.declarations,
-            self.key.as_slice(),
+            self.key.numbers.as_slice(),
             declared,
         )?;
         Ok(code)
@@ -92,7 +95,7 @@ impl Declared {
 /// Puts a declaration last that is new, whose key this is, and tells its code.
 fn put_last(
     alloc: Global,
-    codes: &mut IndexMap<Vec<u32>, u32>,
+    codes: &mut IndexMap<Key, u32>,
     declarations: &mut List<Declaration>,
     key: &[u32],
     declared: Declaration,
@@ -107,9 +110,9 @@ fn put_last(
     ensures unchanged { OnErr result (declarations.new ≡ declarations.old) }
 {
     let code = declarations.len() as u32 + 1;
-    let kept = Vec::from_slice(alloc, key)?;
+    let numbers = Vec::from_slice(alloc, key)?;
     declarations.push(declared)?;
-    let Ok(_) = codes.insert(kept, code) else {
+    let Ok(_) = codes.insert(Key { numbers }, code) else {
         declarations.pop();
         return Err(NoMemory);
     };

@@ -11,6 +11,7 @@
 mod append;
 mod declarations;
 mod declare;
+mod key;
 mod node_codes;
 mod parents;
 

@@ -13,7 +13,7 @@ mine number tag children attrs = declaring number tag children (map attr_given a
 
 -- the declaration was known
 found : (c : goal.After-row_known-1) → code_among c.self.inside.declarations (mine c.args.number c.args.tag c.args.children c.args.attrs.now) ≡ Some c.in-Some.code.now
-found c = sym (looked_up c.self.inside.codes c.self.inside.declarations _ _ c.self.invariant (c.as_slice.ensures.value ∙ c.in_ok-make_key.ensures)) ∙ sym c.in-Some.ensures.value
+found c = sym (looked_up c.self.inside.codes c.self.inside.declarations _ _ c.self.invariant c.in_ok-make_key.ensures) ∙ sym c.in-Some.ensures.value
 
 pub returns-in-Some-clause-grown : goal.returns-in-Some-clause-grown
 returns-in-Some-clause-grown c =
@@ -26,11 +26,11 @@ returns-in-Some-clause-code c = sym (among_is c.self.inside.declarations (mine c
 pub put_last-requires-clause-new : goal.put_last-requires-clause-new
 put_last-requires-clause-new c =
     let ds = c.self.inside.declarations in
-    ap (code_among ds) c.in_ok-declared.ensures ∙ sym (looked_up c.self.inside.codes ds _ _ c.self.invariant (c.as_slice.ensures.value ∙ c.in_ok-make_key.ensures)) ∙ sym c.in_default.ensures.value
+    ap (code_among ds) c.in_ok-declared.ensures ∙ sym (looked_up c.self.inside.codes ds _ _ c.self.invariant c.in_ok-make_key.ensures) ∙ sym c.in_default.ensures.value
 
 -- the declaration is new, and goes last
 new : (c : goal.In_ok-code) → code_among c.self.inside.declarations (mine c.args.number c.args.tag c.args.children c.args.attrs.now) ≡ None
-new c = sym (looked_up c.self.inside.codes c.self.inside.declarations _ _ c.self.invariant (c.as_slice.ensures.value ∙ c.in_ok-make_key.ensures)) ∙ sym c.in_default.ensures.value
+new c = sym (looked_up c.self.inside.codes c.self.inside.declarations _ _ c.self.invariant c.in_ok-make_key.ensures) ∙ sym c.in_default.ensures.value
 
 added : (c : goal.In_ok-code) → c.put_last.new.declarations ≡ c.self.inside.declarations ++ mine c.args.number c.args.tag c.args.children c.args.attrs.now ∷ []
 added c = c.in_ok-code.ensures.added ∙ ap (λ d. c.self.inside.declarations ++ d ∷ []) c.in_ok-declared.ensures
