@@ -18,8 +18,10 @@ pub(crate) struct Preparer<'a, S> {
     unit: &'a S,
     /// The number of the unit in the graph.
     number: u32,
-    /// The most nodes of a stretch.
+    /// The most nodes of the next stretch.
     most: usize,
+    /// Stretches grow up to so many nodes.
+    limit: usize,
     /// Which nodes have children.
     parents: BitRow,
     depths: List<u32>,
@@ -48,12 +50,13 @@ impl<'a, S: UnitSource> Task for Preparer<'a, S> {
     }
 }
 
-/// What prepares the nodes of a unit, so many at most in a stretch.
+/// What prepares the nodes of a unit, so many at most in the first stretch. The next ones grow up to a limit.
 pub(crate) fn preparer_of<'a, S: UnitSource>(
     alloc: Global,
     unit: &'a S,
     number: u32,
     most: usize,
+    limit: usize,
 ) -> Result<Preparer<'a, S>, NoMemory>
     requires few { length (S.unit unit.now).nodes < 2 ^ 28 }
     requires most { 0 < most }
@@ -67,6 +70,7 @@ pub(crate) fn preparer_of<'a, S: UnitSource>(
         unit,
         number,
         most,
+        limit,
         parents,
         depths,
         declared: Declared::new(alloc),
@@ -84,10 +88,23 @@ fn prepare_stretch<'a, S: UnitSource>(it: &mut Preparer<'a, S>) -> Result<(), No
     it.stretch.clear();
     let left = it.unit.len() - it.next;
     let end = it.next + left.min(it.most);
+    it.most = grown(it.most, it.limit);
     while it.next < end {
         prepare_node(it)?;
     }
     Ok(())
+}
+
+/// The most nodes of a stretch behind one of so many: twice as many, until there are as many as the limit.
+fn grown(most: usize, limit: usize) -> usize
+    requires { 0 < most }
+    ensures { 0 < result }
+{
+    if most < limit {
+        most.saturating_mul(2)
+    } else {
+        most
+    }
 }
 
 /// Prepares the next node, and puts it last in the stretch.

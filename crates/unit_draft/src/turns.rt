@@ -17,6 +17,9 @@ use unit_source::UnitSource;
 /// The most nodes of a stretch that the thread appends which prepared it: they are still in a cache near by.
 pub(crate) const NEAR: usize = 1 << 9;
 
+/// The most nodes of the first stretch that another thread appends: that thread waits for them.
+pub(crate) const FIRST: usize = 1 << 13;
+
 /// The most nodes of a stretch that another thread appends: enough work that the system gives it a processor of its own.
 pub(crate) const FAR: usize = 1 << 16;
 

@@ -15,7 +15,7 @@ use crate::entries::{Appender, end_of};
 use crate::error::DraftError;
 use crate::preparer::{Preparer, preparer_of};
 use crate::stretch::Stretch;
-use crate::turns::{FAR, NEAR, append_by_two, append_in_turn};
+use crate::turns::{FAR, FIRST, NEAR, append_by_two, append_in_turn};
 use abbrev_write::Declared;
 use ds_base::dwarf::{ADDRESS_SIZE, DW_UT_compile, DWARF_5};
 use ds_base::{List, NoMemory};
@@ -46,7 +46,7 @@ pub(crate) fn append_unit<'a, S: UnitSource>(
     ensures whole { IfOk result (IsWhole number (S.unit unit.now)) }
     ensures long { RefusesLong result (unit_len number (S.unit unit.now)) }
 {
-    let mut preparer = preparer_of(alloc, unit, number, NEAR)?;
+    let mut preparer = preparer_of(alloc, unit, number, NEAR, NEAR)?;
     let mut appender = appender_of(alloc, number, unit.version(), unit.len())?;
     append_in_turn(unit, number, &mut preparer, &mut appender)?;
     let Preparer { declared, .. } = preparer;
@@ -64,7 +64,7 @@ pub(crate) fn append_unit_by_two<'a, R: Threads + Sync, S: UnitSource + Sync>(
     ensures whole { IfOk result (IsWhole number (S.unit unit.now)) }
     ensures long { RefusesLong result (unit_len number (S.unit unit.now)) }
 {
-    let mut preparer = preparer_of(alloc, unit, number, FAR)?;
+    let mut preparer = preparer_of(alloc, unit, number, FIRST, FAR)?;
     let mut appender = appender_of(alloc, number, unit.version(), unit.len())?;
     append_by_two(rt, unit, number, &mut preparer, &mut appender)?;
     let Preparer { declared, .. } = preparer;
