@@ -9,6 +9,7 @@ pub mod Keeping
 pub mod Keys
 pub mod Numbers
 pub mod Places
+pub mod Standing
 pub mod Turns
 pub mod Uniting
 pub mod Uses

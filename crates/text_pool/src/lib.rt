@@ -22,4 +22,6 @@ pub use error::TextError;
 pub use joining::Joined;
 pub use names::{Names, texts_by_first_use_in_each_part_are_those_of_all};
 pub use naming::Naming;
-pub use sharing::{join_texts, join_texts_by, joined_texts_are_each_once};
+pub use sharing::{
+    join_texts, join_texts_by, joined_texts_are_each_once, joined_texts_stand_at_their_places,
+};

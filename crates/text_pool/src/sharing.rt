@@ -1,10 +1,11 @@
 //! Texts joined in the caller's thread alone, or by several.
 
-ghost use Rattle.std.specs.Prelude.{◌≡◌, ℕ, ◌-◌, ◌^◌, ◌<◌, ◌≤◌, [], Err, IfOk, List, fold, length, map, Ok, Some, slice_get, slice_index_or};
+ghost use Rattle.std.specs.Prelude.{◌≡◌, ℕ, ◌+◌, ◌-◌, ◌^◌, ◌<◌, ◌≤◌, [], Err, IfOk, List, drop, fold, length, map, Ok, Some, slice_get, slice_index_or, take};
+ghost use Rattle.std.specs.List.{Contains};
 ghost use Rattle.std.specs.Str.{bytes_eq};
 ghost use Rattle.ds_base.specs.FirstUse.{once};
-ghost use Rattle.ds_base.specs.Texts.{section_of, with_text};
-ghost use Rattle.text_pool.specs.Joins.{all_once, joined};
+ghost use Rattle.ds_base.specs.Texts.{ended, section_of, with_text};
+ghost use Rattle.text_pool.specs.Joins.{all_once, joined, place_in};
 ghost use Rattle.text_pool.specs.Shards.{IsShard, in_shard, texts_in};
 ghost use Rattle.text_pool.specs.declared.error.TextError.TheVariants as errors;
 
@@ -75,4 +76,10 @@ fn all_made(alloc: Global, made: Vec<Result<Shard, TextError>>) -> Result<Vec<Sh
 /// The law of joined texts: those that are added in turn where they are new are each once, in the order of the first uses.
 pub fn joined_texts_are_each_once()
     ensures { (uses : List (List ℕ)) → fold with_text [] uses ≡ once bytes_eq uses }
+{}
+
+/// The law of their places: each text of each part stands at its place in the section, with a zero byte behind it.
+pub fn joined_texts_stand_at_their_places()
+    ensures { (parts : List (List (List ℕ))) (texts : List (List ℕ)) (text : List ℕ) → Contains parts texts → Contains texts text
+        → take (length text + 1) (drop (place_in (all_once parts) text) (joined parts).section) ≡ ended text }
 {}
