@@ -1,6 +1,6 @@
 //! Texts by their numbers, for a part of the output that is written before the section has its places.
 
-ghost use Rattle.std.specs.Prelude.{◌≡◌, [], ◌∷◌, ◌++◌, List as Listed, ℕ, ◌≤◌, fold, IfOk, OnOk, length, option_map, slice_get};
+ghost use Rattle.std.specs.Prelude.{◌≡◌, [], ◌∷◌, ◌++◌, List as Listed, ℕ, ◌≤◌, fold, IfOk, OnErr, OnOk, length, option_map, slice_get};
 ghost use Rattle.std.specs.List.{flat_map};
 ghost use Rattle.std.specs.Str.{bytes_eq};
 ghost use Rattle.ds_base.specs.FirstUse.{once};
@@ -35,23 +35,33 @@ impl Model for Names {
 }
 
 impl Names {
-    /// No texts, with memory for `count` of them that have so many bytes together.
-    pub(crate) fn with_capacity(
-        alloc: Global,
-        count: usize,
-        bytes: usize,
-    ) -> Result<Names, NoMemory>
-        ensures { IfOk result (λ names. names ≡ []) }
+    /// No texts. It asks the allocator for nothing.
+    pub(crate) fn new(alloc: Global) -> Names
+        ensures { result ≡ [] }
     {
-        Ok(Names {
-            bytes: Vec::with_capacity(alloc, bytes)?,
-            ends: Vec::with_capacity(alloc, count)?,
-        })
+        Names {
+            bytes: Vec::new(alloc),
+            ends: Vec::new(alloc),
+        }
     }
 
-    /// Puts a text last.
+    /// The same texts, without memory behind the last.
+    pub(crate) fn shrunk(self) -> Names
+        ensures { result ≡ self }
+    {
+        let Names {
+            mut bytes,
+            mut ends,
+        } = self;
+        bytes.shrink_to_fit();
+        ends.shrink_to_fit();
+        Names { bytes, ends }
+    }
+
+    /// Puts a text last. Where there is no memory for it, the texts stay.
     pub(crate) fn push(&mut self, text: &[u8]) -> Result<(), NoMemory>
-        ensures { OnOk result (self.new ≡ self.old ++ text.now ∷ []) }
+        ensures ok { OnOk result (self.new ≡ self.old ++ text.now ∷ []) }
+        ensures unchanged { OnErr result (self.new ≡ self.old) }
     {
         self.ends.reserve(1)?;
         self.bytes.extend_from_slice(text)?;

@@ -2,6 +2,7 @@
 
 ghost use Rattle.std.specs.Prelude.{◌≡◌, [], Some, IfOk, OnOk, slice_get};
 ghost use Rattle.ds_base.specs.Texts.{with_text};
+ghost use Rattle.text_pool.specs.Kept.{texts_of};
 
 use crate::names::Names;
 use ds_base::{NoMemory, TextKey};
@@ -9,12 +10,13 @@ use indexmap::IndexSet;
 use std::alloc::Global;
 use std::marker::Model;
 
-/// Texts in the order of their first uses, each once. It copies none of them.
+/// Texts in the order of their first uses, each once. Each is copied when it is new.
 ///
 /// A contract sees the list of the texts. The number of a text is its place in the list, from 0.
 #[derive(Drop)]
 pub struct Naming<'a> {
     texts: IndexSet<TextKey<'a>>,
+    kept: Names,
 }
 
 impl<'a> Model for Naming<'a> {
@@ -24,6 +26,10 @@ impl<'a> Model for Naming<'a> {
     ghost Value = { List (List ℕ) };
 
     ghost view = { λ a. texts_of a.texts.keys };
+
+    ghost use Rattle.std.specs.Prelude.{◌≡◌};
+
+    ghost invariant = { λ a. a.kept ≡ texts_of a.texts.keys };
 }
 
 impl<'a> Naming<'a> {
@@ -33,6 +39,7 @@ impl<'a> Naming<'a> {
     {
         Naming {
             texts: IndexSet::new(alloc),
+            kept: Names::new(alloc),
         }
     }
 
@@ -43,28 +50,37 @@ impl<'a> Naming<'a> {
         ensures grown { OnOk result (self.new ≡ with_text self.old text.now) }
         ensures number { IfOk result (λ i. slice_get self.new i ≡ Some text.now) }
     {
-        let (number, _) = self.texts.insert_full(TextKey { text })?;
+        let number = keep(&mut self.texts, &mut self.kept, text)?;
         Ok(number)
     }
 
-    /// A copy of the texts, in the order of their numbers.
-    pub fn kept(&self, alloc: Global) -> Result<Names, NoMemory>
-        ensures { IfOk result (λ names. names ≡ self.now) }
+    /// The texts, in the order of their numbers.
+    pub fn into_names(self) -> Names
+        ensures { result ≡ self.entry }
     {
-        let size = size_of_all(self.texts.as_slice());
-        let mut names = Names::with_capacity(alloc, self.texts.len(), size)?;
-        for key in self.texts.as_slice() {
-            names.push(key.text)?;
-        }
-        Ok(names)
+        let Naming { kept, .. } = self;
+        kept.shrunk()
     }
 }
 
-/// How many bytes the texts have together.
-fn size_of_all(texts: &[TextKey]) -> usize {
-    let mut size: usize = 0;
-    for key in texts {
-        size = size.saturating_add(key.text.len());
+/// Puts a text last in a table and copies it behind those that are kept, where it is new. Its number in the table.
+fn keep<'a>(
+    texts: &mut IndexSet<TextKey<'a>>,
+    kept: &mut Names,
+    text: &'a [u8],
+) -> Result<usize, NoMemory>
+    requires { kept.old ≡ texts_of texts.old.keys }
+    ensures kept { kept.new ≡ texts_of texts.new.keys }
+    ensures grown { OnOk result (texts_of texts.new.keys ≡ with_text (texts_of texts.old.keys) text.now) }
+    ensures number { IfOk result (λ i. slice_get (texts_of texts.new.keys) i ≡ Some text.now) }
+{
+    let (number, is_new) = texts.insert_full(TextKey { text })?;
+    if !is_new {
+        return Ok(number);
     }
-    size
+    let Ok(()) = kept.push(text) else {
+        texts.pop();
+        return Err(NoMemory);
+    };
+    Ok(number)
 }

@@ -36,8 +36,10 @@ pub(crate) fn lines_of<S: UnitSource>(alloc: Global, unit: &S) -> Result<Drafted
     append_lines_of(alloc, &mut table, &mut naming, unit)?;
     // The table names nothing that the unit tells, so this gives back memory alone.
     table.settle(0, &[]);
-    let names = naming.kept(alloc)?;
-    Ok(DraftedLines { table, names })
+    Ok(DraftedLines {
+        table,
+        names: naming.into_names(),
+    })
 }
 
 fn append_lines_of<'a, S: UnitSource>(

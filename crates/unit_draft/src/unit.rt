@@ -94,17 +94,15 @@ fn draft_of<S: UnitSource>(alloc: Global, unit: &S, whole: Whole) -> Result<Draf
     requires { (number : ℕ) × IsWhole number (S.unit unit.now) whole }
     ensures { (number : ℕ) → IsWhole number (S.unit unit.now) whole.entry → IfOk result (IsDraft number (S.unit unit.now)) }
 {
-    let names = whole.drafting.names.kept(alloc)?;
     let lines = lines_of(alloc, unit)?;
     let table = abbreviations_of(alloc, &whole.declared)?;
     let code = copy_of(alloc, unit.ranges())?;
-    Ok(settled_draft(whole, names, unit.version(), lines, table, code))
+    Ok(settled_draft(whole, unit.version(), lines, table, code))
 }
 
-/// The draft of a whole unit with these texts, whose own places are filled in.
+/// The draft of a whole unit, whose own places are filled in.
 fn settled_draft(
     whole: Whole,
-    names: Names,
     version: u16,
     lines: DraftedLines,
     table: Bytes,
@@ -112,7 +110,6 @@ fn settled_draft(
 ) -> Draft
     requires small { All (λ place. place < 2 ^ 28) whole.places }
     requires short { whole.len < 2 ^ 28 }
-    requires names { names ≡ whole.drafting.names }
     ensures settled { Settles whole.entry result }
     ensures version { result.version ≡ version }
     ensures lines { result.lines ≡ lines.table }
@@ -129,6 +126,7 @@ fn settled_draft(
     let mut info = drafting.info;
     info.settle(len, places.as_slice());
     let locations = settled_bytes(drafting.locations, len, places.as_slice());
+    let names = drafting.names.into_names();
     Draft {
         info,
         version,

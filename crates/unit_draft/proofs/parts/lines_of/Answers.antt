@@ -20,10 +20,10 @@ returns g c =
     record {
       table = λ f text tells.
           let g : Filling = settled f 0 [] in
-          c.settle.ensures.is f ∙ table.bytes g text (subst (λ (names : List (List ℕ)). TellsTexts names g text) c.in_ok-names.ensures tells) ∙ ap (λ (front : List ℕ). front ++ lines_bytes text unit) (c.new-table.ensures g);
+          c.settle.ensures.is f ∙ table.bytes g text (subst (λ (names : List (List ℕ)). TellsTexts names g text) c.into_names.ensures tells) ∙ ap (λ (front : List ℕ). front ++ lines_bytes text unit) (c.new-table.ensures g);
       size = λ f.
           let g : Filling = settled f 0 [] in
           ap length (c.settle.ensures.is f) ∙ behind_none (filled c.new-table.result g) (lines_len unit) (length (filled c.append_lines_of.new.out g)) (c.new-table.ensures g) (c.in_ok-append_lines_of.ensures.size g);
       settled = c.settle.ensures.none;
-      names = c.in_ok-names.ensures ∙ table.names ∙ ap (λ (names : List (List ℕ)). fold with_text names (line_texts_of_unit unit)) c.new-naming.ensures ∙ once-append [] (line_texts_of_unit unit);
+      names = c.into_names.ensures ∙ table.names ∙ ap (λ (names : List (List ℕ)). fold with_text names (line_texts_of_unit unit)) c.new-naming.ensures ∙ once-append [] (line_texts_of_unit unit);
     }

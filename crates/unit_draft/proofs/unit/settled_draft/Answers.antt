@@ -12,7 +12,7 @@ returns-clause-settled c =
       own = c.settle.ensures.none;
       locations = (lists.0, lists.1 ∙ ap (λ (ps : List ℕ). filled whole.drafting.locations (settled lists.0 whole.len ps)) c.as_slice-2.ensures);
       ranges = refl;
-      names = c.requires.names;
+      names = c.into_names-names.ensures;
       places = refl;
       len = refl;
     }

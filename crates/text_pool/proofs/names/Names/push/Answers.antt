@@ -21,7 +21,7 @@ pub invariant_of-self-2 : goal.invariant_of-self-2
 invariant_of-self-2 c =
     grown_ends c.self.inside.ends.items c.reserve.new.self.items _ c.self.inside.bytes.items c.args.text.now _ _ c.self.invariant c.reserve.ensures.items c.push_reserved.ensures.items (ap length c.as_slice.ensures.value) c.in_ok-extend_from_slice.ensures.items
 
-pub returns : goal.returns
-returns c =
+pub returns-clause-ok : goal.returns-clause-ok
+returns-clause-ok c =
     grown_texts c.self.inside.ends.items c.reserve.new.self.items _ c.self.inside.bytes.items c.args.text.now _ _ c.self.invariant c.reserve.ensures.items c.push_reserved.ensures.items (ap length c.as_slice.ensures.value) c.in_ok-extend_from_slice.ensures.items
     ∙ ap (λ (texts : List (List ℕ)). texts ++ c.args.text.now ∷ []) c.self.view_is
