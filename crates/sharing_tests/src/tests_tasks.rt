@@ -10,7 +10,7 @@ use std::sync::atomic::AtomicBool;
 use std::sync::atomic::Ordering::SeqCst;
 use std::test::Fail;
 use std::thread::Threads;
-use work_share::{Job, each, tasks};
+use work_share::{Job, each, each_in_order, tasks};
 
 /// The number that stands at an item's place.
 #[derive(Drop)]
@@ -74,6 +74,23 @@ fn gives_all<R: Threads + Abort + Sync, G: Gate + Sync>(
     }
 }
 
+/// Three workers give each number at its place, in whatever order the items are begun.
+fn gives_all_in_order<R: Threads + Abort + Sync>(
+    rt: &R,
+    alloc: Global,
+    order: &[u32],
+    numbers: &[u32],
+)
+    requires { length numbers.now < 100 }
+{
+    let job = NumberAt { numbers };
+    let gate = OpenGate::new();
+    match each_in_order(rt, alloc, 3, numbers.len() as u32, order, 0, &gate, &job) {
+        Ok(outs) => assert_eq!(rt; outs.as_slice(), numbers),
+        Err(_) => panic!(rt; "no memory"),
+    }
+}
+
 #[test]
 fn one_seat_draws_each_number_and_then_none(rt: HostRuntime) -> Result<(), Fail> {
     let (counter, mut seat) = tasks(rt.alloc(), 2)?;
@@ -109,6 +126,15 @@ fn results_stand_in_the_order_of_the_items(rt: HostRuntime) {
     gives_all(&rt, alloc, 1, &numbers, &OpenGate::new());
     gives_all(&rt, alloc, 3, &numbers, &OpenGate::new());
     gives_all(&rt, alloc, 64, &numbers, &OpenGate::new());
+}
+
+#[test]
+fn an_order_is_a_hint(rt: HostRuntime) {
+    let alloc = rt.alloc();
+    let numbers = [7, 1, 9];
+    gives_all_in_order(&rt, alloc, &[2, 1, 0], &numbers);
+    gives_all_in_order(&rt, alloc, &[1, 3, 1, 1, 9], &numbers);
+    gives_all_in_order(&rt, alloc, &[], &numbers);
 }
 
 #[test]

@@ -1,4 +1,5 @@
 pub mod Totals
 pub mod Rules
 pub mod Places
+pub mod Ordering
 pub mod Working

@@ -16,19 +16,19 @@ use Rattle.work_share.specs.Worked.{items_of, InPlaces, InOrder}
 use Rattle.work_share.proofs.Totals.{times-append, times_other}
 
 module _ {A : Type 0} where
-  get_set_same : (xs : List A) (i : ℕ) (a : A) → i < length xs → slice_get (set xs i a) i ≡ Some a
+  pub get_set_same : (xs : List A) (i : ℕ) (a : A) → i < length xs → slice_get (set xs i a) i ≡ Some a
   get_set_same [] i a lt = absurd (omega arith)
   get_set_same (x ∷ xs) zero a lt = refl
   get_set_same (x ∷ xs) (suc i) a lt = get_set_same xs i a (omega arith)
 
-  get_set_other : (xs : List A) (i j : ℕ) (a : A) → j ≢ i → slice_get (set xs i a) j ≡ slice_get xs j
+  pub get_set_other : (xs : List A) (i j : ℕ) (a : A) → j ≢ i → slice_get (set xs i a) j ≡ slice_get xs j
   get_set_other [] i j a ne = refl
   get_set_other (x ∷ xs) zero zero a ne = absurd (ne refl)
   get_set_other (x ∷ xs) zero (suc j) a ne = refl
   get_set_other (x ∷ xs) (suc i) zero a ne = refl
   get_set_other (x ∷ xs) (suc i) (suc j) a ne = get_set_other xs i j a (λ e. ne (ap suc e))
 
-  get_seam : (xs ys : List A) (a : A) → slice_get (xs ++ a ∷ ys) (length xs) ≡ Some a
+  pub get_seam : (xs ys : List A) (a : A) → slice_get (xs ++ a ∷ ys) (length xs) ≡ Some a
   get_seam [] ys a = refl
   get_seam (x ∷ xs) ys a = get_seam xs ys a
 
@@ -36,7 +36,7 @@ module _ {A : Type 0} where
   none_left taken [] e = append-nil taken
   none_left taken (x ∷ xs) e = absurd (omega arith)
 
-  none_there : (n k : ℕ) (a : A) → slice_get (replicate n None) k ≡ Some (Some a) → ⊥
+  pub none_there : (n k : ℕ) (a : A) → slice_get (replicate n None) k ≡ Some (Some a) → ⊥
   none_there zero k a e = absurd (cc)
   none_there (suc n) zero a e = absurd (cc)
   none_there (suc n) (suc k) a e = none_there n k a e

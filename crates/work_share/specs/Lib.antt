@@ -5,4 +5,5 @@ pub mod Steps
 pub mod Seats
 pub mod Results
 pub mod Worked
+pub mod Ordered
 pub mod Shares

@@ -39,7 +39,7 @@ fn in_places<O: Drop>(
     Ok(slots)
 }
 
-fn places<O: Drop>(alloc: Global, count: u32) -> Result<Vec<Option<O>>, NoMemory>
+pub(crate) fn places<O: Drop>(alloc: Global, count: u32) -> Result<Vec<Option<O>>, NoMemory>
     ensures { IfOk result (λ slots. slots.items ≡ replicate count None) }
 {
     let mut slots = Vec::with_capacity(alloc, count as usize)?;
