@@ -1,7 +1,7 @@
 //! The objects of a program linked to its bundle, and how a link ends.
 //!
 //! Layer: top. [`link_objects`] goes over the objects in passes: it reads each and marks its live entries (`reading`,
-//! `objects`, `files`), has their names made and bid for and gives the output its shape (`graph`, `shaping`), makes each
+//! `objects`, `files`, `sizes`), has their names made and bid for and gives the output its shape (`graph`, `shaping`), makes each
 //! unit and drafts its bytes (`drafting`, `batches`), gives the drafts their places and writes the image (`image`), and
 //! counts (`counts`). [`link_files`] does the same with files that go; where nothing is merged, it drafts the units of
 //! each batch of objects before it reads the next (`unmerged`, `specs/Unmerged.antt`). Several threads share the objects,
@@ -24,6 +24,7 @@ mod reading;
 mod refusal;
 mod results;
 mod shaping;
+mod sizes;
 mod status;
 mod unmerged;
 

@@ -10,6 +10,7 @@ use crate::files::{FilesLeft, batch_end, drop_files};
 use crate::objects::{ReadObject, members_of, read_object};
 use crate::refusal::Refusal;
 use crate::results::in_turn;
+use crate::sizes::large_first;
 use ar_read::Members;
 use ds_base::{BitRow, Bytes, List, NoMemory};
 use ds_files::{Gate, OpenGate};
@@ -17,7 +18,7 @@ use dwarf_types::Analysis;
 use stab_map::MapObject;
 use std::alloc::Global;
 use std::thread::Threads;
-use work_share::{Job, each};
+use work_share::{Job, each_in_order};
 
 /// The number of the phase in which objects are read.
 const ANALYSE: u32 = 0;
@@ -179,7 +180,7 @@ pub(crate) fn read_next<R: Threads + Sync, G: Gate + Sync>(
     Ok(ReadBatch { end, outs })
 }
 
-/// What is read of the objects from one up to another.
+/// What is read of the objects from one up to another, of which large ones are begun first.
 fn read_batch<R: Threads + Sync, G: Gate + Sync>(
     rt: &R,
     alloc: Global,
@@ -212,7 +213,17 @@ fn read_batch<R: Threads + Sync, G: Gate + Sync>(
         gate,
     };
     let open = OpenGate::new();
-    let outs = each(rt, alloc, workers, end - first, ANALYSE, &open, &job)?;
+    let order = large_first(alloc, files, source, first, end)?;
+    let outs = each_in_order(
+        rt,
+        alloc,
+        workers,
+        end - first,
+        order.as_slice(),
+        ANALYSE,
+        &open,
+        &job,
+    )?;
     in_turn(alloc, outs)
 }
 
