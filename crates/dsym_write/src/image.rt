@@ -1,6 +1,6 @@
 //! The image file.
 
-ghost use Rattle.std.specs.Prelude.{◌≡◌, ◌+◌, ◌-◌, ◌<◌, ◌≤◌, ◌^◌, Ok, length, replicate};
+ghost use Rattle.std.specs.Prelude.{◌≡◌, ◌+◌, ◌-◌, ◌<◌, ◌≤◌, ◌^◌, IfOk, Ok, length, replicate};
 ghost use Rattle.ds_base.specs.Room.{Adds};
 ghost use Rattle.dwarf_types.specs.declared.graph.Graph.{Graph};
 ghost use Rattle.dwarf_types.specs.Encode.{encode};
@@ -12,22 +12,21 @@ ghost use Rattle.dsym_write.specs.Pieces.{ArePlaces};
 use crate::commands::emit_front;
 use crate::error::WriteError;
 use crate::places::{Places, places_of};
-use ds_base::Bytes;
+use ds_base::{Bytes, NoMemory};
 use layout::Layout;
 use macho_read::Image;
 use section_write::emit_sections_by;
-use std::alloc::Global;
 use std::thread::Threads;
 
 /// The dSYM image of a program: the commands and the symbols of the program, and the sections of a graph that was
 /// measured (mach-o/loader.h).
 ///
 /// The file keeps the program's UUID, its segments and sections without their bytes, and the symbols that are not
-/// stabs. A file of 2^32 bytes or more is not made, and its size is told. Memory is taken once, for the file. The
-/// sections are written by at most `workers` threads.
-pub fn image_from<R: Threads + Sync>(
+/// stabs. A file of 2^32 bytes or more is not made, and its size is told. The file takes the place of `room`, whatever that
+/// holds, and memory is asked for once, for what `room` has not. The sections are written by at most `workers` threads.
+pub fn image_in<R: Threads + Sync>(
     rt: &R,
-    alloc: Global,
+    room: Vec<u8>,
     workers: u32,
     program: &Image,
     layout: &Layout,
@@ -41,9 +40,18 @@ pub fn image_from<R: Threads + Sync>(
     if places.size > u64::from(u32::MAX) {
         return Err(WriteError::File { size: places.size });
     }
-    let mut file = Bytes::zeros(alloc, places.size as usize)?;
+    let mut file = room_of(room, places.size as usize)?;
     write_image(rt, workers, program, layout, places, file.as_mut_slice());
-    Ok(file)
+    Ok(Bytes::from_vec(file))
+}
+
+/// A room of so many bytes in the place of another one.
+fn room_of(room: Vec<u8>, size: usize) -> Result<Vec<u8>, NoMemory>
+    ensures { IfOk result (λ room. length room.items ≡ size) }
+{
+    let mut room = room;
+    room.resize(size, 0)?;
+    Ok(room)
 }
 
 /// Writes the file into a room of its size.

@@ -1,6 +1,6 @@
 //! The two files of a bundle: the dSYM image and Info.plist.
 //!
-//! Layer: writers. [`image_from`] measures the parts of the image, takes its memory once, and fills it from the front:
+//! Layer: writers. [`image_in`] measures the parts of the image, takes a room for it once, and fills it from the front:
 //! header, commands, symbols, strings, and the sections of the graph in a page of their own (mach-o/loader.h,
 //! mach-o/nlist.h). What it writes is `image_file` of the program and the graph (`specs/Bundle.antt`); a file of 2^32
 //! bytes or more is refused. [`plist_text`] is the text of Info.plist (`specs/Plist.antt`).
@@ -20,5 +20,5 @@ mod symbols;
 
 pub use dwarf::{WRITTEN_PARTS, section_name};
 pub use error::WriteError;
-pub use image::image_from;
+pub use image::image_in;
 pub use plist::plist_text;

@@ -10,9 +10,10 @@ ghost use Rattle.macho_read.specs.Sound.{IsSound};
 use crate::bundle::{Counted, Counts, Linked};
 use crate::counts::count_nodes;
 use crate::refusal::{LimitKind, Refusal};
+use crate::room::{let_go, start_room, started_room};
 use ds_base::limits::{IMAGE_BYTES, SECTION_BYTES, UNIT_BYTES};
 use ds_base::{Bytes, List};
-use dsym_write::{WriteError, image_from, plist_text};
+use dsym_write::{WriteError, image_in, plist_text};
 use dwarf_types::OutFrames;
 use layout::{Layout, LayoutError, place_drafts_by};
 use macho_read::Image;
@@ -59,7 +60,8 @@ pub(crate) fn bundle_of<R: Threads + Sync>(
     })
 }
 
-/// The image of a program and of the graph of these drafts and frames, or the first limit that is reached.
+/// The image of a program and of the graph of these drafts and frames, or the first limit that is reached. Where several
+/// threads work, one of them takes memory for the image while the others place the drafts, and one lets these go.
 fn image_of<R: Threads + Sync>(
     rt: &R,
     alloc: Global,
@@ -74,8 +76,12 @@ fn image_of<R: Threads + Sync>(
     requires drafted { AreOfGraph drafts frames.now }
     ensures { (graph : AGraph) → AreDrafts graph drafts → graph.frames ≡ frames.now → Images program.now graph result }
 {
-    let layout = layout_of(rt, alloc, workers, drafts, frames)?;
-    let image = write_image(rt, alloc, workers, program, &layout)?;
+    let rooming = start_room(rt, alloc, workers, drafts.as_slice());
+    let placed = layout_of(rt, alloc, workers, drafts, frames);
+    let room = started_room(rt, alloc, rooming);
+    let layout = placed?;
+    let image = write_image(rt, room, workers, program, &layout)?;
+    let_go(rt, workers, layout);
     Ok(image)
 }
 
@@ -106,10 +112,10 @@ fn layout_of<R: Threads + Sync>(
     }
 }
 
-/// The image of a program and of a layout.
+/// The image of a program and of a layout, in the place of a room.
 fn write_image<R: Threads + Sync>(
     rt: &R,
-    alloc: Global,
+    room: Vec<u8>,
     workers: u32,
     program: &Image,
     layout: &Layout,
@@ -119,7 +125,7 @@ fn write_image<R: Threads + Sync>(
     requires measured { IsMeasured layout.now }
     ensures { (graph : AGraph) → Measures graph (Ok layout.now) → length graph.units < 2 ^ 32 - 1 → Images program.now graph result }
 {
-    match image_from(rt, alloc, workers, program, layout) {
+    match image_in(rt, room, workers, program, layout) {
         Ok(image) => Ok(image),
         Err(WriteError::File { .. }) => Err(Refusal::Limit {
             which: LimitKind::File,

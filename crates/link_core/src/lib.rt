@@ -2,8 +2,8 @@
 //!
 //! Layer: top. [`link_objects`] goes over the objects in passes: it reads each and marks its live entries (`reading`,
 //! `objects`, `files`, `sizes`), has their names made and bid for and gives the output its shape (`graph`, `shaping`), makes each
-//! unit and drafts its bytes (`drafting`, `batches`), gives the drafts their places and writes the image (`image`), and
-//! counts (`counts`). [`link_files`] does the same with files that go; where nothing is merged, it drafts the units of
+//! unit and drafts its bytes (`drafting`, `batches`), gives the drafts their places and writes the image (`image`, `room`),
+//! and counts (`counts`). [`link_files`] does the same with files that go; where nothing is merged, it drafts the units of
 //! each batch of objects before it reads the next (`unmerged`, `specs/Unmerged.antt`). Several threads share the objects,
 //! their names and shapes, and then the units, by `work_share` and `name_bids`. What it answers is `specs/Linked.antt`,
 //! which knows of no threads; what the passes answer, each to the next, `specs/Passes.antt`.
@@ -23,6 +23,7 @@ mod objects;
 mod reading;
 mod refusal;
 mod results;
+mod room;
 mod shaping;
 mod sizes;
 mod status;

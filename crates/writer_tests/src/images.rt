@@ -10,7 +10,7 @@ use ds_base::dwarf::{
 };
 use ds_base::macho::{CPU_TYPE_ARM64, MH_EXECUTE, N_EXT, N_FUN, N_OSO, N_SECT};
 use ds_base::{Bytes, List};
-use dsym_write::{image_from, plist_text};
+use dsym_write::{image_in, plist_text};
 use dwarf_types::{
     ExprPart, FileNames, Graph, Node, OutAttr, OutFrames, OutLines, OutLocation, OutUnit, OutValue,
     Paths, Sequences, Span,
@@ -98,7 +98,7 @@ fn image_of<R: Threads + Abort + Sync>(
 {
     assert!(rt; graph.units.len() <= 2);
     let layout = measure(alloc, graph).expect(rt, "a layout");
-    image_from(rt, alloc, 4, program, &layout).expect(rt, "an image")
+    image_in(rt, Vec::new(alloc), 4, program, &layout).expect(rt, "an image")
 }
 
 // An image begins with some bytes, and has zeros behind them up to 4096.

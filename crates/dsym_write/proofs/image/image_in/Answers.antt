@@ -2,7 +2,7 @@ use Rattle.std.proofs.Common.{sym, subst, arith}
 use Rattle.dwarf_types.specs.Encode.{encode}
 use Rattle.dsym_write.proofs.TheFile.{file_length}
 use Rattle.dsym_write.proofs.Told.{AreTold, graph_told}
-use Rattle.dsym_write.proofs.image.image_from.Goals as goal
+use Rattle.dsym_write.proofs.image.image_in.Goals as goal
 
 pub returns-then-places-from : goal.returns-then-places-from
 returns-then-places-from g c = λ graph measured.
