@@ -185,6 +185,14 @@ DraftsUnit graph u (Err refusals.NoMemory) = Unit {0}
 abbrev pub DraftsBy : List Analysis → Shape → ℕ → Result Draft Refusal → Type 0
 DraftsBy left shape u out = (all : List Analysis) → IsShape all shape → AreThere shape u all left → DraftsUnit (graph_in all shape) u out
 
+-- the units from one up to another may be drafted by the analyses that are left
+abbrev pub MayDraftFrom : List Analysis → Shape → ℕ → ℕ → Type 0
+MayDraftFrom left shape first end = (u : ℕ) → first ≤ u → u < end → MayDraft left shape u
+
+-- the drafts of these units, each or that it is too long
+abbrev pub DraftsFrom : List Analysis → Shape → ℕ → ℕ → List (Result Draft Refusal) → Type 0
+DraftsFrom left shape first end outs = GivesAll (λ k out. DraftsBy left shape (first + k) out) (end - first) outs
+
 -- So many units of a shape are drafted, and the analyses that the others need are left.
 pub record AreDrafting (seen : List Analysis) (shape : Shape) (it : Drafts) : Type 0 where
   pub within : length it.outs.items ≤ length shape.units

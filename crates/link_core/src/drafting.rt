@@ -9,7 +9,7 @@ ghost use Rattle.dwarf_types.specs.declared.analysis.Analysis.{Analysis as Seen}
 ghost use Rattle.dwarf_types.specs.declared.shape.Shape.{Shape as Shaping};
 ghost use Rattle.link_graph.specs.Graph.{graph_in};
 ghost use Rattle.unit_draft.specs.Drafted.{Drafts as GivesDraft};
-ghost use Rattle.link_core.specs.Passes.{AreDrafting, DraftsBy, DraftsUnit, DraftsUnits, MayDraft, MayDraftAll};
+ghost use Rattle.link_core.specs.Passes.{AreDrafting, DraftsBy, DraftsFrom, DraftsUnit, DraftsUnits, MayDraft, MayDraftAll, MayDraftFrom};
 
 use crate::batches::{batch_end, drop_analyses, first_needed};
 use crate::refusal::{LimitKind, Refusal};
@@ -162,8 +162,8 @@ fn batch<R: Threads + Sync, G: Gate + Sync>(
 ) -> Result<Vec<Result<Draft, Refusal>>, NoMemory>
     requires workers { (1 ≤ workers) × (workers ≤ 64) }
     requires order { first ≤ end }
-    requires may { (u : ℕ) → first ≤ u → u < end → MayDraft left.now shape.now u }
-    ensures { IfOk result (λ outs. GivesAll (λ k out. DraftsBy left.now shape.now (first + k) out) (end - first) outs.items) }
+    requires may { MayDraftFrom left.now shape.now first end }
+    ensures { IfOk result (λ outs. DraftsFrom left.now shape.now first end outs.items) }
 {
     if first < end && workers >= WORKERS_FOR_TWO && outweighs(shape, first, end, workers) {
         return first_by_two(rt, alloc, workers, gate, left, shape, first, end);
@@ -205,8 +205,8 @@ fn first_by_two<R: Threads + Sync, G: Gate + Sync>(
 ) -> Result<Vec<Result<Draft, Refusal>>, NoMemory>
     requires workers { (4 ≤ workers) × (workers ≤ 64) }
     requires order { first < end }
-    requires may { (u : ℕ) → first ≤ u → u < end → MayDraft left.now shape.now u }
-    ensures { IfOk result (λ outs. GivesAll (λ k out. DraftsBy left.now shape.now (first + k) out) (end - first) outs.items) }
+    requires may { MayDraftFrom left.now shape.now first end }
+    ensures { IfOk result (λ outs. DraftsFrom left.now shape.now first end outs.items) }
 {
     let second = first + 1;
     let beside = workers - 2;
@@ -217,8 +217,8 @@ fn first_by_two<R: Threads + Sync, G: Gate + Sync>(
             ensures { DraftsBy left.entry.now shape.entry.now first result }
         { draft_by_two(rt, alloc, left, shape, first, gate) },
         || -> Result<Vec<Result<Draft, Refusal>>, NoMemory>
-            requires { IsSync R.row × IsSync G.row × (1 ≤ beside) × (beside ≤ 64) × (second ≤ end) × ((u : ℕ) → second ≤ u → u < end → MayDraft left.now shape.now u) }
-            ensures { IfOk result (λ outs. GivesAll (λ k out. DraftsBy left.entry.now shape.entry.now (second + k) out) (end - second) outs.items) }
+            requires { IsSync R.row × IsSync G.row × (1 ≤ beside) × (beside ≤ 64) × (second ≤ end) × MayDraftFrom left.now shape.now second end }
+            ensures { IfOk result (λ outs. DraftsFrom left.entry.now shape.entry.now second end outs.items) }
         { each_by_one(rt, alloc, beside, gate, left, shape, second, end) },
     );
     let mut outs = Vec::new(alloc);
@@ -240,8 +240,8 @@ fn each_by_one<R: Threads + Sync, G: Gate + Sync>(
 ) -> Result<Vec<Result<Draft, Refusal>>, NoMemory>
     requires workers { (1 ≤ workers) × (workers ≤ 64) }
     requires order { first ≤ end }
-    requires may { (u : ℕ) → first ≤ u → u < end → MayDraft left.now shape.now u }
-    ensures { IfOk result (λ outs. GivesAll (λ k out. DraftsBy left.now shape.now (first + k) out) (end - first) outs.items) }
+    requires may { MayDraftFrom left.now shape.now first end }
+    ensures { IfOk result (λ outs. DraftsFrom left.now shape.now first end outs.items) }
 {
     let job = Drafting {
         alloc,
