@@ -37,7 +37,7 @@ pub(crate) fn bid_names<R: Threads + Sync, G: Gate + Sync>(
     let workers = workers.min(objects.max(1));
     let bidder = Bidder { names, gate };
     let (seat, turn) = bid_by(rt, &pool, seat, &work, turn, workers, &bidder);
-    Ok(closed(alloc, pool, seat, names, &turn))
+    Ok(closed(pool, seat, names, &turn))
 }
 
 /// What a worker does with its seats.
@@ -140,20 +140,14 @@ fn bid_alone<G: Gate>(
 }
 
 /// The table closed by the seat that has every share, once no task is left.
-fn closed(
-    alloc: Global,
-    pool: Pool,
-    seat: PoolSeat,
-    names: &PathBook,
-    turn: &TaskSeat,
-) -> ClosedPool
+fn closed(pool: Pool, seat: PoolSeat, names: &PathBook, turn: &TaskSeat) -> ClosedPool
     requires ended { HasEnded names.now pool seat turn.now }
     ensures table { IsTable names.now result.state }
     ensures book { result.names ≡ length names.now }
 {
     turn.fairness();
     bids_are_some(names);
-    match pool.close(alloc, seat) {
+    match pool.close(seat) {
         Ok(closed) => closed,
         Err(_) => unreachable!(),
     }

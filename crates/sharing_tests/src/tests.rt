@@ -78,7 +78,7 @@ fn least_is_4(rt: &impl Abort, alloc: Global, numbers: [u64; 3]) {
     is_bid(rt, &pool, &mut third, &book, 0, 0, numbers[2]);
     pool.join(&mut second, third);
     pool.join(&mut first, second);
-    match pool.close(alloc, first) {
+    match pool.close(first) {
         Ok(closed) => assert_eq!(rt; find(&closed, &book, 0), Some(Found { cell: 0, least: 4 })),
         Err(_) => panic!(rt; "memory"),
     }
@@ -140,7 +140,7 @@ fn equal_names_of_two_seats_have_one_cell(rt: HostRuntime) {
     is_bid(&rt, &pool, &mut second, &book, 1, 63, 3);
     is_placed(&rt, &pool, &mut first, &book, 2, Placing::Cell(0));
     pool.join(&mut first, second);
-    match pool.close(alloc, first) {
+    match pool.close(first) {
         Ok(closed) => {
             assert_eq!(&rt; find(&closed, &book, 0), Some(Found { cell: 63, least: 3 }));
             assert_eq!(&rt; find(&closed, &book, 1), Some(Found { cell: 63, least: 3 }));

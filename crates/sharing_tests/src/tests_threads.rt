@@ -147,7 +147,7 @@ fn four_threads_leave_the_plain_minimum(rt: HostRuntime) {
     let book = thousand_names(&rt, alloc);
     let (pool, seat) = pool(alloc, CELLS, NAMES).expect(&rt, "memory");
     let seat = bid_four_times(&rt, &pool, seat, &book);
-    match pool.close(alloc, seat) {
+    match pool.close(seat) {
         Ok(closed) => has_plain_minimums(&rt, &closed, &book),
         Err(_) => panic!(&rt; "memory"),
     }

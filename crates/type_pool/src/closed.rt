@@ -64,7 +64,7 @@ impl Pool {
 
     /// Closes the table, by the seat that has every share. It asks for no memory: the words go into those that the pool
     /// was made of.
-    pub fn close(self, _alloc: Global, seat: PoolSeat) -> Result<ClosedPool, (Pool, PoolSeat)>
+    pub fn close(self, seat: PoolSeat) -> Result<ClosedPool, (Pool, PoolSeat)>
         requires belongs { Belongs self seat }
         requires whole { (known seat).share ≡ 64 }
         ensures closed { IfOk result (λ closed. Closes self.cells (known seat) closed.state × (closed.names ≡ self.names)) }
