@@ -5,7 +5,8 @@
 //! (`specs/Counter.antt`), so what holds of any seat at any time is `IsFair` (`specs/Fair.antt`): no number is drawn
 //! twice, and a seat with all shares that has come to its end drew all of them. [`each`] runs a [`Job`] for the items of a
 //! phase by such a counter, and gives the results in the order of the items (`specs/Results.antt`). Who has finished a
-//! small item goes on with the next one, whatever the others do.
+//! small item goes on with the next one, whatever the others do. [`each_in_order`] does the same by an order in which items
+//! are begun, which is a hint.
 //!
 //! Which thread draws which number, and when, is not said.
 #![tactic(auto)]
