@@ -1,7 +1,8 @@
 -- A text ends at the first zero byte from its place on.
-use Rattle.std.proofs.Common.{◌≡◌, ℕ, zero, suc, ◌+◌, ◌<◌, ◌≤◌, ◌==◌, not, cond, Bool, true, false, List, [], ◌∷◌, drop, length, get_or, slice_get, nat_le, nat_lt, Ok, Err, if◌then◌else◌, Some, None, refl, ap, subst, sym, arith, ◌∙◌, inl, inr}
+use Rattle.std.proofs.Common.{◌≡◌, ℕ, zero, suc, ◌+◌, ◌-◌, ◌<◌, ◌≤◌, ◌==◌, not, cond, Bool, true, false, List, [], ◌∷◌, drop, length, get_or, slice_get, nat_le, nat_lt, Ok, Err, if◌then◌else◌, Some, None, refl, ap, subst, sym, arith, ◌∙◌, inl, inr}
 use Rattle.std.specs.List.Sorted.{IsPartitionedBy, IsPartitionPoint}
 use Rattle.std.proofs.lemmas.Bool.{cases_Bool, eq-eqb, eqb-true, ne_eqb, lt-leb, lt-ltb, ltb-true, le-ltb}
+use Rattle.std.proofs.lemmas.List.{get_or_default}
 use Rattle.std.proofs.lemmas.List.Folds.{find_at}
 use Rattle.std.proofs.lemmas.List.Sums.{position_or_len_is}
 use Rattle.macho_read.specs.Fields.{before_zero, text_len}
@@ -124,3 +125,21 @@ pub name_is : (strings : List ℕ) (index place : ℕ) (whole : Bool) → (place
     → name_in strings index place ≡ (if whole then Err (bad_symbols index) else Ok (before_zero (drop place strings)))
 unfolding name_in
 name_is strings index place whole some within is = name_by (place == 0) (nat_le (length strings) place) whole (drop place strings) index (ne_eqb place 0 some) (lt-leb (length strings) place within) is
+
+-- ---- the first place that is not before another
+
+module _ (zs : List ℕ) (t i : ℕ) (cut : IsPartitionedBy (λ z. nat_lt z t) zs) (lt : i < length zs) where
+  -- those before the one before it are before it too
+  below : (j : ℕ) → suc j ≡ i → nat_lt (get_or zs j 0) t ≡ true → (k d : ℕ) → 0 ≤ k → k < i → nat_lt (get_or zs k d) t ≡ true
+  below j is before k d from within =
+      let there : j < length zs = omega (arith, is, lt) in
+      cut k j d (omega (arith, is, within)) there (ap (λ (z : ℕ). nat_lt z t) (get_or_default zs j d 0 there) ∙ before)
+
+  pub all_below : ((j : ℕ) → suc j ≡ i → nat_lt (get_or zs j 0) t ≡ true) → (k d : ℕ) → 0 ≤ k → k < i → nat_lt (get_or zs k d) t ≡ true
+  all_below before k d from within = below (i - 1) (omega (arith, within)) (before (i - 1) (omega (arith, within))) k d from within
+
+  pub none_behind : t ≤ get_or zs i 0 → (k d : ℕ) → i ≤ k → k < length zs → nat_lt (get_or zs k d) t ≡ false
+  none_behind le k d from within = elim (cases_Bool (nat_lt (get_or zs k d) t)) [
+    | inl early ↦ absurd (let here = ltb-true (get_or zs i 0) t (ap (λ (z : ℕ). nat_lt z t) (get_or_default zs i 0 d lt) ∙ cut i k d from within early) in omega (arith, le, here))
+    | inr late ↦ late
+  ]

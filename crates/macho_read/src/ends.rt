@@ -20,16 +20,45 @@ pub(crate) fn zeros_in(alloc: Global, strings: &[u8]) -> Result<Vec<u32>, NoMemo
     Ok(zeros)
 }
 
-/// The first zero byte that is not before a place, by the places of all of them.
-pub(crate) fn zero_from(zeros: &[u32], place: u32) -> Option<u32>
+/// The first zero byte that is not before a place, by the places of all of them. `near` tells which it may be, and then which
+/// the next one may be: names mostly stand in the order of their symbols.
+pub(crate) fn zero_from(zeros: &[u32], near: &mut usize, place: u32) -> Option<u32>
     requires { IsPartitionedBy (λ z. nat_lt z place) zeros.now }
     ensures { result ≡ first_from zeros.now place }
 {
-    let i = count_before(zeros, place);
+    let i = first_index(zeros, *near, place);
     if i == zeros.len() {
         return None;
     }
+    *near = i + 1;
     Some(zeros[i])
+}
+
+/// How many of the places, which rise, are before another: as many as `near`, or they are searched.
+fn first_index(zeros: &[u32], near: usize, place: u32) -> usize
+    requires { IsPartitionedBy (λ z. nat_lt z place) zeros.now }
+    ensures within { result ≤ length zeros.now }
+    ensures before { IsPartitionPoint (λ z. nat_lt z place ≡ true) (λ z. nat_lt z place ≡ false) zeros.now result }
+{
+    if is_first(zeros, near, place) {
+        return near;
+    }
+    count_before(zeros, place)
+}
+
+/// Whether a place, one of those that rise, is the first that is not before another.
+fn is_first(zeros: &[u32], i: usize, place: u32) -> bool
+    requires { IsPartitionedBy (λ z. nat_lt z place) zeros.now }
+    ensures within { result ≡ true → i < length zeros.now }
+    ensures before { result ≡ true → IsPartitionPoint (λ z. nat_lt z place ≡ true) (λ z. nat_lt z place ≡ false) zeros.now i }
+{
+    if i >= zeros.len() {
+        return false;
+    }
+    if zeros[i] < place {
+        return false;
+    }
+    i == 0 || zeros[i - 1] < place
 }
 
 /// How many of the places, which rise, are before another.

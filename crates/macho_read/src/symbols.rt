@@ -80,25 +80,32 @@ fn read_rows(
     ensures within { IfOk result (λ rows. All (IsWithin strings.now) rows.items) }
 {
     let mut rows = Vec::with_capacity(alloc, count as usize)?;
+    let mut near = 0;
     for i in 0..count {
         let entry = bytes_from(table, NLIST_64_SIZE as usize * i as usize);
-        let row = read_row(entry, strings, zeros, i)?;
+        let row = read_row(entry, strings, zeros, &mut near, i)?;
         rows.push(row)?;
     }
     Ok(rows)
 }
 
 /// The row of the symbol of this index, whose entry the bytes begin with. `zeros` are the places of the strings'
-/// zero bytes.
+/// zero bytes, and `near` tells which may end its name.
 #[tactic(auto, unfolding(crate::specs::Symbols::symbol_of))]
-fn read_row(entry: &[u8], strings: &[u8], zeros: &[u32], index: u32) -> Result<Row, Fault>
+fn read_row(
+    entry: &[u8],
+    strings: &[u8],
+    zeros: &[u32],
+    near: &mut usize,
+    index: u32,
+) -> Result<Row, Fault>
     requires all { 16 ≤ length entry.now }
     requires zeros { zeros.now ≡ zeros_from 0 strings.now }
     ensures read { Finds (λ row. symbol_of_row strings.now row) result (symbol_of strings.now index entry.now) }
     ensures within { IfOk result (IsWithin strings.now) }
 {
     let strx = u32_at(entry, 0);
-    let len = name_len(strings, zeros, strx, index)?;
+    let len = name_len(strings, zeros, near, strx, index)?;
     Ok(Row {
         value: u64_at(entry, 8),
         place: strx as usize,
@@ -110,9 +117,15 @@ fn read_row(entry: &[u8], strings: &[u8], zeros: &[u32], index: u32) -> Result<R
 }
 
 /// How many bytes the name at an offset in the strings has; at 0 it is empty. `zeros` are the places of the
-/// strings' zero bytes, `index` is the symbol's.
+/// strings' zero bytes, `near` tells which may end it, `index` is the symbol's.
 #[tactic(auto, unfolding(crate::specs::Symbols::name_in))]
-fn name_len(strings: &[u8], zeros: &[u32], strx: u32, index: u32) -> Result<u32, Fault>
+fn name_len(
+    strings: &[u8],
+    zeros: &[u32],
+    near: &mut usize,
+    strx: u32,
+    index: u32,
+) -> Result<u32, Fault>
     requires { zeros.now ≡ zeros_from 0 strings.now }
     ensures read { Finds (λ len. take len (drop strx strings.now)) result (name_in strings.now index strx) }
     ensures within { IfOk result (λ len. strx + len ≤ length strings.now) }
@@ -123,7 +136,7 @@ fn name_len(strings: &[u8], zeros: &[u32], strx: u32, index: u32) -> Result<u32,
     if strx as usize >= strings.len() {
         return Err(bad_symbols(index));
     }
-    match zero_from(zeros, strx) {
+    match zero_from(zeros, near, strx) {
         Some(end) => Ok(end - strx),
         None => Err(bad_symbols(index)),
     }
