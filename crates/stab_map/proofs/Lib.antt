@@ -1,4 +1,5 @@
 pub mod AddressLemmas
+pub mod Agreeing
 pub mod Names
 pub mod Origins
 pub mod Refused

@@ -11,9 +11,11 @@ use Rattle.stab_map.specs.declared.object.MapObject.{MapObject}
 use Rattle.stab_map.specs.declared.stab.Stab.{Stab}
 use Rattle.stab_map.specs.declared.stab.Stab.TheVariants as stabs
 use Rattle.stab_map.specs.declared.pass.State.TheVariants as states
+use Rattle.stab_map.specs.Addresses.{is_asked}
 use Rattle.stab_map.specs.Stab.{stab_of, is_used, is_bound, size_in}
 use Rattle.stab_map.specs.DebugMap.{map_fault, gather, variable, function, size_after, entry_by, entry_at, stretch, object_of, object_by, object_at}
 use Rattle.stab_map.specs.Pass.{map_inside, map_from, opened}
+use Rattle.stab_map.proofs.Agreeing.{same_objects}
 
 -- ---- gathering what items give
 
@@ -192,6 +194,6 @@ module _ (address : List ℕ → Option ℕ) where
 -- ---- the whole pass
 
 -- the pass begins outside of objects, with none that has ended
-pub begins : (address table : List ℕ → Option ℕ) (objects : List MapObject) (symbols all : List Symbol) → table ≡ address → objects ≡ [] → symbols ≡ all
+pub begins : (address table : List ℕ → Option ℕ) (objects : List MapObject) (symbols all : List Symbol) → ((name : List ℕ) → is_asked all name ≡ true → table name ≡ address name) → objects ≡ [] → symbols ≡ all
     → map_from table objects states.Outside 0 symbols ≡ gather (object_at address) 0 all
-begins address table objects symbols all same none is = rw (same, none, is) (bind_self (gather (object_at address) 0 all))
+begins address table objects symbols all agree none is = rw (none, is) (bind_self (gather (object_at table) 0 all)) ∙ same_objects table address all agree

@@ -33,3 +33,8 @@ is_bound _ = false
 abbrev pub size_in : Stab → ℕ → Option ℕ
 size_in stabs.Size value = Some value
 size_in _ value = None
+
+-- it asks for the address of its name
+abbrev pub asks : Stab → Bool
+asks stabs.Global = true
+asks _ = false

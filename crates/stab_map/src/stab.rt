@@ -2,7 +2,7 @@
 
 ghost use Rattle.std.specs.Prelude.{◌≡◌};
 ghost use Rattle.macho_read.specs.Seen.{symbol_seen};
-ghost use Rattle.stab_map.specs.Stab.{stab_of};
+ghost use Rattle.stab_map.specs.Stab.{asks, stab_of};
 
 use ds_base::macho::{N_FUN, N_GSYM, N_LCSYM, N_OSO, N_SO, N_STSYM};
 use macho_read::SymbolRef;
@@ -45,4 +45,11 @@ pub(crate) fn read_stab(symbol: SymbolRef<'_>) -> Stab
         N_STSYM | N_LCSYM | N_GSYM => Stab::Silent,
         _ => Stab::Other,
     }
+}
+
+/// Whether a symbol is a stab that asks for the address of its name: N_GSYM with a name.
+pub(crate) fn asks(symbol: SymbolRef<'_>) -> bool
+    ensures { result ≡ asks (stab_of (symbol_seen symbol.entry)) }
+{
+    matches!(read_stab(symbol), Stab::Global)
 }

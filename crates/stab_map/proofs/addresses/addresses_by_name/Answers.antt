@@ -1,16 +1,8 @@
-use Rattle.std.proofs.Common.{◌∙◌, List, ap, arith, drop, sym}
-use Rattle.ds_base.proofs.TextKeys.{text_updates}
-use Rattle.macho_read.specs.declared.image.Symbol.{Symbol}
-use Rattle.macho_read.specs.Seen.{symbol_seen}
-use Rattle.stab_map.specs.Addresses.{address_among}
-use Rattle.stab_map.proofs.AddressLemmas.{address_put, from_here}
+use Rattle.std.proofs.Common.{sym, true≢false, ◌∙◌}
+use Rattle.stab_map.proofs.AddressLemmas.{none_named}
 use Rattle.stab_map.proofs.addresses.addresses_by_name.Goals as goal
-use Rattle.std.proofs.Common.{refl}
 
-pub loop-i-preserved-in_ok-insert : goal.loop-i-preserved-in_ok-insert
-loop-i-preserved-in_ok-insert c name =
-    let symbols = c.args.image.now.symbols in
-    let here = from_here symbols c.loop-i.i (symbol_seen c.symbol-symbol.result) (omega arith) (omega (arith, c.loop-i.auto.i, c.len-i.ensures)) c.symbol-symbol.ensures.item in
-    address_put c.args.image.now (symbol_seen c.symbol-symbol.result) (drop c.loop-i.i symbols) name _ _ _ (sym c.is_defined.ensures ∙ c.if-is_defined.true) refl
-    (text_updates c.symbol-symbol.result.name.now c.loop-i.addresses c.insert.new.self _ c.in_ok-insert.ensures.updates name) (c.loop-i.invariant name)
-    ∙ ap (λ (ss : List Symbol). address_among c.args.image.now ss name) here
+pub returns-then-is_empty : goal.returns-then-is_empty
+returns-then-is_empty c name asked =
+    let none = none_named c.in_ok-names.names (c.is_empty.ensures.0 c.if-is_empty.true) name in
+    absurd (true≢false (sym (sym none ∙ c.in_ok-names.ensures name ∙ asked)))
