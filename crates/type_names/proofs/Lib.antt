@@ -12,4 +12,6 @@ pub mod Cleaning
 pub mod HeadTests
 pub mod TextRows
 pub mod Pooling
+mod Fields
+mod Orders
 mod Parentheses

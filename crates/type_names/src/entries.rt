@@ -1,8 +1,9 @@
 //! What an entry says of itself that naming asks for.
 
-ghost use Rattle.std.specs.Prelude.{◌≡◌, ◌==◌, false, Some, None, length, if◌then◌else◌};
+ghost use Rattle.std.specs.Prelude.{◌≡◌, ◌<◌, ◌==◌, false, Some, None, length, slice_get, if◌then◌else◌};
 ghost use Rattle.std.specs.List.{list_any};
 ghost use Rattle.std.specs.Option.{option_and_then, option_map, option_map_or};
+ghost use Rattle.dwarf_types.specs.declared.entry.Attr.{Attr as AnAttr};
 ghost use Rattle.dwarf_types.specs.Moves.{value_of};
 ghost use Rattle.dwarf_types.specs.Seen.{inner_seen, op_seen, value_seen};
 ghost use Rattle.type_names.specs.Entries.{is_declaration, is_set, has_field, holds, inner_is_tied, is_field, is_made_up, is_named_type, is_template_parameter, is_tied, is_type, linkage_of, name_of, op_is_tied, own_name, text_in};
@@ -153,11 +154,22 @@ pub(crate) fn has_field(entry: &EntryRef) -> bool
     ensures { result ≡ has_field entry.now }
 {
     for j in 0..entry.len() {
-        if is_field(&entry.attr(j).value) {
+        if is_field_at(entry, j) {
             return true;
         }
     }
     false
+}
+
+/// Whether the value of the attribute at a place is a field. A text or a number is none, and is not looked at.
+fn is_field_at(entry: &EntryRef, j: usize) -> bool
+    requires { j < length entry.now.attrs }
+    ensures { (a : AnAttr) → slice_get entry.now.attrs j ≡ Some a → result ≡ is_field a.value }
+{
+    if entry.is_plain(j) {
+        return false;
+    }
+    is_field(&entry.attr(j).value)
 }
 
 /// Whether a value is an address, a section offset, or an expression with an address field or a base type operand.

@@ -1,10 +1,10 @@
 //! Heads: the types that are merged with those of the same name in other objects.
 
-ghost use Rattle.std.specs.Prelude.{◌≡◌, ◌≤◌, ◌<◌, ◌^◌, ◌&&◌, ◌||◌, not, true, false, length, slice_get, Some, is_some, IfOk};
+ghost use Rattle.std.specs.Prelude.{◌≡◌, ◌≤◌, ◌<◌, ◌^◌, ◌&&◌, ◌||◌, not, true, false, length, slice_get, Some, is_some, IfOk, codes};
 ghost use Rattle.type_names.specs.Spell.{made_by};
 ghost use Rattle.std.specs.List.{list_all};
 ghost use Rattle.std.specs.Option.{ForSome, option_map_or};
-ghost use Rattle.type_names.specs.Entries.{name_of};
+ghost use Rattle.type_names.specs.Entries.{holds, is_named_type, is_type, name_of};
 ghost use Rattle.type_names.specs.HeadRows.{AreRows, HasParametersTo, is_open_at, is_tied_at, template_of};
 ghost use Rattle.type_names.specs.Heads.{has_one_definition, has_template_parameter, is_clean, is_common, is_derived, is_derived_at_top, is_derived_attribute, is_in_named_head, is_named_head, is_open_namespace, is_plain_derived, is_reached, takes_part, tells};
 ghost use Rattle.type_names.specs.Objects.{object_of};
@@ -177,10 +177,29 @@ fn is_named_head(seen: &Analysis, live: &BitRow, rows: &HeadRows, k: u32) -> boo
     ensures { result ≡ is_named_head (object_of seen.now live.now) k }
 {
     let entry = seen.entries.entry(k as usize);
-    takes_part(seen, live, k, &entry)
-        && is_type(entry.tag())
-        && is_told(seen, live, rows, k, &entry)
-        && is_reached(seen, rows, k, &entry)
+    if may_be_named_head(seen, live, rows, k, &entry) {
+        return is_told(seen, live, rows, k, &entry);
+    }
+    false
+}
+
+/// Whether an entry is a named head where it can be told by its name. That is seen without its name.
+fn may_be_named_head(
+    seen: &Analysis,
+    live: &BitRow,
+    rows: &HeadRows,
+    k: u32,
+    entry: &EntryRef,
+) -> bool
+    requires stands { slice_get seen.now.entries k ≡ Some entry.now }
+    requires live { length live.now ≡ length seen.now.entries }
+    requires parents { ParentsStandBefore seen.now.entries }
+    requires rows { AreRows seen.now.entries rows.now }
+    ensures { result ≡ (is_type entry.now.tag && (takes_part (object_of seen.now live.now) k entry.now && (is_reached seen.now.entries k entry.now && is_clean (object_of seen.now live.now) k))) }
+{
+    is_type(entry.tag())
+        && takes_part(seen, live, k, entry)
+        && is_reached(seen, rows, k, entry)
         && is_clean(seen, live, rows, k)
 }
 
@@ -234,7 +253,19 @@ fn tells(seen: &Analysis, live: &BitRow, rows: &HeadRows, k: u32, name: &[u8]) -
     requires rows { AreRows seen.now.entries rows.now }
     ensures { result ≡ tells (object_of seen.now live.now) k name.now }
 {
-    !is_made_up(name) && (holds(b"<", name) || !has_template_parameter(&seen.entries, rows, k))
+    !is_made_up(name) && has_its_arguments(seen, rows, k, name)
+}
+
+/// Whether a type is no template, or its name has arguments.
+fn has_its_arguments(seen: &Analysis, rows: &HeadRows, k: u32, name: &[u8]) -> bool
+    requires place { k < length seen.now.entries }
+    requires rows { AreRows seen.now.entries rows.now }
+    ensures { result ≡ (holds (codes "<") name.now || not (has_template_parameter seen.now.entries k)) }
+{
+    if has_template_parameter(&seen.entries, rows, k) {
+        return holds(b"<", name);
+    }
+    true
 }
 
 /// Whether a child of an entry is a parameter of a template.
@@ -287,8 +318,19 @@ fn is_common(seen: &Analysis, live: &BitRow, in_named: &BitRow, k: u32) -> bool
     let entry = seen.entries.entry(k as usize);
     entry.tag() == DW_TAG_base_type
         || entry.tag() == DW_TAG_unspecified_type
-        || (is_named_type(&entry) && in_named.get(k))
+        || is_named_inside(in_named, k, &entry)
         || is_plain_derived(&seen.entries, &entry)
+}
+
+/// Whether an entry is marked, and is a type with a name.
+fn is_named_inside(in_named: &BitRow, k: u32, entry: &EntryRef) -> bool
+    requires { k < length in_named.now }
+    ensures { result ≡ (is_named_type entry.now && is_marked in_named.now k) }
+{
+    if in_named.get(k) {
+        return is_named_type(entry);
+    }
+    false
 }
 
 /// Whether an entry is a derived type below its unit of which nothing else is told.

@@ -126,6 +126,7 @@ fn spell_derived_all(
     rows: &HeadRows,
     types: &Types,
 ) -> Result<TextTable, NoMemory>
+    requires few { length seen.now.entries ≤ 2 ^ 24 }
     requires live { length live.now ≡ length seen.now.entries }
     requires parents { ParentsStandBefore seen.now.entries }
     requires rows { AreRows seen.now.entries rows.now }
@@ -348,6 +349,7 @@ fn spell_pieces(
     derived: &TextTable,
     types: &Types,
 ) -> Result<TextTable, NoMemory>
+    requires few { length seen.now.entries ≤ 2 ^ 24 }
     requires in_heads { IsRow (is_in_head (object_of seen.now live.now)) (length seen.now.entries) in_heads.now }
     requires derived { AreTexts derived.now (derived_name (object_of seen.now live.now)) (length seen.now.entries) }
     requires types { AreTypes types.now }

@@ -1,49 +1,46 @@
 //! Texts of entries, held one behind the other.
 
-ghost use Rattle.std.specs.Prelude.{◌≡◌, ◌<◌, [], ◌∷◌, ◌++◌, length, slice_index_or, Some, None, IfOk, OnOk, if◌then◌else◌};
-ghost use Rattle.std.specs.Option.{ForSome, option_map};
-ghost use Rattle.type_names.specs.TextTable.{IsInside, text_of};
+ghost use Rattle.std.specs.Prelude.{◌≡◌, ◌≤◌, ◌<◌, ◌^◌, [], ◌∷◌, ◌++◌, length, slice_index_or, Some, None, IfOk, OnOk, if◌then◌else◌};
+ghost use Rattle.std.specs.Option.{option_map};
+ghost use Rattle.type_names.specs.TextTable.{AreEnds, begin_of, text_numbered};
 
 use ds_base::NoMemory;
 use std::alloc::Global;
 use std::marker::Model;
 
-/// Where a text stands among the bytes.
-#[derive(Clone, Copy)]
-pub struct Stretch {
-    from: usize,
-    /// The first byte behind it.
-    to: usize,
-}
-
 /// Texts, each of which may be missing, which contracts see as the list of them.
+///
+/// Most entries have none, so an entry takes four bytes, and only a text takes more.
 #[derive(Drop)]
 pub struct TextTable {
     bytes: Vec<u8>,
-    places: Vec<Option<Stretch>>,
+    /// Of each text that is there, where it ends among the bytes. It begins where the one before ends.
+    ends: Vec<usize>,
+    /// Of each entry, which of these texts it has, counted from 1; 0 where it has none.
+    numbers: Vec<u32>,
 }
 
 impl Model for TextTable {
     ghost use Rattle.std.specs.Prelude.{List, Option, map};
-    ghost use Rattle.std.specs.Option.{option_map};
     ghost use Rattle.type_names.specs.Entries.{Text};
-    ghost use Rattle.type_names.specs.TextTable.{AreInside, text_of};
+    ghost use Rattle.type_names.specs.TextTable.{AreHeld, text_numbered};
 
     ghost Value = { List (Option Text) };
 
-    ghost view = { λ t. map (option_map (text_of t.bytes.items)) t.places.items };
+    ghost view = { λ t. map (text_numbered t.bytes.items t.ends.items) t.numbers.items };
 
-    ghost invariant = { λ t. AreInside t.bytes.items t.places.items };
+    ghost invariant = { λ t. AreHeld t.bytes.items t.ends.items t.numbers.items };
 }
 
 impl TextTable {
-    /// No texts, and room for the places of so many.
+    /// No texts, and room for those of so many entries where most have none.
     pub(crate) fn with_capacity(alloc: Global, count: usize) -> Result<TextTable, NoMemory>
         ensures { IfOk result (λ texts. texts ≡ []) }
     {
         Ok(TextTable {
             bytes: Vec::new(alloc),
-            places: Vec::with_capacity(alloc, count)?,
+            ends: Vec::new(alloc),
+            numbers: Vec::with_capacity(alloc, count)?,
         })
     }
 
@@ -52,32 +49,46 @@ impl TextTable {
         requires { k < length self.now }
         ensures { option_map (λ text. text.now) result ≡ slice_index_or self.now k None }
     {
-        text_in(&self.bytes, self.places[k as usize])
+        text_numbered(&self.bytes, &self.ends, self.numbers[k as usize])
     }
 
     /// One text more, or one that is missing.
     pub(crate) fn push(&mut self, text: &[u8], there: bool) -> Result<(), NoMemory>
+        requires few { length self.old < 2 ^ 24 }
         ensures { OnOk result (self.new ≡ self.old ++ (if there then Some text.now else None) ∷ []) }
     {
         if !there {
-            self.places.push(None)?;
+            self.numbers.push(0)?;
             return Ok(());
         }
-        let from = self.bytes.len();
+        // Room first: nothing fails behind the bytes, so all three grow or none.
+        self.ends.reserve(1)?;
+        self.numbers.reserve(1)?;
         self.bytes.extend_from_slice(text)?;
-        let to = self.bytes.len();
-        self.places.push(Some(Stretch { from, to }))?;
+        self.ends.push_reserved(self.bytes.len());
+        self.numbers.push_reserved(self.ends.len() as u32);
         Ok(())
     }
 }
 
-/// The text of a stretch, where there is one.
-fn text_in(bytes: &[u8], place: Option<Stretch>) -> Option<&[u8]>
-    requires { ForSome place (IsInside (length bytes.now)) }
-    ensures { option_map (λ text. text.now) result ≡ option_map (text_of bytes.now) place }
+/// The text of a number that is counted from 1; 0 is that of none.
+fn text_numbered<'a>(bytes: &'a [u8], ends: &[usize], number: u32) -> Option<&'a [u8]>
+    requires ends { AreEnds (length bytes.now) ends.now }
+    requires number { number ≤ length ends.now }
+    ensures { option_map (λ text. text.now) result ≡ text_numbered bytes.now ends.now number }
 {
-    match place {
-        Some(s) => Some(&bytes[s.from..s.to]),
-        None => None,
+    if number == 0 {
+        return None;
     }
+    let i = number as usize - 1;
+    let from = begin_of(ends, i);
+    Some(&bytes[from..ends[i]])
+}
+
+/// Where a text begins.
+fn begin_of(ends: &[usize], i: usize) -> usize
+    requires { i ≤ length ends.now }
+    ensures { result ≡ begin_of ends.now i }
+{
+    if i == 0 { 0 } else { ends[i - 1] }
 }
