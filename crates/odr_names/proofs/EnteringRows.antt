@@ -1,6 +1,6 @@
 -- Rows entered one after the other.
 use Rattle.std.proofs.Common.{suc, zero, ◌≡◌, inl, inr, ℕ, ◌+◌, ◌-◌, ◌<◌, ◌≤◌, ◌^◌, Bool, true, false, List, [], ◌∷◌, ◌++◌, length, map, take, Option, Some, None, slice_get, get_or, refl, sym, ap, ◌∙◌, arith, subst, append_assoc, append-nil, length-append, ◌*◌}
-use Rattle.std.specs.Prelude.{if◌then◌else◌}
+use Rattle.std.specs.Prelude.{IfSome, if◌then◌else◌}
 use Rattle.std.specs.List.{cons_option, enumerate_from, filter_map}
 use Rattle.std.specs.Option.{ForSome, option_and_then, option_map, option_map_or}
 use Rattle.std.proofs.lemmas.Bool.{both_ways, cases_eq, cases_lt}
@@ -223,14 +223,12 @@ bounded_above o numbers m k bounded x is = go (parent_of (entries_of o) k) is wh
   go None is = absurd (none-some x is)
   go (Some p) is = bounded p x is
 
--- the same, where the numbers are handed on as a slice
-pub entering_given : (n : ℕ) (o : Object) (before old new : List Row) (given numbers : List (Option ℕ)) (k : ℕ) (e : Entry) (number : Option ℕ) → ParentsStandBefore (entries_of o) → AreLiveParents o → 1 ≤ n → n < 2 ^ 16 → k < 2 ^ 24 → slice_get (entries_of o) k ≡ Some e → given ≡ numbers
-    → (length new < 2 ^ 25) × IsEntered (is_pooled o k) (new_row n o k e old (option_and_then (λ (p : ℕ). get_or given p None) (parent_of (entries_of o) k))) old new number
-    → IsEntering n o before old numbers k → IsEntering n o before new (numbers ++ number ∷ []) (k + 1)
-entering_given n o before old new given numbers k e number stand live counted small few at same step so_far =
-    entering n o before old new numbers k e number stand live counted small few at step.0
-    (subst (λ (xs : List (Option ℕ)). IsEntered (is_pooled o k) (new_row n o k e old (option_and_then (λ (p : ℕ). get_or xs p None) (parent_of (entries_of o) k))) old new number) same step.1)
-    so_far.len so_far
+-- a row that is entered has a small number
+pub number_small : (pooled : Bool) (row : Row) (old new : List Row) (number : Option ℕ) → length new < 2 ^ 25 → IsEntered pooled row old new number → IfSome number (λ x. x < 2 ^ 25)
+number_small true row old new number few is = (
+    let grown : length new ≡ length old + 1 = ap length is.1 ∙ length_push old row in
+    subst (λ (x : Option ℕ). IfSome x (λ x. x < 2 ^ 25)) (sym is.0) (omega (arith, grown, few)))
+number_small false row old new number few is = subst (λ (x : Option ℕ). IfSome x (λ x. x < 2 ^ 25)) (sym is.0) tt
 
 -- ---- the limit
 

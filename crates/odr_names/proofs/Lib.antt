@@ -10,3 +10,4 @@ pub mod EnteringRows
 pub mod MakingBooks
 pub mod JoinedRows
 pub mod Stretches
+pub mod HeldNumbers

@@ -1,5 +1,5 @@
 -- The pooled entries of an object, entered into the book.
-use Rattle.std.specs.Prelude.{◌≡◌, ℕ, ◌+◌, ◌-◌, ◌^◌, ◌<◌, ◌≤◌, Bool, true, false, List, [], ◌∷◌, ◌++◌, length, map, take, slice_get, slice_index_or, Option, Some, None, Result, Ok, Err, if◌then◌else◌}
+use Rattle.std.specs.Prelude.{◌≡◌, ℕ, ◌+◌, ◌-◌, ◌^◌, ◌<◌, ◌≤◌, ◌==◌, Bool, true, false, List, [], ◌∷◌, ◌++◌, length, map, take, slice_get, slice_index_or, Option, Some, None, Result, Ok, Err, if◌then◌else◌}
 use Rattle.std.specs.List.{enumerate_from, filter_map}
 use Rattle.std.specs.Option.{option_map_or}
 use Rattle.dwarf_types.specs.declared.entry.Entry.{Entry}
@@ -75,3 +75,7 @@ pub record IsEntering (n : ℕ) (o : Object) (before rows : List Row) (numbers :
   pub count : length rows ≡ length before + length (names_to n o k)
   pub bounded : (j x : ℕ) → slice_index_or numbers j None ≡ Some x → x < length rows
   pub state : (objects : List Object) → slice_get objects (n - 1) ≡ Some o → AreRows objects before → IsEnteredTo objects n o before rows numbers k
+
+-- the number of a row of which this is held: one more than it, or 0 for none
+abbrev pub number_held : ℕ → Option ℕ
+number_held n = if n == 0 then None else Some (n - 1)

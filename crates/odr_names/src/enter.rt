@@ -20,6 +20,7 @@ use crate::hash::hash_piece;
 use crate::ordinals::ordinal_at;
 use crate::path_book::Row;
 use crate::piece::{PieceRef, parts_at};
+use crate::row_numbers::RowNumbers;
 use ds_base::BitRow;
 use dwarf_types::Analysis;
 use std::alloc::Global;
@@ -35,7 +36,7 @@ pub(crate) fn enter_entry(
     names: &TypeNames,
     object: u32,
     counts: &[u32],
-    numbers: &[Option<u32>],
+    numbers: &RowNumbers,
     rows: &mut Vec<Row>,
     k: u32,
 ) -> Result<Option<u32>, BookError>
@@ -65,15 +66,10 @@ pub(crate) fn enter_entry(
 }
 
 /// The number of the parent's row, if it has one.
-fn number_of(numbers: &[Option<u32>], parent: Option<u32>) -> Option<u32>
+fn number_of(numbers: &RowNumbers, parent: Option<u32>) -> Option<u32>
     ensures { result ≡ option_and_then (λ p. slice_index_or numbers.now p None) parent }
 {
-    let parent = parent? as usize;
-    if parent < numbers.len() {
-        numbers[parent]
-    } else {
-        None
-    }
+    numbers.get(parent?)
 }
 
 /// The row of a pooled entry below another row, or at the top.
@@ -160,7 +156,7 @@ pub(crate) fn enter_entries(
         → OnOk result (AreEntered objects object (object_of seen.now live.now) rows.old.items rows.new.items) }
     ensures pooled { result ≡ Err errors.Pooled → 2 ^ 25 ≤ length rows.old.items + length (names_in object (object_of seen.now live.now)) }
 {
-    let mut numbers = Vec::with_capacity(alloc, seen.entries.len())?;
+    let mut numbers = RowNumbers::with_capacity(alloc, seen.entries.len())?;
     for i in 0..seen.entries.len() {
         let number = enter_entry(seen, live, names, object, counts, &numbers, rows, i as u32)?;
         numbers.push(number)?;

@@ -24,7 +24,7 @@ const FOURTH: u64 = SQUARE.wrapping_mul(SQUARE);
 pub(crate) fn hash_piece(hash: u64, piece: &PieceRef) -> u64
     ensures { result ≡ hash_from hash (piece_bytes (piece_seen piece.now)) }
 {
-    let hash = hash_bytes(hash, &piece.parts.tag.to_le_bytes());
+    let hash = hash_each(hash, &piece.parts.tag.to_le_bytes());
     let hash = hash_text(hash, piece.parts.name);
     let hash = hash_text(hash, piece.parts.linkage);
     let hash = hash_text(hash, piece.parts.spelled);
@@ -37,8 +37,8 @@ fn hash_text(hash: u64, text: Option<&[u8]>) -> u64
     ensures { result ≡ hash_from hash (text_bytes (option_map (λ text. text.now) text.entry)) }
 {
     match text {
-        Some(text) => hash_bytes(hash_bytes(hash, text), &[0]),
-        None => hash_bytes(hash, &[0]),
+        Some(text) => hash_each(hash_bytes(hash, text), &[0]),
+        None => hash_each(hash, &[0]),
     }
 }
 

@@ -15,11 +15,13 @@ mod enter;
 mod entry_place;
 mod hash;
 mod joining;
+mod marks;
 mod name_book;
 mod one_object;
 mod ordinals;
 mod path_book;
 mod piece;
+mod row_numbers;
 mod together;
 mod winners;
 

@@ -10,6 +10,7 @@ ghost use Rattle.type_names.specs.Objects.{object_of};
 
 use crate::book_error::BookError;
 use crate::enter::enter_entries;
+use crate::marks::count_marked;
 use crate::ordinals::twins_of;
 use crate::path_book::Row;
 use ds_base::BitRow;
@@ -42,7 +43,7 @@ pub fn object_names(
 {
     let names = type_names(alloc, seen, live)?;
     let counts = twins_of(alloc, seen, live, &names, object)?;
-    let mut rows = Vec::new(alloc);
+    let mut rows = Vec::with_capacity(alloc, count_marked(&names.pooled, seen.entries.len()))?;
     enter_entries(alloc, seen, live, &names, object, &counts, &mut rows)?;
     Ok(ObjectNames { names, rows })
 }

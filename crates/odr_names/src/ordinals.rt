@@ -15,6 +15,7 @@ ghost use Rattle.type_names.specs.Pooled.{AreNames};
 ghost use Rattle.type_names.specs.Tree.{ParentsStandBefore, parent_of};
 
 use crate::hash::hash_piece;
+use crate::marks::count_marked;
 use crate::piece::{PartsRef, PieceRef, parts_at, parts_equal};
 use crate::winners::{Ranked, sort_ranks};
 use ds_base::dwarf::{DW_TAG_namespace, DW_TAG_subprogram};
@@ -60,7 +61,8 @@ fn siblings_of(
     requires names { AreNames (object_of seen.now live.now) names.now }
     ensures { IfOk result (λ ranks. AreSiblings object (object_of seen.now live.now) ranks.items (length seen.now.entries)) }
 {
-    let mut ranks = Vec::new(alloc);
+    let most = count_marked(&names.in_heads, seen.entries.len());
+    let mut ranks = Vec::with_capacity(alloc, most)?;
     for i in 0..seen.entries.len() {
         let k = i as u32;
         if let Some(parent) = parent_inside(&seen.entries, names, k) {

@@ -332,7 +332,7 @@ fn piece_of<'b>(objects: &'b Objects, row: Row) -> PieceRef<'b>
         seen_at(objects, i),
         live_at(objects, i),
         names_at(objects, i),
-        row.object as u32,
+        u32::from(row.object),
         row.entry,
     );
     PieceRef {

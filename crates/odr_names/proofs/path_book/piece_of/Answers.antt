@@ -1,8 +1,9 @@
-use Rattle.std.proofs.Common.{◌≡◌, ◌∙◌, ◌-◌, ◌<◌, Some, ap, arith, sym, subst, slice_get, length}
+use Rattle.std.proofs.Common.{◌≡◌, ◌∙◌, ◌-◌, ◌<◌, ℕ, Some, ap, arith, sym, subst, slice_get, length}
 use Rattle.std.specs.Option.{option_and_then, option_map}
 use Rattle.std.proofs.lemmas.Option.{slice_get_within}
 use Rattle.dwarf_types.specs.declared.entry.Entry.{Entry}
 use Rattle.type_names.specs.Heads.{Object, entries_of}
+use Rattle.type_names.specs.Objects.{object_of}
 use Rattle.type_names.specs.Paths.{ordinal_of, parts_of, piece_of}
 use Rattle.odr_names.specs.Pieces.{IsSpelled, parts_seen}
 use Rattle.odr_names.proofs.ObjectLists.{is_object, seen_within}
@@ -38,7 +39,8 @@ returns c =
     let e = c.requires.row.entry in
     let is = is_object c.args.objects.now (n - 1) o c.seen_at.result.now c.live_at.result.now c.requires.row.its_object c.seen_at.ensures c.live_at.ensures in
     let parts : parts_seen c.parts_at-parts.result ≡ parts_of n o k e =
-    c.parts_at-parts.ensures e (subst (λ (o : Object). slice_get (entries_of o) k ≡ Some e) is c.requires.row.stands) ∙ ap (λ (o : Object). parts_of n o k e) (sym is) in
+    c.parts_at-parts.ensures e (subst (λ (o : Object). slice_get (entries_of o) k ≡ Some e) is c.requires.row.stands)
+    ∙ ap (λ (m : ℕ). parts_of m (object_of c.seen_at.result.now c.live_at.result.now) k e) c.from.ensures ∙ ap (λ (o : Object). parts_of n o k e) (sym is) in
     let ordinal = c.requires.row.ordinal in
     ap (option_and_then (λ (o : Object). piece_of n o k)) c.requires.row.its_object
     ∙ ap (option_map (λ (e : Entry). record { parts = parts_of n o k e; ordinal = ordinal_of n o k e })) c.requires.row.stands
