@@ -14,10 +14,10 @@ use Rattle.name_bids.specs.Bids.{HasBid, IsNotedAt, IsNotedCrowded, first_cell}
 
 module _ (names : List Named) (cells : ℕ) where
   -- what notes show, more notes show
-  noted_on : (old new : List (ℕ × ℕ)) (x cell : ℕ) → ((c n : ℕ) → Has old c n → Has new c n) → IsNotedAt names cells old x cell → IsNotedAt names cells new x cell
+  pub noted_on : (old new : List (ℕ × ℕ)) (x cell : ℕ) → ((c n : ℕ) → Has old c n → Has new c n) → IsNotedAt names cells old x cell → IsNotedAt names cells new x cell
   noted_on old new x cell more at = stands_on (SamePath names) (Has old) (Has new) (first_cell names x cells) cells x cell more at
 
-  crowded_on : (old new : List (ℕ × ℕ)) (x : ℕ) → ((c n : ℕ) → Has old c n → Has new c n) → IsNotedCrowded names cells old x → IsNotedCrowded names cells new x
+  pub crowded_on : (old new : List (ℕ × ℕ)) (x : ℕ) → ((c n : ℕ) → Has old c n → Has new c n) → IsNotedCrowded names cells old x → IsNotedCrowded names cells new x
   crowded_on old new x more crowded = others_on (SamePath names) (Has old) (Has new) (first_cell names x cells) cells x probes more crowded
 
   -- nothing was done

@@ -4,4 +4,4 @@ pub mod Tables
 pub mod Workers
 pub mod Reading
 pub mod MadeNames
-pub mod FoundCells
+pub mod NotedCells

@@ -1,7 +1,7 @@
 pub mod Bids
+pub mod Noting
 pub mod Tables
 pub mod Sharing
 pub mod Opening
 pub mod Reading
 pub mod Making
-pub mod Finding

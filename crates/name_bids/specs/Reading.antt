@@ -1,36 +1,10 @@
 -- How the winners of a book are read from its closed table.
-use Rattle.std.specs.Prelude.{◌≡◌, ◌≢◌, ℕ, ◌<◌, ◌↔◌, List, length, map, slice_get, slice_index, Option, None, Some}
+use Rattle.std.specs.Prelude.{◌≡◌, ℕ, ◌+◌, ◌<◌, ◌↔◌, List, length, slice_get, slice_index, Option, None, Some}
 use Rattle.std.specs.List.{Contains}
 use Rattle.std.specs.Option.{option_map_or}
 use Rattle.odr_names.specs.Book.{bid_at}
-use Rattle.pool_core.specs.declared.state.PoolState.{PoolState}
 use Rattle.type_names.specs.Names.{Named}
-use Rattle.name_bids.specs.declared.finding.Found.{Found}
-use Rattle.name_bids.specs.declared.finding.Found.TheVariants as finds
 use Rattle.name_bids.specs.Tables.{IsAt}
-
--- what is so of a name of which this is found
-abbrev pub IsFound : List Named → PoolState → ℕ → Found → Type 0
-IsFound names state x finds.Nowhere = (cell : ℕ) → IsAt names state.cells x cell → ⊥
-IsFound names state x (finds.At cell) = IsAt names state.cells x cell × (slice_index state.least cell ≢ bid_at names x)
-IsFound names state x (finds.Least cell) = IsAt names state.cells x cell × (slice_index state.least cell ≡ bid_at names x)
-
--- of the first n names
-pub record AreFoundTo (names : List Named) (state : PoolState) (found : List Found) (n : ℕ) : Type 0 where
-  pub len : length found ≡ n
-  pub each : (x : ℕ) (its : Found) → slice_get found x ≡ Some its → IsFound names state x its
-
-abbrev pub AreFound : List Named → PoolState → List Found → Type 0
-AreFound names state found = AreFoundTo names state found (length names)
-
--- the cell at which a name was found
-abbrev pub cell_in : Found → Option ℕ
-cell_in finds.Nowhere = None
-cell_in (finds.At cell) = Some cell
-cell_in (finds.Least cell) = Some cell
-
-abbrev pub cells_in : List Found → List (Option ℕ)
-cells_in found = map cell_in found
 
 -- the cell of a name, or it stands at none
 abbrev pub IsCellOf : List Named → List ℕ → ℕ → Option ℕ → Type 0
@@ -48,10 +22,18 @@ pub record HasLeast (names : List Named) (least : List ℕ) (cells : List (Optio
   pub at : slice_get cells w ≡ Some (Some cell)
   pub bid : slice_index least cell ≡ bid_at names w
 
--- of each cell at which one of the first n names bid the least word, such a name
-pub record AreLeastTo (names : List Named) (least : List ℕ) (cells : List (Option ℕ)) (winners : List ℕ) (n : ℕ) : Type 0 where
+-- where one of the first n names stands at the cell and bid its least word, w is such a name
+abbrev pub IsLeastAt : List Named → List ℕ → List (Option ℕ) → ℕ → ℕ → ℕ → Type 0
+IsLeastAt names least cells n cell w = (x : ℕ) → x < n → slice_get cells x ≡ Some (Some cell) → slice_index least cell ≡ bid_at names x → HasLeast names least cells cell w
+
+-- of each cell from the one at `start` on, one behind the other
+abbrev pub AreLeastFrom : List Named → List ℕ → List (Option ℕ) → ℕ → ℕ → List ℕ → Type 0
+AreLeastFrom names least cells n start part = (k : ℕ) → k < length part → IsLeastAt names least cells n (start + k) (slice_index part k)
+
+-- of each cell at which a name bid the least word, such a name
+pub record AreLeast (names : List Named) (least : List ℕ) (cells : List (Option ℕ)) (winners : List ℕ) : Type 0 where
   pub len : length winners ≡ length least
-  pub each : (x cell : ℕ) → x < n → slice_get cells x ≡ Some (Some cell) → slice_index least cell ≡ bid_at names x → HasLeast names least cells cell (slice_index winners cell)
+  pub each : AreLeastFrom names least cells (length names) 0 winners
 
 -- cells are cells of the table
 abbrev pub AreInside : List ℕ → List (Option ℕ) → Type 0

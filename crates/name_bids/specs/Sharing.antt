@@ -11,7 +11,9 @@ use Rattle.work_share.specs.declared.view.TaskView.{TaskView}
 use Rattle.type_pool.specs.Seats as pool_seats
 use Rattle.work_share.specs.Seats as task_seats
 use Rattle.type_pool.specs.Views.{first_view}
+use Rattle.name_bids.specs.declared.noting.ObjectCells.{ObjectCells}
 use Rattle.name_bids.specs.Bids.{HasBid, IsOfTasks}
+use Rattle.name_bids.specs.Noting.{AreNoted, IsPlacedAt}
 use Rattle.name_bids.specs.Tables.{cell_count}
 
 -- what a seat of the table knows, and one of the counter
@@ -36,8 +38,9 @@ pub record MayShare (pool : Pool) (work : Tasks) (seat : PoolSeat) (turn : TaskS
   pub seat_room : workers ≤ (seat_view seat).share
   pub turn_room : workers ≤ (turn_view turn).share
 
--- the seats come back with the shares that they had, no task is left, and the names of the tasks that were drawn have their bids
-pub record HasWorked (names : List Named) (pool : Pool) (work : Tasks) (v : View) (t : TaskView) (seat : PoolSeat) (turn : TaskSeat) : Type 0 where
+-- the seats come back with the shares that they had, no task is left, the names of the tasks that were drawn have their bids,
+-- and where they were placed is noted
+pub record HasWorked (names : List Named) (pool : Pool) (work : Tasks) (v : View) (t : TaskView) (seat : PoolSeat) (turn : TaskSeat) (noted : List ObjectCells) : Type 0 where
   pub belong : Belong pool work seat turn
   pub seat_share : (seat_view seat).share ≡ v.share
   pub turn_share : (turn_view turn).share ≡ t.share
@@ -45,6 +48,7 @@ pub record HasWorked (names : List Named) (pool : Pool) (work : Tasks) (v : View
   pub drawn : List ℕ
   pub more : (turn_view turn).drawn ≡ t.drawn ++ drawn
   pub bid : HasBid names pool.cells v (seat_view seat) (IsOfTasks names drawn)
+  pub cells : AreNoted (length names) (IsPlacedAt names pool.cells (seat_view seat).notes) noted (IsOfTasks names drawn)
 
 -- all workers are done: seats with all shares, no task left, and all numbers that were drawn have their names bid for
 pub record HasEnded (names : List Named) (pool : Pool) (seat : PoolSeat) (turn : TaskSeat) : Type 0 where

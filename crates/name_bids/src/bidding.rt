@@ -1,7 +1,8 @@
 //! What one worker does: it claims objects, and bids for their names.
 
-ghost use Rattle.std.specs.Prelude.{◌≡◌, ℕ, ◌^◌, ◌<◌, ◌≤◌, ◌++◌, true, List, length, is_some};
+ghost use Rattle.std.specs.Prelude.{◌≡◌, ℕ, ◌^◌, ◌<◌, ◌≤◌, ◌++◌, true, List, length, is_some, IfSome};
 ghost use Rattle.name_bids.specs.Bids.{HasBid, IsOfObject, IsOfTasks};
+ghost use Rattle.name_bids.specs.Noting.{IsPlacedAt, cell_of};
 ghost use Rattle.name_bids.specs.Sharing.{AreFor, Belong, seat_view, turn_view};
 ghost use Rattle.type_pool.specs.Seats.{Belongs};
 
@@ -59,16 +60,20 @@ fn bid_object(pool: &Pool, seat: &mut PoolSeat, names: &PathBook, object: u32)
     }
 }
 
-/// Bids for one name.
-fn bid_name(pool: &Pool, seat: &mut PoolSeat, names: &PathBook, x: u32)
+/// Bids for one name at the cell at which it is placed, and gives where that is.
+pub(crate) fn bid_name(pool: &Pool, seat: &mut PoolSeat, names: &PathBook, x: u32) -> Placing
     requires belongs { Belongs pool.now seat.old }
     requires book { (length names.now ≡ pool.now.names) × (x < length names.now) }
     ensures bid { HasBid names.now pool.now.cells (seat_view seat.old) (seat_view seat.new) (λ y. y ≡ x) }
+    ensures placed { IsPlacedAt names.now pool.now.cells (seat_view seat.new).notes x (cell_of result) }
+    ensures inside { IfSome (cell_of result) (λ cell. cell < 2 ^ 24) }
     ensures share { (seat_view seat.new).share ≡ (seat_view seat.old).share }
     ensures belongs { Belongs pool.now seat.new }
 {
-    match pool.place(seat, names, x) {
+    let placing = pool.place(seat, names, x);
+    match placing {
         Placing::Cell(cell) => pool.bid(seat, cell, number(names, x)),
         Placing::Crowded => {}
     }
+    placing
 }

@@ -1,5 +1,5 @@
 -- The words of a closed table, where the two of each cell stand side by side.
-use Rattle.std.specs.Prelude.{◌≡◌, ℕ, ◌*◌, ◌^◌, ◌<◌, ◌≤◌, List, [], ◌∷◌, length, slice_index}
+use Rattle.std.specs.Prelude.{◌≡◌, ℕ, ◌*◌, ◌^◌, ◌<◌, ◌≤◌, List, [], ◌∷◌, length}
 use Rattle.pool_core.specs.declared.state.PoolState.{PoolState}
 use Rattle.type_pool.specs.Keeping.{name_word}
 

@@ -57,6 +57,14 @@ impl ClosedPool {
     {
         self.words.as_slice()[2 * cell]
     }
+
+    /// The least number that was bid at a cell, or 2^64 - 1.
+    pub fn least_word(&self, cell: usize) -> u64
+        requires { cell < length self.now.state.cells }
+        ensures { result ≡ slice_index self.now.state.least cell }
+    {
+        self.words.as_slice()[2 * cell + 1]
+    }
 }
 
 impl Pool {
