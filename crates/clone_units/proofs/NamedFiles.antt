@@ -4,13 +4,9 @@ use Rattle.std.specs.List.{cons_option, filter_map}
 use Rattle.std.proofs.lemmas.Option.{slice_get_cases}
 use Rattle.std.proofs.Math.Seq.{drop-cons}
 use Rattle.dwarf_types.specs.declared.entry.Attr.{Attr}
-use Rattle.indexmap.specs.IndexSet.{insert_all, insert_key}
+use Rattle.indexmap.specs.IndexSet.{insert_all}
+use Rattle.clone_units.specs.Sourced.{with_named}
 use Rattle.link_graph.specs.PoolFiles.{SourceFile, same_file}
-
--- a file is put last, if there is one
-abbrev pub with_named : List SourceFile → Option SourceFile → List SourceFile
-with_named files None = files
-with_named files (Some file) = insert_key same_file files file
 
 named_first : (files rest : List SourceFile) (named : Option SourceFile) → insert_all same_file (with_named files named) rest ≡ insert_all same_file files (cons_option named rest)
 named_first files rest None = refl

@@ -3,18 +3,20 @@ use Rattle.std.specs.Prelude.{◌≡◌, ◌<◌, ℕ, List, [], ◌∷◌, ◌+
 use Rattle.std.specs.List.{All}
 use Rattle.std.specs.Option.{option_and_then, option_map_or}
 use denote.Ref.{Bor}
-use Rattle.indexmap.specs.IndexSet.{IndexSet}
+use Rattle.indexmap.specs.IndexSet.{IndexSet, insert_key}
 use Rattle.clone_units.specs.declared.source_files.FileRef.{FileRef}
+use Rattle.clone_units.specs.declared.source_files.FileUse.{FileUse}
 use Rattle.clone_units.specs.declared.entry_sources.SourceRef.{SourceRef}
 use Rattle.clone_values.specs.Images.{image_at}
 use Rattle.dwarf_types.specs.declared.address.Span.{Span}
 use Rattle.dwarf_types.specs.declared.analysis.Analysis.{Analysis}
+use Rattle.dwarf_types.specs.declared.entry.Attr.{Attr}
 use Rattle.dwarf_types.specs.declared.entry.InUnit.{InUnit}
 use Rattle.dwarf_types.specs.declared.graph.Target.{Target}
 use Rattle.dwarf_types.specs.declared.lines.OutLines.{OutLines}
 use Rattle.dwarf_types.specs.declared.shape.Origin.{Origin}
 use Rattle.link_graph.specs.Graph.{Source, files_of, source_of}
-use Rattle.link_graph.specs.PoolFiles.{SourceFile, files_named, listed_file, number_of, table_of}
+use Rattle.link_graph.specs.PoolFiles.{SourceFile, file_in, file_named, files_named, listed_file, number_of, same_file, table_of}
 
 -- ---- what is borrowed, as values
 
@@ -36,6 +38,23 @@ module _ {S : Type 0} where
 -- the files that the entry of a node names
 abbrev pub uses_of : List Analysis → Origin → List SourceFile
 uses_of all origin = option_map_or (λ source. files_named source.seen source.entry) (source_of all origin) []
+
+-- The attribute names a file by this number, in the table of each unit; without a number it names none.
+abbrev pub Names : Attr → Option ℕ → Type 0
+Names a number = (seen : Analysis) (u : ℕ) → option_and_then (file_in seen u) number ≡ file_named seen u a
+
+-- the file of a use, if the table has it
+abbrev pub file_of_use : List Analysis → FileUse → Option SourceFile
+file_of_use all named = option_and_then (λ seen. file_in seen named.unit named.number) (slice_get all named.object)
+
+-- a file is put last unless it is there, if there is one
+abbrev pub with_named : List SourceFile → Option SourceFile → List SourceFile
+with_named files None = files
+with_named files (Some file) = insert_key same_file files file
+
+-- putting the file of a use, if there is one, leaves the files as they are
+abbrev pub IsPut : List Analysis → Option FileUse → List SourceFile → Type 0
+IsPut all last files = with_named files (option_and_then (file_of_use all) last) ≡ files
 
 -- the directory of a file, unless it is empty
 abbrev pub some_dir : SourceFile → Option (List ℕ)

@@ -1,21 +1,21 @@
 //! The source files that entries name, each by the names of its directory and of itself.
 
-ghost use Rattle.std.specs.Prelude.{◌≡◌, ◌<◌, ◌==◌, [], ◌∷◌, None, Some, length, if◌then◌else◌, fold, slice_get, OnOk, IfOk};
+ghost use Rattle.std.specs.Prelude.{◌≡◌, ◌<◌, ◌==◌, [], ◌∷◌, None, Some, length, true, if◌then◌else◌, fold, slice_get, OnOk, IfOk};
 ghost use Rattle.std.proofs.Common.{ap, ◌∙◌};
 ghost use Rattle.std.proofs.lemmas.Bool.{and_parts};
 ghost use Rattle.std.specs.Cmp.Lexicographic.{bytes_decides};
 ghost use Rattle.std.specs.List.{flat_map};
 ghost use Rattle.std.specs.Option.{option_and_then, option_map, option_map_or};
-ghost use Rattle.clone_units.specs.Sourced.{file_seen, files_seen, uses_of};
+ghost use Rattle.clone_units.specs.Sourced.{IsPut, Names, file_of_use, file_seen, files_seen, uses_of, with_named};
 ghost use Rattle.dwarf_types.specs.declared.entry.Attr.{Attr};
 ghost use Rattle.dwarf_types.specs.Moves.{value_of};
 ghost use Rattle.dwarf_types.specs.Seen.{attr_seen, value_seen};
 ghost use Rattle.dwarf_types.specs.SeenLines.{file_seen as file_name_seen};
 ghost use Rattle.indexmap.specs.IndexSet.{insert_all, insert_key};
 ghost use Rattle.link_graph.specs.Graph.{files_of};
-ghost use Rattle.link_graph.specs.PoolFiles.{directory_in, directory_of_unit, file_at, file_in, file_named, files_named, listed_directory, listed_file, number_of, place_of_number, same_file, text_or_empty};
+ghost use Rattle.link_graph.specs.PoolFiles.{directory_in, directory_of_unit, file_at, file_in, files_named, listed_directory, listed_file, number_of, place_of_number, same_file, text_or_empty};
 
-use crate::entry_sources::source_of;
+use crate::entry_sources::{SourceRef, source_of};
 use ds_base::NoMemory;
 use ds_base::dwarf::{DW_AT_comp_dir, DW_AT_decl_file, DWARF_5};
 use dwarf_types::{Analysis, AttrRef, EntryRef, FileNameRef, InUnit, Origin, OutLines, ValueRef};
@@ -43,6 +43,15 @@ impl<'a> Hash for FileRef<'a> {
     }
 }
 
+/// By what an attribute names a source file: a number in the table of a unit of an object.
+#[derive(Clone, Copy)]
+struct FileUse {
+    /// The number of the object, counted from 0.
+    object: usize,
+    unit: u32,
+    number: u64,
+}
+
 /// The source files that the entries of nodes name, by first use.
 pub(crate) fn files_of<'a>(
     alloc: Global,
@@ -52,51 +61,123 @@ pub(crate) fn files_of<'a>(
     ensures { IfOk result (λ files. files_seen files ≡ files_of seen.now origins.now) }
 {
     let mut files = IndexSet::new(alloc);
+    let mut last = None;
     for origin in origins {
-        add_files(&mut files, seen, *origin)?;
+        last = add_files(&mut files, last, seen, *origin)?;
     }
     Ok(files)
 }
 
-/// Puts the files that the entry of a node names behind those that are there, each unless it is one of them.
+/// Puts the files that the entry of a node names behind those that are there, each unless it is one of them, and gives the last
+/// use of a file. `last` is the last one before.
 fn add_files<'a>(
     files: &mut IndexSet<FileRef<'a>>,
+    last: Option<FileUse>,
     seen: &'a [Analysis],
     origin: Origin,
-) -> Result<(), NoMemory>
-    ensures { OnOk result (files_seen files.new ≡ insert_all same_file (files_seen files.old) (uses_of seen.now origin)) }
+) -> Result<Option<FileUse>, NoMemory>
+    requires { IsPut seen.now last (files_seen files.old) }
+    ensures named { OnOk result (files_seen files.new ≡ insert_all same_file (files_seen files.old) (uses_of seen.now origin)) }
+    ensures put { IfOk result (λ now. IsPut seen.now now (files_seen files.new)) }
 {
-    if let Some(source) = source_of(seen, origin) {
-        add_files_named(files, source.seen, &source.entry)?;
+    match source_of(seen, origin) {
+        Some(source) => add_files_named(files, last, seen, &source),
+        None => Ok(last),
     }
-    Ok(())
 }
 
 /// The same for an entry of an object.
 fn add_files_named<'a>(
     files: &mut IndexSet<FileRef<'a>>,
-    seen: &'a Analysis,
-    entry: &EntryRef<'a>,
-) -> Result<(), NoMemory>
-    ensures { OnOk result (files_seen files.new ≡ insert_all same_file (files_seen files.old) (files_named seen.now entry.now)) }
+    last: Option<FileUse>,
+    seen: &'a [Analysis],
+    source: &SourceRef<'a>,
+) -> Result<Option<FileUse>, NoMemory>
+    requires own { slice_get seen.now source.now.object ≡ Some source.now.seen.now }
+    requires put { IsPut seen.now last (files_seen files.old) }
+    ensures named { OnOk result (files_seen files.new ≡ insert_all same_file (files_seen files.old) (files_named source.now.seen.now source.now.entry)) }
+    ensures put { IfOk result (λ now. IsPut seen.now now (files_seen files.new)) }
 {
+    let entry = &source.entry;
+    let mut last = last;
     for j in 0..entry.len() {
-        if let Some(file) = file_named_at(seen, entry, j) {
-            add_file(files, file)?;
+        if let Some(number) = file_number_at(entry, j) {
+            let now = FileUse {
+                object: source.object,
+                unit: entry.unit(),
+                number,
+            };
+            add_use(files, last, seen, now)?;
+            last = Some(now);
         }
     }
-    Ok(())
+    Ok(last)
 }
 
-/// The file that the attribute of an entry at a place names; the value of another attribute is not read.
-fn file_named_at<'a>(seen: &'a Analysis, entry: &EntryRef<'a>, j: usize) -> Option<FileRef<'a>>
+/// The number by which the attribute of an entry at a place names a file; the value of another attribute is not read.
+fn file_number_at(entry: &EntryRef<'_>, j: usize) -> Option<u64>
     requires { j < length entry.now.attrs }
-    ensures { (a : Attr) → slice_get entry.now.attrs j ≡ Some a → option_map file_seen result ≡ file_named seen.now entry.now.unit a }
+    ensures { (a : Attr) → slice_get entry.now.attrs j ≡ Some a → Names a result }
 {
     if entry.attr_name(j) != DW_AT_decl_file {
         return None;
     }
-    file_named(seen, entry.unit(), &entry.attr(j))
+    file_number(&entry.attr(j))
+}
+
+/// The number by which an attribute names a file.
+fn file_number(attr: &AttrRef<'_>) -> Option<u64>
+    ensures { Names (attr_seen attr.now) result }
+{
+    if attr.name != DW_AT_decl_file {
+        return None;
+    }
+    match attr.value {
+        ValueRef::Number { bits, .. } => Some(bits),
+        _ => None,
+    }
+}
+
+/// Puts the file of a use last, unless it is there. That of the last use is there, and most nodes name the file that the node
+/// before them named: then no text is looked at.
+fn add_use<'a>(
+    files: &mut IndexSet<FileRef<'a>>,
+    last: Option<FileUse>,
+    seen: &'a [Analysis],
+    now: FileUse,
+) -> Result<(), NoMemory>
+    requires { IsPut seen.now last (files_seen files.old) }
+    ensures named { OnOk result (files_seen files.new ≡ with_named (files_seen files.old) (file_of_use seen.now now)) }
+    ensures put { OnOk result (IsPut seen.now (Some now) (files_seen files.new)) }
+{
+    if is_same(last, now) {
+        return Ok(());
+    }
+    let Some(file) = file_of_use(seen, now) else {
+        return Ok(());
+    };
+    add_file(files, file)?;
+    Ok(())
+}
+
+/// Whether the last use is this one.
+fn is_same(last: Option<FileUse>, now: FileUse) -> bool
+    ensures { result ≡ true → last ≡ Some now }
+{
+    match last {
+        Some(last) => {
+            last.object == now.object && last.unit == now.unit && last.number == now.number
+        }
+        None => false,
+    }
+}
+
+/// The file of a use, if the table has it.
+fn file_of_use(seen: &[Analysis], now: FileUse) -> Option<FileRef<'_>>
+    ensures { option_map file_seen result ≡ file_of_use seen.now now }
+{
+    let own = seen.get(now.object)?;
+    file_in(own, now.unit, now.number)
 }
 
 /// Puts a file last, unless it is there.
@@ -117,19 +198,6 @@ pub(crate) fn number_of<'a>(files: &IndexSet<FileRef<'a>>, file: FileRef<'a>) ->
             Some(index as u64 + 1)
         }
         None => None,
-    }
-}
-
-/// The file that an attribute of an entry of unit `u` names, if the unit's table has it.
-fn file_named<'a>(seen: &'a Analysis, u: u32, attr: &AttrRef<'a>) -> Option<FileRef<'a>>
-    ensures { option_map file_seen result ≡ file_named seen.now u (attr_seen attr.now) }
-{
-    if attr.name != DW_AT_decl_file {
-        return None;
-    }
-    match attr.value {
-        ValueRef::Number { bits, .. } => file_in(seen, u, bits),
-        _ => None,
     }
 }
 

@@ -14,5 +14,5 @@ pub returns : goal.returns
 returns c =
     let origins = c.args.origins.now in
     let seen = c.args.seen.now in
-    ap (λ (xs : List Origin). insert_all same_file (files_seen c.loop-origin.files) (flat_map (uses_of seen) xs)) (sym (drop_all c.loop-origin.origin-index origins c.loop-origin-test.false)) ∙ c.loop-origin.invariant
+    ap (λ (xs : List Origin). insert_all same_file (files_seen c.loop-origin.files) (flat_map (uses_of seen) xs)) (sym (drop_all c.loop-origin.origin-index origins c.loop-origin-test.false)) ∙ c.loop-origin.invariant.0
     ∙ all_once same_file same_file_laws (flat_map (uses_of seen) origins) ∙ ap (once same_file) (uses_are seen origins)
