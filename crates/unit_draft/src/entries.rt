@@ -45,14 +45,17 @@ impl<'a> Task for Appender<'a> {
 
     ghost run_gives = { AppendsStretch };
 
+    /// The stretch is let go here, since whoever prepares the next one has more to do.
     fn run(&mut self) -> Result<(), DraftError> {
-        append_stretch(
+        let appended = append_stretch(
             &mut self.drafting,
             &mut self.places,
             self.number,
             self.version,
             &self.stretch,
-        )
+        );
+        self.stretch.clear();
+        appended
     }
 }
 
