@@ -81,10 +81,12 @@ pub fn place_drafts(
     place_with(alloc, drafts, frames, texts, line_texts)
 }
 
-/// The layout as [`place_drafts`] gives it, where at most `workers` threads look the texts up.
+/// The layout as [`place_drafts`] gives it, where at most `workers` threads look the texts up. The string section takes the
+/// place of `room`, whatever that holds.
 pub fn place_drafts_by<R: Threads + Sync>(
     rt: &R,
     alloc: Global,
+    room: Vec<u8>,
     workers: u32,
     drafts: List<Draft>,
     frames: &OutFrames,
@@ -93,8 +95,16 @@ pub fn place_drafts_by<R: Threads + Sync>(
     requires few { length drafts < 2 ^ 32 - 1 }
     ensures { (graph : Program) → AreDrafts graph drafts → graph.frames ≡ frames.now → Measures graph result }
 {
-    let texts = texts_in_by(rt, alloc, workers, drafts.as_slice(), TextsOf::Entries);
-    let line_texts = texts_in_by(rt, alloc, workers, drafts.as_slice(), TextsOf::Lines);
+    let texts = texts_in_by(
+        rt,
+        alloc,
+        room,
+        workers,
+        drafts.as_slice(),
+        TextsOf::Entries,
+    );
+    let none = Vec::new(alloc);
+    let line_texts = texts_in_by(rt, alloc, none, workers, drafts.as_slice(), TextsOf::Lines);
     place_with(alloc, drafts, frames, texts, line_texts)
 }
 

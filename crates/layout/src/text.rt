@@ -39,10 +39,11 @@ pub(crate) fn texts_in(alloc: Global, drafts: &[Draft], of: TextsOf) -> Result<T
     Ok(Texts { section, places })
 }
 
-/// The same, where at most `workers` threads look the texts up.
+/// The same, where at most `workers` threads look the texts up. The section takes the place of a room.
 pub(crate) fn texts_in_by<R: Threads + Sync>(
     rt: &R,
     alloc: Global,
+    room: Vec<u8>,
     workers: u32,
     drafts: &[Draft],
     of: TextsOf,
@@ -52,7 +53,7 @@ pub(crate) fn texts_in_by<R: Threads + Sync>(
     ensures long { result ≡ Err errors.Long → 2 ^ 32 - 1 ≤ length (section_of (texts_by of drafts.now)) }
 {
     let names = all_names(alloc, drafts, of)?;
-    let Joined { section, places } = join_texts_by(rt, alloc, workers, names.as_slice())?;
+    let Joined { section, places } = join_texts_by(rt, alloc, room, workers, names.as_slice())?;
     Ok(Texts { section, places })
 }
 

@@ -14,6 +14,7 @@ ghost use Rattle.link_core.specs.Passes.{AreDrafting, DraftsBy, DraftsFrom, Draf
 use crate::batches::{batch_end, drop_analyses, first_needed};
 use crate::refusal::{LimitKind, Refusal};
 use crate::results::{in_turn, put_behind};
+use crate::room::{Rooming, let_go, start_text_room};
 use clone_units::clone_unit;
 use ds_base::limits::UNIT_BYTES;
 use ds_base::{List, NoMemory};
@@ -75,6 +76,8 @@ pub(crate) struct Drafts {
     /// So many of them went.
     pub dropped: usize,
     pub outs: Vec<Result<Draft, Refusal>>,
+    /// A thread that takes memory for the string section, where two draft a unit.
+    pub texts: Rooming,
 }
 
 impl Drafts {
@@ -86,6 +89,7 @@ impl Drafts {
             left: seen,
             dropped: 0,
             outs: Vec::new(alloc),
+            texts: None,
         }
     }
 
@@ -110,7 +114,8 @@ impl Drafts {
             self.dropped = needed;
             let end = batch_end(shape, first, workers);
             let left = self.left.as_slice();
-            let more = batch(rt, alloc, workers, gate, left, shape, first, end)?;
+            let texts = &mut self.texts;
+            let more = batch(rt, alloc, workers, gate, left, shape, first, end, texts)?;
             put_behind(&mut self.outs, more)?;
             first = end;
         }
@@ -129,7 +134,8 @@ impl Drafts {
     }
 }
 
-/// The drafts of the units of a shape, or that one is too long.
+/// The drafts of the units of a shape, or that one is too long. A thread that takes memory for their string section goes to
+/// `texts`.
 pub(crate) fn drafts_of<R: Threads + Sync, G: Gate + Sync>(
     rt: &R,
     alloc: Global,
@@ -137,6 +143,7 @@ pub(crate) fn drafts_of<R: Threads + Sync, G: Gate + Sync>(
     gate: &G,
     seen: List<Analysis>,
     shape: &Shape,
+    texts: &mut Rooming,
 ) -> Result<List<Draft>, Refusal>
     requires workers { (1 ≤ workers) × (workers ≤ 64) }
     requires drafted { MayDraftAll seen shape.now }
@@ -144,6 +151,8 @@ pub(crate) fn drafts_of<R: Threads + Sync, G: Gate + Sync>(
 {
     let mut drafts = Drafts::new(alloc, seen);
     drafts.draft_others(rt, alloc, workers, gate, shape)?;
+    *texts = drafts.texts;
+    let_go(rt, workers, drafts.left);
     all_drafted(alloc, drafts.outs)
 }
 
@@ -159,6 +168,7 @@ fn batch<R: Threads + Sync, G: Gate + Sync>(
     shape: &Shape,
     first: u32,
     end: u32,
+    texts: &mut Rooming,
 ) -> Result<Vec<Result<Draft, Refusal>>, NoMemory>
     requires workers { (1 ≤ workers) × (workers ≤ 64) }
     requires order { first ≤ end }
@@ -166,7 +176,7 @@ fn batch<R: Threads + Sync, G: Gate + Sync>(
     ensures { IfOk result (λ outs. DraftsFrom left.now shape.now first end outs.items) }
 {
     if first < end && workers >= WORKERS_FOR_TWO && outweighs(shape, first, end, workers) {
-        return first_by_two(rt, alloc, workers, gate, left, shape, first, end);
+        return first_by_two(rt, alloc, workers, gate, left, shape, first, end, texts);
     }
     each_by_one(rt, alloc, workers, gate, left, shape, first, end)
 }
@@ -192,7 +202,8 @@ fn node_count(shape: &Shape, unit: u32) -> u64 {
     }
 }
 
-/// What is drafted of a batch whose first unit is drafted by two threads, beside the others.
+/// What is drafted of a batch whose first unit is drafted by two threads, beside the others. Behind these, a thread begins to
+/// take memory for the string section.
 fn first_by_two<R: Threads + Sync, G: Gate + Sync>(
     rt: &R,
     alloc: Global,
@@ -202,6 +213,7 @@ fn first_by_two<R: Threads + Sync, G: Gate + Sync>(
     shape: &Shape,
     first: u32,
     end: u32,
+    texts: &mut Rooming,
 ) -> Result<Vec<Result<Draft, Refusal>>, NoMemory>
     requires workers { (4 ≤ workers) × (workers ≤ 64) }
     requires order { first < end }
@@ -210,21 +222,50 @@ fn first_by_two<R: Threads + Sync, G: Gate + Sync>(
 {
     let second = first + 1;
     let beside = workers - 2;
-    let (draft, others) = join(
+    let nodes = node_count(shape, first) as usize;
+    let (draft, behind) = join(
         rt,
         || -> Result<Draft, Refusal>
             requires { IsSync R.row × IsSync G.row × MayDraft left.now shape.now first }
             ensures { DraftsBy left.entry.now shape.entry.now first result }
         { draft_by_two(rt, alloc, left, shape, first, gate) },
-        || -> Result<Vec<Result<Draft, Refusal>>, NoMemory>
+        || -> (Result<Vec<Result<Draft, Refusal>>, NoMemory>, Rooming)
             requires { IsSync R.row × IsSync G.row × (1 ≤ beside) × (beside ≤ 64) × (second ≤ end) × MayDraftFrom left.now shape.now second end }
-            ensures { IfOk result (λ outs. DraftsFrom left.entry.now shape.entry.now second end outs.items) }
-        { each_by_one(rt, alloc, beside, gate, left, shape, second, end) },
+            ensures { IfOk result.0 (λ outs. DraftsFrom left.entry.now shape.entry.now second end outs.items) }
+        { each_with_room(rt, alloc, beside, gate, left, shape, second, end, nodes) },
     );
+    let (others, taken) = behind;
+    *texts = taken;
     let mut outs = Vec::new(alloc);
     outs.push(draft)?;
     put_behind(&mut outs, others?)?;
     Ok(outs)
+}
+
+/// What is drafted of the units from one up to another, each by one of several threads, and a thread that takes memory for the
+/// string section while a unit of so many nodes is drafted beside them.
+fn each_with_room<R: Threads + Sync, G: Gate + Sync>(
+    rt: &R,
+    alloc: Global,
+    workers: u32,
+    gate: &G,
+    left: &[Analysis],
+    shape: &Shape,
+    first: u32,
+    end: u32,
+    nodes: usize,
+) -> (Result<Vec<Result<Draft, Refusal>>, NoMemory>, Rooming)
+    requires workers { (1 ≤ workers) × (workers ≤ 64) }
+    requires order { first ≤ end }
+    requires may { MayDraftFrom left.now shape.now first end }
+    ensures { IfOk result.0 (λ outs. DraftsFrom left.now shape.now first end outs.items) }
+{
+    let others = each_by_one(rt, alloc, workers, gate, left, shape, first, end);
+    let texts = match &others {
+        Ok(outs) => start_text_room(rt, alloc, nodes, outs.as_slice()),
+        Err(_) => None,
+    };
+    (others, texts)
 }
 
 /// What is drafted of the units from one up to another, each by one of several threads.

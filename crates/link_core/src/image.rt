@@ -10,7 +10,7 @@ ghost use Rattle.macho_read.specs.Sound.{IsSound};
 use crate::bundle::{Counted, Counts, Linked};
 use crate::counts::count_nodes;
 use crate::refusal::{LimitKind, Refusal};
-use crate::room::{let_go, start_room, started_room};
+use crate::room::{Rooming, let_go, start_room, started_room};
 use ds_base::limits::{IMAGE_BYTES, SECTION_BYTES, UNIT_BYTES};
 use ds_base::{Bytes, List};
 use dsym_write::{WriteError, image_in, plist_text};
@@ -23,7 +23,7 @@ use type_pool::ClosedPool;
 use unit_draft::Draft;
 
 /// The bundle of a program of this name and of the graph of these drafts and frames, or the first limit that is reached.
-/// The image is filled by at most `workers` threads.
+/// The image is filled by at most `workers` threads. Its string section takes the memory that a thread took.
 pub(crate) fn bundle_of<R: Threads + Sync>(
     rt: &R,
     alloc: Global,
@@ -31,6 +31,7 @@ pub(crate) fn bundle_of<R: Threads + Sync>(
     program: &Image,
     name: &str,
     drafts: List<Draft>,
+    texts: Rooming,
     frames: &OutFrames,
     counted: Counted,
     closed: ClosedPool,
@@ -41,7 +42,7 @@ pub(crate) fn bundle_of<R: Threads + Sync>(
     ensures { (odr : Bool) (seen : Listed Seen) (marks : Listed (Listed Bool)) → IsDrafted odr seen marks drafts frames.now counted closed → Links odr program.now name.now seen marks result }
 {
     let nodes = count_nodes(drafts.as_slice());
-    let image = image_of(rt, alloc, workers, program, drafts, frames)?;
+    let image = image_of(rt, alloc, workers, program, drafts, texts, frames)?;
     let plist = plist_text(alloc, name)?;
     let counts = Counts {
         objects: counted.objects,
@@ -68,6 +69,7 @@ fn image_of<R: Threads + Sync>(
     workers: u32,
     program: &Image,
     drafts: List<Draft>,
+    texts: Rooming,
     frames: &OutFrames,
 ) -> Result<Bytes, Refusal>
     requires workers { (1 ≤ workers) × (workers ≤ 64) }
@@ -76,8 +78,9 @@ fn image_of<R: Threads + Sync>(
     requires drafted { AreOfGraph drafts frames.now }
     ensures { (graph : AGraph) → AreDrafts graph drafts → graph.frames ≡ frames.now → Images program.now graph result }
 {
-    let rooming = start_room(rt, alloc, workers, drafts.as_slice());
-    let placed = layout_of(rt, alloc, workers, drafts, frames);
+    let texts = started_room(rt, alloc, texts);
+    let rooming = start_room(rt, alloc, workers, program, drafts.as_slice(), texts.len());
+    let placed = layout_of(rt, alloc, texts, workers, drafts, frames);
     let room = started_room(rt, alloc, rooming);
     let layout = placed?;
     let image = write_image(rt, room, workers, program, &layout)?;
@@ -86,10 +89,11 @@ fn image_of<R: Threads + Sync>(
 }
 
 /// The layout of the graph of these drafts and frames, or the first limit that it reaches. At most `workers` threads look
-/// the texts up.
+/// the texts up, which take the place of a room.
 fn layout_of<R: Threads + Sync>(
     rt: &R,
     alloc: Global,
+    room: Vec<u8>,
     workers: u32,
     drafts: List<Draft>,
     frames: &OutFrames,
@@ -98,7 +102,7 @@ fn layout_of<R: Threads + Sync>(
     requires few { length drafts < 2 ^ 32 - 1 }
     ensures { (graph : AGraph) → AreDrafts graph drafts → graph.frames ≡ frames.now → Lays graph result }
 {
-    match place_drafts_by(rt, alloc, workers, drafts, frames) {
+    match place_drafts_by(rt, alloc, room, workers, drafts, frames) {
         Ok(layout) => Ok(layout),
         Err(LayoutError::Unit { .. }) => Err(Refusal::Limit {
             which: LimitKind::Unit,

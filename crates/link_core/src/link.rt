@@ -16,6 +16,7 @@ use crate::graph::{Shaped, frames_of, shape_of};
 use crate::image::bundle_of;
 use crate::reading::{ReadObjects, read_files, read_objects};
 use crate::refusal::Refusal;
+use crate::room::let_go;
 use crate::unmerged::link_unmerged;
 use ds_base::{BitRow, Bytes, List};
 use ds_files::Gate;
@@ -174,8 +175,9 @@ fn link_marked<R: Threads + Sync, G: Gate + Sync>(
         closed,
     } = shaped;
     let frames = frames_of(alloc, seen.as_slice())?;
-    let drafts = drafts_of(rt, alloc, options.workers, gate, seen, &shape)?;
-    drop(shape);
+    let mut texts = None;
+    let drafts = drafts_of(rt, alloc, options.workers, gate, seen, &shape, &mut texts)?;
+    let_go(rt, options.workers, shape);
     let counted = Counted {
         objects,
         entries,
@@ -190,6 +192,7 @@ fn link_marked<R: Threads + Sync, G: Gate + Sync>(
         program,
         name,
         drafts,
+        texts,
         &frames,
         counted,
         closed,

@@ -10,6 +10,7 @@ use crate::files::{FilesLeft, batch_end, drop_files};
 use crate::objects::{ReadObject, members_of, read_object};
 use crate::refusal::Refusal;
 use crate::results::in_turn;
+use crate::room::let_go;
 use crate::sizes::large_first;
 use ar_read::Members;
 use ds_base::{BitRow, Bytes, List, NoMemory};
@@ -131,8 +132,18 @@ pub(crate) fn read_files<R: Threads + Sync, G: Gate + Sync>(
     requires small { All (λ file. length file < 2 ^ 32) files }
     ensures { Reads cpu (sources_of objects.now files source.now) result }
 {
-    let files = files.as_slice();
-    read_objects(rt, alloc, workers, gate, cpu, objects, files, source)
+    let read = read_objects(
+        rt,
+        alloc,
+        workers,
+        gate,
+        cpu,
+        objects,
+        files.as_slice(),
+        source,
+    );
+    let_go(rt, workers, files);
+    read
 }
 
 /// What is read of the batch of objects that begins with `first`. Files go of which no later object is.

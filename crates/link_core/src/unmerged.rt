@@ -204,7 +204,7 @@ impl Unmerged {
         };
         let drafts = all_drafted(alloc, outs)?;
         bundle_of(
-            rt, alloc, workers, program, name, drafts, &frames, counted, closed,
+            rt, alloc, workers, program, name, drafts, None, &frames, counted, closed,
         )
     }
 }

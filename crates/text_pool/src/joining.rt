@@ -23,9 +23,10 @@ pub struct Joined {
     pub places: List<List<u32>>,
 }
 
-/// Joins the texts of parts that are cut into these shards.
+/// Joins the texts of parts that are cut into these shards, in the place of a room.
 pub(crate) fn join_shards(
     alloc: Global,
+    room: Vec<u8>,
     parts: &[&Names],
     shards: &mut [Shard],
 ) -> Result<Joined, TextError>
@@ -34,13 +35,23 @@ pub(crate) fn join_shards(
     ensures small { IfOk result (λ it. length it.section < 2 ^ 32 - 1) }
     ensures long { result ≡ Err errors.Long → 2 ^ 32 - 1 ≤ length (section_of (fold with_text [] (texts_in parts.now))) }
 {
-    let mut section = Bytes::from_vec(Vec::with_capacity(alloc, size_of_all(shards))?);
+    let mut section = room_for(room, size_of_all(shards))?;
     let mut places = List::with_capacity(alloc, parts.len())?;
     for names in parts {
         let theirs = join_names(alloc, shards, &mut section, names)?;
         places.push(theirs)?;
     }
     Ok(Joined { section, places })
+}
+
+/// No bytes, and room for so many, in the place of another room.
+fn room_for(room: Vec<u8>, size: usize) -> Result<Bytes, NoMemory>
+    ensures { IfOk result (λ section. section ≡ []) }
+{
+    let mut room = room;
+    room.clear();
+    room.reserve(size)?;
+    Ok(Bytes::from_vec(room))
 }
 
 /// The bytes that the texts of all shards take, or 2^32 - 1 where they take more.

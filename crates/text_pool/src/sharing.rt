@@ -25,13 +25,15 @@ pub fn join_texts(alloc: Global, parts: &[&Names]) -> Result<Joined, TextError>
     ensures long { result ≡ Err errors.Long → 2 ^ 32 - 1 ≤ length (section_of (all_once (map (λ names. names.now) parts.now))) }
 {
     let one = shard_in(alloc, parts, 0, 1)?;
-    join_shards(alloc, parts, &mut [one])
+    join_shards(alloc, Vec::new(alloc), parts, &mut [one])
 }
 
-/// Joins texts as [`join_texts`] does, where at most `workers` threads look them up.
+/// Joins texts as [`join_texts`] does, where at most `workers` threads look them up. The section takes the place of `room`,
+/// whatever that holds.
 pub fn join_texts_by<R: Threads + Sync>(
     rt: &R,
     alloc: Global,
+    room: Vec<u8>,
     workers: u32,
     parts: &[&Names],
 ) -> Result<Joined, TextError>
@@ -43,7 +45,7 @@ pub fn join_texts_by<R: Threads + Sync>(
     let shards = workers as usize;
     let made = shards_by(rt, alloc, shards, parts)?;
     let mut shards = all_made(alloc, made)?;
-    join_shards(alloc, parts, shards.as_mut_slice())
+    join_shards(alloc, room, parts, shards.as_mut_slice())
 }
 
 /// Each of so many shards, by a thread of its own where one can be started.

@@ -13,5 +13,5 @@ returns g c =
     let first = c.args.first in
     let end = c.args.end in
     let others = c.in_ok-others.field-0 in
-    let given = where_ok c.join-draft.result.1 others (λ outs. GivesAll (λ k out. gives (first + 1 + k) out) (end - (first + 1)) outs.items) c.in_ok-others.was c.join-draft.ensures.second in
+    let given = where_ok c.join-draft.result.1.0 others (λ outs. GivesAll (λ k out. gives (first + 1 + k) out) (end - (first + 1)) outs.items) c.in_ok-others.was c.join-draft.ensures.second in
     given_first gives first end c.join-draft.result.0 others.items _ _ _ c.requires.order c.new-outs.ensures.items c.in_ok-push.ensures.items c.in_ok-put_behind.ensures c.join-draft.ensures.first given

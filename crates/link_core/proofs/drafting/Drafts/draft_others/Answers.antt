@@ -37,7 +37,7 @@ loop-first-preserved g c =
     let was = c.loop-first.self.left in
     let more = c.in_ok-more.more.items in
     let left : List Analysis = take (length was) (c.drop_analyses.new.left ++ drop (length c.drop_analyses.new.left) was) in
-    let it : Drafts = record { left = left; dropped = c.first_needed-needed.result; outs = c.put_behind.new.results } in
+    let it : Drafts = record { left = left; dropped = c.first_needed-needed.result; outs = c.put_behind.new.results; texts = c.batch.new.texts } in
     let same = lent_all c.drop_analyses.new.left was (omega (arith, c.drop_analyses.auto.left, ap length c.as_mut_slice.ensures.value)) in
     let lt : first < length shape.units = omega (arith, c.loop-first-test.true, c.len.ensures) in (
       omega (arith, ap length c.in_ok-put_behind.ensures, length-append c.loop-first.self.outs.items more, c.in_ok-more.ensures.0, c.loop-first.invariant.0, c.batch_end-end.ensures.0),
