@@ -4,10 +4,10 @@ ghost use Rattle.std.specs.Prelude.{◌≡◌, Ok, length};
 ghost use Rattle.unit_draft.specs.Drafted.{Drafts};
 
 use ds_base::dwarf::{
-    DW_AT_abstract_origin, DW_AT_frame_base, DW_AT_high_pc, DW_AT_language, DW_AT_location,
-    DW_AT_low_pc, DW_AT_name, DW_AT_ranges, DW_AT_type, DW_FORM_data2, DW_FORM_data4,
-    DW_OP_convert, DW_OP_entry_value, DW_OP_reg5, DW_OP_stack_value, DW_TAG_base_type,
-    DW_TAG_compile_unit, DW_TAG_subprogram, DW_TAG_variable,
+    DW_AT_abstract_origin, DW_AT_const_value, DW_AT_frame_base, DW_AT_high_pc, DW_AT_language,
+    DW_AT_location, DW_AT_low_pc, DW_AT_name, DW_AT_ranges, DW_AT_type, DW_FORM_data2,
+    DW_FORM_data4, DW_OP_convert, DW_OP_entry_value, DW_OP_reg5, DW_OP_stack_value,
+    DW_TAG_base_type, DW_TAG_compile_unit, DW_TAG_subprogram, DW_TAG_variable,
 };
 use ds_base::{Bytes, List};
 use dwarf_types::{
@@ -16,7 +16,7 @@ use dwarf_types::{
 use patches::{Outside, Placed};
 use std::alloc::Global;
 use std::process::Abort;
-use unit_draft::{Draft, draft_unit, emit_draft};
+use unit_draft::{Draft, draft_unit, draft_unit_by_two, emit_draft};
 
 // ---- drafts
 
@@ -200,7 +200,61 @@ fn second_unit(rt: &impl Abort, alloc: Global) -> OutUnit {
     unit_of(rt, alloc, 4, nodes)
 }
 
+// A unit of a root and so many constants below it, each of which is its number among them.
+fn constants(rt: &impl Abort, alloc: Global, count: u32) -> OutUnit {
+    let mut nodes = one(rt, alloc, node(None, DW_TAG_compile_unit, List::new(alloc)));
+    for k in 0..count {
+        let value = OutAttr {
+            name: DW_AT_const_value,
+            value: number(DW_FORM_data4, u64::from(k)),
+        };
+        add(
+            rt,
+            &mut nodes,
+            node(Some(0), DW_TAG_variable, one(rt, alloc, value)),
+        );
+    }
+    unit_of(rt, alloc, 4, nodes)
+}
+
+// From a place on stand these bytes.
+fn stand_at(rt: &impl Abort, info: &[u8], at: usize, bytes: &[u8]) {
+    assert!(rt; at <= info.len());
+    assert!(rt; info[at..].starts_with(bytes));
+}
+
 // ---- tables
+
+// The first stretch that one thread hands to the other ends at node 2^13, which is constant 8,191.
+#[test]
+fn two_threads_draft_a_long_unit(rt: HostRuntime) {
+    let alloc = rt.alloc();
+    let unit = constants(&rt, alloc, 20_000);
+    let outside = Outside {
+        table: 0,
+        lines: 0,
+        ranges: 0,
+        locations: 0,
+        texts: &[],
+        line_texts: &[],
+        units: &[],
+        end: 100_013,
+    };
+    let draft = draft_unit_by_two(&rt, alloc, &unit, 0).expect(&rt, "a draft");
+    assert_eq!(rt; draft.len, 100_013);
+    let mut room = Bytes::zeros(alloc, 100_013).expect(&rt, "memory for a unit");
+    put_draft(&draft, 0, &unit, &outside, room.as_mut_slice());
+    let info = room.as_slice();
+    stand_at(&rt, info, 0, &[0xa9, 0x86, 1, 0, 4, 0, 0, 0, 0, 0, 8, 1]);
+    stand_at(&rt, info, 12, &[2, 0, 0, 0, 0, 2, 1, 0, 0, 0]);
+    stand_at(
+        &rt,
+        info,
+        40_962,
+        &[2, 0xfe, 0x1f, 0, 0, 2, 0xff, 0x1f, 0, 0, 2, 0, 0x20, 0, 0],
+    );
+    stand_at(&rt, info, 100_007, &[2, 0x1f, 0x4e, 0, 0, 0]);
+}
 
 #[rattlefmt::skip]
 #[test]
