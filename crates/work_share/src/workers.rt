@@ -38,7 +38,10 @@ pub fn each<R: Threads + Sync, J: Job + Sync, G: Gate + Sync>(
     in_order(alloc, count, done)
 }
 
-// What so many workers do, the first half of them beside the second.
+// What so many workers do, some of them beside the others.
+//
+// The caller's thread begins as many of the others as its share allows: a system puts a thread that was begun by a new one on
+// the processor of that one, where it waits while other processors have nothing to do.
 #[cycle(sharing)]
 fn shared_out<R: Threads + Sync, J: Job + Sync, G: Gate + Sync>(
     rt: &R,
@@ -60,7 +63,7 @@ fn shared_out<R: Threads + Sync, J: Job + Sync, G: Gate + Sync>(
     let Some(other) = tasks.split(&mut seat) else {
         unreachable!()
     };
-    let back = workers / 2;
+    let back = other.share().min(workers - 1);
     let front = workers - back;
     let (a, b) = join(
         rt,
