@@ -10,7 +10,7 @@ use Rattle.work_share.specs.Counter.{drew, stopped}
 use Rattle.work_share.specs.Fair.{Keeps}
 use Rattle.work_share.specs.Numbers.{above}
 use Rattle.work_share.proofs.Totals.{times-append, times_here, times_other}
-use Rattle.name_bids.specs.declared.noting.ObjectCells.{ObjectCells}
+use Rattle.name_bids.specs.declared.bidding.ObjectCells.{ObjectCells}
 use Rattle.name_bids.specs.Bids.{HasBid, IsOfObject, IsOfTasks}
 use Rattle.name_bids.specs.Noting.{AreCellsOf, AreNoted, IsOneOf, IsPlacedAt}
 use Rattle.name_bids.proofs.Bids.{bid_as, bid_none, bid_then}

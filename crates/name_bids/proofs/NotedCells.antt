@@ -20,7 +20,7 @@ use Rattle.type_pool.specs.Seats.{Placed}
 use Rattle.type_pool.specs.Standing.{IsIn, probes}
 use Rattle.type_pool.specs.Views.{bidden}
 use Rattle.type_pool.proofs.Places.{not_behind_others, others_on, stands_on}
-use Rattle.name_bids.specs.declared.noting.ObjectCells.{ObjectCells}
+use Rattle.name_bids.specs.declared.bidding.ObjectCells.{ObjectCells}
 use Rattle.name_bids.specs.Bids.{IsNotedAt, first_cell}
 use Rattle.name_bids.specs.Noting.{AreCellsFrom, AreCellsOf, AreJoined, AreNoted, IsNotedIn, IsOneOf, IsPlacedAt, IsWithin, cell_in, cells_in}
 use Rattle.name_bids.specs.Reading.{AreCells, IsCellOf}

@@ -22,7 +22,7 @@ use Rattle.work_share.specs.Fair.{IsFair}
 use Rattle.work_share.specs.Numbers.{times}
 use Rattle.work_share.proofs.Totals.{times-append}
 use Rattle.type_pool.proofs.PairLists.{has_left, has_right}
-use Rattle.name_bids.specs.declared.noting.ObjectCells.{ObjectCells}
+use Rattle.name_bids.specs.declared.bidding.ObjectCells.{ObjectCells}
 use Rattle.name_bids.specs.Bids.{HasBid, IsOfTasks}
 use Rattle.name_bids.specs.Noting.{AreNoted, IsPlacedAt}
 use Rattle.name_bids.specs.Reading.{IsCellOf}

@@ -4,7 +4,7 @@ use Rattle.std.specs.List.{All, Contains}
 use Rattle.type_names.specs.Names.{Named}
 use Rattle.type_pool.specs.declared.placing.Placing.{Placing}
 use Rattle.type_pool.specs.declared.placing.Placing.TheVariants.{Cell, Crowded}
-use Rattle.name_bids.specs.declared.noting.ObjectCells.{ObjectCells}
+use Rattle.name_bids.specs.declared.bidding.ObjectCells.{ObjectCells}
 use Rattle.name_bids.specs.Bids.{IsNotedAt, IsNotedCrowded}
 
 -- the cell at which a name was placed, if it is not crowded

@@ -11,7 +11,7 @@ use Rattle.work_share.specs.declared.view.TaskView.{TaskView}
 use Rattle.type_pool.specs.Seats as pool_seats
 use Rattle.work_share.specs.Seats as task_seats
 use Rattle.type_pool.specs.Views.{first_view}
-use Rattle.name_bids.specs.declared.noting.ObjectCells.{ObjectCells}
+use Rattle.name_bids.specs.declared.bidding.ObjectCells.{ObjectCells}
 use Rattle.name_bids.specs.Bids.{HasBid, IsOfTasks}
 use Rattle.name_bids.specs.Noting.{AreNoted, IsPlacedAt}
 use Rattle.name_bids.specs.Tables.{cell_count}

@@ -5,7 +5,7 @@ ghost use Rattle.std.specs.List.{All};
 ghost use Rattle.ds_base.specs.Room.{put};
 ghost use Rattle.name_bids.specs.Noting.{AreJoined, IsWithin};
 
-use crate::noting::ObjectCells;
+use crate::bidding::ObjectCells;
 use ds_base::NoMemory;
 use odr_names::{PathBook, count};
 use std::alloc::Global;

@@ -4,7 +4,7 @@ ghost use Rattle.std.specs.Prelude.{◌≡◌, ◌+◌, ◌<◌, ◌≤◌, ◌^
 ghost use Rattle.name_bids.specs.Noting.{cell_in, cells_in};
 ghost use Rattle.name_bids.specs.Reading.{AreInside, AreLeast, AreLeastFrom};
 
-use crate::noting::noted_cell;
+use crate::bidding::noted_cell;
 use ds_base::NoMemory;
 use odr_names::{PathBook, count, number};
 use std::alloc::Global;

@@ -3,9 +3,8 @@
 //! Layer: names. [`shared_names`] makes the book of a link, and a table of `type_pool` that is open for its names: several
 //! workers make the names of its objects, and then one joins them while another makes the table (`making`, `opening`).
 //! [`bid_objects`] is what one worker does over that table and a counter of `work_share`: it claims one object after the
-//! other, and bids for each of its names at the cell of its path. [`shared_winners`] does that by several workers, each of
-//! which notes the cells (`noting`, `sharing`), closes the table, and joins what was noted to the cells of all names
-//! (`joining`). Several workers then put the names that bid the least in the places of their cells (`least`), and read from
+//! other, bids for each of its names at the cell of its path, and notes the cell. [`shared_winners`] does that by several
+//! workers (`sharing`), closes the table, and joins what was noted to the cells of all names (`joining`). Several workers then put the names that bid the least in the places of their cells (`least`), and read from
 //! these the winner of each name, where crowded names are bid for by themselves (`winners`). What is bid stands in
 //! `specs/Bids.antt`, what is noted in `specs/Noting.antt`, and what the closed table says in `specs/Tables.antt`. The answer
 //! is that of `odr_names`' `winners_plain`, whatever the number of workers.
@@ -15,12 +14,11 @@ mod bidding;
 mod joining;
 mod least;
 mod making;
-mod noting;
 mod opening;
 mod sharing;
 mod winners;
 
-pub use bidding::{BID, bid_objects};
+pub use bidding::{BID, ObjectCells, bid_objects};
 pub use making::shared_names;
 pub use opening::{OpenTable, open_table};
 pub use winners::shared_winners;

@@ -3,7 +3,7 @@
 ghost use Rattle.std.specs.Prelude.{◌≡◌, ◌<◌, ◌≤◌, List as Listed, length, IfOk};
 ghost use Rattle.std.specs.Thread.{IsSync};
 ghost use Rattle.name_bids.specs.Bids.{IsOfTasks};
-ghost use Rattle.name_bids.specs.declared.noting.ObjectCells.{ObjectCells as Own};
+ghost use Rattle.name_bids.specs.declared.bidding.ObjectCells.{ObjectCells as Own};
 ghost use Rattle.name_bids.specs.Noting.{AreNoted, IsPlacedAt, cells_in};
 ghost use Rattle.name_bids.specs.Opening.{IsOpenFor};
 ghost use Rattle.name_bids.specs.Reading.{AreCells, IsCellOf};
@@ -11,8 +11,8 @@ ghost use Rattle.name_bids.specs.Sharing.{AreFor, HasEnded, HasWorked, MayShare,
 ghost use Rattle.name_bids.specs.Tables.{IsTable};
 ghost use Rattle.type_names.specs.Names.{Named};
 
+use crate::bidding::{ObjectCells, bid_objects};
 use crate::joining::joined_cells;
-use crate::noting::{ObjectCells, note_objects};
 use crate::opening::OpenTable;
 use ds_base::NoMemory;
 use ds_files::Gate;
@@ -86,11 +86,12 @@ impl<'a, G: Gate> Worker for Bidder<'a, G> {
         tasks: &Tasks,
         turn: TaskSeat,
     ) -> Result<Worked, NoMemory> {
-        note_objects(self.alloc, pool, seat, self.names, tasks, turn, self.gate)
+        bid_objects(self.alloc, pool, seat, self.names, tasks, turn, self.gate)
     }
 }
 
-/// What so many workers do, the first half of them beside the second.
+/// What so many workers do, some of them beside the others. The caller's thread begins as many of the others as its shares
+/// allow, as it does for the jobs of `work_share`.
 #[cycle(bidders)]
 fn bid_by<R: Threads + Sync, W: Worker + Sync>(
     rt: &R,
@@ -114,7 +115,7 @@ fn bid_by<R: Threads + Sync, W: Worker + Sync>(
     let Some(other_turn) = tasks.split(&mut turn) else {
         unreachable!()
     };
-    let back = workers / 2;
+    let back = other.share().min(other_turn.share()).min(workers - 1);
     let front = workers - back;
     let (a, b) = join(
         rt,

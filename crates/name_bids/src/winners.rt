@@ -8,7 +8,7 @@ ghost use Rattle.name_bids.specs.Tables.{IsTable};
 ghost use Rattle.odr_names.specs.Winners.{AreWinners};
 
 use crate::least::least_names;
-use crate::noting::noted_cell;
+use crate::bidding::noted_cell;
 use crate::opening::OpenTable;
 use crate::sharing::bid_names;
 use ds_base::NoMemory;

@@ -1,7 +1,7 @@
 use Rattle.std.proofs.Common.{◌≡◌, ◌∙◌, ◌+◌, ◌++◌, ◌∷◌, [], List, ap, arith, length, subst, sym, take}
 use Rattle.std.proofs.lemmas.List.{take_more}
 use Rattle.std.proofs.lemmas.List.Elements.{All-get_or}
-use Rattle.name_bids.specs.declared.noting.ObjectCells.{ObjectCells}
+use Rattle.name_bids.specs.declared.bidding.ObjectCells.{ObjectCells}
 use Rattle.name_bids.specs.Noting.{AreJoined, IsWithin}
 use Rattle.name_bids.proofs.NotedCells.{joined_more, joined_none}
 use Rattle.name_bids.proofs.joining.joined_cells.Goals as goal
