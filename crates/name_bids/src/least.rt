@@ -2,13 +2,14 @@
 
 ghost use Rattle.std.specs.Prelude.{◌≡◌, ◌+◌, ◌<◌, ◌≤◌, ◌^◌, ℕ, length, Some, IfNone, IfOk, IfSome};
 ghost use Rattle.name_bids.specs.Noting.{cell_in, cells_in};
-ghost use Rattle.name_bids.specs.Reading.{AreInside, AreLeast, AreLeastFrom};
+ghost use Rattle.name_bids.specs.Reading.{AreInside, AreLeast, AreLeastFrom, IsLeastAt};
 
 use crate::bidding::noted_cell;
+use crate::filling::{Filler, fill_parts};
 use ds_base::NoMemory;
 use odr_names::{PathBook, count, number};
 use std::alloc::Global;
-use std::thread::{Threads, for_each_chunk_mut};
+use std::thread::Threads;
 use type_pool::ClosedPool;
 
 /// Of each cell the name that bid its least word, by at most so many threads.
@@ -26,32 +27,33 @@ pub(crate) fn least_names<R: Threads + Sync>(
     ensures { IfOk result (λ winners. AreLeast names.now closed.now.state.least (cells_in cells.now) winners.items) }
 {
     let mut winners = vec![in alloc; 0; closed.cell_count()]?;
-    put_least_names(rt, workers, closed, names, cells, winners.as_mut_slice());
+    let finder = Finder {
+        closed,
+        names,
+        cells,
+    };
+    fill_parts(rt, workers, &finder, 0, winners.as_mut_slice());
     Ok(winners)
 }
 
-/// Puts the names in the places of their cells, each thread those of some cells one behind the other.
-fn put_least_names<R: Threads + Sync>(
-    rt: &R,
-    workers: u32,
-    closed: &ClosedPool,
-    names: &PathBook,
-    cells: &[u32],
-    winners: &mut [u32],
-)
-    requires workers { (1 ≤ workers) × (workers ≤ 64) }
-    requires len { length cells.now ≡ length names.now }
-    requires inside { AreInside closed.now.state.cells (cells_in cells.now) }
-    ensures len { length winners.new ≡ length winners.old }
-    ensures each { AreLeastFrom names.now closed.now.state.least (cells_in cells.now) (length names.now) 0 winners.new }
-{
-    let size = winners.len() / workers as usize + 1;
-    for_each_chunk_mut(
-        rt,
-        winners,
-        size,
-        &|start, part| find_least(closed, names, cells, start, part),
-    );
+/// Who finds of each cell the name that bid its least word.
+#[derive(Drop)]
+struct Finder<'a, 'b> {
+    closed: &'a ClosedPool,
+    names: &'a PathBook<'b>,
+    cells: &'a [u32],
+    ghost len: { length cells.now ≡ length names.now },
+    ghost inside: { AreInside closed.now.state.cells (cells_in cells.now) },
+}
+
+impl<'a, 'b> Filler for Finder<'a, 'b> {
+    ghost size = { λ it. length it.closed.now.state.least };
+
+    ghost fits = { λ it cell w. IsLeastAt it.names.now it.closed.now.state.least (cells_in it.cells.now) (length it.names.now) cell w };
+
+    fn fill(&self, start: usize, part: &mut [u32]) {
+        find_least(self.closed, self.names, self.cells, start, part);
+    }
 }
 
 /// Puts the names of the cells from this one on in their places.

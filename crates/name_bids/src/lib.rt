@@ -11,6 +11,7 @@
 #![tactic(auto)]
 
 mod bidding;
+mod filling;
 mod joining;
 mod least;
 mod making;

@@ -7,15 +7,16 @@ ghost use Rattle.name_bids.specs.Reading.{AreCells, AreCrowdedTo, AreInside, Are
 ghost use Rattle.name_bids.specs.Tables.{IsTable};
 ghost use Rattle.odr_names.specs.Winners.{AreWinners};
 
-use crate::least::least_names;
 use crate::bidding::noted_cell;
+use crate::filling::{Filler, fill_parts};
+use crate::least::least_names;
 use crate::opening::OpenTable;
 use crate::sharing::bid_names;
 use ds_base::NoMemory;
 use ds_files::Gate;
 use odr_names::{PathBook, count, put_winners};
 use std::alloc::Global;
-use std::thread::{Threads, for_each_chunk_mut};
+use std::thread::Threads;
 use type_pool::ClosedPool;
 
 /// Of each name the one that wins its path, by at most `workers` threads, with the closed table in which they were bid for.
@@ -95,13 +96,26 @@ fn put_winners_read<R: Threads + Sync>(
     requires len { length all.old ≡ length cells.now }
     ensures { (i : ℕ) → i < length all.old → slice_index all.new i ≡ winner_at winners.now (slice_index_or (cells_in cells.now) i None) }
 {
-    let size = all.len() / workers as usize + 1;
-    for_each_chunk_mut(
-        rt,
-        all,
-        size,
-        &|start, part| read_winners(cells, winners, start, part),
-    );
+    let reader = Reader { cells, winners };
+    fill_parts(rt, workers, &reader, 0, all);
+}
+
+/// Who reads the winner of each name, where it stands at a cell.
+#[derive(Drop)]
+struct Reader<'a> {
+    cells: &'a [u32],
+    winners: &'a [u32],
+    ghost inside: { AreInside winners.now (cells_in cells.now) },
+}
+
+impl<'a> Filler for Reader<'a> {
+    ghost size = { λ it. length it.cells.now };
+
+    ghost fits = { λ it x w. w ≡ winner_at it.winners.now (slice_index_or (cells_in it.cells.now) x None) };
+
+    fn fill(&self, start: usize, part: &mut [u32]) {
+        read_winners(self.cells, self.winners, start, part);
+    }
 }
 
 /// Puts the winners of the names from this one on in their places.
