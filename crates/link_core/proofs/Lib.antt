@@ -3,6 +3,7 @@ pub mod Counting
 pub mod LastPart
 pub mod Leaving
 pub mod Batching
+pub mod MadeNames
 pub mod Marking
 pub mod Members
 pub mod Graphs

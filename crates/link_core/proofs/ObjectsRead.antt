@@ -20,7 +20,7 @@ pub going_none : (cpu : ℕ) (sources : List Source) → Going cpu sources 0 [] 
 going_none cpu sources = record { exact = behind_none (analyses_from cpu 1 sources); sound = λ k d lt. absurd (omega (arith, lt)); size = refl; live = mark_none }
 
 module _ (cpu : ℕ) (sources : List Source) (i : ℕ) (seen : List Analysis) (marks : List (List Bool)) (before : Going cpu sources i seen marks) where
-  pub going_all : length sources ≡ i → AreRead cpu sources (record { seen = seen; marks = marks })
+  pub going_all : length sources ≡ i → AreRead cpu sources seen marks
   going_all whole = record {
     exact = objects_all cpu i sources seen before.exact (omega (arith, whole));
     sound = before.sound;

@@ -1,5 +1,6 @@
 pub mod Codes
 pub mod Linked
+pub mod MadeNames
 pub mod Names
 pub mod Passes
 pub mod Shaping

@@ -108,15 +108,15 @@ pub record Going (cpu : ℕ) (sources : List Source) (i : ℕ) (seen : List Anal
   pub live : MarkLive seen marks
 
 -- all objects with the marks of their live entries, where none has a fault
-pub record AreRead (cpu : ℕ) (sources : List Source) (it : ReadObjects) : Type 0 where
-  pub exact : analyses_from cpu 1 sources ≡ Ok it.seen
-  pub sound : All IsSound it.seen
-  pub size : length it.seen ≡ length sources
-  pub live : MarkLive it.seen it.marks
+pub record AreRead (cpu : ℕ) (sources : List Source) (seen : List Analysis) (marks : List (List Bool)) : Type 0 where
+  pub exact : analyses_from cpu 1 sources ≡ Ok seen
+  pub sound : All IsSound seen
+  pub size : length seen ≡ length sources
+  pub live : MarkLive seen marks
 
 -- such objects, or the first fault of the first that has one
 abbrev pub Reads : ℕ → List Source → Result ReadObjects Refusal → Type 0
-Reads cpu sources (Ok it) = AreRead cpu sources it
+Reads cpu sources (Ok it) = AreRead cpu sources it.seen it.marks
 Reads cpu sources (Err (refusals.Faulty file fault)) = analyses_from cpu 1 sources ≡ Err (refusals.Faulty file fault)
 Reads cpu sources (Err (refusals.Limit which n)) = ⊥
 Reads cpu sources (Err refusals.NoMemory) = Unit {0}

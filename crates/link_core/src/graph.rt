@@ -10,9 +10,11 @@ ghost use Rattle.type_names.specs.Names.{Named};
 ghost use Rattle.link_core.specs.Linked.{IsClosed, MarkLive};
 ghost use Rattle.link_core.specs.declared.refusal.LimitKind.TheVariants as limits;
 ghost use Rattle.link_core.specs.declared.refusal.Refusal.TheVariants as refusals;
+ghost use Rattle.link_core.specs.MadeNames.{HaveNames};
 ghost use Rattle.link_core.specs.Passes.{HasPool, Names, Shapes, ShapesAll};
 ghost use Rattle.name_bids.specs.Opening.{IsOpenFor};
 
+use crate::objects::MadeNames;
 use crate::refusal::{LimitKind, Refusal};
 use crate::shaping::shared_shape;
 use ds_base::limits::SECTION_BYTES;
@@ -20,7 +22,7 @@ use ds_base::{BitRow, List, NoMemory};
 use ds_files::Gate;
 use dwarf_types::{Analysis, OutFrames, Shape};
 use link_graph::ShapeError;
-use name_bids::{OpenTable, open_table, shared_names, shared_winners};
+use name_bids::{OpenTable, joined_names, open_table, shared_winners};
 use odr_names::{BookError, MOST_POOLED, PathBook, book, count};
 use std::alloc::Global;
 use std::thread::Threads;
@@ -39,7 +41,7 @@ pub(crate) struct Shaped {
 }
 
 /// The shape of the graph of the live entries of all objects, where those of one name are merged or not; or that too many
-/// entries are merged, or that it has too many units. So many threads make the names and bid for them.
+/// entries are merged, or that it has too many units. `made` is what was made of their names; so many threads bid for them.
 pub(crate) fn shape_of<R: Threads + Sync, G: Gate + Sync>(
     rt: &R,
     alloc: Global,
@@ -48,14 +50,16 @@ pub(crate) fn shape_of<R: Threads + Sync, G: Gate + Sync>(
     odr: bool,
     seen: &[Analysis],
     live: &[BitRow],
+    made: List<MadeNames>,
 ) -> Result<Shaped, Refusal>
     requires workers { (1 ≤ workers) × (workers ≤ 64) }
     requires sound { All IsSound seen.now }
     requires live { MarkLive seen.now live.now }
     requires few { length seen.now < 2 ^ 16 }
+    requires made { HaveNames odr seen.now live.now made }
     ensures { Shapes odr seen.now live.now result }
 {
-    let open = names_of(rt, alloc, workers, odr, seen, live)?;
+    let open = names_of(rt, alloc, workers, odr, seen, live, made)?;
     let (names, table) = open;
     let bids = shared_winners(rt, alloc, workers, gate, &names, table)?;
     let (winners, closed) = bids;
@@ -80,35 +84,48 @@ pub(crate) fn no_names<R: Threads + Sync, G: Gate + Sync>(
     requires workers { (1 ≤ workers) × (workers ≤ 64) }
     ensures { IfOk result (IsClosed []) }
 {
+    let open = no_book(alloc)?;
+    let (names, table) = open;
+    let bids = shared_winners(rt, alloc, workers, gate, &names, table)?;
+    let (_, closed) = bids;
+    Ok(closed)
+}
+
+/// The book of no names, with its table.
+fn no_book<'a>(alloc: Global) -> Result<(PathBook<'a>, OpenTable), NoMemory>
+    ensures names { IfOk result (λ r. r.0 ≡ []) }
+    ensures table { IfOk result (λ r. IsOpenFor r.0 r.1) }
+{
     let names = match book(alloc, &[], &[], false) {
         Ok(names) => names,
         Err(BookError::Pooled) => unreachable!(),
         Err(BookError::NoMemory) => return Err(NoMemory),
     };
     let table = open_table(alloc, count(&names))?;
-    let bids = shared_winners(rt, alloc, workers, gate, &names, table)?;
-    let (_, closed) = bids;
-    Ok(closed)
+    Ok((names, table))
 }
 
-/// The names of the entries that are merged, made by so many threads, with a table that is open for them; or that there are
-/// too many.
-fn names_of<'a, R: Threads + Sync>(
+/// The names of the entries that are merged, joined of what was made for each object, with a table that is open for them; or
+/// that there are too many.
+fn names_of<'a, R: Threads>(
     rt: &R,
     alloc: Global,
     workers: u32,
     odr: bool,
     seen: &'a [Analysis],
     live: &'a [BitRow],
+    made: List<MadeNames>,
 ) -> Result<(PathBook<'a>, OpenTable), Refusal>
-    requires workers { (1 ≤ workers) × (workers ≤ 64) }
-    requires sound { All IsSound seen.now }
     requires live { MarkLive seen.now live.now }
     requires few { length seen.now < 2 ^ 16 }
+    requires made { HaveNames odr seen.now live.now made }
     ensures names { Names odr seen.now live.now (result_map_both (λ r. r.0) (λ e. e) result) }
     ensures table { IfOk result (λ r. IsOpenFor r.0 r.1) }
 {
-    match shared_names(rt, alloc, workers, seen, live, odr) {
+    if !odr {
+        return Ok(no_book(alloc)?);
+    }
+    match joined_names(rt, alloc, workers, seen, live, made) {
         Ok(open) => Ok(open),
         Err(BookError::Pooled) => Err(Refusal::Limit {
             which: LimitKind::Pooled,

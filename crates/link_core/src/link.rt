@@ -7,6 +7,7 @@ ghost use Rattle.macho_read.specs.Kind.{kind_of};
 ghost use Rattle.macho_read.specs.Sound.{IsSound as IsSoundImage};
 ghost use Rattle.dwarf_types.specs.Sound.{IsSound};
 ghost use Rattle.link_core.specs.Linked.{Bundles, MarkLive, sources_of};
+ghost use Rattle.link_core.specs.MadeNames.{HaveNames};
 ghost use Rattle.link_core.specs.Passes.{Links};
 
 use crate::bundle::{Counted, Linked, Options};
@@ -14,6 +15,7 @@ use crate::counts::{count_entries, count_live};
 use crate::drafting::drafts_of;
 use crate::graph::{Shaped, frames_of, shape_of};
 use crate::image::bundle_of;
+use crate::objects::MadeNames;
 use crate::reading::{ReadObjects, read_files, read_objects};
 use crate::refusal::Refusal;
 use crate::room::let_go;
@@ -28,13 +30,13 @@ use std::thread::Threads;
 
 /// Links the objects of a program to its bundle: the image and Info.plist for a program of this name.
 ///
-/// `source` tells for each object the number of its file among `files`; an object without one has no entries. Faults
-/// come in the order of the objects, which are numbered from 1, and behind them the limits: of merged entries, of
-/// units, of a unit's bytes, of a section's, of the image's. `options` tells whether types of one name are merged, and how
-/// many threads read the objects, bid for the names that are merged, clone and draft the units of the output, and write
-/// its sections. Each passes `gate` once for an object before it reads it and before it bids for its names, and once for
-/// a unit before it clones it and before it drafts it. Nothing that is written depends on the number of threads: the
-/// closed table alone may have a name at another cell.
+/// `source` tells for each object the number of its file among `files`; an object without one has no entries. Faults come
+/// in the order of the objects, which are numbered from 1, and behind them the limits: of merged entries, of units, of a
+/// unit's bytes, of a section's, of the image's. `options` tells whether types of one name are merged, and how many
+/// threads read the objects and make their names, bid for those that are merged, clone and draft the units of the output,
+/// and write its sections. Each passes `gate` once for an object before it reads it and before it bids for its names, and
+/// once for a unit before it clones it and before it drafts it. Nothing that is written depends on the number of threads:
+/// the closed table alone may have a name at another cell.
 pub fn link_objects<R: Threads + Sync, G: Gate + Sync>(
     rt: &R,
     alloc: Global,
@@ -61,11 +63,12 @@ pub fn link_objects<R: Threads + Sync, G: Gate + Sync>(
         options.workers,
         gate,
         program.cpu,
+        options.odr,
         objects,
         files,
         source,
     )?;
-    let ReadObjects { seen, marks } = read;
+    let ReadObjects { seen, marks, made } = read;
     link_marked(
         rt,
         alloc,
@@ -75,6 +78,7 @@ pub fn link_objects<R: Threads + Sync, G: Gate + Sync>(
         name,
         seen,
         marks.as_slice(),
+        made,
     )
 }
 
@@ -121,11 +125,12 @@ pub fn link_files<R: Threads + Sync, G: Gate + Sync>(
         options.workers,
         gate,
         program.cpu,
+        options.odr,
         objects,
         files,
         source,
     )?;
-    let ReadObjects { seen, marks } = read;
+    let ReadObjects { seen, marks, made } = read;
     link_marked(
         rt,
         alloc,
@@ -135,10 +140,11 @@ pub fn link_files<R: Threads + Sync, G: Gate + Sync>(
         name,
         seen,
         marks.as_slice(),
+        made,
     )
 }
 
-/// Links the marked entries of objects to the bundle of a program of this name.
+/// Links the marked entries of objects to the bundle of a program of this name. `made` is what was made of their names.
 fn link_marked<R: Threads + Sync, G: Gate + Sync>(
     rt: &R,
     alloc: Global,
@@ -148,12 +154,14 @@ fn link_marked<R: Threads + Sync, G: Gate + Sync>(
     name: &str,
     seen: List<Analysis>,
     marks: &[BitRow],
+    made: List<MadeNames>,
 ) -> Result<Linked, Refusal>
     requires workers { (1 ≤ options.now.workers) × (options.now.workers ≤ 64) }
     requires program { IsSoundImage program.now }
     requires few { length seen < 2 ^ 16 }
     requires sound { All IsSound seen }
     requires live { MarkLive seen marks.now }
+    requires made { HaveNames options.now.odr seen marks.now made }
     ensures { Links options.now.odr program.now name.now seen marks.now result }
 {
     let objects = seen.len() as u64;
@@ -167,6 +175,7 @@ fn link_marked<R: Threads + Sync, G: Gate + Sync>(
         options.odr,
         seen.as_slice(),
         marks,
+        made,
     )?;
     let Shaped {
         shape,

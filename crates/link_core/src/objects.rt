@@ -8,7 +8,9 @@ ghost use Rattle.std.specs.Option.{option_map};
 ghost use Rattle.ds_base.specs.Reading.{Finds, Gives};
 ghost use Rattle.dwarf_types.specs.Sound.{IsSound};
 ghost use Rattle.object_view.specs.Analysis.{analysis_of};
+ghost use Rattle.odr_names.specs.Making.{IsLiveRow};
 ghost use Rattle.link_core.specs.Linked.{analysis_from, analysis_in, content_of as bytes_of};
+ghost use Rattle.link_core.specs.MadeNames.{HasNames};
 ghost use Rattle.link_core.specs.Passes.{Numbered, ReadsObject};
 
 use crate::refusal::Refusal;
@@ -17,6 +19,7 @@ use ds_base::{BitRow, Bytes, Fault, List, NoMemory, ReadError};
 use dwarf_types::{Analysis, Entries, OutFrames};
 use liveness::live;
 use object_view::analyse;
+use odr_names::{BookError, ObjectNames, object_names};
 use stab_map::MapObject;
 use std::alloc::Global;
 
@@ -26,27 +29,60 @@ pub(crate) struct ReadObject {
     pub analysis: Analysis,
     /// The marks of its live entries.
     pub live: BitRow,
+    /// What was made of its names, where those of one name are merged.
+    pub made: Option<MadeNames>,
 }
 
-/// The object of a number for a program of this CPU type, or its first fault.
+/// The names of an object, or why it has none.
+pub(crate) type MadeNames = Result<ObjectNames, BookError>;
+
+/// The object of a number for a program of this CPU type, or its first fault; with its names, if they are wanted. That it has
+/// too many is no fault.
 pub(crate) fn read_object(
     alloc: Global,
     cpu: u32,
+    named: bool,
     number: u32,
     object: &MapObject,
     files: &[Bytes],
     archives: &[Members],
     source: Option<u32>,
 ) -> Result<ReadObject, Refusal>
+    requires counted { (1 ≤ number) × (number < 2 ^ 16) }
     requires held { IfSome source (λ n. n < length files.now) }
     requires archives { archives.now ≡ files.now }
     requires small { All (λ file. length file < 2 ^ 32) files.now }
-    ensures { ReadsObject number (analysis_from cpu object.now (option_map (λ k. slice_index_or files.now k []) source)) result }
+    ensures read { ReadsObject number (analysis_from cpu object.now (option_map (λ k. slice_index_or files.now k []) source)) result }
+    ensures names { IfOk result (λ it. HasNames named number it.analysis it.live it.made) }
 {
     let read = analysis(alloc, cpu, object, files, archives, source);
     let analysis = numbered(number, read)?;
     let live = live(alloc, &analysis)?;
-    Ok(ReadObject { analysis, live })
+    let made = made_names(alloc, named, number, &analysis, &live);
+    Ok(ReadObject {
+        analysis,
+        live,
+        made,
+    })
+}
+
+/// What is made of the names of the object of a number, if they are wanted.
+fn made_names(
+    alloc: Global,
+    named: bool,
+    number: u32,
+    analysis: &Analysis,
+    live: &BitRow,
+) -> Option<MadeNames>
+    requires counted { (1 ≤ number) × (number < 2 ^ 16) }
+    requires sound { IsSound analysis.now }
+    requires live { IsLiveRow analysis.now.entries live.now }
+    ensures { HasNames named number analysis.now live.now result }
+{
+    if !named {
+        return None;
+    }
+    Some(object_names(alloc, analysis, live, number))
 }
 
 /// The members of each file; a file that is no archive has none.

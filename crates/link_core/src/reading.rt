@@ -1,13 +1,15 @@
 //! All objects of a program, read by several threads.
 
-ghost use Rattle.std.specs.Prelude.{◌≡◌, ◌<◌, ◌≤◌, ◌+◌, ◌-◌, ◌^◌, ℕ, List as Listed, IfOk, IfSome, length};
+ghost use Rattle.std.specs.Prelude.{◌≡◌, ◌<◌, ◌≤◌, ◌+◌, ◌-◌, ◌++◌, ◌^◌, ℕ, Bool, List as Listed, IfOk, IfSome, OnOk, length};
+ghost use Rattle.std.specs.Option.{option_to_list};
 ghost use Rattle.std.specs.List.{All};
 ghost use Rattle.work_share.specs.Results.{GivesAll};
 ghost use Rattle.link_core.specs.Linked.{Source, sources_of};
+ghost use Rattle.link_core.specs.MadeNames.{HaveNames, NamesAt, ReadsNamed};
 ghost use Rattle.link_core.specs.Passes.{HoldsFrom, MayRead, Reads, ReadsAt, ReadsBatch};
 
 use crate::files::{FilesLeft, batch_end, drop_files};
-use crate::objects::{ReadObject, members_of, read_object};
+use crate::objects::{MadeNames, ReadObject, members_of, read_object};
 use crate::refusal::Refusal;
 use crate::results::in_turn;
 use crate::room::let_go;
@@ -30,6 +32,8 @@ pub(crate) struct ReadObjects {
     pub seen: List<Analysis>,
     /// The marks of the live entries of each.
     pub marks: List<BitRow>,
+    /// What was made of the names of each, where those of one name are merged.
+    pub made: List<MadeNames>,
 }
 
 /// What is read of a batch of objects.
@@ -45,6 +49,8 @@ pub(crate) struct ReadBatch {
 struct Reading<'a, G> {
     alloc: Global,
     cpu: u32,
+    /// Whether its names are made too.
+    named: bool,
     objects: &'a [MapObject],
     files: &'a [Bytes],
     archives: &'a [Members<'a>],
@@ -59,7 +65,7 @@ impl<'a, G: Gate> Job for Reading<'a, G> {
 
     ghost takes = { λ job item. MayRead job.objects.now job.files.now job.archives.now job.source.now (job.first + item) };
 
-    ghost gives = { λ job item out. ReadsAt job.cpu (sources_of job.objects.now job.files.now job.source.now) (job.first + item) out };
+    ghost gives = { λ job item out. ReadsNamed job.named job.cpu (sources_of job.objects.now job.files.now job.source.now) (job.first + item) out };
 
     fn run(&self, item: u32) -> Result<ReadObject, Refusal> {
         let object = self.first + item;
@@ -67,6 +73,7 @@ impl<'a, G: Gate> Job for Reading<'a, G> {
         read_object(
             self.alloc,
             self.cpu,
+            self.named,
             object + 1,
             &self.objects[object as usize],
             self.files,
@@ -76,8 +83,8 @@ impl<'a, G: Gate> Job for Reading<'a, G> {
     }
 }
 
-/// The analyses of objects for a program of this CPU type, with the marks of their live entries, or the first fault of the
-/// first object that has one.
+/// The analyses of objects for a program of this CPU type, with the marks of their live entries and their names, if these are
+/// wanted; or the first fault of the first object that has one.
 ///
 /// Objects are numbered from 1, and `source` tells for each the number of its file among `files`, counted from 0; an
 /// object without one has no entries. Each archive is walked once. So many threads read, and which of them meets a fault
@@ -88,6 +95,7 @@ pub(crate) fn read_objects<R: Threads + Sync, G: Gate + Sync>(
     workers: u32,
     gate: &G,
     cpu: u32,
+    named: bool,
     objects: &[MapObject],
     files: &[Bytes],
     source: &[Option<u32>],
@@ -97,7 +105,8 @@ pub(crate) fn read_objects<R: Threads + Sync, G: Gate + Sync>(
     requires each { length source.now ≡ length objects.now }
     requires held { All (λ k. IfSome k (λ n. n < length files.now)) source.now }
     requires small { All (λ file. length file < 2 ^ 32) files.now }
-    ensures { Reads cpu (sources_of objects.now files.now source.now) result }
+    ensures read { Reads cpu (sources_of objects.now files.now source.now) result }
+    ensures names { IfOk result (λ it. HaveNames named it.seen it.marks it.made) }
 {
     let outs = read_batch(
         rt,
@@ -105,6 +114,7 @@ pub(crate) fn read_objects<R: Threads + Sync, G: Gate + Sync>(
         workers,
         gate,
         cpu,
+        named,
         objects,
         files,
         source,
@@ -121,6 +131,7 @@ pub(crate) fn read_files<R: Threads + Sync, G: Gate + Sync>(
     workers: u32,
     gate: &G,
     cpu: u32,
+    named: bool,
     objects: &[MapObject],
     files: List<Bytes>,
     source: &[Option<u32>],
@@ -130,7 +141,8 @@ pub(crate) fn read_files<R: Threads + Sync, G: Gate + Sync>(
     requires each { length source.now ≡ length objects.now }
     requires held { All (λ k. IfSome k (λ n. n < length files)) source.now }
     requires small { All (λ file. length file < 2 ^ 32) files }
-    ensures { Reads cpu (sources_of objects.now files source.now) result }
+    ensures read { Reads cpu (sources_of objects.now files source.now) result }
+    ensures names { IfOk result (λ it. HaveNames named it.seen it.marks it.made) }
 {
     let read = read_objects(
         rt,
@@ -138,6 +150,7 @@ pub(crate) fn read_files<R: Threads + Sync, G: Gate + Sync>(
         workers,
         gate,
         cpu,
+        named,
         objects,
         files.as_slice(),
         source,
@@ -174,6 +187,7 @@ pub(crate) fn read_next<R: Threads + Sync, G: Gate + Sync>(
         workers,
         gate,
         cpu,
+        false,
         objects,
         files.left.as_slice(),
         source,
@@ -198,6 +212,7 @@ fn read_batch<R: Threads + Sync, G: Gate + Sync>(
     workers: u32,
     gate: &G,
     cpu: u32,
+    named: bool,
     objects: &[MapObject],
     files: &[Bytes],
     source: &[Option<u32>],
@@ -210,12 +225,13 @@ fn read_batch<R: Threads + Sync, G: Gate + Sync>(
     requires held { All (λ k. IfSome k (λ n. n < length files.now)) source.now }
     requires small { All (λ file. length file < 2 ^ 32) files.now }
     requires order { (first ≤ end) × (end ≤ length objects.now) }
-    ensures { IfOk result (λ outs. GivesAll (λ k out. ReadsAt cpu (sources_of objects.now files.now source.now) (first + k) out) (end - first) outs.items) }
+    ensures { IfOk result (λ outs. GivesAll (λ k out. ReadsNamed named cpu (sources_of objects.now files.now source.now) (first + k) out) (end - first) outs.items) }
 {
     let archives = members_of(alloc, files)?;
     let job = Reading {
         alloc,
         cpu,
+        named,
         objects,
         files,
         archives: archives.as_slice(),
@@ -240,14 +256,27 @@ fn read_batch<R: Threads + Sync, G: Gate + Sync>(
 
 /// The objects that were read, or the first fault of the first that has one.
 fn all_read(alloc: Global, outs: Vec<Result<ReadObject, Refusal>>) -> Result<ReadObjects, Refusal>
-    ensures { (cpu : ℕ) (sources : Listed Source) → GivesAll (ReadsAt cpu sources) (length sources) outs.items → Reads cpu sources result }
+    ensures read { (cpu : ℕ) (sources : Listed Source) → GivesAll (ReadsAt cpu sources) (length sources) outs.items → Reads cpu sources result }
+    ensures names { (named : Bool) (count : ℕ) → GivesAll (NamesAt named) count outs.items → IfOk result (λ it. HaveNames named it.seen it.marks it.made) }
 {
     let mut seen = List::with_capacity(alloc, outs.len())?;
     let mut marks = List::with_capacity(alloc, outs.len())?;
+    let mut made = List::new(alloc);
     for out in outs {
         let object = out?;
         seen.push(object.analysis)?;
         marks.push(object.live)?;
+        put_made(&mut made, object.made)?;
     }
-    Ok(ReadObjects { seen, marks })
+    Ok(ReadObjects { seen, marks, made })
+}
+
+/// Puts what was made of the names of an object behind that of the objects before, if anything was made.
+fn put_made(all: &mut List<MadeNames>, made: Option<MadeNames>) -> Result<(), NoMemory>
+    ensures { OnOk result (all.new ≡ all.old ++ option_to_list made) }
+{
+    let Some(made) = made else {
+        return Ok(());
+    };
+    all.push(made)
 }

@@ -132,7 +132,7 @@ impl Unmerged {
         ensures { (seen : Listed Seen) (marks : Listed (Listed Bool)) → MayAdd seen marks self.old object
             → OnOk result (IsUnmerged (seen ++ object.analysis ∷ []) (marks ++ object.live ∷ []) self.new) }
     {
-        let ReadObject { analysis, live } = object;
+        let ReadObject { analysis, live, .. } = object;
         let entries = analysis.entries.len() as u32;
         self.entries += u64::from(entries);
         self.live += u64::from(count_marks(&live, entries));

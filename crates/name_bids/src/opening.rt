@@ -40,13 +40,16 @@ impl Promise<Result<OpenTable, NoMemory>> for ForNames {
     ghost kept_by = { λ promise made. IfOk made (λ table. table.pool.names ≡ promise.names) };
 }
 
-/// A thread that makes a table, or none where it can't be started.
+/// A thread that makes a table, or none where it is not started.
 pub(crate) type Opening = Option<PromisedHandle<Result<OpenTable, NoMemory>, ForNames>>;
 
-/// Starts a thread that makes a table for so many names.
-pub(crate) fn start_table<R: Threads>(rt: &R, alloc: Global, names: u32) -> Opening
+/// Starts a thread that makes a table for so many names, where more than one worker is given.
+pub(crate) fn start_table<R: Threads>(rt: &R, alloc: Global, workers: u32, names: u32) -> Opening
     ensures { IfSome result (λ thread. thread.promise.names ≡ names) }
 {
+    if workers < 2 {
+        return None;
+    }
     spawn_with(rt, ForNames { names }, move || open_table(alloc, names)).ok()
 }
 

@@ -21,7 +21,7 @@ use type_pool::ClosedPool;
 
 /// Of each name the one that wins its path, by at most `workers` threads, with the closed table in which they were bid for.
 ///
-/// `table` is open for as many names as the book has ([`crate::shared_names`], [`crate::open_table`]).
+/// `table` is open for as many names as the book has ([`crate::joined_names`], [`crate::open_table`]).
 ///
 /// Each worker passes the gate once for each object that it claims. A worker for which no thread can be started does its
 /// work in the caller's.

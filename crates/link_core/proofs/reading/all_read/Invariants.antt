@@ -1,6 +1,7 @@
-use Rattle.std.proofs.Common.{◌≡◌, ◌++◌, ℕ, List, length}
+use Rattle.std.proofs.Common.{◌≡◌, ◌++◌, ℕ, Bool, List, length}
 use Rattle.work_share.specs.Results.{GivesAll}
 use Rattle.link_core.specs.Linked.{Source}
+use Rattle.link_core.specs.MadeNames.{HaveNames, NamesAt}
 use Rattle.link_core.specs.Passes.{Going, ReadsAt}
 use Rattle.link_core.proofs.reading.all_read.Given as goal
 
@@ -9,3 +10,5 @@ abbrev pub invariant-loop-out : goal.invariant-loop-out
 invariant-loop-out l =
     (l.yielded ++ l.out-iterator.rest.items ≡ l.initial.out-iterator.rest.items)
     × ((cpu : ℕ) (sources : List Source) → GivesAll (ReadsAt cpu sources) (length sources) l.initial.out-iterator.rest.items → Going cpu sources (length l.yielded) l.seen l.marks)
+    × (length l.seen ≡ length l.yielded) × (length l.marks ≡ length l.yielded)
+    × ((named : Bool) (count : ℕ) → GivesAll (NamesAt named) count l.initial.out-iterator.rest.items → HaveNames named l.seen l.marks l.made)

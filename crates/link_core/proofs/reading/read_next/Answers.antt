@@ -23,7 +23,7 @@ returns g c =
       record {
         some = c.batch_end-end.ensures.0;
         within = omega (arith, c.batch_end-end.ensures.1, c.requires.each, sources_long objects all source c.requires.each);
-        given = read_held all c.as_slice.result.now c.args.cpu first end objects source c.in_ok-outs.outs.items (subst (AreHeld first source all) (sym c.as_slice.ensures) holds.held) c.in_ok-outs.ensures;
+        given = read_held all c.as_slice.result.now c.args.cpu first end objects source c.in_ok-outs.outs.items (subst (AreHeld first source all) (sym c.as_slice.ensures) holds.held) (c.in_ok-outs.ensures.0, λ k out at. (c.in_ok-outs.ensures.1 k out at).0);
       },
       record {
         held = subst (AreHeld end source all) (sym lent) (c.drop_files.ensures.held all (subst (AreHeld end source all) (sym value) (held_from first end source all left le holds.held)));

@@ -17,5 +17,7 @@ returns g c =
     let n : Option ℕ = get_or numbers i None in
     let lt : i < length objects = c.requires.there in
     let lt' : i < length numbers = omega (arith, lt, c.requires.each) in
-    let is = source_at objects files numbers i o n lt lt' (get_or_default objects i c.index-self-object.result o lt) (get_or_default numbers i None n lt') in
-    λ s at. subst (λ (it : Source). ReadsObject (i + 1) (analysis_from c.args.self.now.cpu it.object it.file) c.read_object.result) (is ∙ get_or_from_slice_get (sources_of objects files numbers) i s (source_of files (o, n)) at) c.read_object.ensures
+    let is = source_at objects files numbers i o n lt lt' (get_or_default objects i c.index-self-object.result o lt) (get_or_default numbers i None n lt') in (
+      λ s at. subst (λ (it : Source). ReadsObject (i + 1) (analysis_from c.args.self.now.cpu it.object it.file) c.read_object.result) (is ∙ get_or_from_slice_get (sources_of objects files numbers) i s (source_of files (o, n)) at) c.read_object.ensures.read,
+      c.read_object.ensures.names,
+    )

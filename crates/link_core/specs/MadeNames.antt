@@ -1,0 +1,31 @@
+-- What is made of the names of the objects that are read, where those of one name are merged.
+use Rattle.std.specs.Prelude.{◌≡◌, ◌+◌, ℕ, Bool, true, false, List, [], Option, Some, None, Result, IfOk}
+use Rattle.dwarf_types.specs.declared.analysis.Analysis.{Analysis}
+use Rattle.name_bids.specs.Making.{AreMade, GivesNames}
+use Rattle.odr_names.specs.Book.{objects_of}
+use Rattle.odr_names.specs.declared.book_error.BookError.{BookError}
+use Rattle.odr_names.specs.declared.one_object.ObjectNames.{ObjectNames}
+use Rattle.type_names.specs.Objects.{object_of}
+use Rattle.link_core.specs.declared.objects.ReadObject.{ReadObject}
+use Rattle.link_core.specs.declared.refusal.Refusal.{Refusal}
+use Rattle.link_core.specs.Linked.{Source}
+use Rattle.link_core.specs.Passes.{ReadsAt}
+
+-- what is made for the object of a number: its names, or it has too many; nothing where none are merged
+abbrev pub HasNames : Bool → ℕ → Analysis → List Bool → Option (Result ObjectNames BookError) → Type 0
+HasNames true number object row (Some one) = GivesNames number (object_of object row) one
+HasNames true number object row None = ⊥
+HasNames false number object row made = made ≡ None
+
+-- the same of the object at a place, where it is read
+abbrev pub NamesAt : Bool → ℕ → Result ReadObject Refusal → Type 0
+NamesAt named item out = IfOk out (λ it. HasNames named (item + 1) it.analysis it.live it.made)
+
+-- an object at a place is read with its names, for a program of this CPU type
+abbrev pub ReadsNamed : Bool → ℕ → List Source → ℕ → Result ReadObject Refusal → Type 0
+ReadsNamed named cpu sources item out = ReadsAt cpu sources item out × NamesAt named item out
+
+-- what is made for each object, or nothing
+abbrev pub HaveNames : Bool → List Analysis → List (List Bool) → List (Result ObjectNames BookError) → Type 0
+HaveNames true seen marks made = AreMade (objects_of seen marks) made
+HaveNames false seen marks made = made ≡ []
