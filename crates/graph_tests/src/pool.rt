@@ -20,6 +20,7 @@ use liveness::live;
 use odr_names::{book, winners_plain};
 use std::alloc::Global;
 use std::process::Abort;
+use std::thread::Threads;
 use unit_source::{OutAttrRef, OutValueRef, UnitSource};
 
 // ---- words
@@ -83,7 +84,12 @@ fn words_of(alloc: Global, unit: &UnitClone) -> Result<Vec<u8>, NoMemory> {
 // ---- units
 
 /// The first unit that is linked of two objects, in words; none where there is no unit, or there are too many names.
-fn first_unit(alloc: Global, first: Analysis, second: Analysis) -> Result<Option<Vec<u8>>, NoMemory>
+fn first_unit<R: Threads + Sync>(
+    rt: &R,
+    alloc: Global,
+    first: Analysis,
+    second: Analysis,
+) -> Result<Option<Vec<u8>>, NoMemory>
     requires first { IsSound first }
     requires second { IsSound second }
 {
@@ -93,7 +99,7 @@ fn first_unit(alloc: Global, first: Analysis, second: Analysis) -> Result<Option
         return Ok(None);
     };
     let winners = winners_plain(alloc, &names)?;
-    let Ok(shape) = build(alloc, &seen, &rows, &names, &winners) else {
+    let Ok(shape) = build(rt, alloc, &seen, &rows, &names, &winners) else {
         return Err(NoMemory);
     };
     if shape.units.is_empty() {
@@ -104,7 +110,8 @@ fn first_unit(alloc: Global, first: Analysis, second: Analysis) -> Result<Option
 }
 
 /// The same of two analyses, where they are sound.
-fn pooled(
+fn pooled<R: Threads + Sync>(
+    rt: &R,
     alloc: Global,
     first: Result<Analysis, NoMemory>,
     second: Result<Analysis, NoMemory>,
@@ -114,7 +121,7 @@ fn pooled(
     if !is_sound(&first) || !is_sound(&second) {
         return Ok(None);
     }
-    first_unit(alloc, first, second)
+    first_unit(rt, alloc, first, second)
 }
 
 fn assert_pooled(
@@ -166,8 +173,8 @@ fn merged_entries_name_files_by_first_use(rt: HostRuntime) {
     let one = [unit([NONE, NONE, NONE, NONE]), user(2), declared(b'A', 1)];
     let four = [unit([Says::Text(DW_AT_comp_dir, b'c'), NONE, NONE, NONE]), user(5), user(6), user(7), user(8), declared(b'B', 0), declared(b'C', 2), declared(b'D', 3), declared(b'E', 9)];
     let files = [(b'f', 0), (b'f', 0), (b'g', 1), (b'f', 1)];
-    assert_pooled(&rt, "in version 4 files are counted from 1, and directory 0 is that of the compilation", pooled(a, analysis_of_files(a, 4, b"d", &[(b'f', 1)], &one), analysis_of_files(a, 4, b"pd", &files, &four)),
+    assert_pooled(&rt, "in version 4 files are counted from 1, and directory 0 is that of the compilation", pooled(&rt, a, analysis_of_files(a, 4, b"d", &[(b'f', 1)], &one), analysis_of_files(a, 4, b"pd", &files, &four)),
         b"4 d;c;p; f@1 f@2 g@3\n\nf/1\nf/0\nf/2\nf/3\n");
-    assert_pooled(&rt, "in version 5 both are counted from 0", pooled(a, analysis_of_files(a, 4, b"d", &[(b'f', 1)], &one), analysis_of_files(a, 5, b"pd", &files, &four)),
+    assert_pooled(&rt, "in version 5 both are counted from 0", pooled(&rt, a, analysis_of_files(a, 4, b"d", &[(b'f', 1)], &one), analysis_of_files(a, 5, b"pd", &files, &four)),
         b"5 ;d;p; f@1 f@1 f@2 g@1\n\nf/1\nf/2\nf/3\nf/1\n");
 }

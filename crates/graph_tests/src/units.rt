@@ -24,6 +24,7 @@ use link_graph::build;
 use odr_names::{book, winners_plain};
 use std::alloc::Global;
 use std::process::Abort;
+use std::thread::Threads;
 use unit_source::{NodeHead, OutAttrRef, OutValueRef, UnitSource};
 
 // ---- words
@@ -128,7 +129,8 @@ fn put_unit(alloc: Global, line: &mut Vec<u8>, unit: &UnitClone) -> Result<(), N
 // ---- units
 
 /// The units that are linked of two objects of which no entries are merged, in words.
-fn both(
+fn both<R: Threads + Sync>(
+    rt: &R,
     alloc: Global,
     first: Analysis,
     second: Analysis,
@@ -146,7 +148,7 @@ fn both(
         return Err(NoMemory);
     };
     let winners = winners_plain(alloc, &names)?;
-    let Ok(shape) = build(alloc, &seen, &live, &names, &winners) else {
+    let Ok(shape) = build(rt, alloc, &seen, &live, &names, &winners) else {
         return Err(NoMemory);
     };
     let mut line = Vec::new(alloc);
@@ -161,7 +163,8 @@ fn both(
 }
 
 /// The units that are linked of two analyses, where they are sound.
-fn linked(
+fn linked<R: Threads + Sync>(
+    rt: &R,
     alloc: Global,
     first: Result<Analysis, NoMemory>,
     first_live: &[u8],
@@ -175,7 +178,7 @@ fn linked(
     }
     let first_live = marks(alloc, first_live, first.entries.len() as u32)?;
     let second_live = marks(alloc, second_live, second.entries.len() as u32)?;
-    Ok(Some(both(alloc, first, second, first_live, second_live)?))
+    Ok(Some(both(rt, alloc, first, second, first_live, second_live)?))
 }
 
 fn assert_linked(
@@ -211,7 +214,7 @@ fn units_say_what_their_entries_say(rt: HostRuntime) {
         under(0, DW_TAG_subprogram, [Says::Moved(DW_AT_low_pc, 0x3f50), Says::Number(DW_AT_high_pc, DW_FORM_data4, 0x2a), NONE, NONE]),
     ];
     let its_code = [piece(1, 0x3f50, 0x3f7a)];
-    assert_linked(&rt, "two objects", linked(a, analysis(a, &rows, &code), b"x.xxxx.", analysis(a, &function, &its_code), b"xx"),
+    assert_linked(&rt, "two objects", linked(&rt, a, analysis(a, &rows, &code), b"x.xxxx.", analysis(a, &function, &its_code), b"xx"),
         b"4L111[ 1004-1006 1006-1008]\n11: 3=ta 3f=n19/1 11=a0 55= 1004-1006 1006-1008\n0<2e: 11=a1004 12=a1008 49=r0.2\n0<24: b=nb/4\n1<4109: 11=a1006 12=n6/2\n0<34: 1c=nb/7\n4L111[ 3f50-3f7a]\n11: 3=tm 13=n5/c 11=a0 55= 3f50-3f7a\n0<2e: 11=a3f50 12=n6/2a\n");
 }
 
@@ -230,8 +233,8 @@ fn each_unit_has_its_own_code(rt: HostRuntime) {
     let code = [piece(1, 1, 2), piece(2, 8, 9), piece(2, 3, 9), piece(2, 3, 5), piece(4, 4, 5)];
     let nothing: [Row; 0] = [];
     let none: [CodeRange; 0] = [];
-    assert_linked(&rt, "pieces of dead subprograms and of others are left out", linked(a, analysis(a, &rows, &code), b"x.xxxx", analysis(a, &nothing, &none), b""),
+    assert_linked(&rt, "pieces of dead subprograms and of others are left out", linked(&rt, a, analysis(a, &rows, &code), b"x.xxxx", analysis(a, &nothing, &none), b""),
         b"4L111[ 3-5 3-9 8-9]\n11: 10=p 11=a0 55= 3-5 3-9 8-9\n0<2e: 49=r1.1\n4[ 4-5]\n11: 11=a0 55= 4-5\n0<2e: 49=r0.1\n4[]\n11:\n");
-    assert_linked(&rt, "of the second object", linked(a, analysis(a, &nothing, &none), b"", analysis(a, &rows, &code), b"...xx."),
+    assert_linked(&rt, "of the second object", linked(&rt, a, analysis(a, &nothing, &none), b"", analysis(a, &rows, &code), b"...xx."),
         b"4[ 4-5]\n11: 11=a0 55= 4-5\n0<2e:\n");
 }

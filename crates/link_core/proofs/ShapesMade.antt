@@ -34,20 +34,20 @@ next_one : {A : Type 0} (x : A) (xs : List A) (i : ℕ) → slice_get (x ∷ xs)
 next_one x xs i = let e : i + 1 ≡ suc i = omega arith in ap (slice_get (x ∷ xs)) e
 
 -- the nodes of merged entries come first, since item 0 gives them
-pub paths_first : (seen : List Analysis) (live : List (List Bool)) (names : List Named) (count : ℕ) (outs : List (Result Made NoMemory)) → 0 < count → GivesAll (GivesMade seen live names) count outs → IsPathsFirst outs
-paths_first seen live names count outs some all = record {
+pub paths_first : (seen : List Analysis) (live : List (List Bool)) (names : List Named) (winners : List ℕ) (count : ℕ) (outs : List (Result Made NoMemory)) → 0 < count → GivesAll (GivesMade seen live names winners) count outs → IsPathsFirst outs
+paths_first seen live names winners count outs some all = record {
   some_item = omega (arith, some, all.0);
   paths = λ i paths at. (all.1 i (Ok (made.Paths paths)) at).0;
   objects = λ i own at. (all.1 i (Ok (made.Object own)) at).0;
 }
 
-pub paths_given : (seen : List Analysis) (live : List (List Bool)) (names : List Named) (count : ℕ) (outs : List (Result Made NoMemory)) (paths : PathNodes) (own : List ObjectShape) → Ok (made.Paths paths) ∷ as_made own ≡ outs
-    → GivesAll (GivesMade seen live names) count outs → ArePathNodes names paths
-paths_given seen live names count outs paths own is all = (all.1 0 (Ok (made.Paths paths)) (ap (λ (xs : List (Result Made NoMemory)). slice_get xs 0) (sym is))).1
+pub paths_given : (seen : List Analysis) (live : List (List Bool)) (names : List Named) (winners : List ℕ) (count : ℕ) (outs : List (Result Made NoMemory)) (paths : PathNodes) (own : List ObjectShape) → Ok (made.Paths paths) ∷ as_made own ≡ outs
+    → GivesAll (GivesMade seen live names winners) count outs → ArePathNodes names winners paths
+paths_given seen live names winners count outs paths own is all = (all.1 0 (Ok (made.Paths paths)) (ap (λ (xs : List (Result Made NoMemory)). slice_get xs 0) (sym is))).1
 
-pub all_given : (odr : Bool) (seen : List Analysis) (live : List (List Bool)) (names : List Named) (count : ℕ) (outs : List (Result Made NoMemory)) (paths : PathNodes) (own : List ObjectShape) → All IsSound seen → AreMarked seen live → length seen < 2 ^ 16
-    → names ≡ linked_names odr seen live → count ≡ length seen + 1 → Ok (made.Paths paths) ∷ as_made own ≡ outs → GivesAll (GivesMade seen live names) count outs → AreOwnShapes odr seen live names own
-all_given odr seen live names count outs paths own sound marked few named counted is all = record {
+pub all_given : (odr : Bool) (seen : List Analysis) (live : List (List Bool)) (names : List Named) (winners : List ℕ) (count : ℕ) (outs : List (Result Made NoMemory)) (paths : PathNodes) (own : List ObjectShape) → All IsSound seen → AreMarked seen live → length seen < 2 ^ 16
+    → names ≡ linked_names odr seen live → count ≡ length seen + 1 → Ok (made.Paths paths) ∷ as_made own ≡ outs → GivesAll (GivesMade seen live names winners) count outs → AreOwnShapes odr seen live names own
+all_given odr seen live names winners count outs paths own sound marked few named counted is all = record {
   sound = sound;
   marked = marked;
   few = few;

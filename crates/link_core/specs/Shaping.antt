@@ -1,5 +1,5 @@
 -- What the shape of a link is joined of, made by several workers: the nodes of merged entries first, and then what each object gives.
-use Rattle.std.specs.Prelude.{◌≡◌, ℕ, ◌+◌, ◌-◌, ◌^◌, ◌<◌, ◌≤◌, Bool, List, length, slice_get, Some, Result, Ok, IfOk}
+use Rattle.std.specs.Prelude.{◌≡◌, ℕ, ◌-◌, ◌^◌, ◌<◌, ◌≤◌, Bool, List, length, slice_get, Some, Result, Ok, IfOk}
 use Rattle.std.specs.List.{All}
 use Rattle.ds_base.specs.declared.fault.NoMemory.{NoMemory}
 use Rattle.dwarf_types.specs.declared.analysis.Analysis.{Analysis}
@@ -26,13 +26,13 @@ pub record MayMake (seen : List Analysis) (live : List (List Bool)) (names : Lis
   pub won : AreWinners names winners
 
 -- what is made of an item: 0 is the nodes of merged entries, and behind it stand the objects
-abbrev pub IsMade : List Analysis → List (List Bool) → List Named → ℕ → Made → Type 0
-IsMade seen live names item (made.Paths paths) = (item ≡ 0) × ArePathNodes names paths
-IsMade seen live names item (made.Object own) = (0 < item) × ((odr : Bool) → names ≡ linked_names odr seen live → IsOwnShapeAt (kept_objects odr seen live) (item - 1) own)
+abbrev pub IsMade : List Analysis → List (List Bool) → List Named → List ℕ → ℕ → Made → Type 0
+IsMade seen live names winners item (made.Paths paths) = (item ≡ 0) × ArePathNodes names winners paths
+IsMade seen live names winners item (made.Object own) = (0 < item) × ((odr : Bool) → names ≡ linked_names odr seen live → IsOwnShapeAt (kept_objects odr seen live) (item - 1) own)
 
 -- what is made of it; want of memory says nothing
-abbrev pub GivesMade : List Analysis → List (List Bool) → List Named → ℕ → Result Made NoMemory → Type 0
-GivesMade seen live names item out = IfOk out (IsMade seen live names item)
+abbrev pub GivesMade : List Analysis → List (List Bool) → List Named → List ℕ → ℕ → Result Made NoMemory → Type 0
+GivesMade seen live names winners item out = IfOk out (IsMade seen live names winners item)
 
 -- the nodes of merged entries come first and nowhere else, unless memory ran out for them
 pub record IsPathsFirst (outs : List (Result Made NoMemory)) : Type 0 where

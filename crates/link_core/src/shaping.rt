@@ -14,9 +14,7 @@ ghost use Rattle.link_core.specs.Shaping.{GivesMade, IsPathsFirst, MayMake};
 use ds_base::{BitRow, List, NoMemory};
 use ds_files::OpenGate;
 use dwarf_types::{Analysis, Shape};
-use link_graph::{
-    ObjectShape, PathNodes, ShapeError, object_shape, path_nodes, shared_joined_shape,
-};
+use link_graph::{ObjectShape, PathNodes, ShapeError, joined_shape, object_shape, path_nodes};
 use odr_names::PathBook;
 use std::alloc::Global;
 use std::thread::Threads;
@@ -50,7 +48,7 @@ impl<'a, 'b> Job for Shaping<'a, 'b> {
 
     ghost takes = { λ job item. MayMake job.seen.now job.live.now job.names.now job.winners.now item };
 
-    ghost gives = { λ job item out. GivesMade job.seen.now job.live.now job.names.now item out };
+    ghost gives = { λ job item out. GivesMade job.seen.now job.live.now job.names.now job.winners.now item out };
 
     fn run(&self, item: u32) -> Result<Made, NoMemory> {
         if item == 0 {
@@ -64,7 +62,7 @@ impl<'a, 'b> Shaping<'a, 'b> {
     /// The nodes of merged entries.
     fn paths(&self) -> Result<Made, NoMemory>
         requires { MayMake self.now.seen.now self.now.live.now self.now.names.now self.now.winners.now 0 }
-        ensures { GivesMade self.now.seen.now self.now.live.now self.now.names.now 0 result }
+        ensures { GivesMade self.now.seen.now self.now.live.now self.now.names.now self.now.winners.now 0 result }
     {
         let paths = path_nodes(self.alloc, self.names, self.winners)?;
         Ok(Made::Paths(paths))
@@ -73,7 +71,7 @@ impl<'a, 'b> Shaping<'a, 'b> {
     /// What an object gives.
     fn object(&self, object: u32) -> Result<Made, NoMemory>
         requires { MayMake self.now.seen.now self.now.live.now self.now.names.now self.now.winners.now (object + 1) }
-        ensures { GivesMade self.now.seen.now self.now.live.now self.now.names.now (object + 1) result }
+        ensures { GivesMade self.now.seen.now self.now.live.now self.now.names.now self.now.winners.now (object + 1) result }
     {
         let own = object_shape(self.alloc, self.seen, self.live, self.names, object)?;
         Ok(Made::Object(own))
@@ -82,9 +80,9 @@ impl<'a, 'b> Shaping<'a, 'b> {
 
 /// The shape of what is linked, made by at most `workers` threads.
 ///
-/// It is that of [`link_graph::build`]: one worker makes the nodes of merged entries, and the others the shapes of one
-/// object after the other. Once these are joined, they share the objects whose references are led on. A worker for which
-/// no thread can be started does its work in the caller's.
+/// It is that of [`link_graph::build`]: one worker puts the winners in the order of their nodes, and the others make the
+/// shapes of one object after the other. To join these, they share the nodes of merged entries, and then the objects whose
+/// references are led on. A worker for which no thread can be started does its work in the caller's.
 pub(crate) fn shared_shape<R: Threads + Sync>(
     rt: &R,
     alloc: Global,
@@ -116,7 +114,7 @@ pub(crate) fn shared_shape<R: Threads + Sync>(
     let outs = each(rt, alloc, workers, count, SHAPE, &gate, &job)?;
     let parts = parted(alloc, outs)?;
     let (paths, own) = parts;
-    shared_joined_shape(rt, alloc, workers, names, paths, own)
+    joined_shape(rt, alloc, workers, names, winners, paths, own)
 }
 
 /// The nodes of merged entries, which come first, and what the objects give, unless memory ran out for any.

@@ -317,13 +317,13 @@ shape_whole odr seen live names i units settled plain images places each whole l
         ])
 
 -- who places rows may be given each of these, where it has the nodes and the places of all
-pub all_may : (names : List Named) (nodes lent_nodes : List (Option ℕ)) (places lent : List Place) (images rows : List (List (Option Target))) → AreNodes names nodes → HavePlaces names places images → lent_nodes ≡ nodes → lent ≡ places → rows ≡ images
-    → (i : ℕ) (row : List (Option Target)) → slice_get rows i ≡ Some row → (i < length lent) × AreNodes names lent_nodes × MayPlace names (place_at lent i) row
-all_may names nodes lent_nodes places lent images rows are have nodes_are places_are rows_are i row at =
+pub all_may : (names : List Named) (winners : List ℕ) (nodes lent_nodes : List (Option ℕ)) (places lent : List Place) (images rows : List (List (Option Target))) → AreNodes names winners nodes → HavePlaces names places images → lent_nodes ≡ nodes → lent ≡ places → rows ≡ images
+    → (i : ℕ) (row : List (Option Target)) → slice_get rows i ≡ Some row → (i < length lent) × AreNodes names winners lent_nodes × MayPlace names (place_at lent i) row
+all_may names winners nodes lent_nodes places lent images rows are have nodes_are places_are rows_are i row at =
     let here : slice_get images i ≡ Some row = ap (λ (xs : List (List (Option Target))). slice_get xs i) (sym rows_are) ∙ at in
     let within : i < length places = omega (arith, slice_get_within images i row here, have.len) in (
       omega (arith, within, ap length places_are),
-      subst (AreNodes names) (sym nodes_are) are,
+      subst (AreNodes names winners) (sym nodes_are) are,
       subst (λ (ps : List Place). MayPlace names (place_at ps i) row) (sym places_are) (have.each i (place_at places i) row (slice_get-get_or places i _ within) here),
     )
 

@@ -1,5 +1,5 @@
--- What holds of the items at each place of two lists, and items that are made anew one after the other.
-use Rattle.std.proofs.Common.{◌≡◌, inl, inr, ℕ, ◌<◌, ◌≤◌, List, [], ◌∷◌, ◌++◌, length, slice_get, slice_index_or, Some, refl, sym, ap, subst, ◌∙◌, arith, length-append}
+-- What holds of the items at each place of two lists.
+use Rattle.std.proofs.Common.{◌≡◌, inl, inr, ℕ, List, [], ◌∷◌, ◌++◌, length, slice_get, Some, refl, sym, ap, subst, ◌∙◌, arith, length-append}
 use Rattle.std.proofs.lemmas.Bool.{cases_lt}
 use Rattle.std.proofs.lemmas.Option.{same_Some, slice_get_within}
 use Rattle.odr_names.proofs.BookPaths.{get_before}
@@ -21,11 +21,3 @@ pairs_more {A} {B} P xs ys i x y long wide so_far here k a b at_a at_b = elim (c
       let second : y ≡ b = same_Some y b (sym (slice_get_behind ys y []) ∙ ap (slice_get (ys ++ y ∷ [])) (wide ∙ place) ∙ at_b) in
       subst (λ (n : ℕ). P n a b) place (subst (λ (c : A). P i c b) first (subst (P i x) second here)))
 ]
-
--- ---- one after the other
-
--- the first n items became what is made of them, and the others are as they were
-pub record IsMadeTo {A : Type 0} (make : ℕ → A → A) (old now : List A) (n : ℕ) : Type 0 where
-  pub len : length now ≡ length old
-  pub made : (k : ℕ) (d : A) → k < n → k < length old → slice_index_or now k d ≡ make k (slice_index_or old k d)
-  pub left : (k : ℕ) (d : A) → n ≤ k → slice_index_or now k d ≡ slice_index_or old k d

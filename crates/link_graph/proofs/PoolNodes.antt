@@ -1,8 +1,8 @@
 -- The nodes of paths: each has the place of its winner in preorder.
-use Rattle.std.proofs.Common.{◌≡◌, ◌⊎◌, inl, inr, ℕ, ◌+◌, ◌<◌, ◌≤◌, ◌==◌, not, nat_lt, Bool, true, false, cond, List, [], ◌∷◌, ◌++◌, length, map, Option, Some, None, get_or, refl, sym, ap, ◌∙◌, arith, All, position, option_and_then, option_map}
+use Rattle.std.proofs.Common.{◌≡◌, ◌⊎◌, inl, inr, ℕ, zero, suc, ◌+◌, ◌-◌, ◌<◌, ◌≤◌, ◌==◌, not, nat_lt, Bool, true, false, cond, List, [], ◌∷◌, ◌++◌, length, map, Option, Some, None, get_or, refl, sym, ap, ◌∙◌, arith, All, position, option_and_then, option_map}
 use Rattle.std.specs.List.{position_from, position_or_len}
 use Rattle.std.proofs.lemmas.Bool.{both_ways, cases_eq, eq-eqb, le-ltb, lt-ltb, ltb-true, ne_eqb, cases_lt, false_from_ne_true}
-use Rattle.std.proofs.lemmas.List.{length-map}
+use Rattle.std.proofs.lemmas.List.{get_or-map, length-map, same_lists}
 use Rattle.std.proofs.lemmas.List.Elements.{All-head, All-tail}
 use Rattle.odr_names.specs.Book.{path_at}
 use Rattle.odr_names.specs.Winners.{AreWinners}
@@ -10,9 +10,10 @@ use Rattle.type_names.specs.Names.{Named}
 use Rattle.type_names.specs.Paths.{Piece}
 use Rattle.dwarf_types.specs.declared.shape.Origin.{Origin}
 use Rattle.dwarf_types.specs.declared.shape.ShapeUnit.{ShapeUnit}
+use Rattle.link_graph.specs.Joining.{AreOriginsFrom, origin_at}
 use Rattle.link_graph.specs.Merged.{pool_origin, pool_root, pool_units}
 use Rattle.link_graph.specs.Pool.{node_above, node_of_path, path_above, pool_names, same_path}
-use Rattle.link_graph.specs.PoolOrder.{AreApart, AreGivenTo, AreNodes, AreNodesFrom, IsLinkedUp, IsPreorder, Wins, name_at, node_in_order}
+use Rattle.link_graph.specs.PoolOrder.{AreApart, AreNodes, AreNodesFrom, IsLinkedUp, IsPreorder, Wins, name_at, node_in_order}
 use Rattle.link_graph.proofs.Families.{names_differ, path_is, same_winner, some_path, winner_wins}
 use Rattle.link_graph.proofs.PoolPaths.{above_push, path_same, same_path_from}
 use Rattle.link_graph.proofs.PoolTrees.{preorder_few}
@@ -99,20 +100,37 @@ node_is names winners order x apart are is linked within =
           (path_is names v wins.within ∙ path_same (name_at names v).path (path_at names x) t ∙ sym (are.each x within).same))) ∙ sym (ne_eqb v (get_or winners x 0) other)
     ]
 
-pub nodes_are : (names : List Named) (winners order : List ℕ) (first nodes : List (Option ℕ)) → AreApart names → AreWinners names winners → IsPreorder names winners order → ((x : ℕ) → x < length names → IsLinkedUp names x)
-    → AreNodesFrom order first (length names) 0 → AreGivenTo winners first nodes (length winners) → AreNodes names nodes
-nodes_are names winners order first nodes apart are is linked from made = record {
-  len = made.len ∙ from.len;
-  each = λ x within.
-      made.given x (omega (arith, within, are.len)) ∙ from.each (get_or winners x 0) (are.each x within).within ∙ node_is names winners order x apart are is (linked x within) within;
+pub nodes_are : (names : List Named) (winners order : List ℕ) (nodes : List (Option ℕ)) → AreApart names → AreWinners names winners → IsPreorder names winners order → ((x : ℕ) → x < length names → IsLinkedUp names x)
+    → AreNodesFrom order nodes (length names) 0 → AreNodes names winners nodes
+nodes_are names winners order nodes apart are is linked from = record {
+  len = are.len;
+  within = λ x within. omega (arith, (are.each x within).within, from.len);
+  each = λ x within. from.each (get_or winners x 0) (are.each x within).within ∙ node_is names winners order x apart are is (linked x within) within;
 }
 
 -- ---- the node above
 
-pub node_above_is : (names : List Named) (nodes : List (Option ℕ)) (x p : ℕ) (piece : Piece) → AreNodes names nodes → p < length names → path_at names x ≡ path_at names p ++ piece ∷ [] → get_or nodes p None ≡ node_above names (path_at names x)
-node_above_is names nodes x p piece are within path = are.each p within ∙ sym (ap (option_and_then (node_of_path names)) (ap path_above path ∙ above_push (path_at names p) piece))
+pub node_above_is : (names : List Named) (winners : List ℕ) (nodes : List (Option ℕ)) (x p : ℕ) (piece : Piece) → AreNodes names winners nodes → p < length names → path_at names x ≡ path_at names p ++ piece ∷ [] → get_or nodes (get_or winners p 0) None ≡ node_above names (path_at names x)
+node_above_is names winners nodes x p piece are within path = are.each p within ∙ sym (ap (option_and_then (node_of_path names)) (ap path_above path ∙ above_push (path_at names p) piece))
 
 -- ---- the unit
+
+behind_root : (names : List Named) (order : List ℕ) (k : ℕ) → origin_at names order (k + 1) ≡ pool_origin names (name_at names (get_or order k 0))
+behind_root names order k =
+    let back : k + 1 - 1 ≡ k = omega arith in
+    ap (λ (first : Bool). cond first pool_root (pool_origin names (name_at names (get_or order (k + 1 - 1) 0)))) (ne_eqb (k + 1) 0 (λ none. omega (arith, none)))
+    ∙ ap (λ (n : ℕ). pool_origin names (name_at names (get_or order n 0))) back
+
+-- nodes that were put at all their places
+pub origins_are : (names : List Named) (order : List ℕ) (origins : List Origin) → length origins ≡ length order + 1 → AreOriginsFrom names order 0 origins → origins ≡ pool_root ∷ map (λ w. pool_origin names (name_at names w)) order
+origins_are names order origins long are = same_lists origins (pool_root ∷ map its order) (omega (arith, long, length-map order its)) each
+  where
+    its : ℕ → Origin
+    its w = pool_origin names (name_at names w)
+
+    each : (k : ℕ) (d : Origin) → k < length origins → get_or origins k d ≡ get_or (pool_root ∷ map its order) k d
+    each zero d lt = are 0 d lt
+    each (suc k) d lt = are (suc k) d lt ∙ ap (origin_at names order) (let next : 0 + suc k ≡ k + 1 = omega arith in next) ∙ behind_root names order k ∙ sym (get_or-map its order k 0 d (omega (arith, lt, long)))
 
 abbrev pub pool_unit_of : List Origin → ShapeUnit
 pool_unit_of nodes = record { version = 4; nodes = nodes }
@@ -121,11 +139,12 @@ maps_joined : {A B C : Type 0} (f : A → B) (g : B → C) (xs : List A) → map
 maps_joined f g [] = refl
 maps_joined {A} {B} {C} f g (x ∷ xs) = ap (λ (more : List C). g (f x) ∷ more) (maps_joined f g xs)
 
-pub units_some : (names : List Named) (order : List ℕ) (origins : List Origin) → 0 < length names → map (name_at names) order ≡ pool_names names → origins ≡ pool_root ∷ map (λ w. pool_origin names (name_at names w)) order
-    → pool_unit_of origins ∷ [] ≡ pool_units 4 names
-units_some [] order origins some whole made = absurd (omega (arith, some))
-units_some (n ∷ names) order origins some whole made =
-    ap (λ (nodes : List Origin). pool_unit_of nodes ∷ [])
+pub units_some : (names : List Named) (order : List ℕ) (origins : List Origin) (old new : List ShapeUnit) → 0 < length names → map (name_at names) order ≡ pool_names names → origins ≡ pool_root ∷ map (λ w. pool_origin names (name_at names w)) order
+    → old ≡ [] → new ≡ old ++ pool_unit_of origins ∷ [] → new ≡ pool_units 4 names
+units_some [] order origins old new some whole made none put = absurd (omega (arith, some))
+units_some (n ∷ names) order origins old new some whole made none put =
+    put ∙ ap (λ (units : List ShapeUnit). units ++ pool_unit_of origins ∷ []) none
+    ∙ ap (λ (nodes : List Origin). pool_unit_of nodes ∷ [])
     (made ∙ ap (λ (nodes : List Origin). pool_root ∷ nodes) (sym (maps_joined (name_at (n ∷ names)) (pool_origin (n ∷ names)) order) ∙ ap (map (pool_origin (n ∷ names))) whole))
 
 pub units_none : (names : List Named) → length names ≤ 0 → [] ≡ pool_units 4 names

@@ -1,22 +1,34 @@
 -- How the shapes of objects are joined: where references to the entries of each lead among all units, and the nodes of merged entries.
-use Rattle.std.specs.Prelude.{◌≡◌, ℕ, ◌+◌, ◌^◌, ◌<◌, ◌≤◌, Bool, List, length, map, slice_get, slice_index_or, Option, Some}
+use Rattle.std.specs.Prelude.{◌≡◌, ℕ, ◌+◌, ◌-◌, ◌^◌, ◌<◌, ◌≤◌, ◌==◌, Bool, List, length, map, slice_get, slice_index_or, Option, Some, if◌then◌else◌}
 use Rattle.std.specs.List.{All}
 use Rattle.std.specs.Option.{IfSome}
 use Rattle.dwarf_types.specs.declared.analysis.Analysis.{Analysis}
 use Rattle.dwarf_types.specs.declared.graph.Target.{Target}
+use Rattle.dwarf_types.specs.declared.shape.Origin.{Origin}
 use Rattle.dwarf_types.specs.declared.shape.Shape.{Shape}
 use Rattle.type_names.specs.Names.{Named}
 use Rattle.link_graph.specs.declared.placing.Place.{Place}
 use Rattle.link_graph.specs.declared.pool.PathNodes.{PathNodes}
-use Rattle.link_graph.specs.Merged.{pool_units, shape_of}
+use Rattle.link_graph.specs.Merged.{pool_origin, pool_root, shape_of}
 use Rattle.link_graph.specs.OwnShapes.{target_behind}
 use Rattle.link_graph.specs.Passes.{names_between, path_target, put_each}
-use Rattle.link_graph.specs.PoolOrder.{AreNodes}
+use Rattle.link_graph.specs.PoolOrder.{AreNodes, IsPreorder, name_at}
 
--- the nodes of the merged entries of a link, in a unit that still has version 4
-pub record ArePathNodes (names : List Named) (made : PathNodes) : Type 0 where
-  pub units : made.units.items ≡ pool_units 4 names
-  pub nodes : AreNodes names made.nodes.items
+-- ---- merged entries
+
+-- the winners of a link in preorder, and their nodes
+pub record ArePathNodes (names : List Named) (winners : List ℕ) (made : PathNodes) : Type 0 where
+  pub order : IsPreorder names winners made.order.items
+  pub few : length made.order.items < 2 ^ 32
+  pub nodes : AreNodes names winners made.nodes.items
+
+-- the node at a place of the pool's unit: its root, and behind it those of the winners
+abbrev pub origin_at : List Named → List ℕ → ℕ → Origin
+origin_at names order i = if i == 0 then pool_root else pool_origin names (name_at names (slice_index_or order (i - 1) 0))
+
+-- the nodes from the one at `start` on
+abbrev pub AreOriginsFrom : List Named → List ℕ → ℕ → List Origin → Type 0
+AreOriginsFrom names order start part = (k : ℕ) (d : Origin) → k < length part → slice_index_or part k d ≡ origin_at names order (start + k)
 
 -- ---- one object
 

@@ -129,17 +129,8 @@ pub record AreNodesFrom (order : List ℕ) (nodes : List (Option ℕ)) (n i : �
   pub len : length nodes ≡ n
   pub each : (w : ℕ) → w < n → slice_index_or nodes w None ≡ position_from (λ v. v == w) (i + 1) (drop i order)
 
--- each winner wins its own path
-abbrev pub WinThemselves : List ℕ → Type 0
-WinThemselves winners = (x : ℕ) → x < length winners → slice_index_or winners (slice_index_or winners x 0) 0 ≡ slice_index_or winners x 0
-
--- the first n names were given the nodes of their winners, and the others have their own
-pub record AreGivenTo (winners : List ℕ) (old new : List (Option ℕ)) (n : ℕ) : Type 0 where
-  pub len : length new ≡ length old
-  pub given : (x : ℕ) → x < n → slice_index_or new x None ≡ slice_index_or old (slice_index_or winners x 0) None
-  pub others : (x : ℕ) → n ≤ x → slice_index_or new x None ≡ slice_index_or old x None
-
--- of each name the node of its path
-pub record AreNodes (names : List Named) (nodes : List (Option ℕ)) : Type 0 where
-  pub len : length nodes ≡ length names
-  pub each : (x : ℕ) → x < length names → slice_index_or nodes x None ≡ node_of_path names (path_at names x)
+-- at the winner of each name stands the node of its path
+pub record AreNodes (names : List Named) (winners : List ℕ) (nodes : List (Option ℕ)) : Type 0 where
+  pub len : length winners ≡ length names
+  pub within : (x : ℕ) → x < length names → slice_index_or winners x 0 < length nodes
+  pub each : (x : ℕ) → x < length names → slice_index_or nodes (slice_index_or winners x 0) None ≡ node_of_path names (path_at names x)

@@ -10,8 +10,8 @@ ghost use Rattle.link_graph.specs.OwnShapes.{AreOwnShapes};
 
 use crate::behind::number_behind;
 use crate::object::ObjectShape;
-use crate::placing::{Place, Places, place_in_turn, place_shared};
-use crate::pool::{PathNodes, settle_version};
+use crate::placing::{Place, Places, place_shared};
+use crate::pool::{PathNodes, settle_version, units_of};
 use crate::shape_error::ShapeError;
 use ds_base::List;
 use dwarf_types::{Shape, ShapeUnit};
@@ -19,59 +19,39 @@ use odr_names::{PathBook, first_of};
 use std::alloc::Global;
 use std::thread::Threads;
 
-/// The shape of a link, by what each of its objects gives ([`object_shape`](crate::object_shape)).
+/// The shape of a link, by what each of its objects gives ([`object_shape`](crate::object_shape)), by at most `workers`
+/// threads.
 ///
 /// `own` has the objects in their order, and `merged` the nodes of their merged entries
-/// ([`path_nodes`](crate::path_nodes)). The pool's unit stands first, if entries are merged, and the units of each object
-/// stand behind those of the objects before, where references to its entries lead. References to merged entries lead to
-/// the nodes of their paths. A shape with 2^32 units or more is not made ([`ShapeError::Units`]).
-pub fn joined_shape(
-    alloc: Global,
-    names: &PathBook,
-    merged: PathNodes,
-    own: Vec<ObjectShape>,
-) -> Result<Shape, ShapeError>
-    requires own { (odr : Bool) × (seen : Listed Seen) × (live : Listed (Listed Bool)) × AreOwnShapes odr seen live names.now own.items }
-    requires merged { ArePathNodes names.now merged }
-    ensures exact { IfOk result (λ shape. (odr : Bool) (seen : Listed Seen) (live : Listed (Listed Bool)) → AreOwnShapes odr seen live names.now own.items → shape ≡ shape_of odr seen live) }
-    ensures is { IfOk result (λ shape. (odr : Bool) (seen : Listed Seen) (live : Listed (Listed Bool)) → AreOwnShapes odr seen live names.now own.items → IsShape seen shape) }
-    ensures units { result ≡ Err errors.Units → (odr : Bool) (seen : Listed Seen) (live : Listed (Listed Bool)) → AreOwnShapes odr seen live names.now own.items → 2 ^ 32 ≤ length (shape_of odr seen live).units }
-{
-    let PathNodes { units, nodes } = merged;
-    let Unplaced { mut shape, places } = gathered(alloc, names, units, own)?;
-    let all = Places {
-        names,
-        nodes: &nodes,
-        places: &places,
-    };
-    place_in_turn(shape.images.as_mut_slice(), &all);
-    Ok(shape)
-}
-
-/// The shape of a link, as [`joined_shape`] gives it, by at most `workers` threads.
+/// ([`path_nodes`](crate::path_nodes)), by the `winners` of their paths. The pool's unit stands first, if entries are
+/// merged, and the units of each object stand behind those of the objects before, where references to its entries lead.
+/// References to merged entries lead to the nodes of their paths. A shape with 2^32 units or more is not made
+/// ([`ShapeError::Units`]).
 ///
-/// Each lets the references to the entries of some objects lead where they lead. Where no thread can be started, the
-/// caller's does that too.
-pub fn shared_joined_shape<R: Threads + Sync>(
+/// Each thread makes some nodes of the pool's unit, and then lets the references to the entries of some objects lead
+/// where they lead. Where no thread can be started, the caller's does that too.
+pub fn joined_shape<R: Threads + Sync>(
     rt: &R,
     alloc: Global,
     workers: u32,
     names: &PathBook,
+    winners: &[u32],
     merged: PathNodes,
     own: Vec<ObjectShape>,
 ) -> Result<Shape, ShapeError>
     requires workers { 1 ≤ workers }
     requires own { (odr : Bool) × (seen : Listed Seen) × (live : Listed (Listed Bool)) × AreOwnShapes odr seen live names.now own.items }
-    requires merged { ArePathNodes names.now merged }
+    requires merged { ArePathNodes names.now winners.now merged }
     ensures exact { IfOk result (λ shape. (odr : Bool) (seen : Listed Seen) (live : Listed (Listed Bool)) → AreOwnShapes odr seen live names.now own.items → shape ≡ shape_of odr seen live) }
     ensures is { IfOk result (λ shape. (odr : Bool) (seen : Listed Seen) (live : Listed (Listed Bool)) → AreOwnShapes odr seen live names.now own.items → IsShape seen shape) }
     ensures units { result ≡ Err errors.Units → (odr : Bool) (seen : Listed Seen) (live : Listed (Listed Bool)) → AreOwnShapes odr seen live names.now own.items → 2 ^ 32 ≤ length (shape_of odr seen live).units }
 {
-    let PathNodes { units, nodes } = merged;
+    let units = units_of(rt, alloc, workers, names, winners, &merged)?;
     let Unplaced { mut shape, places } = gathered(alloc, names, units, own)?;
     let all = Places {
         names,
-        nodes: &nodes,
+        winners,
+        nodes: &merged.nodes,
         places: &places,
     };
     place_shared(rt, workers, shape.images.as_mut_slice(), &all);

@@ -7,11 +7,11 @@
 //! units are passed over once (`object`), and each unit's entries once (`unit`): an entry's parent stands before it, so the
 //! node of the parent is known when the entry comes. What the passes make of one object stands in `specs/Passes.antt`, and
 //! when that is the object's shape in `specs/OwnShapes.antt`. Merged entries stand in the pool's unit, the first, which
-//! holds a node for each path ([`path_nodes`], `specs/Pool.antt`); it is told by the names alone. [`joined_shape`] puts the
-//! shapes of all objects together (`joining`, `specs/Joining.antt`): their units stand behind the pool's, and references
-//! lead behind the units of the objects before, or to the node of a merged entry's path (`placing`).
-//! [`shared_joined_shape`] lets several threads share that. The graph for which a shape stands is in `specs/Graph.antt`
-//! and `specs/PoolFiles.antt`.
+//! holds a node for each path ([`path_nodes`], `specs/Pool.antt`); it is told by the names alone. [`joined_shape`] makes
+//! that unit and puts the shapes of all objects together (`joining`, `specs/Joining.antt`): their units stand behind the
+//! pool's, and references lead behind the units of the objects before, or to the node of a merged entry's path
+//! (`placing`). Several threads share that. The graph for which a shape stands is in `specs/Graph.antt` and
+//! `specs/PoolFiles.antt`.
 //!
 //! Where nothing is merged, an object's shape depends on no other object ([`kept_shape`]), and the shape of a link grows
 //! object by object ([`empty_shape`], [`add_object`]): what stands in it of the first objects stays (`proofs/Growing.antt`).
@@ -30,7 +30,7 @@ mod shape_error;
 mod unit;
 mod unmerged;
 
-pub use joining::{joined_shape, shared_joined_shape};
+pub use joining::joined_shape;
 pub use object::{ObjectShape, kept_shape};
 pub use pool::{PathNodes, path_nodes};
 pub use shape::{build, object_shape};

@@ -1,12 +1,11 @@
 //! Merged entries: which entries of an object they are, and where references to them lead.
 
-ghost use Rattle.std.specs.Prelude.{◌≡◌, ◌≤◌, ◌<◌, ◌^◌, ℕ, None, length, slice_index_or, IfOk};
+ghost use Rattle.std.specs.Prelude.{◌≡◌, ◌≤◌, ◌<◌, ◌^◌, length, IfOk};
 ghost use Rattle.std.specs.List.{All};
 ghost use Rattle.dwarf_types.specs.Sound.{IsSound};
-ghost use Rattle.odr_names.specs.Book.{path_at};
 ghost use Rattle.link_graph.specs.OwnShapes.{IsOwnShape};
 ghost use Rattle.link_graph.specs.Passes.{kept_with, merged_by, names_between, path_target, put_each};
-ghost use Rattle.link_graph.specs.Pool.{node_of_path};
+ghost use Rattle.link_graph.specs.PoolOrder.{AreNodes};
 
 use crate::kept::kept_row;
 use crate::object::{ObjectShape, kept_shape};
@@ -64,22 +63,23 @@ fn merged_row(
 
 /// Lets references to the entries of the names from `from` on up to `end` lead to the nodes of their paths.
 ///
-/// `nodes` tells the node of the path of each name.
+/// `nodes` tells the node of the path of each name, at its winner.
 pub(crate) fn lead_to_paths(
     images: &mut [Option<Target>],
     names: &PathBook,
+    winners: &[u32],
     nodes: &[Option<u32>],
     from: u32,
     end: u32,
 )
     requires within { (from ≤ end) × (end ≤ length names.now) }
-    requires nodes { (length nodes.now ≡ length names.now) × ((x : ℕ) → x < length names.now → slice_index_or nodes.now x None ≡ node_of_path names.now (path_at names.now x)) }
+    requires nodes { AreNodes names.now winners.now nodes.now }
     requires entries { All (λ w. w.entry < length images.old) (names_between names.now from end) }
     ensures { images.new ≡ put_each (path_target names.now) (names_between names.now from end) images.old }
 {
     for x in from..end {
         let entry = occurrence(names, x).entry;
-        let target = target_in(0, nodes[x as usize]);
+        let target = target_in(0, nodes[winners[x as usize] as usize]);
         images[entry as usize] = target;
     }
 }

@@ -40,46 +40,44 @@ pub(crate) trait Placer {
 #[derive(Drop)]
 pub(crate) struct Places<'a> {
     pub(crate) names: &'a PathBook<'a>,
+    pub(crate) winners: &'a [u32],
     pub(crate) nodes: &'a [Option<u32>],
     pub(crate) places: &'a [Place],
 }
 
 impl<'a> Placer for Places<'a> {
-    ghost may = { λ all object images. (object < length all.places.now) × AreNodes all.names.now all.nodes.now × MayPlace all.names.now (place_at all.places.now object) images };
+    ghost may = { λ all object images. (object < length all.places.now) × AreNodes all.names.now all.winners.now all.nodes.now × MayPlace all.names.now (place_at all.places.now object) images };
 
     ghost made = { λ all object images. placed all.names.now (place_at all.places.now object) images };
 
     fn place(&self, object: usize, images: &mut List<Option<Target>>) {
         let place = self.places[object];
-        place_images(images.as_mut_slice(), place, self.names, self.nodes);
+        place_images(
+            images.as_mut_slice(),
+            place,
+            self.names,
+            self.winners,
+            self.nodes,
+        );
     }
 }
 
 /// Lets references to the entries of an object lead where they lead among all units.
 ///
-/// `nodes` tells the node of the path of each name.
+/// `nodes` tells the node of the path of each name, at its winner.
 fn place_images(
     images: &mut [Option<Target>],
     place: Place,
     names: &PathBook,
+    winners: &[u32],
     nodes: &[Option<u32>],
 )
     requires may { MayPlace names.now place images.old }
-    requires nodes { AreNodes names.now nodes.now }
+    requires nodes { AreNodes names.now winners.now nodes.now }
     ensures { images.new ≡ placed names.now place images.old }
 {
     place_behind(images, place.before);
-    lead_to_paths(images, names, nodes, place.from, place.end);
-}
-
-/// Lets references to the entries of all objects lead where they lead, one object after the other.
-pub(crate) fn place_in_turn<P: Placer>(images: &mut [List<Option<Target>>], placer: &P)
-    requires { (i : ℕ) (row : Listed (Maybe Leads)) → slice_get images.old i ≡ Some row → P.may placer.now i row }
-    ensures { Became (P.made placer.now) images.old images.new }
-{
-    for i in 0..images.len() {
-        placer.place(i, &mut images[i]);
-    }
+    lead_to_paths(images, names, winners, nodes, place.from, place.end);
 }
 
 /// Lets references to the entries of all objects lead where they lead, by at most so many threads.

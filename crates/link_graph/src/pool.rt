@@ -11,24 +11,25 @@ ghost use Rattle.std.specs.Option.{ForSome};
 ghost use Rattle.odr_names.specs.Book.{path_at};
 ghost use Rattle.odr_names.specs.Winners.{AreWinners};
 ghost use Rattle.link_graph.specs.Graph.{pool_version};
-ghost use Rattle.link_graph.specs.Joining.{ArePathNodes};
+ghost use Rattle.link_graph.specs.Joining.{AreOriginsFrom, ArePathNodes, origin_at};
 ghost use Rattle.link_graph.specs.Merged.{pool_origin, pool_root, pool_units};
 ghost use Rattle.link_graph.specs.Passes.{with_version};
-ghost use Rattle.link_graph.specs.Pool.{node_above, pool_names};
-ghost use Rattle.link_graph.specs.PoolOrder.{AnyName, AreApart, AreChains, AreGivenTo, AreHungFrom, AreNodes, AreNodesFrom, AreRanked, IsLinkedUp, IsPreorder, WinThemselves, firsts, key_of, name_at, nexts};
+ghost use Rattle.link_graph.specs.Pool.{node_above};
+ghost use Rattle.link_graph.specs.PoolOrder.{AnyName, AreChains, AreHungFrom, AreNodes, AreNodesFrom, AreRanked, IsLinkedUp, IsPreorder, firsts, key_of, name_at, nexts};
 
 use ds_base::dwarf::{DWARF_4, DWARF_5};
 use ds_base::{List, NoMemory};
 use dwarf_types::{Origin, ShapeUnit};
 use odr_names::{PathBook, above, bids_are_some, count, number, occurrence};
 use std::alloc::Global;
+use std::thread::{Threads, for_each_chunk_mut};
 
 /// The nodes of merged entries: one for each path of the names of a link.
 #[derive(Drop)]
 pub struct PathNodes {
-    /// The unit that they stand in, if any entry is merged. It has version 4 until those of the objects are known.
-    pub units: Vec<ShapeUnit>,
-    /// The node of each name's path.
+    /// The names that win the paths, in the order of the nodes. The root of their unit stands before these.
+    pub order: Vec<u32>,
+    /// Of each name that wins a path, the node; none of the others.
     pub nodes: Vec<Option<u32>>,
 }
 
@@ -54,6 +55,13 @@ pub(crate) struct Tree<'a, 'b> {
     pub(crate) chains: Vec<Link>,
 }
 
+/// The root of the unit in which merged entries stand. It stands for no entry of an object.
+const ROOT: Origin = Origin {
+    object: 0,
+    entry: 0,
+    parent: None,
+};
+
 /// Bids from this one on are of declarations.
 const DECLARED: u64 = 1 << 63;
 
@@ -64,7 +72,7 @@ const DECLARED: u64 = 1 << 63;
 pub fn path_nodes(alloc: Global, names: &PathBook, winners: &[u32]) -> Result<PathNodes, NoMemory>
     requires ranked { AreRanked names.now }
     requires winners { AreWinners names.now winners.now }
-    ensures { IfOk result (ArePathNodes names.now) }
+    ensures { IfOk result (ArePathNodes names.now winners.now) }
 {
     let chains = chains_of(alloc, names, winners)?;
     let tree = Tree {
@@ -73,9 +81,8 @@ pub fn path_nodes(alloc: Global, names: &PathBook, winners: &[u32]) -> Result<Pa
         chains,
     };
     let order = order_of(alloc, &tree)?;
-    let nodes = nodes_of(alloc, names, winners, &order)?;
-    let units = units_of(alloc, names, &order, &nodes)?;
-    Ok(PathNodes { units, nodes })
+    let nodes = nodes_of(alloc, count(names) as usize, &order)?;
+    Ok(PathNodes { order, nodes })
 }
 
 /// The winners in chains.
@@ -175,26 +182,8 @@ fn order_of(alloc: Global, tree: &Tree) -> Result<Vec<u32>, NoMemory>
     Ok(order)
 }
 
-/// The node of each name's path.
-fn nodes_of(
-    alloc: Global,
-    names: &PathBook,
-    winners: &[u32],
-    order: &[u32],
-) -> Result<Vec<Option<u32>>, NoMemory>
-    requires apart { AreApart names.now }
-    requires winners { AreWinners names.now winners.now }
-    requires order { IsPreorder names.now winners.now order.now }
-    requires linked { (x : ℕ) → x < length names.now → IsLinkedUp names.now x }
-    ensures { IfOk result (λ nodes. AreNodes names.now nodes.items) }
-{
-    let mut nodes = first_nodes(alloc, count(names) as usize, order)?;
-    give_nodes(winners, &mut nodes);
-    Ok(nodes)
-}
-
 /// Of each of so many names the node: 1 more than the first place at which it stands in preorder.
-fn first_nodes(alloc: Global, count: usize, order: &[u32]) -> Result<Vec<Option<u32>>, NoMemory>
+fn nodes_of(alloc: Global, count: usize, order: &[u32]) -> Result<Vec<Option<u32>>, NoMemory>
     requires few { length order.now < 2 ^ 32 }
     requires within { All (λ w. w < count) order.now }
     ensures { IfOk result (λ nodes. AreNodesFrom order.now nodes.items count 0) }
@@ -208,39 +197,30 @@ fn first_nodes(alloc: Global, count: usize, order: &[u32]) -> Result<Vec<Option<
     Ok(nodes)
 }
 
-/// Gives each name the node of its winner.
+/// The unit of merged entries, if there is any, made by at most so many threads.
 ///
-/// A winner wins its own path and keeps its node, so it doesn't matter which of the two comes first.
-fn give_nodes(winners: &[u32], nodes: &mut Vec<Option<u32>>)
-    requires len { length nodes.old.items ≡ length winners.now }
-    requires within { All (λ w. w < length nodes.old.items) winners.now }
-    requires own { WinThemselves winners.now }
-    ensures { AreGivenTo winners.now nodes.old.items nodes.new.items (length winners.now) }
-{
-    for x in 0..winners.len() {
-        nodes[x] = nodes[winners[x] as usize];
-    }
-}
-
-/// The unit of merged entries, if there is any, before the units of the objects are known.
-fn units_of(
+/// It has version 4 until those of the units of the objects are known.
+pub(crate) fn units_of<R: Threads + Sync>(
+    rt: &R,
     alloc: Global,
+    workers: u32,
     names: &PathBook,
-    order: &[u32],
-    nodes: &[Option<u32>],
+    winners: &[u32],
+    merged: &PathNodes,
 ) -> Result<Vec<ShapeUnit>, NoMemory>
-    requires within { All (λ w. w < length names.now) order.now }
-    requires order { map (name_at names.now) order.now ≡ pool_names names.now }
-    requires nodes { AreNodes names.now nodes.now }
+    requires workers { 1 ≤ workers }
+    requires merged { ArePathNodes names.now winners.now merged.now }
     ensures { IfOk result (λ units. units.items ≡ pool_units 4 names.now) }
 {
     let mut units = Vec::new(alloc);
-    if count(names) > 0 {
-        units.push(ShapeUnit {
-            version: DWARF_4,
-            nodes: origins_of(alloc, names, order, nodes)?,
-        })?;
+    if count(names) == 0 {
+        return Ok(units);
     }
+    let nodes = origins_of(rt, alloc, workers, names, winners, merged)?;
+    units.push(ShapeUnit {
+        version: DWARF_4,
+        nodes,
+    })?;
     Ok(units)
 }
 
@@ -281,50 +261,99 @@ fn some_of_version_5(units: &[ShapeUnit]) -> bool
 }
 
 /// The nodes of that unit: its root, and behind it those of the winners.
-fn origins_of(
+fn origins_of<R: Threads + Sync>(
+    rt: &R,
     alloc: Global,
+    workers: u32,
     names: &PathBook,
-    order: &[u32],
-    nodes: &[Option<u32>],
+    winners: &[u32],
+    merged: &PathNodes,
 ) -> Result<List<Origin>, NoMemory>
-    requires within { All (λ w. w < length names.now) order.now }
-    requires nodes { AreNodes names.now nodes.now }
-    ensures { IfOk result (λ origins. origins ≡ pool_root ∷ map (λ w. pool_origin names.now (name_at names.now w)) order.now) }
+    requires workers { 1 ≤ workers }
+    requires merged { ArePathNodes names.now winners.now merged.now }
+    ensures { IfOk result (λ origins. origins ≡ pool_root ∷ map (λ w. pool_origin names.now (name_at names.now w)) merged.now.order.items) }
 {
-    let mut origins = List::with_capacity(alloc, order.len().saturating_add(1))?;
-    origins.push(Origin {
-        object: 0,
-        entry: 0,
-        parent: None,
-    })?;
-    for name in order {
-        origins.push(origin_of(names, nodes, *name))?;
+    let mut origins = vec![in alloc; ROOT; merged.order.len() + 1]?;
+    put_origins(rt, workers, names, winners, merged, origins.as_mut_slice());
+    Ok(List::from_vec(origins))
+}
+
+/// Puts the nodes of that unit in their places, each thread some of them one behind the other.
+fn put_origins<R: Threads + Sync>(
+    rt: &R,
+    workers: u32,
+    names: &PathBook,
+    winners: &[u32],
+    merged: &PathNodes,
+    origins: &mut [Origin],
+)
+    requires workers { 1 ≤ workers }
+    requires merged { ArePathNodes names.now winners.now merged.now }
+    requires len { length origins.old ≡ length merged.now.order.items + 1 }
+    ensures len { length origins.new ≡ length origins.old }
+    ensures each { AreOriginsFrom names.now merged.now.order.items 0 origins.new }
+{
+    let size = origins.len() / workers as usize + 1;
+    for_each_chunk_mut(
+        rt,
+        origins,
+        size,
+        &|start, part| put_part(names, winners, merged, start, part),
+    );
+}
+
+/// Puts the nodes from this one on in their places.
+fn put_part(
+    names: &PathBook,
+    winners: &[u32],
+    merged: &PathNodes,
+    start: usize,
+    part: &mut [Origin],
+)
+    requires merged { ArePathNodes names.now winners.now merged.now }
+    requires within { start + length part.old ≤ length merged.now.order.items + 1 }
+    ensures len { length part.new ≡ length part.old }
+    ensures each { AreOriginsFrom names.now merged.now.order.items start part.new }
+{
+    for k in 0..part.len() {
+        part[k] = origin_at(names, winners, merged, start + k);
     }
-    Ok(origins)
+}
+
+/// The node at a place of that unit.
+fn origin_at(names: &PathBook, winners: &[u32], merged: &PathNodes, i: usize) -> Origin
+    requires within { i ≤ length merged.now.order.items }
+    requires merged { ArePathNodes names.now winners.now merged.now }
+    ensures { result ≡ origin_at names.now merged.now.order.items i }
+{
+    if i == 0 {
+        return ROOT;
+    }
+    origin_of(names, winners, &merged.nodes, merged.order[i - 1])
 }
 
 /// The node of a winner.
-fn origin_of(names: &PathBook, nodes: &[Option<u32>], x: u32) -> Origin
+fn origin_of(names: &PathBook, winners: &[u32], nodes: &[Option<u32>], x: u32) -> Origin
     requires within { x < length names.now }
-    requires nodes { AreNodes names.now nodes.now }
+    requires nodes { AreNodes names.now winners.now nodes.now }
     ensures { result ≡ pool_origin names.now (name_at names.now x) }
 {
     let place = occurrence(names, x);
     Origin {
         object: place.object,
         entry: place.entry,
-        parent: node_above(names, nodes, x),
+        parent: node_above(names, winners, nodes, x),
     }
 }
 
 /// The node of the path above that of a name.
-fn node_above(names: &PathBook, nodes: &[Option<u32>], x: u32) -> Option<u32>
+fn node_above(names: &PathBook, winners: &[u32], nodes: &[Option<u32>], x: u32) -> Option<u32>
     requires within { x < length names.now }
-    requires nodes { AreNodes names.now nodes.now }
+    requires nodes { AreNodes names.now winners.now nodes.now }
     ensures { result ≡ node_above names.now (path_at names.now x) }
 {
     match above(names, x) {
-        Some(p) => nodes[p as usize],
+        Some(p) => nodes[winners[p as usize] as usize],
         None => Some(0),
     }
 }

@@ -18,6 +18,7 @@ use ds_base::{BitRow, NoMemory};
 use dwarf_types::{Analysis, Shape};
 use odr_names::{PathBook, first_of};
 use std::alloc::Global;
+use std::thread::Threads;
 
 /// The shape of what is linked of some objects: the pool's unit, if entries are merged; of each unit with a kept entry its
 /// kept entries in document order; the node of each entry, and where a reference to it leads.
@@ -27,7 +28,8 @@ use std::alloc::Global;
 /// that are not merged, and merged namespaces above them. A kept entry keeps the unit in which it stands, and units keep
 /// the order of the objects and of their places there, and their versions. The pool's unit is of version 5 where another
 /// unit is, else of version 4. A shape with 2^32 units or more is not made ([`ShapeError::Units`]).
-pub fn build(
+pub fn build<R: Threads + Sync>(
+    rt: &R,
     alloc: Global,
     seen: &[Analysis],
     live: &[BitRow],
@@ -48,7 +50,7 @@ pub fn build(
         own.push(object_shape(alloc, seen, live, names, i as u32)?)?;
     }
     let merged = path_nodes(alloc, names, winners)?;
-    joined_shape(alloc, names, merged, own)
+    joined_shape(rt, alloc, 1, names, winners, merged, own)
 }
 
 /// What an object gives to the shape of a link, whatever the other objects give.

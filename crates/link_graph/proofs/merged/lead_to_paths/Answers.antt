@@ -24,7 +24,7 @@ loop-x-preserved c =
     let within : x < length names = omega (arith, c.requires.within.1) in
     let w = name_there names x within in
     let target : c.target_in-target.result ≡ path_target names w.0 =
-    c.target_in-target.ensures ∙ ap (target_in 0) (c.requires.nodes.1 x within ∙ ap (λ (path : List Piece). node_of_path names path) (path_told names x w.0 w.1)) in
+    c.target_in-target.ensures ∙ ap (target_in 0) (c.requires.nodes.each x within ∙ ap (λ (path : List Piece). node_of_path names path) (path_told names x w.0 w.1)) in
     let same : slice_set images c.occurrence-entry.result.entry c.target_in-target.result ≡ slice_set images w.0.entry (path_target names w.0) =
     ap (λ (k : ℕ). slice_set images k c.target_in-target.result) (c.occurrence-entry.ensures w.0 w.1).1 ∙ ap (λ (t : Option Target). slice_set images w.0.entry t) target in
     record {

@@ -8,7 +8,7 @@ use Rattle.link_graph.proofs.LinkedRanks.{linked_ranked}
 use Rattle.link_graph.proofs.shape.build.Goals as goal
 
 pub loop-i-preserved : goal.loop-i-preserved
-loop-i-preserved c =
+loop-i-preserved g c =
     let own = c.loop-i.own.items in
     let one = c.in_ok-object_shape.field-0 in
     record {
@@ -17,7 +17,7 @@ loop-i-preserved c =
     }
 
 pub joined_shape-requires-clause-own : goal.joined_shape-requires-clause-own
-joined_shape-requires-clause-own c =
+joined_shape-requires-clause-own g c κs within =
     let odr = c.requires.book.0 in
     let named = c.requires.book.1 in
     let all : c.loop-i.i ≡ length c.args.seen.now = omega arith in
@@ -26,14 +26,14 @@ joined_shape-requires-clause-own c =
     (odr, c.args.seen.now, c.args.live.now, are)
 
 pub returns-clause-exact : goal.returns-clause-exact
-returns-clause-exact c = IfOk-weaker c.joined_shape.result _ _ (λ shape is odr named. (
+returns-clause-exact g c = IfOk-weaker c.joined_shape.result _ _ (λ shape is odr named. (
     let all : c.loop-i.i ≡ length c.args.seen.now = omega arith in
     let are : AreOwnShapes odr c.args.seen.now c.args.live.now c.args.names.now c.loop-i.own.items =
     record { sound = c.requires.sound; marked = c.requires.marked; few = c.requires.few; named = named; len = c.loop-i.invariant.len ∙ all; each = c.loop-i.invariant.each odr named } in
     is odr c.args.seen.now c.args.live.now are)) c.joined_shape.ensures.exact
 
 pub returns-clause-is : goal.returns-clause-is
-returns-clause-is c = IfOk-weaker c.joined_shape.result _ _ (λ shape is. (
+returns-clause-is g c = IfOk-weaker c.joined_shape.result _ _ (λ shape is. (
     let odr = c.requires.book.0 in
     let named = c.requires.book.1 in
     let all : c.loop-i.i ≡ length c.args.seen.now = omega arith in
@@ -42,11 +42,11 @@ returns-clause-is c = IfOk-weaker c.joined_shape.result _ _ (λ shape is. (
     is odr c.args.seen.now c.args.live.now are)) c.joined_shape.ensures.is
 
 pub returns-clause-units : goal.returns-clause-units
-returns-clause-units c = λ e odr named. (
+returns-clause-units g c = λ e odr named. (
     let all : c.loop-i.i ≡ length c.args.seen.now = omega arith in
     let are : AreOwnShapes odr c.args.seen.now c.args.live.now c.args.names.now c.loop-i.own.items =
     record { sound = c.requires.sound; marked = c.requires.marked; few = c.requires.few; named = named; len = c.loop-i.invariant.len ∙ all; each = c.loop-i.invariant.each odr named } in
     c.joined_shape.ensures.units e odr c.args.seen.now c.args.live.now are)
 
 pub path_nodes-requires-clause-ranked : goal.path_nodes-requires-clause-ranked
-path_nodes-requires-clause-ranked c = subst AreRanked (sym c.requires.book.1) (linked_ranked c.requires.book.0 c.args.seen.now c.args.live.now c.requires.sound c.requires.few)
+path_nodes-requires-clause-ranked g c = subst AreRanked (sym c.requires.book.1) (linked_ranked c.requires.book.0 c.args.seen.now c.args.live.now c.requires.sound c.requires.few)

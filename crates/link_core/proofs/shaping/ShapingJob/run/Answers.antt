@@ -6,4 +6,4 @@ pub returns : goal.returns
 returns c =
     let job = c.args.self.now in
     let item : c.args.item - 1 + 1 ≡ c.args.item = omega arith in
-    subst (λ (n : ℕ). GivesMade job.seen.now job.live.now job.names.now n c.object.result) item c.object.ensures
+    subst (λ (n : ℕ). GivesMade job.seen.now job.live.now job.names.now job.winners.now n c.object.result) item c.object.ensures

@@ -1,5 +1,5 @@
 use Rattle.link_graph.specs.PoolOrder.{AreNodesFrom}
-use Rattle.link_graph.proofs.pool.first_nodes.Given as goal
+use Rattle.link_graph.proofs.pool.nodes_of.Given as goal
 
 -- the places that are done
 abbrev pub invariant-loop-i : goal.invariant-loop-i
