@@ -7,6 +7,8 @@
 #[cfg(test)]
 mod keyed;
 #[cfg(test)]
+mod parts;
+#[cfg(test)]
 mod tests;
 #[cfg(test)]
 mod tests_tasks;

@@ -1,16 +1,17 @@
 //! Numbers that are drawn from one counter, and jobs done by several workers.
 
 ghost use Rattle.std.specs.Prelude.{◌≡◌, ◌<◌, ◌≤◌, length, slice_index};
+ghost use Rattle.work_share.specs.Seats.{Belongs};
 
+use ds_base::{List, NoMemory};
 use ds_files::{Gate, OpenGate};
 use std::alloc::Global;
 use std::hint::spin_loop;
 use std::process::Abort;
 use std::sync::atomic::AtomicBool;
 use std::sync::atomic::Ordering::SeqCst;
-use std::test::Fail;
 use std::thread::Threads;
-use work_share::{Job, each, each_in_order, tasks};
+use work_share::{Job, TaskSeat, Tasks, each, each_in_order, tasks};
 
 /// The number that stands at an item's place.
 #[derive(Drop)]
@@ -57,6 +58,13 @@ impl Gate for HoldsFirst {
     }
 }
 
+/// What so many workers gave are the numbers.
+fn are_given(rt: &impl Abort, workers: u32, outs: Result<List<u32>, NoMemory>, numbers: &[u32]) {
+    let outs = outs.expect(rt, "memory");
+    let outs = outs.as_slice();
+    assert!(rt; outs == numbers, "{workers} workers gave {outs:?}");
+}
+
 /// So many workers give each number at its place.
 fn gives_all<R: Threads + Abort + Sync, G: Gate + Sync>(
     rt: &R,
@@ -68,10 +76,8 @@ fn gives_all<R: Threads + Abort + Sync, G: Gate + Sync>(
     requires { (1 ≤ workers) × (workers ≤ 64) × (length numbers.now < 100) }
 {
     let job = NumberAt { numbers };
-    match each(rt, alloc, workers, numbers.len() as u32, 0, gate, &job) {
-        Ok(outs) => assert_eq!(rt; outs.as_slice(), numbers, "{workers} workers"),
-        Err(_) => panic!(rt; "no memory"),
-    }
+    let outs = each(rt, alloc, workers, numbers.len() as u32, 0, gate, &job);
+    are_given(rt, workers, outs, numbers);
 }
 
 /// Three workers give each number at its place, in whatever order the items are begun.
@@ -85,37 +91,60 @@ fn gives_all_in_order<R: Threads + Abort + Sync>(
 {
     let job = NumberAt { numbers };
     let gate = OpenGate::new();
-    match each_in_order(rt, alloc, 3, numbers.len() as u32, order, 0, &gate, &job) {
-        Ok(outs) => assert_eq!(rt; outs.as_slice(), numbers),
-        Err(_) => panic!(rt; "no memory"),
-    }
+    let outs = each_in_order(rt, alloc, 3, numbers.len() as u32, order, 0, &gate, &job);
+    are_given(rt, 3, outs, numbers);
+}
+
+/// A counter of so many numbers with its first seat.
+fn counter(rt: &impl Abort, alloc: Global, count: u32) -> (Tasks, TaskSeat)
+    ensures { Belongs result.0 result.1 }
+{
+    tasks(alloc, count).expect(rt, "memory")
+}
+
+fn other(rt: &impl Abort, counter: &Tasks, seat: &mut TaskSeat) -> TaskSeat
+    requires { Belongs counter.now seat.old }
+    ensures { Belongs counter.now seat.new × Belongs counter.now result }
+{
+    counter.split(seat).expect(rt, "a share to split")
+}
+
+fn has_share(rt: &impl Abort, seat: &TaskSeat, want: u32) {
+    let share = seat.share();
+    assert!(rt; share == want, "a share of {share}");
+}
+
+/// The seat draws the number, or none.
+fn draws(rt: &impl Abort, counter: &Tasks, seat: &mut TaskSeat, want: Option<u32>)
+    requires { Belongs counter.now seat.old }
+    ensures { Belongs counter.now seat.new }
+{
+    let number = counter.claim(seat);
+    assert!(rt; number == want, "drew {number:?}");
 }
 
 #[test]
-fn one_seat_draws_each_number_and_then_none(rt: HostRuntime) -> Result<(), Fail> {
-    let (counter, mut seat) = tasks(rt.alloc(), 2)?;
-    assert_eq!(rt; counter.claim(&mut seat), Some(0));
-    assert_eq!(rt; counter.claim(&mut seat), Some(1));
-    assert_eq!(rt; counter.claim(&mut seat), None);
-    assert_eq!(rt; counter.claim(&mut seat), None);
-    Ok(())
+fn one_seat_draws_each_number_and_then_none(rt: HostRuntime) {
+    let (counter, mut seat) = counter(&rt, rt.alloc(), 2);
+    draws(&rt, &counter, &mut seat, Some(0));
+    draws(&rt, &counter, &mut seat, Some(1));
+    draws(&rt, &counter, &mut seat, None);
+    draws(&rt, &counter, &mut seat, None);
 }
 
 #[test]
-fn seats_share_the_numbers(rt: HostRuntime) -> Result<(), Fail> {
-    let (counter, mut left) = tasks(rt.alloc(), 3)?;
-    let Some(mut right) = counter.split(&mut left) else {
-        panic!(rt; "one share")
-    };
-    assert_eq!(rt; (left.share(), right.share()), (32, 32));
-    assert_eq!(rt; counter.claim(&mut right), Some(0));
-    assert_eq!(rt; counter.claim(&mut left), Some(1));
-    assert_eq!(rt; counter.claim(&mut right), Some(2));
-    assert_eq!(rt; counter.claim(&mut right), None);
+fn seats_share_the_numbers(rt: HostRuntime) {
+    let (counter, mut left) = counter(&rt, rt.alloc(), 3);
+    let mut right = other(&rt, &counter, &mut left);
+    has_share(&rt, &left, 32);
+    has_share(&rt, &right, 32);
+    draws(&rt, &counter, &mut right, Some(0));
+    draws(&rt, &counter, &mut left, Some(1));
+    draws(&rt, &counter, &mut right, Some(2));
+    draws(&rt, &counter, &mut right, None);
     counter.join(&mut left, right);
-    assert_eq!(rt; left.share(), 64);
-    assert_eq!(rt; counter.claim(&mut left), None);
-    Ok(())
+    has_share(&rt, &left, 64);
+    draws(&rt, &counter, &mut left, None);
 }
 
 #[test]
@@ -144,5 +173,5 @@ fn two_workers_run_two_items_beside_each_other(rt: HostRuntime) {
         gave_up: AtomicBool::new(false),
     };
     gives_all(&rt, rt.alloc(), 2, &[4, 6], &gate);
-    assert!(rt; !gate.gave_up.load(SeqCst), "item 0 waited for all turns");
+    assert!(&rt; !gate.gave_up.load(SeqCst), "item 0 waited for all turns");
 }

@@ -1,15 +1,16 @@
 //! Four threads place the same names over one table and bid for them.
 
-ghost use Rattle.std.specs.Prelude.{◌≡◌, ◌+◌, ◌≤◌, length};
+ghost use Rattle.std.specs.Prelude.{◌≡◌, ◌+◌, ◌<◌, ◌≤◌, length};
 ghost use Rattle.std.specs.Thread.{IsSync};
 ghost use Rattle.type_pool.specs.Seats.{Belongs, known};
 
 use crate::keyed::KeyedBook;
+use crate::parts::{closed, open};
 use ds_base::List;
 use std::alloc::Global;
 use std::process::Abort;
 use std::thread::{Threads, join};
-use type_pool::{ClosedPool, Placing, Pool, PoolSeat, find, pool};
+use type_pool::{ClosedPool, Placing, Pool, PoolSeat, find};
 
 const NAMES: u32 = 1000;
 
@@ -51,67 +52,48 @@ fn bid_all(pool: &Pool, mut seat: PoolSeat, book: &KeyedBook, thread: u64) -> Po
     seat
 }
 
-// Two threads.
-fn bid_twice<R: Threads + Sync>(
+// So many times the thread and all that it starts fork in two. Each then places every name, and bids for it.
+//
+// A thread of number n goes on as number 2n, and starts number 2n + 1.
+#[cycle(bidders)]
+fn bid_by<R: Threads + Sync>(
     rt: &R,
     pool: &Pool,
     mut seat: PoolSeat,
     book: &KeyedBook,
+    forks: u32,
     thread: u64,
 ) -> PoolSeat
     requires belongs { Belongs pool.now seat }
     requires book { (length book.now.keys ≡ 1000) × (pool.now.names ≡ 1000) }
-    requires share { 2 ≤ (known seat).share }
-    requires thread { thread ≤ 2 }
     ensures belongs { Belongs pool.now result }
     ensures share { (known result).share ≡ (known seat).share }
 {
+    if forks == 0 {
+        return bid_all(pool, seat, book, thread);
+    }
     let Some(other) = pool.split(&mut seat) else {
-        unreachable!()
+        return bid_all(pool, seat, book, thread);
     };
-    let (mut seat, other) = join(
-        rt,
-        move || bid_all(pool, seat, book, thread),
-        move || bid_all(pool, other, book, thread + 1),
-    );
-    pool.join(&mut seat, other);
-    seat
-}
-
-// Four threads.
-fn bid_four_times<R: Threads + Sync>(
-    rt: &R,
-    pool: &Pool,
-    mut seat: PoolSeat,
-    book: &KeyedBook,
-) -> PoolSeat
-    requires belongs { Belongs pool.now seat }
-    requires book { (length book.now.keys ≡ 1000) × (pool.now.names ≡ 1000) }
-    requires share { 4 ≤ (known seat).share }
-    ensures belongs { Belongs pool.now result }
-    ensures share { (known result).share ≡ (known seat).share }
-{
-    let Some(other) = pool.split(&mut seat) else {
-        unreachable!()
-    };
+    let left = forks - 1;
+    let even = thread.wrapping_mul(2);
+    let odd = even.wrapping_add(1);
     let (mut seat, other) = join(
         rt,
         move || -> PoolSeat
             requires rt { IsSync R.row }
             requires belongs { Belongs pool.now seat }
             requires book { (length book.now.keys ≡ 1000) × (pool.now.names ≡ 1000) }
-            requires share { 2 ≤ (known seat).share }
             ensures belongs { Belongs pool.entry.now result }
             ensures share { (known result).share ≡ (known seat).share }
-        { bid_twice(rt, pool, seat, book, 0) },
+        { bid_by(rt, pool, seat, book, left, even) },
         move || -> PoolSeat
             requires rt { IsSync R.row }
             requires belongs { Belongs pool.now other }
             requires book { (length book.now.keys ≡ 1000) × (pool.now.names ≡ 1000) }
-            requires share { 2 ≤ (known other).share }
             ensures belongs { Belongs pool.entry.now result }
             ensures share { (known result).share ≡ (known other).share }
-        { bid_twice(rt, pool, other, book, 2) },
+        { bid_by(rt, pool, other, book, left, odd) },
     );
     pool.join(&mut seat, other);
     seat
@@ -130,25 +112,24 @@ fn plain_least(keys: &[u32], key: u32) -> u64 {
     least
 }
 
-// Every name is found, with the plain minimum.
-fn has_plain_minimums(rt: &impl Abort, closed: &ClosedPool, book: &KeyedBook)
-    requires { (length book.now.keys ≡ 1000) × (closed.now.names ≡ 1000) }
+// The name is found, with the plain minimum.
+fn has_plain_minimum(rt: &impl Abort, closed: &ClosedPool, book: &KeyedBook, x: u32)
+    requires { (length book.now.keys ≡ closed.now.names) × (x < closed.now.names) }
 {
-    for x in 0..NAMES {
-        let found = find(closed, book, x).expect(rt, "a cell");
-        let keys = book.keys.as_slice();
-        assert_eq!(rt; found.least, plain_least(keys, keys[x as usize]));
-    }
+    let keys = book.keys.as_slice();
+    let wanted = plain_least(keys, keys[x as usize]);
+    let least = find(closed, book, x).expect(rt, "a cell").least;
+    assert!(rt; least == wanted, "name {x}: {least}, and not {wanted}");
 }
 
 #[test]
 fn four_threads_leave_the_plain_minimum(rt: HostRuntime) {
     let alloc = rt.alloc();
     let book = thousand_names(&rt, alloc);
-    let (pool, seat) = pool(alloc, CELLS, NAMES).expect(&rt, "memory");
-    let seat = bid_four_times(&rt, &pool, seat, &book);
-    match pool.close(seat) {
-        Ok(closed) => has_plain_minimums(&rt, &closed, &book),
-        Err(_) => panic!(&rt; "memory"),
+    let (pool, seat) = open(&rt, alloc, CELLS, NAMES);
+    let seat = bid_by(&rt, &pool, seat, &book, 2, 0);
+    let closed = closed(pool, seat);
+    for x in 0..NAMES {
+        has_plain_minimum(&rt, &closed, &book, x);
     }
 }
