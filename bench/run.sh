@@ -1,9 +1,10 @@
 #!/usr/bin/env bash
 # Builds a C++ program of 32 objects with about 150 MB and one of a single object, links the debugging information of both
 # with dsymlink and with dsymutil, each by one thread and by more, in turn, and prints of each the least and the middle of
-# wall time, processor time and memory. Wants Debian's clang-14, lld-14, llvm-19, libstdc++-12-dev and time, a built
-# dsymlink, and a quarter of an hour. What it builds stays in the folder that the first word names, and is used again. The
-# second word is the number of runs.
+# wall time, processor time and memory. Also links each four times at once by one thread each: these share nothing, so
+# their time says what four processors of the machine are worth. Wants Debian's clang-14, lld-14, llvm-19, libstdc++-12-dev
+# and time, a built dsymlink, and a quarter of an hour. What it builds stays in the folder that the first word names, and is
+# used again. The second word is the number of runs.
 set -eu
 dsymlink=$(realpath "$(dirname "$0")/../crates/dsymlink/out/dsymlink")
 folder=${1:-/tmp/dsymlink-bench}
@@ -73,6 +74,17 @@ note() {
     command time -f '%e %U %S %M' -a -o "$name.times" "$@" > "$name.out" 2>&1
 }
 
+# Links a program four times at once, each by one thread into a bundle of its own.
+four_at_once() {
+    local n
+    for n in 1 2 3 4; do
+        "$dsymlink" -j 1 -o "$1.$n.dSYM" "$1" &
+    done
+    wait
+}
+export -f four_at_once
+export dsymlink
+
 # The least and the middle of column 1 of what comes in.
 least_and_middle() {
     sort -n | awk '{ x[NR] = $1 } END { printf "%9.2f %9.2f", x[1], x[int((NR + 1) / 2)] }'
@@ -93,6 +105,7 @@ for program in large small; do
         note "$program.dsymutil-no-odr-one-thread" dsymutil-19 --no-odr --num-threads 1 -o "$program.util.dSYM" "$program"
         note "$program.dsymlink-j1" "$dsymlink" -j 1 "$program"
         note "$program.dsymlink-j4" "$dsymlink" -j 4 "$program"
+        note "$program.dsymlink-j1-four-times" bash -c "four_at_once $program"
         note "$program.dsymutil" dsymutil-19 -o "$program.util.dSYM" "$program"
         note "$program.dsymutil-parallel" dsymutil-19 --linker=parallel --num-threads 4 -o "$program.util.dSYM" "$program"
     done
@@ -100,7 +113,7 @@ done
 echo "objects: $(cat s*.o | wc -c) bytes"
 printf '%-36s%19s%19s%19s\n' "least and middle of $runs runs" "seconds" "processor seconds" "MiB"
 for program in large small; do
-    for tool in dsymlink-no-odr-j1 dsymlink-j1 dsymlink-j4 dsymutil-no-odr-one-thread dsymutil dsymutil-parallel; do
+    for tool in dsymlink-no-odr-j1 dsymlink-j1 dsymlink-j4 dsymlink-j1-four-times dsymutil-no-odr-one-thread dsymutil dsymutil-parallel; do
         report "$program.$tool"
     done
 done
