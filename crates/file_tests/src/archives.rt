@@ -1,5 +1,6 @@
 //! Archives, and the member of a name or the fault.
 
+use crate::parts::{fault, same};
 use ar_read::{member, read_members};
 use ds_base::{Fault, Kind, Part};
 use std::alloc::Global;
@@ -14,11 +15,9 @@ fn assert_found(
     name: &[u8],
     want: Result<&[u8], Fault>,
 ) {
-    assert_eq!(rt; member(archive, name), want, "{label}");
-    match read_members(alloc, archive) {
-        Ok(members) => assert_eq!(rt; members.find(name), want, "{label}, by a table"),
-        Err(error) => panic!(rt; "{label}: {error:?}"),
-    }
+    let members = read_members(alloc, archive).expect(rt, label);
+    let found = (member(archive, name), members.find(name));
+    same(rt, label, found, (want, want));
 }
 
 /// A name has no member, for this fault.
@@ -31,11 +30,7 @@ fn assert_refused(
     kind: Kind,
     place: u64,
 ) {
-    let fault = Fault {
-        kind,
-        section: Part::Archive,
-        place,
-    };
+    let fault = fault(kind, Part::Archive, place);
     assert_found(rt, alloc, label, archive, name, Err(fault));
 }
 

@@ -1,74 +1,76 @@
 //! Lists, bytes, marks, items from the front, and items written into a room.
 
+use crate::parts::{fault, same, same_bytes};
 use ds_base::{
-    BitRow, Bytes, Cursor, Fault, Kind, List, Part, emit_bytes, emit_u8, emit_u16, emit_u32,
-    emit_u64, emit_uleb4, put_bytes, put_u8, put_u16, put_u32, put_u64,
+    BitRow, Bytes, Cursor, Kind, List, Part, emit_bytes, emit_u8, emit_u16, emit_u32, emit_u64,
+    emit_uleb4, put_bytes, put_u8, put_u16, put_u32, put_u64,
 };
-use std::test::Fail;
+use std::alloc::Global;
+use std::process::Abort;
 
 #[test]
-fn a_list_takes_items_last_and_gives_them_back(rt: HostRuntime) -> Result<(), Fail> {
-    let mut list = List::new(rt.alloc());
-    assert_eq!(rt; list.pop(), None);
-    list.push(7u32)?;
-    list.push(9u32)?;
-    assert_eq!(rt; list.as_slice(), [7, 9].as_slice());
-    assert_eq!(rt; list.get(1), Some(&9));
-    assert_eq!(rt; list.get(2), None);
-    assert_eq!(rt; list.pop(), Some(9));
-    assert_eq!(rt; list.len(), 1);
-    assert!(rt; !list.is_empty());
-    Ok(())
+fn a_list_takes_items_last_and_gives_them_back(rt: HostRuntime) {
+    let mut list: List<u32> = List::new(rt.alloc());
+    same(&rt, "the last of none", list.pop(), None);
+    list.push(7).expect(&rt, "memory");
+    list.push(9).expect(&rt, "memory");
+    same(&rt, "all", list.as_slice(), [7, 9].as_slice());
+    same(&rt, "at 1", list.get(1), Some(&9));
+    same(&rt, "at 2", list.get(2), None);
+    same(&rt, "the last of two", list.pop(), Some(9));
+    same(&rt, "how many are left", list.len(), 1);
+    same(&rt, "whether none is left", list.is_empty(), false);
+}
+
+/// So many zeros are these bytes.
+fn assert_zeros(rt: &impl Abort, alloc: Global, count: usize, want: &[u8]) {
+    let zeros = Bytes::zeros(alloc, count).expect(rt, "memory");
+    same_bytes(rt, "zeros", &zeros, want);
 }
 
 #[test]
-fn bytes_are_copied_and_extended(rt: HostRuntime) -> Result<(), Fail> {
-    let mut bytes = Bytes::from_slice(rt.alloc(), b"ab")?;
-    bytes.push(b'c')?;
-    bytes.extend(b"de")?;
-    let copy = bytes.copy(rt.alloc())?;
-    assert_eq!(rt; bytes.pop(), Some(b'e'));
-    assert_eq!(rt; bytes.as_slice(), b"abcd".as_slice());
-    assert_eq!(rt; copy.as_slice(), b"abcde".as_slice());
-    assert_eq!(rt;
-        Bytes::zeros(rt.alloc(), 3)?.as_slice(),
-        [0, 0, 0].as_slice()
-    );
-    Ok(())
+fn bytes_are_copied_and_extended(rt: HostRuntime) {
+    let alloc = rt.alloc();
+    let mut bytes = Bytes::from_slice(alloc, b"ab").expect(&rt, "memory");
+    bytes.push(b'c').expect(&rt, "memory");
+    bytes.extend(b"de").expect(&rt, "memory");
+    let copy = bytes.copy(alloc).expect(&rt, "memory");
+    same(&rt, "the last", bytes.pop(), Some(b'e'));
+    same_bytes(&rt, "the others", &bytes, b"abcd");
+    same_bytes(&rt, "the copy", &copy, b"abcde");
+    assert_zeros(&rt, alloc, 3, &[0, 0, 0]);
 }
 
 #[test]
-fn a_mark_is_set_alone(rt: HostRuntime) -> Result<(), Fail> {
-    let mut row = BitRow::new(rt.alloc(), 3)?;
+fn a_mark_is_set_alone(rt: HostRuntime) {
+    let mut row = BitRow::new(rt.alloc(), 3).expect(&rt, "memory");
     row.set(1);
-    assert!(rt; !row.get(0));
-    assert!(rt; row.get(1));
-    assert!(rt; !row.get(2));
-    Ok(())
+    same(&rt, "at 0", row.get(0), false);
+    same(&rt, "at 1", row.get(1), true);
+    same(&rt, "at 2", row.get(2), false);
 }
 
 #[test]
 fn items_are_read_from_the_front_up_to_the_end(rt: HostRuntime) {
-    let bytes = [
-        0x2a, 0x34, 0x12, 0x78, 0x56, 0x34, 0x12, 1, 2, 3, 4, 5, 6, 7, 8, b'o', b'k', 0, 9, 9, 9,
-    ];
-    let mut cursor = Cursor::new(&bytes, Part::Symbols, 0, 20);
-    assert_eq!(rt; cursor.u8(), Ok(0x2a));
-    assert_eq!(rt; cursor.u16(), Ok(0x1234));
-    assert_eq!(rt; cursor.u32(), Ok(0x1234_5678));
-    assert_eq!(rt; cursor.u64(), Ok(0x0807_0605_0403_0201));
-    assert_eq!(rt; cursor.text(), Ok(b"ok".as_slice()));
-    assert_eq!(rt; cursor.place(), 18);
-    let cut = Fault {
-        kind: Kind::Truncated,
-        section: Part::Symbols,
-        place: 18,
-    };
-    assert_eq!(rt; cursor.u32(), Err(cut));
-    assert_eq!(rt; cursor.text(), Err(cut));
-    assert_eq!(rt; cursor.skip(3), Err(cut));
-    assert_eq!(rt; cursor.skip(2), Ok([9, 9].as_slice()));
-    assert_eq!(rt; cursor.left(), 0);
+    let bytes = b"\x2a\x34\x12\x78\x56\x34\x12\x01\x02\x03\x04\x05\x06\x07\x08ok\0\x09\x09\x09";
+    let mut cursor = Cursor::new(bytes, Part::Symbols, 0, 20);
+    same(&rt, "a byte", cursor.u8(), Ok(0x2a));
+    same(&rt, "2 bytes", cursor.u16(), Ok(0x1234));
+    same(&rt, "4 bytes", cursor.u32(), Ok(0x1234_5678));
+    same(&rt, "8 bytes", cursor.u64(), Ok(0x0807_0605_0403_0201));
+    same(&rt, "a text", cursor.text(), Ok(b"ok".as_slice()));
+    same(&rt, "the place behind it", cursor.place(), 18);
+    let cut = fault(Kind::Truncated, Part::Symbols, 18);
+    same(&rt, "4 bytes of 2", cursor.u32(), Err(cut));
+    same(&rt, "a text without a zero", cursor.text(), Err(cut));
+    same(&rt, "3 bytes of 2", cursor.skip(3), Err(cut));
+    same(
+        &rt,
+        "2 bytes of 2",
+        cursor.skip(2),
+        Ok(b"\x09\x09".as_slice()),
+    );
+    same(&rt, "how many are left", cursor.left(), 0);
 }
 
 #[test]
@@ -79,10 +81,8 @@ fn items_are_written_with_the_lowest_byte_first(rt: HostRuntime) {
     put_u32(&mut room, 3, 0x1234_5678);
     put_u64(&mut room, 7, 0x0807_0605_0403_0201);
     put_bytes(&mut room, 15, b"k");
-    let want = [
-        0x2a, 0x34, 0x12, 0x78, 0x56, 0x34, 0x12, 1, 2, 3, 4, 5, 6, 7, 8, b'k', 0xee,
-    ];
-    assert_eq!(rt; room.as_slice(), want.as_slice());
+    let want = b"\x2a\x34\x12\x78\x56\x34\x12\x01\x02\x03\x04\x05\x06\x07\x08k\xee";
+    same(&rt, "the room", room.as_slice(), want.as_slice());
 }
 
 #[test]
@@ -94,17 +94,14 @@ fn items_are_emitted_one_behind_the_other(rt: HostRuntime) {
     let at = emit_u64(&mut room, at, 0x0807_0605_0403_0201);
     let at = emit_uleb4(&mut room, at, 0x35);
     let at = emit_bytes(&mut room, at, b"k");
-    assert_eq!(rt; at, 20);
-    let want = [
-        0x2a, 0x34, 0x12, 0x78, 0x56, 0x34, 0x12, 1, 2, 3, 4, 5, 6, 7, 8, 0xb5, 0x80, 0x80, 0x00,
-        b'k', 0xee,
-    ];
-    assert_eq!(rt; room.as_slice(), want.as_slice());
+    same(&rt, "the place behind the last", at, 20);
+    let want = b"\x2a\x34\x12\x78\x56\x34\x12\x01\x02\x03\x04\x05\x06\x07\x08\xb5\x80\x80\x00k\xee";
+    same(&rt, "the room", room.as_slice(), want.as_slice());
 }
 
 #[test]
 fn kinds_have_their_numbers(rt: HostRuntime) {
-    assert_eq!(rt; Kind::Truncated.number(), 1);
-    assert_eq!(rt; Kind::RelocOverlap.number(), 19);
-    assert_eq!(rt; Kind::BadOutput.number(), 49);
+    same(&rt, "the first", Kind::Truncated.number(), 1);
+    same(&rt, "one between", Kind::RelocOverlap.number(), 19);
+    same(&rt, "the last", Kind::BadOutput.number(), 49);
 }

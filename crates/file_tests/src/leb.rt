@@ -1,45 +1,50 @@
 //! LEB numbers: the examples of DWARF 4, figures 22 and 23, padded ones, and the limits.
 
-use ds_base::{Cursor, Fault, Kind, Part, put_sleb, put_uleb, put_uleb4, sleb_len, uleb_len};
+ghost use Rattle.std.specs.Prelude.{◌+◌, ◌<◌, length};
+
+use crate::parts::{fault, same};
+use ds_base::{Cursor, Kind, Part, put_sleb, put_uleb, put_uleb4, sleb_len, uleb_len};
 use std::process::Abort;
 
 /// Bytes mean a number without a sign, which the cursor passes.
 fn reads_uleb(rt: &impl Abort, bytes: &[u8], want: u64) {
     let mut cursor = Cursor::new(bytes, Part::Info, 0, bytes.len() as u64);
-    assert_eq!(rt; cursor.uleb(), Ok(want));
-    assert_eq!(rt; cursor.left(), 0);
+    let found = (cursor.uleb(), cursor.left());
+    same(rt, "a number and what is left", found, (Ok(want), 0));
 }
 
 /// Bytes mean a number with a sign, which the cursor passes.
 fn reads_sleb(rt: &impl Abort, bytes: &[u8], want: i64) {
     let mut cursor = Cursor::new(bytes, Part::Info, 0, bytes.len() as u64);
-    assert_eq!(rt; cursor.sleb(), Ok(want));
-    assert_eq!(rt; cursor.left(), 0);
-}
-
-/// The fault of a number that stands at place 1.
-fn fault(kind: Kind) -> Fault {
-    Fault {
-        kind,
-        section: Part::Info,
-        place: 1,
-    }
+    let found = (cursor.sleb(), cursor.left());
+    same(rt, "a number and what is left", found, (Ok(want), 0));
 }
 
 /// The number behind the first byte is refused, and the cursor stays.
 fn refuses_uleb(rt: &impl Abort, bytes: &[u8], kind: Kind) {
     assert!(rt; !bytes.is_empty());
     let mut cursor = Cursor::new(bytes, Part::Info, 1, bytes.len() as u64);
-    assert_eq!(rt; cursor.uleb(), Err(fault(kind)));
-    assert_eq!(rt; cursor.place(), 1);
+    let found = (cursor.uleb(), cursor.place());
+    let want = (Err(fault(kind, Part::Info, 1)), 1);
+    same(rt, "a fault, and the place", found, want);
 }
 
 /// The signed number behind the first byte is refused, and the cursor stays.
 fn refuses_sleb(rt: &impl Abort, bytes: &[u8], kind: Kind) {
     assert!(rt; !bytes.is_empty());
     let mut cursor = Cursor::new(bytes, Part::Info, 1, bytes.len() as u64);
-    assert_eq!(rt; cursor.sleb(), Err(fault(kind)));
-    assert_eq!(rt; cursor.place(), 1);
+    let found = (cursor.sleb(), cursor.place());
+    let want = (Err(fault(kind, Part::Info, 1)), 1);
+    same(rt, "a fault, and the place", found, want);
+}
+
+/// From 1 on a room of 0x55 has these bytes and no others.
+fn holds(rt: &impl Abort, room: &[u8], len: usize, want: &[u8])
+    requires { len + 1 < length room.now }
+{
+    same(rt, "the bytes", &room[1..1 + len], want);
+    let around = (room[0], room[1 + len]);
+    same(rt, "those around them", around, (0x55, 0x55));
 }
 
 /// A number is written as these bytes and no others, and they are read as the number.
@@ -47,9 +52,7 @@ fn is_uleb(rt: &impl Abort, n: u64, want: &[u8]) {
     let len = uleb_len(n) as usize;
     let mut room = [0x55; 12];
     put_uleb(&mut room, 1, n);
-    assert_eq!(rt; &room[1..1 + len], want);
-    assert_eq!(rt; room[0], 0x55);
-    assert_eq!(rt; room[1 + len], 0x55);
+    holds(rt, &room, len, want);
     reads_uleb(rt, want, n);
 }
 
@@ -58,9 +61,7 @@ fn is_sleb(rt: &impl Abort, n: i64, want: &[u8]) {
     let len = sleb_len(n) as usize;
     let mut room = [0x55; 12];
     put_sleb(&mut room, 1, n);
-    assert_eq!(rt; &room[1..1 + len], want);
-    assert_eq!(rt; room[0], 0x55);
-    assert_eq!(rt; room[1 + len], 0x55);
+    holds(rt, &room, len, want);
     reads_sleb(rt, want, n);
 }
 
@@ -69,9 +70,7 @@ fn is_uleb4(rt: &impl Abort, n: u32, want: &[u8]) {
     assert!(rt; n < 1 << 28);
     let mut room = [0x55; 6];
     put_uleb4(&mut room, 1, n);
-    assert_eq!(rt; &room[1..5], want);
-    assert_eq!(rt; room[0], 0x55);
-    assert_eq!(rt; room[5], 0x55);
+    holds(rt, &room, 4, want);
     reads_uleb(rt, want, u64::from(n));
 }
 

@@ -18,4 +18,6 @@ mod leb;
 #[cfg(test)]
 mod maps;
 #[cfg(test)]
+mod parts;
+#[cfg(test)]
 mod sample;

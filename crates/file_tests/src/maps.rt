@@ -1,17 +1,18 @@
 //! Symbols of a program (mach-o/stab.h), and its debug map or the fault.
 
+use crate::parts::{fault, same, same_bytes};
 use crate::sample::{file_with, image_in};
 use ds_base::macho::{N_EXT, N_FUN, N_GSYM, N_OSO, N_SECT, N_SO};
-use ds_base::{Fault, Kind, List, Part};
+use ds_base::{Kind, List, Part};
 use macho_read::Symbols;
-use stab_map::{MapEntry, MapError, MapObject, debug_map};
+use stab_map::{MapError, MapObject, debug_map};
 use std::alloc::Global;
 use std::process::Abort;
 
 /// Puts a symbol of the first section last.
 fn put(rt: &impl Abort, symbols: &mut Symbols, name: &[u8], kind: u8, value: u64) {
     assert!(rt; name.len() <= 16);
-    assert!(rt; symbols.push(name, kind, 1, 0, value).is_ok());
+    symbols.push(name, kind, 1, 0, value).expect(rt, "memory");
 }
 
 /// The map of a file with these symbols.
@@ -21,18 +22,33 @@ fn map_of(rt: &impl Abort, alloc: Global, symbols: Symbols) -> Result<List<MapOb
     debug_map(alloc, &image)
 }
 
+/// The one object of a map.
+fn only_object<'a>(rt: &impl Abort, map: &'a List<MapObject>) -> &'a MapObject {
+    same(rt, "objects", map.len(), 1);
+    map.get(0).expect(rt, "an object")
+}
+
 /// An object's entry is this.
 fn assert_entry(
     rt: &impl Abort,
-    entries: &List<MapEntry>,
+    object: &MapObject,
     index: usize,
     name: &[u8],
     linked: u64,
     size: Option<u64>,
 ) {
-    let entry = entries.get(index).expect(rt, "an entry");
-    assert_eq!(rt; entry.name.as_slice(), name, "{index}");
-    assert_eq!(rt; (entry.linked, entry.size), (linked, size), "{index}");
+    let entry = object.entries.get(index).expect(rt, "an entry");
+    let found = (entry.name.as_slice(), entry.linked, entry.size);
+    same(rt, "an entry", found, (name, linked, size));
+}
+
+/// An object that is no member of an archive has a function and a variable.
+fn assert_object(rt: &impl Abort, object: &MapObject) {
+    same_bytes(rt, "the path", &object.path, b"/tmp/m.o");
+    same(rt, "whether it is no member", object.member.is_none(), true);
+    same(rt, "entries", object.entries.len(), 2);
+    assert_entry(rt, object, 0, b"_main", 0x1_0000_3f50, Some(0x2a));
+    assert_entry(rt, object, 1, b"_c", 0x1_0000_8010, None);
 }
 
 #[test]
@@ -44,14 +60,14 @@ fn an_object_has_its_functions_and_variables(rt: HostRuntime) {
     put(&rt, &mut symbols, b"_c", N_GSYM, 0);
     put(&rt, &mut symbols, b"_c", N_SECT | N_EXT, 0x1_0000_8010);
     let map = map_of(&rt, rt.alloc(), symbols).expect(&rt, "a map");
-    assert_eq!(rt; map.len(), 1);
-    let object = map.get(0).expect(&rt, "an object");
-    assert_eq!(rt; object.path.as_slice(), b"/tmp/m.o".as_slice());
-    assert!(rt; object.member.is_none());
-    assert_eq!(rt; object.entries.len(), 2);
-    let entries = &object.entries;
-    assert_entry(&rt, entries, 0, b"_main", 0x1_0000_3f50, Some(0x2a));
-    assert_entry(&rt, entries, 1, b"_c", 0x1_0000_8010, None);
+    assert_object(&rt, only_object(&rt, &map));
+}
+
+/// An object is a member of an archive.
+fn assert_member(rt: &impl Abort, object: &MapObject, archive: &[u8], name: &[u8]) {
+    let member = object.member.as_ref().expect(rt, "a member");
+    let found = (object.file.as_slice(), member.as_slice());
+    same(rt, "an archive and a member", found, (archive, name));
 }
 
 #[test]
@@ -60,25 +76,13 @@ fn an_object_in_an_archive_is_a_member(rt: HostRuntime) {
     put(&rt, &mut symbols, b"l.a(x)", N_OSO, 0);
     put(&rt, &mut symbols, b"", N_SO, 0);
     let map = map_of(&rt, rt.alloc(), symbols).expect(&rt, "a map");
-    assert_eq!(rt; map.len(), 1);
-    let object = map.get(0).expect(&rt, "an object");
-    assert_eq!(rt; object.file.as_slice(), b"l.a".as_slice());
-    let member = object.member.as_ref().expect(&rt, "a member");
-    assert_eq!(rt; member.as_slice(), b"x".as_slice());
+    assert_member(&rt, only_object(&rt, &map), b"l.a", b"x");
 }
 
 /// A file with these symbols has no map, for this fault.
 fn assert_refused(rt: &impl Abort, alloc: Global, symbols: Symbols, kind: Kind, place: u64) {
-    let fault = Fault {
-        kind,
-        section: Part::Map,
-        place,
-    };
-    assert_eq!(rt;
-        map_of(rt, alloc, symbols).err(),
-        Some(MapError::Faulty(fault)),
-        "{place}"
-    );
+    let want = MapError::Faulty(fault(kind, Part::Map, place));
+    same(rt, "a map", map_of(rt, alloc, symbols).err(), Some(want));
 }
 
 #[test]

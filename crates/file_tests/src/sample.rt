@@ -6,7 +6,7 @@ ghost use Rattle.macho_read.specs.Sound.{IsSound};
 
 use ds_base::dwarf::{DW_AT_low_pc, DW_TAG_compile_unit, DW_TAG_subprogram};
 use ds_base::macho::{CPU_TYPE_ARM64, N_EXT, N_SECT, N_UNDF};
-use ds_base::{Bytes, List};
+use ds_base::{Bytes, List, put_bytes};
 use dwarf_types::{Node, OutAttr, OutUnit, OutValue};
 use macho_read::{Image, Symbols, read_image};
 use reloc_table::Reloc;
@@ -43,7 +43,7 @@ fn entry(rt: &impl Abort, alloc: Global, parent: Option<u32>, tag: u16, address:
         name: DW_AT_low_pc,
         value: OutValue::Address(address),
     };
-    assert!(rt; attrs.push(attr).is_ok());
+    attrs.push(attr).expect(rt, "memory");
     Node { parent, tag, attrs }
 }
 
@@ -52,8 +52,8 @@ fn unit(rt: &impl Abort, alloc: Global) -> OutUnit {
     let mut nodes = List::new(alloc);
     let root = entry(rt, alloc, None, DW_TAG_compile_unit, 0);
     let function = entry(rt, alloc, Some(0), DW_TAG_subprogram, 8);
-    assert!(rt; nodes.push(root).is_ok());
-    assert!(rt; nodes.push(function).is_ok());
+    nodes.push(root).expect(rt, "memory");
+    nodes.push(function).expect(rt, "memory");
     OutUnit {
         version: 4,
         nodes,
@@ -78,51 +78,54 @@ fn relocs(rt: &impl Abort, alloc: Global) -> List<Reloc>
     ensures { All (λ r. r.symbol < 2 ^ 24) result }
 {
     let mut relocs = List::new(alloc);
-    assert!(rt; relocs.push(reloc(21)).is_ok());
-    assert!(rt; relocs.push(reloc(12)).is_ok());
+    relocs.push(reloc(21)).expect(rt, "memory");
+    relocs.push(reloc(12)).expect(rt, "memory");
     relocs
+}
+
+/// The file of an object, whose unit is short enough for it.
+fn file_of(rt: &impl Abort, alloc: Global, spec: &ObjectSpec) -> Bytes
+    requires { All (λ r. r.symbol < 2 ^ 24) spec.now.relocs }
+{
+    let within = is_within_limits(alloc, &spec.unit).expect(rt, "memory");
+    assert!(rt; within);
+    object(alloc, spec).expect(rt, "memory for a file")
 }
 
 /// The file of an arm64 object of the unit, with these symbols.
 pub(crate) fn file_with(rt: &impl Abort, alloc: Global, symbols: Symbols) -> Bytes {
-    let unit = unit(rt, alloc);
-    let within = is_within_limits(alloc, &unit).expect(rt, "memory");
-    assert!(rt; within);
     let spec = ObjectSpec {
         cpu: CPU_TYPE_ARM64,
-        unit,
+        unit: unit(rt, alloc),
         symbols,
         relocs: relocs(rt, alloc),
     };
-    object(alloc, &spec).expect(rt, "memory for a file")
+    file_of(rt, alloc, &spec)
 }
 
 /// The file of the object with two symbols: `_a` at 0x20 of `__text`, and `_c` of 8 bytes, which is common.
 pub(crate) fn file(rt: &impl Abort, alloc: Global) -> Bytes {
     let mut symbols = Symbols::new(alloc);
-    assert!(rt; symbols.push(b"_a", N_SECT | N_EXT, 1, 0, 0x20).is_ok());
-    assert!(rt; symbols.push(b"_c", N_UNDF | N_EXT, 0, 0, 8).is_ok());
+    symbols
+        .push(b"_a", N_SECT | N_EXT, 1, 0, 0x20)
+        .expect(rt, "memory");
+    symbols
+        .push(b"_c", N_UNDF | N_EXT, 0, 0, 8)
+        .expect(rt, "memory");
     file_with(rt, alloc, symbols)
 }
 
-/// A file with other bytes from a place on.
-pub(crate) fn changed(
-    rt: &impl Abort,
-    alloc: Global,
-    file: &[u8],
-    at: usize,
-    bytes: &[u8],
-) -> Bytes {
-    let mut changed = Bytes::new(alloc);
-    for (i, old) in file.iter().enumerate() {
-        let byte = if i >= at && i - at < bytes.len() {
-            bytes[i - at]
-        } else {
-            *old
-        };
-        assert!(rt; changed.push(byte).is_ok());
-    }
-    changed
+/// Puts other bytes into a file, from a place on.
+pub(crate) fn change(rt: &impl Abort, file: &mut [u8], at: usize, bytes: &[u8]) {
+    assert!(rt; at <= file.len() && bytes.len() <= file.len() - at, "{at}");
+    put_bytes(file, at, bytes);
+}
+
+/// The file of the object, with other bytes from a place on.
+pub(crate) fn changed(rt: &impl Abort, alloc: Global, at: usize, bytes: &[u8]) -> Bytes {
+    let mut file = file(rt, alloc);
+    change(rt, file.as_mut_slice(), at, bytes);
+    file
 }
 
 /// The image of a file that is read.
