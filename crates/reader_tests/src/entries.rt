@@ -2,10 +2,10 @@
 
 ghost use Rattle.std.specs.Prelude.{◌≡◌};
 
-use crate::parts::assert_refused;
+use crate::parts::{assert_in_unit, assert_refused, few, same};
 use abbrev_read::read_table;
 use ds_base::{Kind, List, Part, ReadError};
-use dwarf_types::{Abbrev, RawUnits, Sections};
+use dwarf_types::{Abbrev, RawEntries, RawUnits, Sections};
 use std::alloc::Global;
 use std::process::Abort;
 use unit_tree::read_units;
@@ -16,23 +16,28 @@ const FUNCTIONS: &[u8; 21] = b"\x01\x11\x01\x03\x0e\x13\x05\0\0\x02\x2e\0\x11\x0
 
 /// The table at the start of a section.
 fn read_first(rt: &impl Abort, alloc: Global, bytes: &[u8]) -> Result<List<Abbrev>, ReadError> {
-    assert!(rt; !bytes.is_empty());
-    read_table(alloc, bytes, 0)
+    read_table(alloc, few(rt, bytes), 0)
+}
+
+/// The declaration at a place of a table has this code, this tag, children or none, and so many fields.
+fn assert_declared(rt: &impl Abort, table: &List<Abbrev>, i: usize, want: (u64, u16, bool, usize)) {
+    let declared = table.get(i).expect(rt, "a declaration");
+    let read = (
+        declared.code,
+        declared.tag,
+        declared.children,
+        declared.fields.len(),
+    );
+    same(rt, "code, tag, children and fields", read, want);
 }
 
 #[test]
-#[rattlefmt::skip]
 fn a_table_has_its_declarations(rt: HostRuntime) {
-    match read_first(&rt, rt.alloc(), FUNCTIONS) {
-        Ok(table) => {
-            let want: [(u64, u16, bool, usize); 2] = [(1, 0x11, true, 2), (2, 0x2e, false, 3)];
-            assert_eq!(rt; table.len(), 2);
-            for (declared, want) in table.as_slice().iter().zip(want.iter()) {
-                assert_eq!(rt; (declared.code, declared.tag, declared.children, declared.fields.len()), *want);
-            }
-        }
-        Err(error) => panic!(rt; "{error:?}"),
-    }
+    let table = read_first(&rt, rt.alloc(), FUNCTIONS).expect(&rt, "a table");
+    same(&rt, "declarations", table.len(), 2);
+    assert_declared(&rt, &table, 0, (1, 0x11, true, 2));
+    assert_declared(&rt, &table, 1, (2, 0x2e, false, 3));
+    drop(table);
 }
 
 /// A table is refused so.
@@ -44,14 +49,8 @@ fn table_refused(
     place: u64,
     bytes: &[u8],
 ) {
-    assert_refused(
-        rt,
-        label,
-        read_first(rt, alloc, bytes).err(),
-        Part::Abbrev,
-        kind,
-        place,
-    );
+    let error = read_first(rt, alloc, bytes).err();
+    assert_refused(rt, label, error, Part::Abbrev, kind, place);
 }
 
 #[test]
@@ -67,8 +66,7 @@ fn the_first_item_of_a_table_that_is_wrong_is_told(rt: HostRuntime) {
 
 /// The units of a section, by the table above.
 fn units(rt: &impl Abort, alloc: Global, info: &[u8]) -> Result<RawUnits, ReadError> {
-    assert!(rt; info.len() < 1000);
-    read_units(alloc, &sections(info))
+    read_units(alloc, &sections(few(rt, info)))
 }
 
 fn sections(info: &[u8]) -> Sections<'_>
@@ -91,36 +89,45 @@ fn sections(info: &[u8]) -> Sections<'_>
     }
 }
 
+/// The entry at a place has this parent, place and tag, and so many attributes.
+fn assert_entry(
+    rt: &impl Abort,
+    entries: &RawEntries,
+    i: usize,
+    want: (Option<u32>, u32, u16, usize),
+) {
+    let entry = entries.get(i).expect(rt, "an entry");
+    let read = (entry.parent(), entry.place(), entry.tag(), entry.len());
+    drop(entry);
+    same(rt, "parent, place, tag and attributes", read, want);
+}
+
+/// The only unit has two entries.
+fn assert_unit(rt: &impl Abort, read: &RawUnits) {
+    same(
+        rt,
+        "units and entries",
+        (read.units.len(), read.entries.len()),
+        (1, 2),
+    );
+    assert_in_unit(rt, &read.units, 0, (0, 2, 4, 12));
+    assert_entry(rt, &read.entries, 0, (None, 11, 0x11, 2));
+    assert_entry(rt, &read.entries, 1, (Some(0), 18, 0x2e, 3));
+}
+
 #[test]
 #[rattlefmt::skip]
 fn a_unit_has_its_entries(rt: HostRuntime) {
-    match units(&rt, rt.alloc(), b"\x20\0\0\0\x04\0\0\0\0\0\x08\x01\0\0\0\0\x0c\0\
-        \x02\x10\0\0\0\0\0\0\0\x2a\0\0\0\x04\0\0\0\0") {
-        Ok(read) => {
-            assert_eq!(rt; (read.units.len(), read.entries.len()), (1, 2));
-            for unit in read.units.as_slice() {
-                assert_eq!(rt; (unit.first, unit.count, unit.version, unit.language), (0, 2, 4, 12));
-            }
-            let want: [(Option<u32>, u32, u16, usize); 2] = [(None, 11, 0x11, 2), (Some(0), 18, 0x2e, 3)];
-            for i in 0..2 {
-                let entry = read.entries.get(i).map(|e| (e.parent(), e.place(), e.tag(), e.len()));
-                assert_eq!(rt; entry, Some(want[i]));
-            }
-        }
-        Err(error) => panic!(rt; "{error:?}"),
-    }
+    let read = units(&rt, rt.alloc(), b"\x20\0\0\0\x04\0\0\0\0\0\x08\x01\0\0\0\0\x0c\0\
+        \x02\x10\0\0\0\0\0\0\0\x2a\0\0\0\x04\0\0\0\0").expect(&rt, "units");
+    assert_unit(&rt, &read);
+    drop(read);
 }
 
 /// Units are refused so.
 fn units_refused(rt: &impl Abort, alloc: Global, label: &str, kind: Kind, place: u64, info: &[u8]) {
-    assert_refused(
-        rt,
-        label,
-        units(rt, alloc, info).err(),
-        Part::Info,
-        kind,
-        place,
-    );
+    let error = units(rt, alloc, info).err();
+    assert_refused(rt, label, error, Part::Info, kind, place);
 }
 
 #[test]

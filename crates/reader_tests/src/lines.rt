@@ -1,6 +1,9 @@
 //! Line tables, and the rows that they mean or their first fault.
 
-use crate::parts::{assert_refused, lines_5, no_symbols, sections, two_relocs};
+use crate::parts::{
+    assert_dir, assert_file, assert_refused, changed, few, lines_5, no_symbols, same, sections,
+    two_relocs,
+};
 use ds_base::{Kind, Part, ReadError};
 use dwarf_types::{Addr, RawLines, RawRow, Row, SharedTexts};
 use line_read::{read_lines, table_version};
@@ -9,24 +12,21 @@ use std::process::Abort;
 
 /// The line table at the start of a section in which the numbers at 0x28 and 0x57 are relocated.
 fn read(rt: &impl Abort, alloc: Global, line: &[u8]) -> Result<RawLines, ReadError> {
-    assert!(rt; !line.is_empty() && line.len() < 1000);
-    let relocs = two_relocs(alloc, 0x28, 0x57)?;
+    let sections = sections(few(rt, line), b"", b"", b"");
     let image = no_symbols(alloc);
-    let sections = sections(line, b"", b"", b"");
+    let relocs = two_relocs(rt, alloc, &image, 0x28, 0x57);
     let texts = SharedTexts::none();
-    read_lines(alloc, &sections, &texts, &relocs, &image, 0, 4)
+    let lines = read_lines(alloc, &sections, &texts, &relocs, &image, 0, 4);
+    drop(texts);
+    drop(relocs);
+    drop(image);
+    lines
 }
 
-/// A table is refused so.
+/// A table of version 4 is refused so.
 fn refused(rt: &impl Abort, alloc: Global, label: &str, kind: Kind, place: u64, line: &[u8]) {
-    assert_refused(
-        rt,
-        label,
-        read(rt, alloc, line).err(),
-        Part::Line,
-        kind,
-        place,
-    );
+    let error = read(rt, alloc, line).err();
+    assert_refused(rt, label, error, Part::Line, kind, place);
 }
 
 /// The `__debug_line` that clang 14 writes for x86_64-apple-macos with `-g -gdwarf-4 -O1` of two functions in two
@@ -60,43 +60,60 @@ fn printed(at: u64, line: u32, column: u64, is_stmt: bool, prologue_end: bool) -
     }
 }
 
+/// The rows of the first function.
+fn first_rows() -> [RawRow; 10] {
+    [
+        printed(0, 4, 0, true, false),
+        printed(0x0e, 5, 15, true, true),
+        printed(0x11, 6, 23, true, false),
+        printed(0x13, 6, 5, false, false),
+        printed(0x15, 0, 5, false, false),
+        printed(0x20, 7, 25, true, false),
+        printed(0x28, 6, 29, true, false),
+        printed(0x2f, 6, 23, false, false),
+        printed(0x3a, 6, 5, false, false),
+        printed(0x3c, 8, 5, true, false),
+    ]
+}
+
+/// The rows of the second.
+fn second_rows() -> [RawRow; 6] {
+    [
+        printed(0x50, 12, 0, true, false),
+        printed(0x70, 7, 25, true, true),
+        printed(0x78, 6, 29, true, false),
+        printed(0x7f, 6, 23, false, false),
+        printed(0x89, 6, 5, false, false),
+        printed(0x8b, 13, 5, true, false),
+    ]
+}
+
+/// A table has so many directories, files and sequences.
+fn assert_counts(rt: &impl Abort, lines: &RawLines, want: (usize, usize, usize)) {
+    let counts = (lines.dirs.len(), lines.files.len(), lines.sequences.len());
+    same(rt, "directories, files and sequences", counts, want);
+}
+
 /// A sequence of a table has these rows, and ends at an address of the object.
 fn assert_sequence(rt: &impl Abort, lines: &RawLines, index: usize, want: &[RawRow], end: u64) {
     assert!(rt; index < lines.sequences.len());
     let sequence = lines.sequences.sequence(index);
-    assert_eq!(rt; sequence.rows, want, "{index}");
-    assert_eq!(rt; sequence.end, Some(Addr::Placed(end)), "{index}");
+    same(rt, "rows", sequence.rows, want);
+    same(rt, "end", sequence.end, Some(Addr::Placed(end)));
+}
+
+/// The table of two functions.
+fn assert_compiled(rt: &impl Abort, lines: &RawLines) {
+    assert_counts(rt, lines, (0, 1, 2));
+    assert_sequence(rt, lines, 0, &first_rows(), 0x4e);
+    assert_sequence(rt, lines, 1, &second_rows(), 0x99);
 }
 
 #[test]
-#[rattlefmt::skip]
 fn a_compiled_table_has_the_rows_that_llvm_dwarfdump_prints(rt: HostRuntime) {
-    match read(&rt, rt.alloc(), COMPILED) {
-        Ok(lines) => {
-            assert_eq!(rt; (lines.dirs.len(), lines.files.len(), lines.sequences.len()), (0, 1, 2));
-            assert_sequence(&rt, &lines, 0, &[
-                printed(0, 4, 0, true, false),
-                printed(0x0e, 5, 15, true, true),
-                printed(0x11, 6, 23, true, false),
-                printed(0x13, 6, 5, false, false),
-                printed(0x15, 0, 5, false, false),
-                printed(0x20, 7, 25, true, false),
-                printed(0x28, 6, 29, true, false),
-                printed(0x2f, 6, 23, false, false),
-                printed(0x3a, 6, 5, false, false),
-                printed(0x3c, 8, 5, true, false),
-            ], 0x4e);
-            assert_sequence(&rt, &lines, 1, &[
-                printed(0x50, 12, 0, true, false),
-                printed(0x70, 7, 25, true, true),
-                printed(0x78, 6, 29, true, false),
-                printed(0x7f, 6, 23, false, false),
-                printed(0x89, 6, 5, false, false),
-                printed(0x8b, 13, 5, true, false),
-            ], 0x99);
-        }
-        Err(error) => panic!(rt; "{error:?}"),
-    }
+    let lines = read(&rt, rt.alloc(), COMPILED).expect(&rt, "a table");
+    assert_compiled(&rt, &lines);
+    drop(lines);
 }
 
 /// A table of version 5 without sequences, of the directory `/src` and of two files that are both `a.c` there.
@@ -117,31 +134,30 @@ fn read_5(
     line: &[u8],
     shared: &[u8],
 ) -> Result<RawLines, ReadError> {
-    assert!(rt; !line.is_empty() && line.len() < 1000);
-    let relocs = two_relocs(alloc, 0x100, 0x108)?;
+    let sections = lines_5(few(rt, line), LINE_STR);
     let image = no_symbols(alloc);
-    let sections = lines_5(line, LINE_STR);
-    let texts = SharedTexts::of(alloc, shared)?;
-    read_lines(alloc, &sections, &texts, &relocs, &image, 0, 5)
+    let relocs = two_relocs(rt, alloc, &image, 0x100, 0x108);
+    let texts = SharedTexts::of(alloc, shared).expect(rt, "memory");
+    let lines = read_lines(alloc, &sections, &texts, &relocs, &image, 0, 5);
+    drop(texts);
+    drop(relocs);
+    drop(image);
+    lines
+}
+
+/// The directory and the files of the table of version 5.
+fn assert_two_files(rt: &impl Abort, lines: &RawLines) {
+    assert_counts(rt, lines, (1, 2, 0));
+    assert_dir(rt, &lines.dirs, 0, b"/src");
+    assert_file(rt, &lines.files, 0, (b"a.c", 0));
+    assert_file(rt, &lines.files, 1, (b"a.c", 0));
 }
 
 /// The table of version 5 has its directory and files, with these texts to share.
-#[rattlefmt::skip]
 fn assert_table_5(rt: &impl Abort, alloc: Global, shared: &[u8]) {
-    match read_5(rt, alloc, TABLE_5, shared) {
-        Ok(lines) => {
-            assert_eq!(rt; (lines.dirs.len(), lines.files.len(), lines.sequences.len()), (1, 2, 0));
-            for i in 0..lines.dirs.len() {
-                assert_eq!(rt; lines.dirs.path(i), b"/src".as_slice());
-            }
-            for i in 0..lines.files.len() {
-                let file = lines.files.file(i);
-                assert_eq!(rt; (file.name, file.dir, file.time, file.size), (b"a.c".as_slice(), 0, 0, 0));
-                assert!(rt; file.digest.is_none());
-            }
-        }
-        Err(error) => panic!(rt; "{error:?}"),
-    }
+    let lines = read_5(rt, alloc, TABLE_5, shared).expect(rt, "a table");
+    assert_two_files(rt, &lines);
+    drop(lines);
 }
 
 #[test]
@@ -151,22 +167,19 @@ fn a_table_of_version_5_has_its_directories_and_files(rt: HostRuntime) {
     // Where other texts are shared, or none, names are copied.
     assert_table_5(&rt, alloc, b"/src\0a.b\0");
     assert_table_5(&rt, alloc, b"");
-    assert_eq!(rt; table_version(&lines_5(TABLE_5, b""), 0), Some(5));
+    same(
+        &rt,
+        "version",
+        table_version(&lines_5(TABLE_5, b""), 0),
+        Some(5),
+    );
 }
 
 /// The table of version 5 with another byte at a place is refused.
 fn refused_5(rt: &impl Abort, alloc: Global, at: usize, byte: u8, kind: Kind, place: u64) {
-    let mut bytes = *TABLE_5;
-    assert!(rt; at < 62);
-    bytes[at] = byte;
-    assert_refused(
-        rt,
-        "a byte",
-        read_5(rt, alloc, &bytes, LINE_STR).err(),
-        Part::Line,
-        kind,
-        place,
-    );
+    let bytes = changed(rt, TABLE_5, at, byte);
+    let error = read_5(rt, alloc, &bytes, LINE_STR).err();
+    assert_refused(rt, "a byte", error, Part::Line, kind, place);
 }
 
 #[test]

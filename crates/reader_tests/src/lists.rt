@@ -1,12 +1,13 @@
 //! Range lists and location lists, and what they give or their first fault.
 
-use crate::parts::{ADDRESSES, assert_refused, lists_5, no_symbols, sections, two_relocs};
+use crate::parts::{
+    ADDRESSES, assert_refused, few, lists_5, no_relocs, no_symbols, same, sections, two_relocs,
+};
 use ds_base::{Kind, List, Part, ReadError};
 use dwarf_types::{Addr, RawLocation, RawSpan};
 use list_items::is_empty;
 use loc_lists::read_locations;
 use range_lists::read_ranges;
-use reloc_table::Relocs;
 use std::alloc::Global;
 use std::process::Abort;
 
@@ -15,99 +16,107 @@ const UNIT: Addr = Addr::Placed(0x100);
 
 /// The range list at the start of a section in which the first two words are relocated.
 fn ranges(rt: &impl Abort, alloc: Global, bytes: &[u8]) -> Result<List<RawSpan>, ReadError> {
-    assert!(rt; !bytes.is_empty() && bytes.len() < 1000);
-    let relocs = two_relocs(alloc, 0, 8)?;
+    let sections = sections(b"", few(rt, bytes), b"", b"");
     let image = no_symbols(alloc);
-    let sections = sections(b"", bytes, b"", b"");
-    assert!(rt; sections.addr.len() < 1000);
-    read_ranges(alloc, &sections, &relocs, &image, 0, 4, &UNIT, &relocs, 8)
+    let relocs = two_relocs(rt, alloc, &image, 0, 8);
+    let spans = read_ranges(alloc, &sections, &relocs, &image, 0, 4, &UNIT, &relocs, 8);
+    drop(relocs);
+    drop(image);
+    spans
 }
 
 /// The range list of version 5 at the start of a section without relocations, in a unit with two addresses.
 fn ranges_5(rt: &impl Abort, alloc: Global, bytes: &[u8]) -> Result<List<RawSpan>, ReadError> {
-    assert!(rt; !bytes.is_empty() && bytes.len() < 1000);
-    let addresses = two_relocs(alloc, 8, 16)?;
-    let relocs = Relocs {
-        list: List::new(alloc),
-    };
+    let sections = lists_5(few(rt, bytes), b"", ADDRESSES);
     let image = no_symbols(alloc);
-    let sections = lists_5(bytes, b"", ADDRESSES);
-    read_ranges(
+    let relocs = no_relocs(alloc, &image);
+    let addresses = two_relocs(rt, alloc, &image, 8, 16);
+    let spans = read_ranges(
         alloc, &sections, &relocs, &image, 0, 5, &UNIT, &addresses, 8,
-    )
+    );
+    drop(addresses);
+    drop(relocs);
+    drop(image);
+    spans
 }
 
-/// The same of a location list.
+/// The location list at the start of a section in which the first two words are relocated.
+fn locations(rt: &impl Abort, alloc: Global, bytes: &[u8]) -> Result<List<RawLocation>, ReadError> {
+    let sections = sections(b"", b"", few(rt, bytes), b"");
+    let image = no_symbols(alloc);
+    let relocs = two_relocs(rt, alloc, &image, 0, 8);
+    let items = read_locations(alloc, &sections, &relocs, &image, 0, 4, &UNIT, &relocs, 8);
+    drop(relocs);
+    drop(image);
+    items
+}
+
+/// The location list of version 5 at the start of a section without relocations, in a unit with two addresses.
 fn locations_5(
     rt: &impl Abort,
     alloc: Global,
     bytes: &[u8],
 ) -> Result<List<RawLocation>, ReadError> {
-    assert!(rt; !bytes.is_empty() && bytes.len() < 1000);
-    let addresses = two_relocs(alloc, 8, 16)?;
-    let relocs = Relocs {
-        list: List::new(alloc),
-    };
+    let sections = lists_5(b"", few(rt, bytes), ADDRESSES);
     let image = no_symbols(alloc);
-    let sections = lists_5(b"", bytes, ADDRESSES);
-    read_locations(
+    let relocs = no_relocs(alloc, &image);
+    let addresses = two_relocs(rt, alloc, &image, 8, 16);
+    let items = read_locations(
         alloc, &sections, &relocs, &image, 0, 5, &UNIT, &addresses, 8,
-    )
-}
-
-/// A range list of version 5 gives these spans.
-fn assert_ranges_5(rt: &impl Abort, alloc: Global, label: &str, bytes: &[u8], want: &[RawSpan]) {
-    match ranges_5(rt, alloc, bytes) {
-        Ok(spans) => assert_eq!(rt; spans.as_slice(), want, "{label}"),
-        Err(error) => panic!(rt; "{label}: {error:?}"),
-    }
-}
-
-/// A range list of version 5 is refused so.
-fn refused_5(rt: &impl Abort, alloc: Global, label: &str, kind: Kind, place: u64, bytes: &[u8]) {
-    assert_refused(
-        rt,
-        label,
-        ranges_5(rt, alloc, bytes).err(),
-        Part::Rnglists,
-        kind,
-        place,
     );
-}
-
-/// The same of a location list.
-fn locations(rt: &impl Abort, alloc: Global, bytes: &[u8]) -> Result<List<RawLocation>, ReadError> {
-    assert!(rt; !bytes.is_empty() && bytes.len() < 1000);
-    let relocs = two_relocs(alloc, 0, 8)?;
-    let image = no_symbols(alloc);
-    let sections = sections(b"", b"", bytes, b"");
-    assert!(rt; sections.addr.len() < 1000);
-    read_locations(alloc, &sections, &relocs, &image, 0, 4, &UNIT, &relocs, 8)
+    drop(addresses);
+    drop(relocs);
+    drop(image);
+    items
 }
 
 /// A range list gives these spans, of which none is empty.
 fn assert_ranges(rt: &impl Abort, alloc: Global, label: &str, bytes: &[u8], want: &[RawSpan]) {
-    match ranges(rt, alloc, bytes) {
-        Ok(spans) => {
-            assert_eq!(rt; spans.as_slice(), want, "{label}");
-            for span in spans.as_slice() {
-                assert!(rt; !is_empty(span), "{label}");
-            }
-        }
-        Err(error) => panic!(rt; "{label}: {error:?}"),
+    let spans = ranges(rt, alloc, bytes).expect(rt, label);
+    same(rt, label, spans.as_slice(), want);
+    same(rt, label, count_of_empty(spans.as_slice()), 0);
+    drop(spans);
+}
+
+/// How many spans are empty.
+fn count_of_empty(spans: &[RawSpan]) -> usize {
+    let mut count: usize = 0;
+    for span in spans {
+        count = count.wrapping_add(usize::from(is_empty(span)));
     }
+    count
+}
+
+/// A range list of version 5 gives these spans.
+fn assert_ranges_5(rt: &impl Abort, alloc: Global, label: &str, bytes: &[u8], want: &[RawSpan]) {
+    let spans = ranges_5(rt, alloc, bytes).expect(rt, label);
+    same(rt, label, spans.as_slice(), want);
+    drop(spans);
 }
 
 /// A range list is refused so.
 fn refused(rt: &impl Abort, alloc: Global, label: &str, kind: Kind, place: u64, bytes: &[u8]) {
-    assert_refused(
+    let error = ranges(rt, alloc, bytes).err();
+    assert_refused(rt, label, error, Part::Ranges, kind, place);
+}
+
+/// A range list of version 5 is refused so.
+fn refused_5(rt: &impl Abort, alloc: Global, label: &str, kind: Kind, place: u64, bytes: &[u8]) {
+    let error = ranges_5(rt, alloc, bytes).err();
+    assert_refused(rt, label, error, Part::Rnglists, kind, place);
+}
+
+/// The only item of a location list, at its start, has these ends, and the expression 0x50 from this place on.
+fn assert_item(rt: &impl Abort, items: &[RawLocation], want: RawSpan, first: u64) {
+    same(rt, "items", items.len(), 1);
+    let item = items.get(0).expect(rt, "an item");
+    same(
         rt,
-        label,
-        ranges(rt, alloc, bytes).err(),
-        Part::Ranges,
-        kind,
-        place,
+        "span, place and first byte",
+        (item.span, item.place, item.first),
+        (want, 0, first),
     );
+    same(rt, "expression", item.bytes.as_slice(), b"\x50");
 }
 
 fn span(low: Addr, high: Addr) -> RawSpan {
@@ -149,31 +158,19 @@ fn a_range_list_of_version_5_gives_its_spans_or_its_first_fault(rt: HostRuntime)
 #[test]
 #[rattlefmt::skip]
 fn a_location_list_of_version_5_gives_its_items(rt: HostRuntime) {
-    match locations_5(&rt, rt.alloc(), b"\x05\x01\x50\0") {
-        Ok(items) => {
-            assert_eq!(rt; items.len(), 1);
-            for item in items.as_slice() {
-                assert_eq!(rt; (item.span, item.place, item.first), (span(Addr::Fixed(0), Addr::Fixed(0xffff_ffff_ffff_ffff)), 0, 2));
-                assert_eq!(rt; item.bytes.as_slice(), b"\x50".as_slice());
-            }
-        }
-        Err(error) => panic!(rt; "{error:?}"),
-    }
-    assert_refused(&rt, "a cut expression", locations_5(&rt, rt.alloc(), b"\x03\x01\x10\x02\x50").err(), Part::Loclists, Kind::Truncated, 4);
+    let alloc = rt.alloc();
+    let items = locations_5(&rt, alloc, b"\x05\x01\x50\0").expect(&rt, "a list");
+    assert_item(&rt, items.as_slice(), span(Addr::Fixed(0), Addr::Fixed(0xffff_ffff_ffff_ffff)), 2);
+    drop(items);
+    assert_refused(&rt, "a cut expression", locations_5(&rt, alloc, b"\x03\x01\x10\x02\x50").err(), Part::Loclists, Kind::Truncated, 4);
 }
 
 #[test]
 #[rattlefmt::skip]
 fn a_location_list_gives_its_items(rt: HostRuntime) {
-    match locations(&rt, rt.alloc(), b"\x18\0\0\0\0\0\0\0\x30\0\0\0\0\0\0\0\x01\0\x50\0\0\0\0\0\0\0\0\0\0\0\0\0\0\0\0") {
-        Ok(items) => {
-            assert_eq!(rt; items.len(), 1);
-            for item in items.as_slice() {
-                assert_eq!(rt; (item.span, item.place, item.first), (span(Addr::Placed(0x18), Addr::Placed(0x30)), 0, 18));
-                assert_eq!(rt; item.bytes.as_slice(), b"\x50".as_slice());
-            }
-        }
-        Err(error) => panic!(rt; "{error:?}"),
-    }
-    assert_refused(&rt, "a cut expression", locations(&rt, rt.alloc(), b"\x18\0\0\0\0\0\0\0\x30\0\0\0\0\0\0\0\x02\0\x50").err(), Part::Loc, Kind::Truncated, 18);
+    let alloc = rt.alloc();
+    let items = locations(&rt, alloc, b"\x18\0\0\0\0\0\0\0\x30\0\0\0\0\0\0\0\x01\0\x50\0\0\0\0\0\0\0\0\0\0\0\0\0\0\0\0").expect(&rt, "a list");
+    assert_item(&rt, items.as_slice(), span(Addr::Placed(0x18), Addr::Placed(0x30)), 18);
+    drop(items);
+    assert_refused(&rt, "a cut expression", locations(&rt, alloc, b"\x18\0\0\0\0\0\0\0\x30\0\0\0\0\0\0\0\x02\0\x50").err(), Part::Loc, Kind::Truncated, 18);
 }

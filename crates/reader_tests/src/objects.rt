@@ -1,8 +1,8 @@
 //! An object of an assembler, and its analysis or its first fault.
 
-use crate::parts::assert_refused;
-use ds_base::{Bytes, Kind, List, NoMemory, Part, ReadError};
-use dwarf_types::{Analysis, AttrRef, CodeRange, OutLines, Span, ValueRef};
+use crate::parts::{assert_dir, assert_file, assert_in_unit, assert_refused, changed, few, same};
+use ds_base::{Bytes, Kind, List, Part, ReadError};
+use dwarf_types::{Analysis, AttrRef, CodeRange, InUnit, OutLines, Span, ValueRef};
 use object_view::analyse;
 use stab_map::{MapEntry, MapObject};
 use std::alloc::Global;
@@ -162,35 +162,46 @@ const OBJECT_OLDER: &[u8; 648] = b"\
     \0\x5f\x66\0\0\0\0\0";
 
 /// The debug map has `_f` at 0x100001000, with 2 bytes.
-fn map_object(alloc: Global) -> Result<MapObject, NoMemory> {
+fn map_object(rt: &impl Abort, alloc: Global) -> MapObject {
     let mut entries = List::new(alloc);
-    entries.push(MapEntry {
-        name: Bytes::from_slice(alloc, b"_f")?,
+    let entry = MapEntry {
+        name: Bytes::from_slice(alloc, b"_f").expect(rt, "memory"),
         linked: 0x1_0000_1000,
         size: Some(2),
-    })?;
-    Ok(MapObject {
+    };
+    entries.push(entry).expect(rt, "memory");
+    MapObject {
         path: Bytes::new(alloc),
         file: Bytes::new(alloc),
         member: None,
         entries,
-    })
+    }
 }
 
 /// The analysis of an object.
 fn analysed(rt: &impl Abort, alloc: Global, bytes: &[u8]) -> Result<Analysis, ReadError> {
-    assert!(rt; bytes.len() < 1000);
-    let object = map_object(alloc)?;
-    analyse(alloc, bytes, &object, CPU_TYPE_X86_64)
+    let object = map_object(rt, alloc);
+    let analysis = analyse(alloc, few(rt, bytes), &object, CPU_TYPE_X86_64);
+    drop(object);
+    analysis
+}
+
+/// The attribute at a place of an entry.
+fn attr_of<'a>(rt: &impl Abort, analysis: &'a Analysis, entry: usize, attr: usize) -> AttrRef<'a> {
+    let entry = analysis.entries.get(entry).expect(rt, "an entry");
+    assert!(rt; attr < entry.len(), "no attribute");
+    entry.attr(attr)
 }
 
 /// An attribute of an entry leads to another entry.
 fn assert_leads(rt: &impl Abort, analysis: &Analysis, entry: usize, attr: usize, want: u32) {
-    let Some(entry) = analysis.entries.get(entry) else {
-        panic!(rt; "no entry {entry}")
-    };
-    assert!(rt; attr < entry.len(), "no attribute {attr}");
-    assert_eq!(rt; target_of(&entry.attr(attr)), Some(want));
+    let attr = attr_of(rt, analysis, entry, attr);
+    same(
+        rt,
+        "the entry to which an attribute leads",
+        target_of(&attr),
+        Some(want),
+    );
 }
 
 /// The number of the entry to which an attribute leads.
@@ -201,48 +212,64 @@ fn target_of(attr: &AttrRef<'_>) -> Option<u32> {
     }
 }
 
-/// An entry has this parent, unit, place and tag.
+/// The text that an attribute of an entry is.
+fn assert_text(rt: &impl Abort, analysis: &Analysis, entry: usize, attr: usize, want: &[u8]) {
+    let attr = attr_of(rt, analysis, entry, attr);
+    same(rt, "the text of an attribute", text_of(&attr), Some(want));
+}
+
+/// The text that an attribute is.
+fn text_of<'a>(attr: &AttrRef<'a>) -> Option<&'a [u8]> {
+    match attr.value {
+        ValueRef::Text(text) => Some(text),
+        _ => None,
+    }
+}
+
+/// The entry of a number has this parent, unit, place and tag.
 fn assert_entry(
     rt: &impl Abort,
     analysis: &Analysis,
     entry: usize,
-    want: &(Option<u32>, u32, u32, u16),
+    want: (Option<u32>, u32, u32, u16),
 ) {
-    match analysis.entries.get(entry) {
-        Some(entry) => {
-            assert_eq!(rt;
-                (entry.parent(), entry.unit(), entry.place(), entry.tag()),
-                *want
-            );
-        }
-        None => panic!(rt; "no entry {entry}"),
-    }
+    let entry = analysis.entries.get(entry).expect(rt, "an entry");
+    let read = (entry.parent(), entry.unit(), entry.place(), entry.tag());
+    drop(entry);
+    same(rt, "parent, unit, place and tag", read, want);
+}
+
+/// The only piece of code is `_f`, which is the entry of this number.
+fn assert_code(rt: &impl Abort, analysis: &Analysis, entry: u32) {
+    let span = Span {
+        low: 0x1_0000_1000,
+        high: 0x1_0000_1002,
+    };
+    let want = [CodeRange { entry, span }];
+    same(rt, "code", analysis.code.as_slice(), want.as_slice());
+}
+
+/// Two units, and their entries. A flag is no language.
+fn assert_object(rt: &impl Abort, analysis: &Analysis) {
+    same(rt, "entries", analysis.entries.len(), 5);
+    assert_entry(rt, analysis, 0, (None, 0, 0x0b, 0x11));
+    assert_entry(rt, analysis, 1, (Some(0), 0, 0x16, 0x24));
+    assert_entry(rt, analysis, 2, (Some(0), 0, 0x17, 0x2e));
+    assert_entry(rt, analysis, 3, (Some(2), 0, 0x28, 0x34));
+    assert_entry(rt, analysis, 4, (None, 1, 0x44, 0x11));
+    assert_leads(rt, analysis, 2, 2, 1);
+    assert_leads(rt, analysis, 3, 0, 1);
+    same(rt, "units", analysis.units.len(), 2);
+    assert_in_unit(rt, &analysis.units, 0, (0, 4, 4, 12));
+    assert_in_unit(rt, &analysis.units, 1, (4, 1, 4, 0));
+    assert_code(rt, analysis, 2);
 }
 
 #[test]
-#[rattlefmt::skip]
 fn an_object_has_the_entries_that_llvm_dwarfdump_prints(rt: HostRuntime) {
-    // Parent, unit, place and tag.
-    let want: [(Option<u32>, u32, u32, u16); 5] =
-        [(None, 0, 0x0b, 0x11), (Some(0), 0, 0x16, 0x24), (Some(0), 0, 0x17, 0x2e), (Some(2), 0, 0x28, 0x34), (None, 1, 0x44, 0x11)];
-    match analysed(&rt, rt.alloc(), OBJECT) {
-        Ok(analysis) => {
-            assert_eq!(rt; analysis.entries.len(), 5);
-            for (i, want) in want.iter().enumerate() {
-                assert_entry(&rt, &analysis, i, want);
-            }
-            assert_leads(&rt, &analysis, 2, 2, 1);
-            assert_leads(&rt, &analysis, 3, 0, 1);
-            // First entry, count of entries, version, language. A flag is no language.
-            let units: [(u32, u32, u16, u16); 2] = [(0, 4, 4, 12), (4, 1, 4, 0)];
-            assert_eq!(rt; analysis.units.len(), 2);
-            for (unit, want) in analysis.units.as_slice().iter().zip(units.iter()) {
-                assert_eq!(rt; (unit.first, unit.count, unit.version, unit.language), *want);
-            }
-            assert_eq!(rt; analysis.code.as_slice(), [CodeRange { entry: 2, span: Span { low: 0x1_0000_1000, high: 0x1_0000_1002 } }].as_slice());
-        }
-        Err(error) => panic!(rt; "{error:?}"),
-    }
+    let analysis = analysed(&rt, rt.alloc(), OBJECT).expect(&rt, "an analysis");
+    assert_object(&rt, &analysis);
+    drop(analysis);
 }
 
 /// The object with another byte at a place is refused.
@@ -255,100 +282,58 @@ fn refused(
     section: Part,
     place: u64,
 ) {
-    let mut bytes = *OBJECT;
-    assert!(rt; at < 648);
-    bytes[at] = byte;
-    assert_refused(
-        rt,
-        "a byte",
-        analysed(rt, alloc, &bytes).err(),
-        section,
-        kind,
-        place,
-    );
+    let bytes = changed(rt, OBJECT, at, byte);
+    let error = analysed(rt, alloc, &bytes).err();
+    assert_refused(rt, "a byte", error, section, kind, place);
 }
 
-/// The text that an attribute of an entry is.
-fn assert_text(rt: &impl Abort, analysis: &Analysis, entry: usize, attr: usize, want: &[u8]) {
-    let Some(entry) = analysis.entries.get(entry) else {
-        panic!(rt; "no entry {entry}")
-    };
-    assert!(rt; attr < entry.len(), "no attribute {attr}");
-    assert_eq!(rt; text_of(&entry.attr(attr)), Some(want));
-}
-
-/// The text that an attribute is.
-fn text_of<'a>(attr: &AttrRef<'a>) -> Option<&'a [u8]> {
-    match attr.value {
-        ValueRef::Text(text) => Some(text),
-        _ => None,
-    }
+/// A unit of version 5, and its entries.
+fn assert_object_5(rt: &impl Abort, analysis: &Analysis) {
+    same(rt, "entries", analysis.entries.len(), 2);
+    assert_entry(rt, analysis, 0, (None, 0, 0x0c, 0x11));
+    assert_entry(rt, analysis, 1, (Some(0), 0, 0x16, 0x2e));
+    assert_text(rt, analysis, 0, 2, b"m.c");
+    same(rt, "units", analysis.units.len(), 1);
+    assert_in_unit(rt, &analysis.units, 0, (0, 2, 5, 0));
+    assert_code(rt, analysis, 1);
 }
 
 #[test]
-#[rattlefmt::skip]
 fn indices_of_version_5_lead_to_texts_and_addresses(rt: HostRuntime) {
-    match analysed(&rt, rt.alloc(), OBJECT_5) {
-        Ok(analysis) => {
-            assert_eq!(rt; analysis.entries.len(), 2);
-            assert_entry(&rt, &analysis, 0, &(None, 0, 0x0c, 0x11));
-            assert_entry(&rt, &analysis, 1, &(Some(0), 0, 0x16, 0x2e));
-            assert_text(&rt, &analysis, 0, 2, b"m.c");
-            assert_eq!(rt; analysis.units.len(), 1);
-            for unit in analysis.units.as_slice() {
-                assert_eq!(rt; (unit.first, unit.count, unit.version, unit.language), (0, 2, 5, 0));
-            }
-            assert_eq!(rt; analysis.code.as_slice(), [CodeRange { entry: 1, span: Span { low: 0x1_0000_1000, high: 0x1_0000_1002 } }].as_slice());
-        }
-        Err(error) => panic!(rt; "{error:?}"),
-    }
+    let analysis = analysed(&rt, rt.alloc(), OBJECT_5).expect(&rt, "an analysis");
+    assert_object_5(&rt, &analysis);
+    drop(analysis);
 }
 
-/// The directory of a number in a line table.
-fn assert_dir(rt: &impl Abort, lines: &OutLines, i: usize, want: &[u8]) {
-    let Some(dir) = lines.dirs.get(i) else {
-        panic!(rt; "no directory {i}")
-    };
-    assert_eq!(rt; dir, want);
+/// A line table whose directory 0 is that of the unit, and whose file 0 is a second file 1.
+fn assert_older(rt: &impl Abort, lines: &OutLines) {
+    let counts = (lines.dirs.len(), lines.files.len(), lines.sequences.len());
+    same(rt, "directories, files and sequences", counts, (2, 2, 0));
+    assert_dir(rt, &lines.dirs, 0, b"/d");
+    assert_dir(rt, &lines.dirs, 1, b"inc");
+    assert_file(rt, &lines.files, 0, (b"m.c", 1));
+    assert_file(rt, &lines.files, 1, (b"m.c", 1));
 }
 
-/// Directory 0 is that of the unit, and file 0 is a second file 1.
+/// The line table of the only unit.
+fn only_lines<'a>(rt: &impl Abort, units: &'a List<InUnit>) -> &'a OutLines {
+    same(rt, "units", units.len(), 1);
+    let unit = units.get(0).expect(rt, "a unit");
+    unit.lines.as_ref().expect(rt, "a line table")
+}
+
 #[test]
-#[rattlefmt::skip]
 fn an_older_table_counts_from_0_in_a_unit_of_version_5(rt: HostRuntime) {
-    match analysed(&rt, rt.alloc(), OBJECT_OLDER) {
-        Ok(analysis) => {
-            assert_eq!(rt; analysis.units.len(), 1);
-            for unit in analysis.units.as_slice() {
-                let Some(lines) = &unit.lines else {
-                    panic!(rt; "no line table")
-                };
-                assert_eq!(rt; (lines.dirs.len(), lines.files.len(), lines.sequences.len()), (2, 2, 0));
-                assert_dir(&rt, lines, 0, b"/d");
-                assert_dir(&rt, lines, 1, b"inc");
-                for i in 0..lines.files.len() {
-                    let file = lines.files.file(i);
-                    assert_eq!(rt; (file.name, file.dir), (b"m.c".as_slice(), 1));
-                }
-            }
-        }
-        Err(error) => panic!(rt; "{error:?}"),
-    }
+    let analysis = analysed(&rt, rt.alloc(), OBJECT_OLDER).expect(&rt, "an analysis");
+    assert_older(&rt, only_lines(&rt, &analysis.units));
+    drop(analysis);
 }
 
 /// The object of version 5 with another byte at a place of `__debug_info` is refused there.
-fn refused_5(rt: &impl Abort, alloc: Global, at: usize, byte: u8, kind: Kind, place: u64) {
-    let mut bytes = *OBJECT_5;
-    assert!(rt; at < 29);
-    bytes[0x2d7 + at] = byte;
-    assert_refused(
-        rt,
-        "a byte",
-        analysed(rt, alloc, &bytes).err(),
-        Part::Info,
-        kind,
-        place,
-    );
+fn refused_5(rt: &impl Abort, alloc: Global, at: u8, byte: u8, kind: Kind, place: u64) {
+    let bytes = changed(rt, OBJECT_5, 0x2d7 + usize::from(at), byte);
+    let error = analysed(rt, alloc, &bytes).err();
+    assert_refused(rt, "a byte", error, Part::Info, kind, place);
 }
 
 #[test]

@@ -1,15 +1,17 @@
-//! What the tables of several readers share: sections, an image without symbols, two relocations, and a refusal.
+//! What the tables of several readers share: sections, an image without symbols, relocations, and what is asked of a row.
+//!
+//! What owns memory goes by `drop`, right behind its last use: the end of a block is dearer to prove.
 
-ghost use Rattle.std.specs.Prelude.{◌≡◌, ◌+◌, ◌≤◌, false, IfOk};
+ghost use Rattle.std.specs.Prelude.{◌≡◌, ◌+◌, ◌<◌, ◌≤◌, [], false, length};
 ghost use Rattle.macho_read.specs.Sound.{IsSound as IsSoundImage};
-ghost use Rattle.macho_read.specs.declared.image.Image.{Image as ReadImage};
 ghost use Rattle.reloc_table.specs.Sound.{IsSound};
 
-use ds_base::{Fault, Kind, List, NoMemory, Part, ReadError};
-use dwarf_types::Sections;
+use ds_base::{Fault, Kind, List, Part, ReadError};
+use dwarf_types::{FileNames, InUnit, Paths, Sections};
 use macho_read::{Image, Symbols};
 use reloc_table::{Reloc, Relocs};
 use std::alloc::Global;
+use std::fmt::Debug;
 use std::process::Abort;
 
 /// An image without sections and symbols.
@@ -39,15 +41,51 @@ fn of_section(place: u32) -> Reloc
     }
 }
 
-/// Two relocations, of a section.
-pub(crate) fn two_relocs(alloc: Global, first: u32, second: u32) -> Result<Relocs, NoMemory>
+/// Two relocations, of a section, in an image.
+pub(crate) fn two_relocs(
+    rt: &impl Abort,
+    alloc: Global,
+    image: &Image,
+    first: u32,
+    second: u32,
+) -> Relocs
     requires { first + 8 ≤ second }
-    ensures { (image : ReadImage) → IfOk result (IsSound image) }
+    ensures { IsSound image.now result }
 {
-    let mut list = List::new(alloc);
-    list.push(of_section(first))?;
-    list.push(of_section(second))?;
-    Ok(Relocs { list })
+    let two = [of_section(first), of_section(second)];
+    let list = List::from_vec(two.to_vec(alloc).expect(rt, "memory"));
+    Relocs { list }
+}
+
+/// No relocations, in an image.
+pub(crate) fn no_relocs(alloc: Global, image: &Image) -> Relocs
+    ensures { IsSound image.now result }
+{
+    Relocs {
+        list: List::new(alloc),
+    }
+}
+
+/// The bytes of a section, which are one at least and fewer than a thousand.
+pub(crate) fn few<'a>(rt: &impl Abort, bytes: &'a [u8]) -> &'a [u8]
+    ensures some { 0 < length result.now }
+    ensures few { length result.now < 1000 }
+{
+    assert!(rt; !bytes.is_empty() && bytes.len() < 1000);
+    bytes
+}
+
+/// Bytes with another one at a place.
+pub(crate) fn changed<const N: usize>(
+    rt: &impl Abort,
+    bytes: &[u8; N],
+    at: usize,
+    byte: u8,
+) -> [u8; N] {
+    let mut bytes = *bytes;
+    assert!(rt; at < N);
+    bytes[at] = byte;
+    bytes
 }
 
 /// An object's sections, of which these alone have bytes.
@@ -57,6 +95,7 @@ pub(crate) fn sections<'a>(
     loc: &'a [u8],
     frame: &'a [u8],
 ) -> Sections<'a>
+    ensures addr { result.addr.now ≡ [] }
     ensures line { result.line.now ≡ line.now }
     ensures ranges { result.ranges.now ≡ ranges.now }
     ensures loc { result.loc.now ≡ loc.now }
@@ -129,6 +168,11 @@ pub(crate) fn lines_5<'a>(line: &'a [u8], line_str: &'a [u8]) -> Sections<'a>
 #[rattlefmt::skip]
 pub(crate) const ADDRESSES: &[u8; 24] = b"\x14\0\0\0\x05\0\x08\0\x18\0\0\0\0\0\0\0\x20\0\0\0\0\0\0\0";
 
+/// What was read is what was wanted.
+pub(crate) fn same<T: Copy + PartialEq + Debug>(rt: &impl Abort, label: &str, read: T, want: T) {
+    assert_eq!(rt; read, want, "{label}");
+}
+
 /// A reader refuses with this fault.
 pub(crate) fn assert_refused(
     rt: &impl Abort,
@@ -143,5 +187,34 @@ pub(crate) fn assert_refused(
         section,
         place,
     };
-    assert_eq!(rt; error, Some(ReadError::Faulty(fault)), "{label}");
+    same(rt, label, error, Some(ReadError::Faulty(fault)));
+}
+
+/// The unit at a place has this first entry, so many entries, this version and this language.
+pub(crate) fn assert_in_unit(
+    rt: &impl Abort,
+    units: &List<InUnit>,
+    i: usize,
+    want: (u32, u32, u16, u16),
+) {
+    let unit = units.get(i).expect(rt, "a unit");
+    let read = (unit.first, unit.count, unit.version, unit.language);
+    same(rt, "first entry, entries, version and language", read, want);
+}
+
+/// A line table has a directory at a place, which is counted from 0.
+pub(crate) fn assert_dir(rt: &impl Abort, dirs: &Paths, i: usize, want: &[u8]) {
+    same(rt, "a directory", dirs.get(i), Some(want));
+}
+
+/// A line table has a file at a place, in a directory, and nothing more is told of it.
+pub(crate) fn assert_file(rt: &impl Abort, files: &FileNames, i: usize, want: (&[u8], u64)) {
+    let file = files.get(i).expect(rt, "a file");
+    same(rt, "name and directory", (file.name, file.dir), want);
+    same(
+        rt,
+        "time, size and digest",
+        (file.time, file.size, file.digest),
+        (0, 0, None),
+    );
 }

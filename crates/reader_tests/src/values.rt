@@ -1,20 +1,14 @@
 //! Attribute values by their forms, and what they are or their first fault.
 
-use crate::parts::assert_refused;
-use ds_base::{Cursor, Fault, Kind, Part, ReadError};
+use crate::parts::{assert_refused, same};
+use ds_base::{Cursor, Kind, Part, ReadError};
 use dwarf_types::{Field, RawValue, Sections};
 use form_value::read_value;
 use std::process::Abort;
 
-/// The value of a form at the start of some bytes, in a unit of a version.
-fn read(version: u16, form: u16, bytes: &[u8]) -> Result<RawValue<'_>, Fault> {
-    let mut cursor = Cursor::new(bytes, Part::Info, 0, bytes.len() as u64);
-    let field = Field {
-        name: 3,
-        form,
-        fixed: -2,
-    };
-    let sections = Sections {
+/// Sections that have texts alone.
+fn texts<'a>() -> Sections<'a> {
+    Sections {
         info: b"",
         abbrev: b"",
         strings: b"m.c\0main\0",
@@ -28,8 +22,18 @@ fn read(version: u16, form: u16, bytes: &[u8]) -> Result<RawValue<'_>, Fault> {
         loclists: b"",
         aranges: b"",
         frame: b"",
+    }
+}
+
+/// The value of a form at the start of some bytes, in a unit of a version.
+fn read(version: u16, form: u16, bytes: &[u8]) -> Result<RawValue<'_>, ReadError> {
+    let mut cursor = Cursor::new(bytes, Part::Info, 0, bytes.len() as u64);
+    let field = Field {
+        name: 3,
+        form,
+        fixed: -2,
     };
-    read_value(&mut cursor, &field, version, &sections)
+    Ok(read_value(&mut cursor, &field, version, &texts())?)
 }
 
 /// The number that a value holds, and whether it is an offset.
@@ -43,10 +47,13 @@ fn number(value: RawValue) -> Option<(bool, u64)> {
 
 /// A value in a unit of version 5 is this number, or an offset.
 fn assert_number(rt: &impl Abort, form: u16, bytes: &[u8], want: (bool, u64)) {
-    match read(5, form, bytes) {
-        Ok(value) => assert_eq!(rt; number(value), Some(want), "{form}"),
-        Err(fault) => panic!(rt; "{form}: {fault:?}"),
-    }
+    let value = read(5, form, bytes).expect(rt, "a value");
+    same(
+        rt,
+        "a form and its number",
+        (form, number(value)),
+        (form, Some(want)),
+    );
 }
 
 #[test]
@@ -78,10 +85,13 @@ fn lent(value: RawValue<'_>) -> Option<(&[u8], Option<u32>)> {
 
 /// A value in a unit of version 5 lends these bytes.
 fn assert_lent(rt: &impl Abort, form: u16, bytes: &[u8], want: (&[u8], Option<u32>)) {
-    match read(5, form, bytes) {
-        Ok(value) => assert_eq!(rt; lent(value), Some(want), "{form}"),
-        Err(fault) => panic!(rt; "{form}: {fault:?}"),
-    }
+    let value = read(5, form, bytes).expect(rt, "a value");
+    same(
+        rt,
+        "a form and its bytes",
+        (form, lent(value)),
+        (form, Some(want)),
+    );
 }
 
 #[test]
@@ -97,10 +107,7 @@ fn texts_and_blocks_are_lent(rt: HostRuntime) {
 
 /// A value is refused so.
 fn refused(rt: &impl Abort, version: u16, form: u16, kind: Kind, place: u64, bytes: &[u8]) {
-    let error = match read(version, form, bytes) {
-        Ok(_) => None,
-        Err(fault) => Some(ReadError::Faulty(fault)),
-    };
+    let error = read(version, form, bytes).err();
     assert_refused(rt, "a value", error, Part::Info, kind, place);
 }
 
