@@ -1,11 +1,6 @@
 -- Two objects and their live rows.
 use Rattle.std.proofs.Common.{◌≡◌, ℕ, zero, suc, Bool, List, [], ◌∷◌, slice_get, Some, subst, refl}
-use Rattle.std.proofs.lemmas.List.Elements.{All-cons, All-nil}
 use Rattle.dwarf_types.specs.declared.analysis.Analysis.{Analysis}
-use Rattle.dwarf_types.specs.declared.shape.Shape.{Shape}
-use Rattle.dwarf_types.specs.Sound.{IsSound}
-use Rattle.clone_units.specs.Units.{Holds}
-use Rattle.link_graph.specs.Graph.{IsShape}
 use Rattle.odr_names.specs.Making.{AreLiveRows, IsLiveRow}
 
 one_live : (a first : Analysis) (row first_row : List Bool) → first ≡ a → first_row ≡ row → IsLiveRow first.entries first_row → IsLiveRow a.entries row
@@ -18,14 +13,3 @@ two_live first second first_row second_row p q = record { len = refl; each = eac
     each zero a row at rows = one_live a first row first_row (let same : first ≡ a = cc in same) (let same : first_row ≡ row = cc in same) p
     each (suc zero) a row at rows = one_live a second row second_row (let same : second ≡ a = cc in same) (let same : second_row ≡ row = cc in same) q
     each (suc (suc i)) a row at rows = absurd cc
-
--- ---- the shape of two objects
-
-pub both_there : (first second : Analysis) (shape : Shape) (u : ℕ) → IsShape (first ∷ second ∷ []) shape → IsSound first → IsSound second → Holds (first ∷ second ∷ []) shape u
-both_there first second shape u is p q =
-    record {
-      all = first ∷ second ∷ [];
-      is_shape = is;
-      sound = All-cons IsSound first (second ∷ []) p (All-cons IsSound second [] q (All-nil IsSound));
-      there = λ object names. refl;
-    }

@@ -3,20 +3,23 @@
 //! What is wanted has the version, the directories, the files with the numbers of their directories, and a line for each
 //! node with the number of its source file. Names are of one letter, and numbers in hexadecimal.
 
+ghost use Rattle.std.specs.Prelude.{All};
 ghost use Rattle.dwarf_types.specs.Sound.{IsSound};
+ghost use Rattle.graph_tests.specs.TwoObjects.{AreSound};
+ghost use Rattle.link_graph.specs.Graph.{IsShape};
+ghost use Rattle.odr_names.specs.Making.{AreLiveRows};
 
-use crate::rows::{Row, Says, analysis_of_files, under, unit};
-use crate::sound::is_sound;
-use crate::words::put_number;
+use crate::live::{Objects, two_objects};
+use crate::rows::{NONE, Row, Says, analysis_of_files, root, two, unit};
+use crate::sound::sound;
+use crate::words::{assert_words, put, put_bytes, put_number};
 use clone_units::{UnitClone, clone_unit};
-use ds_base::NoMemory;
 use ds_base::dwarf::{
     DW_AT_comp_dir, DW_AT_const_value, DW_AT_decl_file, DW_AT_name, DW_AT_type, DW_FORM_data1,
     DW_TAG_structure_type, DW_TAG_variable,
 };
-use dwarf_types::{Analysis, OutLines};
+use dwarf_types::{Analysis, OutLines, Shape};
 use link_graph::build;
-use liveness::live;
 use odr_names::{book, winners_plain};
 use std::alloc::Global;
 use std::process::Abort;
@@ -25,144 +28,142 @@ use unit_source::{OutAttrRef, OutValueRef, UnitSource};
 
 // ---- words
 
-fn put_table(line: &mut Vec<u8>, lines: &OutLines) -> Result<(), NoMemory> {
+fn put_table(rt: &impl Abort, line: &mut Vec<u8>, lines: &OutLines) {
     for i in 0..lines.dirs.len() {
-        line.extend_from_slice(lines.dirs.path(i))?;
-        line.push(b';')?;
+        put_bytes(rt, line, lines.dirs.path(i));
+        put(rt, line, b';');
     }
     for i in 0..lines.files.len() {
         let file = lines.files.file(i);
-        line.push(b' ')?;
-        line.extend_from_slice(file.name)?;
-        line.push(b'@')?;
-        put_number(line, file.dir)?;
+        put(rt, line, b' ');
+        put_bytes(rt, line, file.name);
+        put(rt, line, b'@');
+        put_number(rt, line, file.dir);
     }
-    Ok(())
 }
 
 /// The number of the source file that a node names, with its form.
-fn put_file(line: &mut Vec<u8>, attrs: &[OutAttrRef]) -> Result<(), NoMemory> {
-    line.push(b'\n')?;
+fn put_file(rt: &impl Abort, line: &mut Vec<u8>, attrs: &[OutAttrRef]) {
+    put(rt, line, b'\n');
     for attr in attrs {
         if attr.name == DW_AT_decl_file {
-            put_file_number(line, &attr.value)?;
+            put_file_number(rt, line, &attr.value);
         }
     }
-    Ok(())
 }
 
-fn put_file_number(line: &mut Vec<u8>, value: &OutValueRef) -> Result<(), NoMemory> {
+fn put_file_number(rt: &impl Abort, line: &mut Vec<u8>, value: &OutValueRef) {
     if let OutValueRef::Number { form, bits } = value {
-        put_number(line, u64::from(*form))?;
-        line.push(b'/')?;
-        put_number(line, *bits)?;
+        put_number(rt, line, u64::from(*form));
+        put(rt, line, b'/');
+        put_number(rt, line, *bits);
     }
-    Ok(())
 }
 
 /// The same of all nodes of a unit.
-fn put_files(alloc: Global, line: &mut Vec<u8>, unit: &UnitClone) -> Result<(), NoMemory> {
+fn put_files(rt: &impl Abort, alloc: Global, line: &mut Vec<u8>, unit: &UnitClone) {
     let mut attrs = Vec::new(alloc);
     for k in 0..unit.len() {
-        unit.node(alloc, k, &mut attrs)?;
-        put_file(line, &attrs)?;
+        unit.node(alloc, k, &mut attrs).expect(rt, "memory");
+        put_file(rt, line, &attrs);
     }
-    Ok(())
 }
 
-fn words_of(alloc: Global, unit: &UnitClone) -> Result<Vec<u8>, NoMemory> {
+fn words_of(rt: &impl Abort, alloc: Global, unit: &UnitClone) -> Vec<u8> {
     let mut line = Vec::new(alloc);
-    put_number(&mut line, u64::from(unit.version()))?;
-    line.push(b' ')?;
+    put_number(rt, &mut line, u64::from(unit.version()));
+    put(rt, &mut line, b' ');
     if let Some(lines) = unit.lines() {
-        put_table(&mut line, lines)?;
+        put_table(rt, &mut line, lines);
     }
-    put_files(alloc, &mut line, unit)?;
-    Ok(line)
+    put_files(rt, alloc, &mut line, unit);
+    line
 }
 
 // ---- units
 
-/// The first unit that is linked of two objects, in words; none where there is no unit, or there are too many names.
-fn first_unit<R: Threads + Sync>(
+/// The first unit that is linked of two objects, in words.
+fn first_unit<R: Threads + Abort + Sync>(
     rt: &R,
     alloc: Global,
-    first: Analysis,
-    second: Analysis,
-) -> Result<Option<Vec<u8>>, NoMemory>
-    requires first { IsSound first }
-    requires second { IsSound second }
-{
-    let rows = [live(alloc, &first)?, live(alloc, &second)?];
-    let seen = [first, second];
-    let Ok(names) = book(alloc, &seen, &rows, true) else {
-        return Ok(None);
-    };
-    let winners = winners_plain(alloc, &names)?;
-    let Ok(shape) = build(rt, alloc, &seen, &rows, &names, &winners) else {
-        return Err(NoMemory);
-    };
-    if shape.units.is_empty() {
-        return Ok(None);
-    }
-    let unit = clone_unit(alloc, &seen, &shape, 0)?;
-    Ok(Some(words_of(alloc, &unit)?))
-}
-
-/// The same of two analyses, where they are sound.
-fn pooled<R: Threads + Sync>(
-    rt: &R,
-    alloc: Global,
-    first: Result<Analysis, NoMemory>,
-    second: Result<Analysis, NoMemory>,
-) -> Result<Option<Vec<u8>>, NoMemory> {
-    let first = first?;
-    let second = second?;
-    if !is_sound(&first) || !is_sound(&second) {
-        return Ok(None);
-    }
-    first_unit(rt, alloc, first, second)
-}
-
-fn assert_pooled(
-    rt: &impl Abort,
     label: &str,
-    pooled: Result<Option<Vec<u8>>, NoMemory>,
+    objects: &Objects,
+) -> Vec<u8>
+    requires sound { AreSound objects.now.seen objects.now.live }
+    requires live { AreLiveRows objects.now.seen objects.now.live }
+{
+    let names = book(alloc, &objects.seen, &objects.live, true).expect(rt, label);
+    let winners = winners_plain(alloc, &names).expect(rt, "memory");
+    let shape = build(rt, alloc, &objects.seen, &objects.live, &names, &winners).expect(rt, label);
+    words_of_first(rt, alloc, label, &objects.seen, &shape)
+}
+
+/// The first unit of a shape, in words.
+fn words_of_first(
+    rt: &impl Abort,
+    alloc: Global,
+    label: &str,
+    seen: &[Analysis],
+    shape: &Shape,
+) -> Vec<u8>
+    requires { IsShape seen.now shape.now × All IsSound seen.now }
+{
+    assert!(rt; !shape.units.is_empty(), "{label}: no unit");
+    let unit = clone_unit(alloc, seen, shape, 0).expect(rt, "memory");
+    words_of(rt, alloc, &unit)
+}
+
+/// The directories and files of a line table, and the rows of a unit.
+#[derive(Clone, Copy)]
+struct Unit<'a> {
+    dirs: &'a [u8],
+    files: &'a [(u8, u64)],
+    rows: &'a [Row],
+}
+
+fn sound_unit(rt: &impl Abort, alloc: Global, label: &str, version: u16, unit: Unit) -> Analysis
+    ensures { IsSound result }
+{
+    sound(
+        rt,
+        label,
+        analysis_of_files(rt, alloc, version, unit.dirs, unit.files, unit.rows),
+    )
+}
+
+/// The first unit that is linked of an object of version 4 and one of a version.
+fn assert_pooled<R: Threads + Abort + Sync>(
+    rt: &R,
+    alloc: Global,
+    label: &str,
+    first: Unit,
+    version: u16,
+    second: Unit,
     wanted: &[u8],
 ) {
-    let Ok(Some(line)) = pooled else {
-        panic!(rt; "{label}: not sound, no unit, too many, or no memory");
-    };
-    assert_eq!(rt; line.as_slice(), wanted, "{label}");
+    let first = sound_unit(rt, alloc, label, 4, first);
+    let second = sound_unit(rt, alloc, label, version, second);
+    let objects = two_objects(rt, alloc, first, second);
+    assert_words(rt, label, &first_unit(rt, alloc, label, &objects), wanted);
 }
-
-const NONE: Says = Says::Nothing;
 
 /// A live variable of a type.
 fn user(target: u32) -> Row {
-    under(
+    two(
         0,
         DW_TAG_variable,
-        [
-            Says::Number(DW_AT_const_value, DW_FORM_data1, 7),
-            Says::Refers(DW_AT_type, target),
-            NONE,
-            NONE,
-        ],
+        Says::Number(DW_AT_const_value, DW_FORM_data1, 7),
+        Says::Refers(DW_AT_type, target),
     )
 }
 
 /// A type of a name that was declared in the file of a number.
 fn declared(name: u8, file: u64) -> Row {
-    under(
+    two(
         0,
         DW_TAG_structure_type,
-        [
-            Says::Text(DW_AT_name, name),
-            Says::Number(DW_AT_decl_file, DW_FORM_data1, file),
-            NONE,
-            NONE,
-        ],
+        Says::Text(DW_AT_name, name),
+        Says::Number(DW_AT_decl_file, DW_FORM_data1, file),
     )
 }
 
@@ -170,11 +171,12 @@ fn declared(name: u8, file: u64) -> Row {
 #[rattlefmt::skip]
 fn merged_entries_name_files_by_first_use(rt: HostRuntime) {
     let a = rt.alloc();
-    let one = [unit([NONE, NONE, NONE, NONE]), user(2), declared(b'A', 1)];
+    let one = [root(), user(2), declared(b'A', 1)];
     let four = [unit([Says::Text(DW_AT_comp_dir, b'c'), NONE, NONE, NONE]), user(5), user(6), user(7), user(8), declared(b'B', 0), declared(b'C', 2), declared(b'D', 3), declared(b'E', 9)];
-    let files = [(b'f', 0), (b'f', 0), (b'g', 1), (b'f', 1)];
-    assert_pooled(&rt, "in version 4 files are counted from 1, and directory 0 is that of the compilation", pooled(&rt, a, analysis_of_files(a, 4, b"d", &[(b'f', 1)], &one), analysis_of_files(a, 4, b"pd", &files, &four)),
+    let first = Unit { dirs: b"d", files: &[(b'f', 1)], rows: &one };
+    let second = Unit { dirs: b"pd", files: &[(b'f', 0), (b'f', 0), (b'g', 1), (b'f', 1)], rows: &four };
+    assert_pooled(&rt, a, "in version 4 files are counted from 1, and directory 0 is that of the compilation", first, 4, second,
         b"4 d;c;p; f@1 f@2 g@3\n\nf/1\nf/0\nf/2\nf/3\n");
-    assert_pooled(&rt, "in version 5 both are counted from 0", pooled(&rt, a, analysis_of_files(a, 4, b"d", &[(b'f', 1)], &one), analysis_of_files(a, 5, b"pd", &files, &four)),
+    assert_pooled(&rt, a, "in version 5 both are counted from 0", first, 5, second,
         b"5 ;d;p; f@1 f@1 f@2 g@1\n\nf/1\nf/2\nf/3\nf/1\n");
 }

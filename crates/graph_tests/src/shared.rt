@@ -2,18 +2,18 @@
 
 ghost use Rattle.std.specs.Prelude.{◌≤◌};
 ghost use Rattle.dwarf_types.specs.Sound.{IsSound};
+ghost use Rattle.graph_tests.specs.TwoObjects.{AreSound};
+ghost use Rattle.odr_names.specs.Making.{AreLiveRows};
 
-use crate::rows::{Row, Says, analysis_in, under, unit};
-use crate::sound::is_sound;
-use ds_base::NoMemory;
+use crate::live::{Objects, two_objects};
+use crate::rows::{Row, Says, analysis_in, called, root, two, user};
+use crate::sound::sound;
 use ds_base::dwarf::{
-    DW_AT_const_value, DW_AT_declaration, DW_AT_name, DW_AT_type, DW_FORM_data4,
-    DW_FORM_flag_present, DW_LANG_C_plus_plus, DW_TAG_namespace, DW_TAG_structure_type,
-    DW_TAG_variable,
+    DW_AT_declaration, DW_AT_name, DW_FORM_flag_present, DW_LANG_C_plus_plus, DW_TAG_namespace,
+    DW_TAG_structure_type,
 };
 use ds_files::{Gate, OpenGate};
 use dwarf_types::Analysis;
-use liveness::live;
 use name_bids::{BID, open_table, shared_winners};
 use odr_names::{book, count};
 use std::alloc::Global;
@@ -53,59 +53,29 @@ impl Gate for HoldsFirst {
     }
 }
 
-const NONE: Says = Says::Nothing;
-
-fn called(parent: u16, tag: u16, name: u8) -> Row {
-    under(
-        parent,
-        tag,
-        [Says::Text(DW_AT_name, name), NONE, NONE, NONE],
-    )
-}
-
-/// A live variable of a type.
-fn user(target: u32) -> Row {
-    under(
-        0,
-        DW_TAG_variable,
-        [
-            Says::Number(DW_AT_const_value, DW_FORM_data4, 7),
-            Says::Refers(DW_AT_type, target),
-            NONE,
-            NONE,
-        ],
-    )
-}
-
 /// Three types, of which one is only declared and one stands in a namespace.
-fn first(alloc: Global) -> Result<Analysis, NoMemory> {
-    let declared = under(
-        0,
-        DW_TAG_structure_type,
-        [
-            Says::Text(DW_AT_name, b'A'),
-            Says::Number(DW_AT_declaration, DW_FORM_flag_present, 1),
-            NONE,
-            NONE,
-        ],
-    );
-    let rows = [
-        unit([NONE, NONE, NONE, NONE]),
+fn first() -> [Row; 8] {
+    [
+        root(),
         user(4),
         user(5),
         user(7),
-        declared,
+        two(
+            0,
+            DW_TAG_structure_type,
+            Says::Text(DW_AT_name, b'A'),
+            Says::Number(DW_AT_declaration, DW_FORM_flag_present, 1),
+        ),
         called(0, DW_TAG_structure_type, b'B'),
         called(0, DW_TAG_namespace, b'n'),
         called(6, DW_TAG_structure_type, b'A'),
-    ];
-    analysis_in(alloc, DW_LANG_C_plus_plus, &rows, &[])
+    ]
 }
 
 /// The same types in another order, and all defined.
-fn second(alloc: Global) -> Result<Analysis, NoMemory> {
-    let rows = [
-        unit([NONE, NONE, NONE, NONE]),
+fn second() -> [Row; 8] {
+    [
+        root(),
         user(5),
         user(6),
         user(7),
@@ -113,48 +83,37 @@ fn second(alloc: Global) -> Result<Analysis, NoMemory> {
         called(4, DW_TAG_structure_type, b'A'),
         called(0, DW_TAG_structure_type, b'B'),
         called(0, DW_TAG_structure_type, b'A'),
-    ];
-    analysis_in(alloc, DW_LANG_C_plus_plus, &rows, &[])
+    ]
 }
 
-/// Of each name of two objects the winner, by so many threads; none where there is no book.
-fn winners_of<R: Threads + Sync, G: Gate + Sync>(
+/// The object of these rows.
+fn object(rt: &impl Abort, alloc: Global, rows: &[Row]) -> Analysis
+    ensures { IsSound result }
+{
+    sound(
+        rt,
+        "an object",
+        analysis_in(rt, alloc, DW_LANG_C_plus_plus, rows),
+    )
+}
+
+/// Of each name of two objects the winner, by so many threads.
+fn winners_of<R: Threads + Abort + Sync, G: Gate + Sync>(
     rt: &R,
     alloc: Global,
     workers: u32,
     gate: &G,
-    first: Analysis,
-    second: Analysis,
-) -> Result<Option<Vec<u32>>, NoMemory>
+    objects: &Objects,
+) -> Vec<u32>
     requires workers { (1 ≤ workers) × (workers ≤ 64) }
-    requires first { IsSound first }
-    requires second { IsSound second }
+    requires sound { AreSound objects.now.seen objects.now.live }
+    requires live { AreLiveRows objects.now.seen objects.now.live }
 {
-    let rows = [live(alloc, &first)?, live(alloc, &second)?];
-    let seen = [first, second];
-    let Ok(names) = book(alloc, &seen, &rows, true) else {
-        return Ok(None);
-    };
-    let table = open_table(alloc, count(&names))?;
-    let (winners, _closed) = shared_winners(rt, alloc, workers, gate, &names, table)?;
-    Ok(Some(winners))
-}
-
-/// The same of two analyses, where they are sound.
-fn shared<R: Threads + Sync, G: Gate + Sync>(
-    rt: &R,
-    alloc: Global,
-    workers: u32,
-    gate: &G,
-) -> Result<Option<Vec<u32>>, NoMemory>
-    requires { (1 ≤ workers) × (workers ≤ 64) }
-{
-    let first = first(alloc)?;
-    let second = second(alloc)?;
-    if !is_sound(&first) || !is_sound(&second) {
-        return Ok(None);
-    }
-    winners_of(rt, alloc, workers, gate, first, second)
+    let names = book(alloc, &objects.seen, &objects.live, true).expect(rt, "a book");
+    let table = open_table(alloc, count(&names)).expect(rt, "memory");
+    shared_winners(rt, alloc, workers, gate, &names, table)
+        .expect(rt, "memory")
+        .0
 }
 
 /// So many threads give the winners: the only definition in the second object, and else the names of the first.
@@ -166,11 +125,15 @@ fn assert_winners<R: Threads + Abort + Sync, G: Gate + Sync>(
 )
     requires { (1 ≤ workers) × (workers ≤ 64) }
 {
-    let Ok(Some(winners)) = shared(rt, alloc, workers, gate) else {
-        panic!(rt; "{workers} workers: not sound, too many, or no memory");
-    };
-    let wanted: [u32; 8] = [7, 1, 2, 3, 2, 3, 1, 7];
-    assert_eq!(rt; winners.as_slice(), wanted.as_slice(), "{workers} workers");
+    let first = object(rt, alloc, &first());
+    let second = object(rt, alloc, &second());
+    let objects = two_objects(rt, alloc, first, second);
+    let winners = winners_of(rt, alloc, workers, gate, &objects);
+    are_winners(rt, workers, &winners, &[7, 1, 2, 3, 2, 3, 1, 7]);
+}
+
+fn are_winners(rt: &impl Abort, workers: u32, winners: &[u32], wanted: &[u32]) {
+    assert!(rt; winners == wanted, "{workers} workers: {winners:?}");
 }
 
 #[test]

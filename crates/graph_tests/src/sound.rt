@@ -14,12 +14,21 @@ use dwarf_types::{
     Analysis, CodeRange, Entries, EntryRef, InUnit, InnerOpsRef, LocationsRef, OpRef, OpsRef,
     ValueRef,
 };
+use std::process::Abort;
+
+/// The analysis, which has to be sound.
+pub(crate) fn sound(rt: &impl Abort, label: &str, seen: Analysis) -> Analysis
+    ensures sound { IsSound result }
+{
+    assert!(rt; is_sound(&seen), "{label}: not sound");
+    seen
+}
 
 /// The most entries that an analysis may have.
 const MOST_ENTRIES: usize = 1 << 24;
 
 /// Whether an analysis is sound. One whose expressions name base types is not tried.
-pub(crate) fn is_sound(seen: &Analysis) -> bool
+fn is_sound(seen: &Analysis) -> bool
     ensures { OnTrue result (IsSound seen.now) }
 {
     if seen.entries.len() > MOST_ENTRIES {
