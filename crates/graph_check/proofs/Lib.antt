@@ -1,3 +1,0 @@
-mod Codes
-mod Endings
-mod Wholes
