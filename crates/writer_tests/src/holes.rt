@@ -1,14 +1,13 @@
 //! Buffers, whose holes are filled in turn.
 
-ghost use Rattle.std.specs.Prelude.{ℕ, ◌≡◌, ◌<◌, ◌^◌, [], length};
-ghost use Rattle.std.specs.List.{All};
-ghost use Rattle.patches.specs.Filling.{Filling, filled};
+ghost use Rattle.std.specs.Prelude.{◌≡◌, []};
 
+use crate::parts::{add, one, same};
 use ds_base::List;
 use dwarf_types::Target;
 use patches::{Buffer, Outer, Outside, Own, Placed};
+use std::alloc::Global;
 use std::process::Abort;
-use std::test::Fail;
 
 // Fills what the unit tells: it has 16 bytes, and its nodes stand at 11 and 13.
 fn settle(buffer: &mut Buffer)
@@ -23,44 +22,79 @@ fn is_filled(rt: &impl Abort, buffer: &Buffer, outside: &Outside, room: &mut [u8
 {
     assert_eq!(rt; buffer.len(), room.len());
     buffer.emit(outside, room);
-    assert_eq!(rt; &*room, bytes);
+    same(rt, "the bytes with those outside", &*room, bytes);
+}
+
+// A hole for a base, and one for a text, where another byte had been put.
+fn inner(rt: &impl Abort, alloc: Global) -> Buffer {
+    let mut buffer = Buffer::new(alloc);
+    buffer.push(9).expect(rt, "memory");
+    buffer.clear();
+    buffer.leave_own(Own::Base(1)).expect(rt, "memory");
+    buffer.leave(Outer::Text(1)).expect(rt, "memory");
+    buffer
+}
+
+// Leaves a hole for each kind of place outside, but for that of a text.
+fn leave_outer(rt: &impl Abort, buffer: &mut Buffer) {
+    let near = Target { unit: 0, node: 1 };
+    let far = Target { unit: 5, node: 0 };
+    buffer.leave(Outer::Entry(near)).expect(rt, "memory");
+    buffer.leave(Outer::Entry(far)).expect(rt, "memory");
+    buffer.leave(Outer::Ranges(16)).expect(rt, "memory");
+    buffer.leave(Outer::LineText(1)).expect(rt, "memory");
+}
+
+// Bytes and holes of all kinds.
+fn holey(rt: &impl Abort, alloc: Global) -> Buffer {
+    let inner = inner(rt, alloc);
+    let mut buffer = Buffer::new(alloc);
+    buffer.leave_own(Own::Size).expect(rt, "memory");
+    buffer.extend(b"ab").expect(rt, "memory");
+    buffer.extend_lowest(0x0102_0304, 2).expect(rt, "memory");
+    buffer.extend_uleb(128).expect(rt, "memory");
+    buffer.extend_sleb(-129).expect(rt, "memory");
+    buffer.append_prefixed(&inner).expect(rt, "memory");
+    buffer.leave_own(Own::Node(7)).expect(rt, "memory");
+    leave_outer(rt, &mut buffer);
+    buffer
+}
+
+// The one unit of the graph.
+fn units(rt: &impl Abort, alloc: Global) -> List<Placed> {
+    let mut nodes = one(rt, alloc, 11u32);
+    add(rt, &mut nodes, 12);
+    let placed = Placed {
+        start: 0x100,
+        nodes,
+        len: 20,
+    };
+    one(rt, alloc, placed)
+}
+
+#[rattlefmt::skip]
+const FILLED: [u8; 41] = [
+    12, 0, 0, 0,  b'a', b'b',  4, 3,  0x80, 1,  0xff, 0x7e,
+    8,  0x8d, 0x80, 0x80, 0,  7, 0, 0, 0,
+    16, 0, 0, 0,  0x0c, 1, 0, 0,  0, 2, 0, 0,  0x50, 0, 0, 0,  9, 0, 0, 0,
+];
+
+// The bytes of a buffer, once its holes are filled.
+fn is_patched(rt: &impl Abort, mut buffer: Buffer, outside: &Outside, want: &[u8])
+    requires settled { buffer.own ≡ [] }
+{
+    buffer.patch(outside);
+    same(rt, "the bytes", buffer.into_bytes().as_slice(), want);
 }
 
 #[rattlefmt::skip]
 #[test]
-fn holes_are_filled_where_they_were_left(rt: HostRuntime) -> Result<(), Fail> {
+fn holes_are_filled_where_they_were_left(rt: HostRuntime) {
     let alloc = rt.alloc();
-    let mut inner = Buffer::new(alloc);
-    inner.push(9)?;
-    inner.clear();
-    inner.leave_own(Own::Base(1))?;
-    inner.leave(Outer::Text(1))?;
-    let mut buffer = Buffer::new(alloc);
-    buffer.leave_own(Own::Size)?;
-    buffer.extend(b"ab")?;
-    buffer.extend_lowest(0x0102_0304, 2)?;
-    buffer.extend_uleb(128)?;
-    buffer.extend_sleb(-129)?;
-    buffer.append_prefixed(&inner)?;
-    buffer.leave_own(Own::Node(7))?;
-    buffer.leave(Outer::Entry(Target { unit: 0, node: 1 }))?;
-    buffer.leave(Outer::Entry(Target { unit: 5, node: 0 }))?;
-    buffer.leave(Outer::Ranges(16))?;
-    buffer.leave(Outer::LineText(1))?;
+    let mut buffer = holey(&rt, alloc);
     settle(&mut buffer);
-    let mut nodes = List::new(alloc);
-    nodes.push(11u32)?;
-    nodes.push(12u32)?;
-    let mut units = List::new(alloc);
-    units.push(Placed { start: 0x100, nodes, len: 20 })?;
+    let units = units(&rt, alloc);
     let outside = Outside { table: 0, lines: 0, ranges: 0x40, locations: 0, texts: &[0, 7], line_texts: &[0, 9], units: units.as_slice(), end: 0x200 };
-    let bytes = [
-        12, 0, 0, 0,  b'a', b'b',  4, 3,  0x80, 1,  0xff, 0x7e,
-        8,  0x8d, 0x80, 0x80, 0,  7, 0, 0, 0,
-        16, 0, 0, 0,  0x0c, 1, 0, 0,  0, 2, 0, 0,  0x50, 0, 0, 0,  9, 0, 0, 0,
-    ];
-    is_filled(&rt, &buffer, &outside, &mut [0; 41], &bytes);
-    buffer.patch(&outside);
-    assert_eq!(rt; buffer.into_bytes().as_slice(), bytes.as_slice());
-    Ok(())
+    is_filled(&rt, &buffer, &outside, &mut [0; 41], &FILLED);
+    is_patched(&rt, buffer, &outside, &FILLED);
 }

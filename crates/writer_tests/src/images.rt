@@ -2,18 +2,19 @@
 
 ghost use Rattle.macho_read.specs.Sound.{IsSound};
 
+use crate::parts::{add, has_at, one, same};
 use crate::samples::{add_file, made, one_sequence, row};
+use crate::units::{add_attr, bytes, node, text, unit};
 use ds_base::dwarf::{
-    DW_AT_high_pc, DW_AT_language, DW_AT_location, DW_AT_low_pc, DW_AT_name, DW_AT_ranges,
-    DW_AT_stmt_list, DW_FORM_data2, DW_FORM_data4, DW_OP_dup, DW_OP_stack_value,
-    DW_TAG_compile_unit, DW_TAG_subprogram, DW_TAG_variable,
+    DW_AT_location, DW_AT_low_pc, DW_AT_name, DW_AT_ranges, DW_AT_stmt_list, DW_OP_dup,
+    DW_OP_stack_value, DW_TAG_compile_unit, DW_TAG_variable,
 };
 use ds_base::macho::{CPU_TYPE_ARM64, MH_EXECUTE, N_EXT, N_FUN, N_OSO, N_SECT};
-use ds_base::{Bytes, List};
+use ds_base::{Bytes, List, bytes_from, cut};
 use dsym_write::{image_in, plist_text};
 use dwarf_types::{
-    ExprPart, FileNames, Graph, Node, OutAttr, OutFrames, OutLines, OutLocation, OutUnit, OutValue,
-    Paths, Sequences, Span,
+    ExprPart, FileNames, Graph, Node, OutFrames, OutLines, OutLocation, OutUnit, OutValue, Paths,
+    Sequences, Span,
 };
 use layout::measure;
 use macho_read::{Image, Section, Segment, Symbols, read_image};
@@ -63,17 +64,18 @@ fn text_section(rt: &impl Abort, alloc: Global) -> Section {
 // Two stabs and `_main`.
 fn symbols(rt: &impl Abort, alloc: Global) -> Symbols {
     let mut symbols = Symbols::new(alloc);
-    assert!(rt; symbols.push(b"/m", N_OSO, 3, 1, 0).is_ok());
-    assert!(rt; symbols.push(b"_main", N_FUN, 1, 0, MAIN).is_ok());
-    assert!(rt; symbols.push(b"_main", N_SECT | N_EXT, 1, 0, MAIN).is_ok());
+    symbols.push(b"/m", N_OSO, 3, 1, 0).expect(rt, "memory");
+    symbols
+        .push(b"_main", N_FUN, 1, 0, MAIN)
+        .expect(rt, "memory");
+    symbols
+        .push(b"_main", N_SECT | N_EXT, 1, 0, MAIN)
+        .expect(rt, "memory");
     symbols
 }
 
-// A program with a UUID, a segment with a section, a function, and the stabs of the object that has it, as its file is
-// read.
-fn program(rt: &impl Abort, alloc: Global) -> Image
-    ensures { IsSound result }
-{
+// The file of a program with a UUID, a segment with a section, a function, and the stabs of the object that has it.
+fn file(rt: &impl Abort, alloc: Global) -> Bytes {
     let image = Image {
         cpu: CPU_TYPE_ARM64,
         sub: 0,
@@ -83,7 +85,14 @@ fn program(rt: &impl Abort, alloc: Global) -> Image
         sections: one(rt, alloc, text_section(rt, alloc)),
         symbols: symbols(rt, alloc),
     };
-    let file = program_file(alloc, &image).expect(rt, "memory for a file");
+    program_file(alloc, &image).expect(rt, "memory for a file")
+}
+
+// The program as its file is read.
+fn program(rt: &impl Abort, alloc: Global) -> Image
+    ensures { IsSound result }
+{
+    let file = file(rt, alloc);
     read_image(alloc, file.as_slice()).expect(rt, "a program")
 }
 
@@ -101,221 +110,152 @@ fn image_of<R: Threads + Abort + Sync>(
     image_in(rt, Vec::new(alloc), 4, program, &layout).expect(rt, "an image")
 }
 
+// The image of a generated program and a graph.
+fn image_with<R: Threads + Abort + Sync>(rt: &R, alloc: Global, graph: &Graph) -> Bytes {
+    let made = made(rt, alloc, 1);
+    image_of(rt, alloc, &made.program, graph)
+}
+
 // An image begins with some bytes, and has zeros behind them up to 4096.
 fn begins_with(rt: &impl Abort, image: &[u8], front: &[u8]) {
     assert!(rt; front.len() <= 4096 && image.len() >= 4096);
-    assert_eq!(rt; &image[..front.len()], front);
-    assert!(rt; are_zeros(&image[front.len()..4096]));
+    same(rt, "the front", cut(image, 0, front.len()), front);
+    let zeros = are_zeros(cut(image, front.len(), 4096 - front.len()));
+    same(rt, "whether zeros follow", zeros, true);
 }
 
 // From 4096 on an image has its sections, one behind the other.
 fn sections_are(rt: &impl Abort, image: &[u8], sections: &[u8]) {
-    assert_eq!(rt; image.len(), 4096 + sections.len());
-    assert_eq!(rt; &image[4096..], sections);
+    assert!(rt; image.len() >= 4096);
+    same(rt, "the sections", bytes_from(image, 4096), sections);
 }
 
 fn are_zeros(bytes: &[u8]) -> bool {
     bytes.iter().all(|b| *b == 0)
 }
 
-// ---- graphs
+// ---- graphs of one function
 
-// Puts an item last.
-fn add<T: Drop>(rt: &impl Abort, items: &mut List<T>, item: T) {
-    assert!(rt; items.push(item).is_ok());
-}
-
-fn one<T: Drop>(rt: &impl Abort, alloc: Global, item: T) -> List<T> {
-    let mut items = List::new(alloc);
-    add(rt, &mut items, item);
-    items
-}
-
-fn bytes(rt: &impl Abort, alloc: Global, from: &[u8]) -> Bytes {
-    Bytes::from_slice(alloc, from).expect(rt, "memory for bytes")
-}
-
-fn text(rt: &impl Abort, alloc: Global, from: &[u8]) -> OutValue {
-    OutValue::Text(bytes(rt, alloc, from))
-}
-
-fn add_attr(rt: &impl Abort, attrs: &mut List<OutAttr>, name: u16, value: OutValue) {
-    add(rt, attrs, OutAttr { name, value });
-}
-
-fn code(rt: &impl Abort, alloc: Global) -> List<Span> {
-    let span = Span {
-        low: 0x1_0000_3f50,
-        high: 0x1_0000_3f7a,
-    };
-    one(rt, alloc, span)
-}
-
-fn root(rt: &impl Abort, alloc: Global) -> Node {
-    let mut attrs = List::new(alloc);
-    let language = OutValue::Number {
-        form: DW_FORM_data2,
-        bits: 12,
-    };
-    let ranges = OutValue::Ranges(code(rt, alloc));
-    add_attr(rt, &mut attrs, DW_AT_name, text(rt, alloc, b"m.c"));
-    add_attr(rt, &mut attrs, DW_AT_language, language);
-    add_attr(rt, &mut attrs, DW_AT_low_pc, OutValue::Address(0));
-    add_attr(rt, &mut attrs, DW_AT_ranges, ranges);
-    Node {
-        parent: None,
-        tag: DW_TAG_compile_unit,
-        attrs,
-    }
-}
-
-fn function(rt: &impl Abort, alloc: Global) -> Node {
-    let mut attrs = List::new(alloc);
-    let length = OutValue::Number {
-        form: DW_FORM_data4,
-        bits: 0x2a,
-    };
-    add_attr(
-        rt,
-        &mut attrs,
-        DW_AT_low_pc,
-        OutValue::Address(0x1_0000_3f50),
-    );
-    add_attr(rt, &mut attrs, DW_AT_high_pc, length);
-    add_attr(rt, &mut attrs, DW_AT_name, text(rt, alloc, b"main"));
-    Node {
-        parent: Some(0),
-        tag: DW_TAG_subprogram,
-        attrs,
-    }
-}
-
-// A unit of one function.
-fn unit(rt: &impl Abort, alloc: Global, version: u16) -> OutUnit {
-    let mut nodes = one(rt, alloc, root(rt, alloc));
-    add(rt, &mut nodes, function(rt, alloc));
-    OutUnit {
-        version,
-        nodes,
-        lines: None,
-        ranges: code(rt, alloc),
-    }
-}
-
-// ---- images
-
+// What stands before the sections: the header, the commands and the symbols.
 #[rattlefmt::skip]
+const FRONT: [u8; 727] = [
+    // the header
+    0xcf, 0xfa, 0xed, 0xfe,  0x0c, 0, 0, 1,  0, 0, 0, 0,  0x0a, 0, 0, 0,  4, 0, 0, 0,  0xa0, 2, 0, 0,  0, 0, 0, 0,  0, 0, 0, 0,
+    // the UUID
+    0x1b, 0, 0, 0,  0x18, 0, 0, 0,  0, 0x11, 0x22, 0x33, 0x44, 0x55, 0x66, 0x77, 0x88, 0x99, 0xaa, 0xbb, 0xcc, 0xdd, 0xee, 0xff,
+    // the symbol table: at 704, a symbol; at 720, 7 bytes
+    2, 0, 0, 0,  0x18, 0, 0, 0,  0xc0, 2, 0, 0,  1, 0, 0, 0,  0xd0, 2, 0, 0,  7, 0, 0, 0,
+    // __TEXT
+    0x19, 0, 0, 0,  0x98, 0, 0, 0,  b'_', b'_', b'T', b'E', b'X', b'T', 0, 0, 0, 0, 0, 0, 0, 0, 0, 0,
+    0, 0, 0, 0, 1, 0, 0, 0,  0, 0x40, 0, 0, 0, 0, 0, 0,  0, 0, 0, 0, 0, 0, 0, 0,  0, 0, 0, 0, 0, 0, 0, 0,
+    5, 0, 0, 0,  5, 0, 0, 0,  1, 0, 0, 0,  0, 0, 0, 0,
+    b'_', b'_', b't', b'e', b'x', b't', 0, 0, 0, 0, 0, 0, 0, 0, 0, 0,
+    b'_', b'_', b'T', b'E', b'X', b'T', 0, 0, 0, 0, 0, 0, 0, 0, 0, 0,
+    0x50, 0x3f, 0, 0, 1, 0, 0, 0,  0x2a, 0, 0, 0, 0, 0, 0, 0,
+    0, 0, 0, 0,  4, 0, 0, 0,  0, 0, 0, 0,  0, 0, 0, 0,  0, 4, 0, 0x80,  0, 0, 0, 0,  0, 0, 0, 0,  0, 0, 0, 0,
+    // __DWARF, and its sections in the page of 4096
+    0x19, 0, 0, 0,  0xd8, 1, 0, 0,  b'_', b'_', b'D', b'W', b'A', b'R', b'F', 0, 0, 0, 0, 0, 0, 0, 0, 0,
+    0, 0x40, 0, 0, 1, 0, 0, 0,  0, 0x10, 0, 0, 0, 0, 0, 0,  0, 0x10, 0, 0, 0, 0, 0, 0,  0xa2, 0, 0, 0, 0, 0, 0, 0,
+    7, 0, 0, 0,  3, 0, 0, 0,  5, 0, 0, 0,  0, 0, 0, 0,
+    b'_', b'_', b'd', b'e', b'b', b'u', b'g', b'_', b'a', b'b', b'b', b'r', b'e', b'v', 0, 0,
+    b'_', b'_', b'D', b'W', b'A', b'R', b'F', 0, 0, 0, 0, 0, 0, 0, 0, 0,
+    0, 0x40, 0, 0, 1, 0, 0, 0,  0x19, 0, 0, 0, 0, 0, 0, 0,
+    0, 0x10, 0, 0,  0, 0, 0, 0,  0, 0, 0, 0,  0, 0, 0, 0,  0, 0, 0, 2,  0, 0, 0, 0,  0, 0, 0, 0,  0, 0, 0, 0,
+    b'_', b'_', b'd', b'e', b'b', b'u', b'g', b'_', b'i', b'n', b'f', b'o', 0, 0, 0, 0,
+    b'_', b'_', b'D', b'W', b'A', b'R', b'F', 0, 0, 0, 0, 0, 0, 0, 0, 0,
+    0x19, 0x40, 0, 0, 1, 0, 0, 0,  0x30, 0, 0, 0, 0, 0, 0, 0,
+    0x19, 0x10, 0, 0,  0, 0, 0, 0,  0, 0, 0, 0,  0, 0, 0, 0,  0, 0, 0, 2,  0, 0, 0, 0,  0, 0, 0, 0,  0, 0, 0, 0,
+    b'_', b'_', b'd', b'e', b'b', b'u', b'g', b'_', b's', b't', b'r', 0, 0, 0, 0, 0,
+    b'_', b'_', b'D', b'W', b'A', b'R', b'F', 0, 0, 0, 0, 0, 0, 0, 0, 0,
+    0x49, 0x40, 0, 0, 1, 0, 0, 0,  9, 0, 0, 0, 0, 0, 0, 0,
+    0x49, 0x10, 0, 0,  0, 0, 0, 0,  0, 0, 0, 0,  0, 0, 0, 0,  0, 0, 0, 2,  0, 0, 0, 0,  0, 0, 0, 0,  0, 0, 0, 0,
+    b'_', b'_', b'd', b'e', b'b', b'u', b'g', b'_', b'r', b'a', b'n', b'g', b'e', b's', 0, 0,
+    b'_', b'_', b'D', b'W', b'A', b'R', b'F', 0, 0, 0, 0, 0, 0, 0, 0, 0,
+    0x52, 0x40, 0, 0, 1, 0, 0, 0,  0x20, 0, 0, 0, 0, 0, 0, 0,
+    0x52, 0x10, 0, 0,  0, 0, 0, 0,  0, 0, 0, 0,  0, 0, 0, 0,  0, 0, 0, 2,  0, 0, 0, 0,  0, 0, 0, 0,  0, 0, 0, 0,
+    b'_', b'_', b'd', b'e', b'b', b'u', b'g', b'_', b'a', b'r', b'a', b'n', b'g', b'e', b's', 0,
+    b'_', b'_', b'D', b'W', b'A', b'R', b'F', 0, 0, 0, 0, 0, 0, 0, 0, 0,
+    0x72, 0x40, 0, 0, 1, 0, 0, 0,  0x30, 0, 0, 0, 0, 0, 0, 0,
+    0x72, 0x10, 0, 0,  0, 0, 0, 0,  0, 0, 0, 0,  0, 0, 0, 0,  0, 0, 0, 2,  0, 0, 0, 0,  0, 0, 0, 0,  0, 0, 0, 0,
+    // _main, and the strings
+    1, 0, 0, 0,  0x0f, 1,  0, 0,  0x50, 0x3f, 0, 0, 1, 0, 0, 0,
+    0,  b'_', b'm', b'a', b'i', b'n', 0,
+];
+
+// The sections of a unit of one function, in version 4.
+#[rattlefmt::skip]
+const SECTIONS_4: [u8; 162] = [
+    // __debug_abbrev
+    1, 0x11, 1,  3, 0x0e,  0x13, 5,  0x11, 1,  0x55, 0x17,  0, 0,
+    2, 0x2e, 0,  0x11, 1,  0x12, 6,  3, 0x0e,  0, 0,
+    0,
+    // __debug_info
+    0x2c, 0, 0, 0,  4, 0,  0, 0, 0, 0,  8,
+    1,  0, 0, 0, 0,  0x0c, 0,  0, 0, 0, 0, 0, 0, 0, 0,  0, 0, 0, 0,
+    2,  0x50, 0x3f, 0, 0, 1, 0, 0, 0,  0x2a, 0, 0, 0,  4, 0, 0, 0,
+    0,
+    // __debug_str
+    b'm', b'.', b'c', 0,  b'm', b'a', b'i', b'n', 0,
+    // __debug_ranges
+    0x50, 0x3f, 0, 0, 1, 0, 0, 0,  0x7a, 0x3f, 0, 0, 1, 0, 0, 0,
+    0, 0, 0, 0, 0, 0, 0, 0,  0, 0, 0, 0, 0, 0, 0, 0,
+    // __debug_aranges
+    0x2c, 0, 0, 0,  2, 0,  0, 0, 0, 0,  8,  0,  0, 0, 0, 0,
+    0x50, 0x3f, 0, 0, 1, 0, 0, 0,  0x2a, 0, 0, 0, 0, 0, 0, 0,
+    0, 0, 0, 0, 0, 0, 0, 0,  0, 0, 0, 0, 0, 0, 0, 0,
+];
+
+// A graph of one unit, without frames.
+fn graph_of(rt: &impl Abort, alloc: Global, unit: OutUnit) -> Graph {
+    Graph {
+        units: one(rt, alloc, unit),
+        frames: OutFrames::new(alloc),
+    }
+}
+
 #[test]
 fn an_image_has_the_commands_of_its_program_and_the_sections_of_its_graph(rt: HostRuntime) {
     let alloc = rt.alloc();
-    let front = [
-        // the header
-        0xcf, 0xfa, 0xed, 0xfe,  0x0c, 0, 0, 1,  0, 0, 0, 0,  0x0a, 0, 0, 0,  4, 0, 0, 0,  0xa0, 2, 0, 0,  0, 0, 0, 0,  0, 0, 0, 0,
-        // the UUID
-        0x1b, 0, 0, 0,  0x18, 0, 0, 0,  0, 0x11, 0x22, 0x33, 0x44, 0x55, 0x66, 0x77, 0x88, 0x99, 0xaa, 0xbb, 0xcc, 0xdd, 0xee, 0xff,
-        // the symbol table: at 704, a symbol; at 720, 7 bytes
-        2, 0, 0, 0,  0x18, 0, 0, 0,  0xc0, 2, 0, 0,  1, 0, 0, 0,  0xd0, 2, 0, 0,  7, 0, 0, 0,
-        // __TEXT
-        0x19, 0, 0, 0,  0x98, 0, 0, 0,  b'_', b'_', b'T', b'E', b'X', b'T', 0, 0, 0, 0, 0, 0, 0, 0, 0, 0,
-        0, 0, 0, 0, 1, 0, 0, 0,  0, 0x40, 0, 0, 0, 0, 0, 0,  0, 0, 0, 0, 0, 0, 0, 0,  0, 0, 0, 0, 0, 0, 0, 0,
-        5, 0, 0, 0,  5, 0, 0, 0,  1, 0, 0, 0,  0, 0, 0, 0,
-        b'_', b'_', b't', b'e', b'x', b't', 0, 0, 0, 0, 0, 0, 0, 0, 0, 0,
-        b'_', b'_', b'T', b'E', b'X', b'T', 0, 0, 0, 0, 0, 0, 0, 0, 0, 0,
-        0x50, 0x3f, 0, 0, 1, 0, 0, 0,  0x2a, 0, 0, 0, 0, 0, 0, 0,
-        0, 0, 0, 0,  4, 0, 0, 0,  0, 0, 0, 0,  0, 0, 0, 0,  0, 4, 0, 0x80,  0, 0, 0, 0,  0, 0, 0, 0,  0, 0, 0, 0,
-        // __DWARF, and its sections in the page of 4096
-        0x19, 0, 0, 0,  0xd8, 1, 0, 0,  b'_', b'_', b'D', b'W', b'A', b'R', b'F', 0, 0, 0, 0, 0, 0, 0, 0, 0,
-        0, 0x40, 0, 0, 1, 0, 0, 0,  0, 0x10, 0, 0, 0, 0, 0, 0,  0, 0x10, 0, 0, 0, 0, 0, 0,  0xa2, 0, 0, 0, 0, 0, 0, 0,
-        7, 0, 0, 0,  3, 0, 0, 0,  5, 0, 0, 0,  0, 0, 0, 0,
-        b'_', b'_', b'd', b'e', b'b', b'u', b'g', b'_', b'a', b'b', b'b', b'r', b'e', b'v', 0, 0,
-        b'_', b'_', b'D', b'W', b'A', b'R', b'F', 0, 0, 0, 0, 0, 0, 0, 0, 0,
-        0, 0x40, 0, 0, 1, 0, 0, 0,  0x19, 0, 0, 0, 0, 0, 0, 0,
-        0, 0x10, 0, 0,  0, 0, 0, 0,  0, 0, 0, 0,  0, 0, 0, 0,  0, 0, 0, 2,  0, 0, 0, 0,  0, 0, 0, 0,  0, 0, 0, 0,
-        b'_', b'_', b'd', b'e', b'b', b'u', b'g', b'_', b'i', b'n', b'f', b'o', 0, 0, 0, 0,
-        b'_', b'_', b'D', b'W', b'A', b'R', b'F', 0, 0, 0, 0, 0, 0, 0, 0, 0,
-        0x19, 0x40, 0, 0, 1, 0, 0, 0,  0x30, 0, 0, 0, 0, 0, 0, 0,
-        0x19, 0x10, 0, 0,  0, 0, 0, 0,  0, 0, 0, 0,  0, 0, 0, 0,  0, 0, 0, 2,  0, 0, 0, 0,  0, 0, 0, 0,  0, 0, 0, 0,
-        b'_', b'_', b'd', b'e', b'b', b'u', b'g', b'_', b's', b't', b'r', 0, 0, 0, 0, 0,
-        b'_', b'_', b'D', b'W', b'A', b'R', b'F', 0, 0, 0, 0, 0, 0, 0, 0, 0,
-        0x49, 0x40, 0, 0, 1, 0, 0, 0,  9, 0, 0, 0, 0, 0, 0, 0,
-        0x49, 0x10, 0, 0,  0, 0, 0, 0,  0, 0, 0, 0,  0, 0, 0, 0,  0, 0, 0, 2,  0, 0, 0, 0,  0, 0, 0, 0,  0, 0, 0, 0,
-        b'_', b'_', b'd', b'e', b'b', b'u', b'g', b'_', b'r', b'a', b'n', b'g', b'e', b's', 0, 0,
-        b'_', b'_', b'D', b'W', b'A', b'R', b'F', 0, 0, 0, 0, 0, 0, 0, 0, 0,
-        0x52, 0x40, 0, 0, 1, 0, 0, 0,  0x20, 0, 0, 0, 0, 0, 0, 0,
-        0x52, 0x10, 0, 0,  0, 0, 0, 0,  0, 0, 0, 0,  0, 0, 0, 0,  0, 0, 0, 2,  0, 0, 0, 0,  0, 0, 0, 0,  0, 0, 0, 0,
-        b'_', b'_', b'd', b'e', b'b', b'u', b'g', b'_', b'a', b'r', b'a', b'n', b'g', b'e', b's', 0,
-        b'_', b'_', b'D', b'W', b'A', b'R', b'F', 0, 0, 0, 0, 0, 0, 0, 0, 0,
-        0x72, 0x40, 0, 0, 1, 0, 0, 0,  0x30, 0, 0, 0, 0, 0, 0, 0,
-        0x72, 0x10, 0, 0,  0, 0, 0, 0,  0, 0, 0, 0,  0, 0, 0, 0,  0, 0, 0, 2,  0, 0, 0, 0,  0, 0, 0, 0,  0, 0, 0, 0,
-        // _main, and the strings
-        1, 0, 0, 0,  0x0f, 1,  0, 0,  0x50, 0x3f, 0, 0, 1, 0, 0, 0,
-        0,  b'_', b'm', b'a', b'i', b'n', 0,
-    ];
-    let sections = [
-        // __debug_abbrev
-        1, 0x11, 1,  3, 0x0e,  0x13, 5,  0x11, 1,  0x55, 0x17,  0, 0,
-        2, 0x2e, 0,  0x11, 1,  0x12, 6,  3, 0x0e,  0, 0,
-        0,
-        // __debug_info
-        0x2c, 0, 0, 0,  4, 0,  0, 0, 0, 0,  8,
-        1,  0, 0, 0, 0,  0x0c, 0,  0, 0, 0, 0, 0, 0, 0, 0,  0, 0, 0, 0,
-        2,  0x50, 0x3f, 0, 0, 1, 0, 0, 0,  0x2a, 0, 0, 0,  4, 0, 0, 0,
-        0,
-        // __debug_str
-        b'm', b'.', b'c', 0,  b'm', b'a', b'i', b'n', 0,
-        // __debug_ranges
-        0x50, 0x3f, 0, 0, 1, 0, 0, 0,  0x7a, 0x3f, 0, 0, 1, 0, 0, 0,
-        0, 0, 0, 0, 0, 0, 0, 0,  0, 0, 0, 0, 0, 0, 0, 0,
-        // __debug_aranges
-        0x2c, 0, 0, 0,  2, 0,  0, 0, 0, 0,  8,  0,  0, 0, 0, 0,
-        0x50, 0x3f, 0, 0, 1, 0, 0, 0,  0x2a, 0, 0, 0, 0, 0, 0, 0,
-        0, 0, 0, 0, 0, 0, 0, 0,  0, 0, 0, 0, 0, 0, 0, 0,
-    ];
-    let graph = Graph {
-        units: one(&rt, alloc, unit(&rt, alloc, 4)),
-        frames: OutFrames::new(alloc),
-    };
+    let graph = graph_of(&rt, alloc, unit(&rt, alloc, 4));
     let program = program(&rt, alloc);
     let image = image_of(&rt, alloc, &program, &graph);
-    begins_with(&rt, image.as_slice(), &front);
-    sections_are(&rt, image.as_slice(), &sections);
+    begins_with(&rt, image.as_slice(), &FRONT);
+    sections_are(&rt, image.as_slice(), &SECTIONS_4);
 }
 
+// Those of such a unit in version 5.
 #[rattlefmt::skip]
+const SECTIONS_5: [u8; 161] = [
+    // __debug_abbrev
+    1, 0x11, 1,  3, 0x0e,  0x13, 5,  0x11, 1,  0x55, 0x17,  0, 0,
+    2, 0x2e, 0,  0x11, 1,  0x12, 6,  3, 0x0e,  0, 0,
+    0,
+    // __debug_info
+    0x2d, 0, 0, 0,  5, 0,  1,  8,  0, 0, 0, 0,
+    1,  0, 0, 0, 0,  0x0c, 0,  0, 0, 0, 0, 0, 0, 0, 0,  0x0c, 0, 0, 0,
+    2,  0x50, 0x3f, 0, 0, 1, 0, 0, 0,  0x2a, 0, 0, 0,  4, 0, 0, 0,
+    0,
+    // __debug_str
+    b'm', b'.', b'c', 0,  b'm', b'a', b'i', b'n', 0,
+    // __debug_rnglists
+    0x1a, 0, 0, 0,  5, 0,  8,  0,  0, 0, 0, 0,
+    6,  0x50, 0x3f, 0, 0, 1, 0, 0, 0,  0x7a, 0x3f, 0, 0, 1, 0, 0, 0,
+    0,
+    // __debug_aranges
+    0x2c, 0, 0, 0,  2, 0,  0, 0, 0, 0,  8,  0,  0, 0, 0, 0,
+    0x50, 0x3f, 0, 0, 1, 0, 0, 0,  0x2a, 0, 0, 0, 0, 0, 0, 0,
+    0, 0, 0, 0, 0, 0, 0, 0,  0, 0, 0, 0, 0, 0, 0, 0,
+];
+
 #[test]
 fn the_ranges_of_a_unit_of_version_5_stand_behind_a_header(rt: HostRuntime) {
     let alloc = rt.alloc();
-    let sections = [
-        // __debug_abbrev
-        1, 0x11, 1,  3, 0x0e,  0x13, 5,  0x11, 1,  0x55, 0x17,  0, 0,
-        2, 0x2e, 0,  0x11, 1,  0x12, 6,  3, 0x0e,  0, 0,
-        0,
-        // __debug_info
-        0x2d, 0, 0, 0,  5, 0,  1,  8,  0, 0, 0, 0,
-        1,  0, 0, 0, 0,  0x0c, 0,  0, 0, 0, 0, 0, 0, 0, 0,  0x0c, 0, 0, 0,
-        2,  0x50, 0x3f, 0, 0, 1, 0, 0, 0,  0x2a, 0, 0, 0,  4, 0, 0, 0,
-        0,
-        // __debug_str
-        b'm', b'.', b'c', 0,  b'm', b'a', b'i', b'n', 0,
-        // __debug_rnglists
-        0x1a, 0, 0, 0,  5, 0,  8,  0,  0, 0, 0, 0,
-        6,  0x50, 0x3f, 0, 0, 1, 0, 0, 0,  0x7a, 0x3f, 0, 0, 1, 0, 0, 0,
-        0,
-        // __debug_aranges
-        0x2c, 0, 0, 0,  2, 0,  0, 0, 0, 0,  8,  0,  0, 0, 0, 0,
-        0x50, 0x3f, 0, 0, 1, 0, 0, 0,  0x2a, 0, 0, 0, 0, 0, 0, 0,
-        0, 0, 0, 0, 0, 0, 0, 0,  0, 0, 0, 0, 0, 0, 0, 0,
-    ];
-    let graph = Graph {
-        units: one(&rt, alloc, unit(&rt, alloc, 5)),
-        frames: OutFrames::new(alloc),
-    };
-    let made = made(&rt, alloc, 1);
-    let image = image_of(&rt, alloc, &made.program, &graph);
-    sections_are(&rt, image.as_slice(), &sections);
+    let graph = graph_of(&rt, alloc, unit(&rt, alloc, 5));
+    let image = image_with(&rt, alloc, &graph);
+    sections_are(&rt, image.as_slice(), &SECTIONS_5);
 }
 
-// ---- a graph with a part in each section
+// ---- graphs with a part in each section
 
 // A variable below the root, that stands on the expression stack at four addresses.
 fn variable(rt: &impl Abort, alloc: Global) -> Node {
@@ -330,37 +270,35 @@ fn variable(rt: &impl Abort, alloc: Global) -> Node {
     let mut attrs = List::new(alloc);
     let locations = OutValue::Locations(one(rt, alloc, item));
     add_attr(rt, &mut attrs, DW_AT_location, locations);
-    Node {
-        parent: Some(0),
-        tag: DW_TAG_variable,
-        attrs,
+    node(Some(0), DW_TAG_variable, attrs)
+}
+
+fn span() -> Span {
+    Span {
+        low: 0x1000,
+        high: 0x1010,
     }
 }
 
-// Its root has a name, a line table, and the code of the unit.
-fn full_unit(rt: &impl Abort, alloc: Global, version: u16, lines: OutLines) -> OutUnit {
-    let span = Span {
-        low: 0x1000,
-        high: 0x1010,
-    };
+// A root has a name, a line table, and the code of its unit.
+fn full_root(rt: &impl Abort, alloc: Global) -> Node {
     let mut attrs = List::new(alloc);
     add_attr(rt, &mut attrs, DW_AT_name, text(rt, alloc, b"m.c"));
     add_attr(rt, &mut attrs, DW_AT_stmt_list, OutValue::Lines);
     add_attr(rt, &mut attrs, DW_AT_low_pc, OutValue::Address(0));
-    let ranges = OutValue::Ranges(one(rt, alloc, span));
+    let ranges = OutValue::Ranges(one(rt, alloc, span()));
     add_attr(rt, &mut attrs, DW_AT_ranges, ranges);
-    let root = Node {
-        parent: None,
-        tag: DW_TAG_compile_unit,
-        attrs,
-    };
-    let mut nodes = one(rt, alloc, root);
+    node(None, DW_TAG_compile_unit, attrs)
+}
+
+fn full_unit(rt: &impl Abort, alloc: Global, version: u16, lines: OutLines) -> OutUnit {
+    let mut nodes = one(rt, alloc, full_root(rt, alloc));
     add(rt, &mut nodes, variable(rt, alloc));
     OutUnit {
         version,
         nodes,
         lines: Some(lines),
-        ranges: one(rt, alloc, span),
+        ranges: one(rt, alloc, span()),
     }
 }
 
@@ -375,7 +313,7 @@ fn no_lines(alloc: Global) -> OutLines {
 // Two files of one name in one directory, and two rows.
 fn lines(rt: &impl Abort, alloc: Global) -> OutLines {
     let mut dirs = Paths::new(alloc);
-    assert!(rt; dirs.push(b"/src").is_ok());
+    dirs.push(b"/src").expect(rt, "memory");
     let mut files = FileNames::new(alloc);
     add_file(rt, &mut files);
     add_file(rt, &mut files);
@@ -389,124 +327,129 @@ fn lines(rt: &impl Abort, alloc: Global) -> OutLines {
 
 fn frames(rt: &impl Abort, alloc: Global) -> OutFrames {
     let mut frames = OutFrames::new(alloc);
-    let put = frames.push(&[4, 0, 8, 0, 1, 0x78, 0x1e, 0], 0x1000, 0x10, &[]);
-    assert!(rt; put.is_ok());
+    let cie = [4, 0, 8, 0, 1, 0x78, 0x1e, 0];
+    frames.push(&cie, 0x1000, 0x10, &[]).expect(rt, "memory");
     frames
 }
 
+// A unit of version 4, and frames.
+fn full_graph(rt: &impl Abort, alloc: Global) -> Graph {
+    Graph {
+        units: one(rt, alloc, full_unit(rt, alloc, 4, no_lines(alloc))),
+        frames: frames(rt, alloc),
+    }
+}
+
+// The sections of a unit of version 4 with lines and locations, and of frames.
 #[rattlefmt::skip]
+const EIGHT: [u8; 249] = [
+    // __debug_abbrev
+    1, 0x11, 1,  3, 0x0e,  0x10, 0x17,  0x11, 1,  0x55, 0x17,  0, 0,
+    2, 0x34, 0,  2, 0x17,  0, 0,
+    0,
+    // __debug_info
+    0x22, 0, 0, 0,  4, 0,  0, 0, 0, 0,  8,
+    1,  0, 0, 0, 0,  0, 0, 0, 0,  0, 0, 0, 0, 0, 0, 0, 0,  0, 0, 0, 0,
+    2,  0, 0, 0, 0,
+    0,
+    // __debug_str
+    b'm', b'.', b'c', 0,
+    // __debug_line
+    0x1a, 0, 0, 0,  4, 0,  0x14, 0, 0, 0,  1, 1, 1, 0xfb, 0x0e, 0x0d,  0, 1, 1, 1, 1, 0, 0, 0, 1, 0, 0, 1,  0,  0,
+    // __debug_ranges
+    0, 0x10, 0, 0, 0, 0, 0, 0,  0x10, 0x10, 0, 0, 0, 0, 0, 0,
+    0, 0, 0, 0, 0, 0, 0, 0,  0, 0, 0, 0, 0, 0, 0, 0,
+    // __debug_loc
+    0, 0x10, 0, 0, 0, 0, 0, 0,  4, 0x10, 0, 0, 0, 0, 0, 0,  2, 0,  0x12, 0x9f,
+    0, 0, 0, 0, 0, 0, 0, 0,  0, 0, 0, 0, 0, 0, 0, 0,
+    // __debug_aranges
+    0x2c, 0, 0, 0,  2, 0,  0, 0, 0, 0,  8,  0,  0, 0, 0, 0,
+    0, 0x10, 0, 0, 0, 0, 0, 0,  0x10, 0, 0, 0, 0, 0, 0, 0,
+    0, 0, 0, 0, 0, 0, 0, 0,  0, 0, 0, 0, 0, 0, 0, 0,
+    // __debug_frame
+    0x0c, 0, 0, 0,  0xff, 0xff, 0xff, 0xff,  4, 0, 8, 0, 1, 0x78, 0x1e, 0,
+    0x14, 0, 0, 0,  0, 0, 0, 0,  0, 0x10, 0, 0, 0, 0, 0, 0,  0x10, 0, 0, 0, 0, 0, 0, 0,
+];
+
 #[test]
 fn eight_sections_stand_one_behind_the_other(rt: HostRuntime) {
     let alloc = rt.alloc();
-    let graph = Graph {
-        units: one(&rt, alloc, full_unit(&rt, alloc, 4, no_lines(alloc))),
-        frames: frames(&rt, alloc),
-    };
-    let sections = [
-        // __debug_abbrev
-        1, 0x11, 1,  3, 0x0e,  0x10, 0x17,  0x11, 1,  0x55, 0x17,  0, 0,
-        2, 0x34, 0,  2, 0x17,  0, 0,
-        0,
-        // __debug_info
-        0x22, 0, 0, 0,  4, 0,  0, 0, 0, 0,  8,
-        1,  0, 0, 0, 0,  0, 0, 0, 0,  0, 0, 0, 0, 0, 0, 0, 0,  0, 0, 0, 0,
-        2,  0, 0, 0, 0,
-        0,
-        // __debug_str
-        b'm', b'.', b'c', 0,
-        // __debug_line
-        0x1a, 0, 0, 0,  4, 0,  0x14, 0, 0, 0,  1, 1, 1, 0xfb, 0x0e, 0x0d,  0, 1, 1, 1, 1, 0, 0, 0, 1, 0, 0, 1,  0,  0,
-        // __debug_ranges
-        0, 0x10, 0, 0, 0, 0, 0, 0,  0x10, 0x10, 0, 0, 0, 0, 0, 0,
-        0, 0, 0, 0, 0, 0, 0, 0,  0, 0, 0, 0, 0, 0, 0, 0,
-        // __debug_loc
-        0, 0x10, 0, 0, 0, 0, 0, 0,  4, 0x10, 0, 0, 0, 0, 0, 0,  2, 0,  0x12, 0x9f,
-        0, 0, 0, 0, 0, 0, 0, 0,  0, 0, 0, 0, 0, 0, 0, 0,
-        // __debug_aranges
-        0x2c, 0, 0, 0,  2, 0,  0, 0, 0, 0,  8,  0,  0, 0, 0, 0,
-        0, 0x10, 0, 0, 0, 0, 0, 0,  0x10, 0, 0, 0, 0, 0, 0, 0,
-        0, 0, 0, 0, 0, 0, 0, 0,  0, 0, 0, 0, 0, 0, 0, 0,
-        // __debug_frame
-        0x0c, 0, 0, 0,  0xff, 0xff, 0xff, 0xff,  4, 0, 8, 0, 1, 0x78, 0x1e, 0,
-        0x14, 0, 0, 0,  0, 0, 0, 0,  0, 0x10, 0, 0, 0, 0, 0, 0,  0x10, 0, 0, 0, 0, 0, 0, 0,
-    ];
-    let made = made(&rt, alloc, 1);
-    let image = image_of(&rt, alloc, &made.program, &graph);
-    sections_are(&rt, image.as_slice(), &sections);
+    let graph = full_graph(&rt, alloc);
+    let image = image_with(&rt, alloc, &graph);
+    sections_are(&rt, image.as_slice(), &EIGHT);
 }
 
-// A unit of version 4 stands before one of version 5.
+// Those of such a unit before one of version 5, and of frames.
 #[rattlefmt::skip]
+const ELEVEN: [u8; 511] = [
+    // __debug_abbrev
+    1, 0x11, 1,  3, 0x0e,  0x10, 0x17,  0x11, 1,  0x55, 0x17,  0, 0,
+    2, 0x34, 0,  2, 0x17,  0, 0,
+    0,
+    1, 0x11, 1,  3, 0x0e,  0x10, 0x17,  0x11, 1,  0x55, 0x17,  0, 0,
+    2, 0x34, 0,  2, 0x17,  0, 0,
+    0,
+    // __debug_info
+    0x22, 0, 0, 0,  4, 0,  0, 0, 0, 0,  8,
+    1,  0, 0, 0, 0,  0, 0, 0, 0,  0, 0, 0, 0, 0, 0, 0, 0,  0, 0, 0, 0,
+    2,  0, 0, 0, 0,
+    0,
+    0x23, 0, 0, 0,  5, 0,  1,  8,  0x15, 0, 0, 0,
+    1,  0, 0, 0, 0,  0x1e, 0, 0, 0,  0, 0, 0, 0, 0, 0, 0, 0,  0x0c, 0, 0, 0,
+    2,  0x0c, 0, 0, 0,
+    0,
+    // __debug_str
+    b'm', b'.', b'c', 0,
+    // __debug_line
+    0x1a, 0, 0, 0,  4, 0,  0x14, 0, 0, 0,  1, 1, 1, 0xfb, 0x0e, 0x0d,  0, 1, 1, 1, 1, 0, 0, 0, 1, 0, 0, 1,  0,  0,
+    0x4e, 0, 0, 0,  5, 0,  8,  0,  0x32, 0, 0, 0,  1, 1, 1, 0xfb, 0x0e, 0x0d,  0, 1, 1, 1, 1, 0, 0, 0, 1, 0, 0, 1,
+    1,  1, 0x1f,  1,  0, 0, 0, 0,
+    4,  1, 0x1f,  2, 0x0f,  3, 0x0f,  4, 0x0f,  2,  5, 0, 0, 0,  0,  0,  0,  5, 0, 0, 0,  0,  0,  0,
+    0, 9, 2,  0, 0x20, 0, 0, 1, 0, 0, 0,  3, 0x0a,  1,  0xf3,  2, 0x10,  0, 1, 1,
+    // __debug_line_str
+    b'/', b's', b'r', b'c', 0,  b'a', b'.', b'c', 0,
+    // __debug_ranges
+    0, 0x10, 0, 0, 0, 0, 0, 0,  0x10, 0x10, 0, 0, 0, 0, 0, 0,
+    0, 0, 0, 0, 0, 0, 0, 0,  0, 0, 0, 0, 0, 0, 0, 0,
+    // __debug_rnglists
+    0x1a, 0, 0, 0,  5, 0,  8,  0,  0, 0, 0, 0,
+    6,  0, 0x10, 0, 0, 0, 0, 0, 0,  0x10, 0x10, 0, 0, 0, 0, 0, 0,
+    0,
+    // __debug_loc
+    0, 0x10, 0, 0, 0, 0, 0, 0,  4, 0x10, 0, 0, 0, 0, 0, 0,  2, 0,  0x12, 0x9f,
+    0, 0, 0, 0, 0, 0, 0, 0,  0, 0, 0, 0, 0, 0, 0, 0,
+    // __debug_loclists
+    0x1d, 0, 0, 0,  5, 0,  8,  0,  0, 0, 0, 0,
+    7,  0, 0x10, 0, 0, 0, 0, 0, 0,  4, 0x10, 0, 0, 0, 0, 0, 0,  2,  0x12, 0x9f,
+    0,
+    // __debug_aranges
+    0x2c, 0, 0, 0,  2, 0,  0, 0, 0, 0,  8,  0,  0, 0, 0, 0,
+    0, 0x10, 0, 0, 0, 0, 0, 0,  0x10, 0, 0, 0, 0, 0, 0, 0,
+    0, 0, 0, 0, 0, 0, 0, 0,  0, 0, 0, 0, 0, 0, 0, 0,
+    0x2c, 0, 0, 0,  2, 0,  0x26, 0, 0, 0,  8,  0,  0, 0, 0, 0,
+    0, 0x10, 0, 0, 0, 0, 0, 0,  0x10, 0, 0, 0, 0, 0, 0, 0,
+    0, 0, 0, 0, 0, 0, 0, 0,  0, 0, 0, 0, 0, 0, 0, 0,
+    // __debug_frame
+    0x0c, 0, 0, 0,  0xff, 0xff, 0xff, 0xff,  4, 0, 8, 0, 1, 0x78, 0x1e, 0,
+    0x14, 0, 0, 0,  0, 0, 0, 0,  0, 0x10, 0, 0, 0, 0, 0, 0,  0x10, 0, 0, 0, 0, 0, 0, 0,
+];
+
 #[test]
 fn eleven_sections_stand_one_behind_the_other(rt: HostRuntime) {
     let alloc = rt.alloc();
-    let sections = [
-        // __debug_abbrev
-        1, 0x11, 1,  3, 0x0e,  0x10, 0x17,  0x11, 1,  0x55, 0x17,  0, 0,
-        2, 0x34, 0,  2, 0x17,  0, 0,
-        0,
-        1, 0x11, 1,  3, 0x0e,  0x10, 0x17,  0x11, 1,  0x55, 0x17,  0, 0,
-        2, 0x34, 0,  2, 0x17,  0, 0,
-        0,
-        // __debug_info
-        0x22, 0, 0, 0,  4, 0,  0, 0, 0, 0,  8,
-        1,  0, 0, 0, 0,  0, 0, 0, 0,  0, 0, 0, 0, 0, 0, 0, 0,  0, 0, 0, 0,
-        2,  0, 0, 0, 0,
-        0,
-        0x23, 0, 0, 0,  5, 0,  1,  8,  0x15, 0, 0, 0,
-        1,  0, 0, 0, 0,  0x1e, 0, 0, 0,  0, 0, 0, 0, 0, 0, 0, 0,  0x0c, 0, 0, 0,
-        2,  0x0c, 0, 0, 0,
-        0,
-        // __debug_str
-        b'm', b'.', b'c', 0,
-        // __debug_line
-        0x1a, 0, 0, 0,  4, 0,  0x14, 0, 0, 0,  1, 1, 1, 0xfb, 0x0e, 0x0d,  0, 1, 1, 1, 1, 0, 0, 0, 1, 0, 0, 1,  0,  0,
-        0x4e, 0, 0, 0,  5, 0,  8,  0,  0x32, 0, 0, 0,  1, 1, 1, 0xfb, 0x0e, 0x0d,  0, 1, 1, 1, 1, 0, 0, 0, 1, 0, 0, 1,
-        1,  1, 0x1f,  1,  0, 0, 0, 0,
-        4,  1, 0x1f,  2, 0x0f,  3, 0x0f,  4, 0x0f,  2,  5, 0, 0, 0,  0,  0,  0,  5, 0, 0, 0,  0,  0,  0,
-        0, 9, 2,  0, 0x20, 0, 0, 1, 0, 0, 0,  3, 0x0a,  1,  0xf3,  2, 0x10,  0, 1, 1,
-        // __debug_line_str
-        b'/', b's', b'r', b'c', 0,  b'a', b'.', b'c', 0,
-        // __debug_ranges
-        0, 0x10, 0, 0, 0, 0, 0, 0,  0x10, 0x10, 0, 0, 0, 0, 0, 0,
-        0, 0, 0, 0, 0, 0, 0, 0,  0, 0, 0, 0, 0, 0, 0, 0,
-        // __debug_rnglists
-        0x1a, 0, 0, 0,  5, 0,  8,  0,  0, 0, 0, 0,
-        6,  0, 0x10, 0, 0, 0, 0, 0, 0,  0x10, 0x10, 0, 0, 0, 0, 0, 0,
-        0,
-        // __debug_loc
-        0, 0x10, 0, 0, 0, 0, 0, 0,  4, 0x10, 0, 0, 0, 0, 0, 0,  2, 0,  0x12, 0x9f,
-        0, 0, 0, 0, 0, 0, 0, 0,  0, 0, 0, 0, 0, 0, 0, 0,
-        // __debug_loclists
-        0x1d, 0, 0, 0,  5, 0,  8,  0,  0, 0, 0, 0,
-        7,  0, 0x10, 0, 0, 0, 0, 0, 0,  4, 0x10, 0, 0, 0, 0, 0, 0,  2,  0x12, 0x9f,
-        0,
-        // __debug_aranges
-        0x2c, 0, 0, 0,  2, 0,  0, 0, 0, 0,  8,  0,  0, 0, 0, 0,
-        0, 0x10, 0, 0, 0, 0, 0, 0,  0x10, 0, 0, 0, 0, 0, 0, 0,
-        0, 0, 0, 0, 0, 0, 0, 0,  0, 0, 0, 0, 0, 0, 0, 0,
-        0x2c, 0, 0, 0,  2, 0,  0x26, 0, 0, 0,  8,  0,  0, 0, 0, 0,
-        0, 0x10, 0, 0, 0, 0, 0, 0,  0x10, 0, 0, 0, 0, 0, 0, 0,
-        0, 0, 0, 0, 0, 0, 0, 0,  0, 0, 0, 0, 0, 0, 0, 0,
-        // __debug_frame
-        0x0c, 0, 0, 0,  0xff, 0xff, 0xff, 0xff,  4, 0, 8, 0, 1, 0x78, 0x1e, 0,
-        0x14, 0, 0, 0,  0, 0, 0, 0,  0, 0x10, 0, 0, 0, 0, 0, 0,  0x10, 0, 0, 0, 0, 0, 0, 0,
-    ];
-    let mut units = one(&rt, alloc, full_unit(&rt, alloc, 4, no_lines(alloc)));
-    add(&rt, &mut units, full_unit(&rt, alloc, 5, lines(&rt, alloc)));
-    let graph = Graph {
-        units,
-        frames: frames(&rt, alloc),
-    };
-    let made = made(&rt, alloc, 1);
-    let image = image_of(&rt, alloc, &made.program, &graph);
-    sections_are(&rt, image.as_slice(), &sections);
+    let mut graph = full_graph(&rt, alloc);
+    let second = full_unit(&rt, alloc, 5, lines(&rt, alloc));
+    add(&rt, &mut graph.units, second);
+    let image = image_with(&rt, alloc, &graph);
+    sections_are(&rt, image.as_slice(), &ELEVEN);
 }
+
+// ---- the text of an Info.plist
 
 #[test]
 fn a_property_list_names_the_program(rt: HostRuntime) {
     let text = plist_text(rt.alloc(), "a&b").expect(&rt, "memory for a text");
-    assert_eq!(rt; text.len(), 636);
+    same(&rt, "its size", text.len(), 636);
     let want = b"<string>com.apple.xcode.dsym.a&amp;b</string>\n\t\t<key>CFBundle";
-    assert_eq!(rt; &text.as_slice()[281..342], want.as_slice());
+    has_at(&rt, text.as_slice(), 281, want);
 }

@@ -1,12 +1,13 @@
 //! Rows of line tables as they are kept.
 
+use crate::parts::same;
 use crate::samples::{one_sequence, row};
-use dwarf_types::Row;
+use dwarf_types::{Row, Sequences};
+use std::process::Abort;
 
 // A column of 16 bits still fits in 24 bytes beside the others; each number behind it takes a bit more than there is.
-#[test]
-fn a_row_comes_back_whatever_its_numbers(rt: HostRuntime) {
-    let put = [
+fn rows() -> [Row; 7] {
+    [
         row(0x10, 3),
         Row {
             column: 0xffff,
@@ -29,12 +30,22 @@ fn a_row_comes_back_whatever_its_numbers(rt: HostRuntime) {
             ..row(0x24, 8)
         },
         row(0x28, 9),
-    ];
-    let sequences = one_sequence(&rt, rt.alloc(), &put, 0x2c);
+    ]
+}
+
+// The only sequence has these rows.
+fn has_rows(rt: &impl Abort, sequences: &Sequences, want: &[Row]) {
     assert_eq!(rt; sequences.len(), 1);
     let rows = sequences.sequence(0).rows;
-    assert_eq!(rt; rows.len(), put.len());
-    for (i, row) in put.iter().enumerate() {
-        assert_eq!(rt; rows.row(i), *row, "{i}");
+    assert_eq!(rt; rows.len(), want.len());
+    for (i, row) in want.iter().enumerate() {
+        same(rt, "a row", rows.row(i), *row);
     }
+}
+
+#[test]
+fn a_row_comes_back_whatever_its_numbers(rt: HostRuntime) {
+    let rows = rows();
+    let sequences = one_sequence(&rt, rt.alloc(), &rows, 0x2c);
+    has_rows(&rt, &sequences, &rows);
 }
