@@ -10,13 +10,12 @@ ghost use Rattle.link_graph.specs.Graph.{IsShape};
 ghost use Rattle.odr_names.specs.Making.{AreLiveRows};
 
 use crate::live::{Objects, two_objects};
-use crate::rows::{NONE, Row, Says, analysis_of_files, root, two, unit};
+use crate::rows::{NONE, Row, Says, analysis_of_files, root, two, unit, user};
 use crate::sound::sound;
 use crate::words::{assert_words, put, put_bytes, put_number};
 use clone_units::{UnitClone, clone_unit};
 use ds_base::dwarf::{
-    DW_AT_comp_dir, DW_AT_const_value, DW_AT_decl_file, DW_AT_name, DW_AT_type, DW_FORM_data1,
-    DW_TAG_structure_type, DW_TAG_variable,
+    DW_AT_comp_dir, DW_AT_decl_file, DW_AT_name, DW_FORM_data1, DW_TAG_structure_type,
 };
 use dwarf_types::{Analysis, OutLines, Shape};
 use link_graph::build;
@@ -145,16 +144,6 @@ fn assert_pooled<R: Threads + Abort + Sync>(
     let second = sound_unit(rt, alloc, label, version, second);
     let objects = two_objects(rt, alloc, first, second);
     assert_words(rt, label, &first_unit(rt, alloc, label, &objects), wanted);
-}
-
-/// A live variable of a type.
-fn user(target: u32) -> Row {
-    two(
-        0,
-        DW_TAG_variable,
-        Says::Number(DW_AT_const_value, DW_FORM_data1, 7),
-        Says::Refers(DW_AT_type, target),
-    )
 }
 
 /// A type of a name that was declared in the file of a number.
