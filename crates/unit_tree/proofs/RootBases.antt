@@ -33,17 +33,17 @@ use Rattle.unit_tree.proofs.Steps.{entry_steps}
 -- ---- attributes that say the same of bases
 
 -- of one name, and the same base
-record IsAlike (a b : RawAttr) : Type 0 where
-  name : a.name ≡ b.name
-  base : (none : ℕ) → base_in none a.form a.value ≡ base_in none b.form b.value
+pub record IsAlike (a b : RawAttr) : Type 0 where
+  pub name : a.name ≡ b.name
+  pub base : (none : ℕ) → base_in none a.form a.value ≡ base_in none b.form b.value
 
-abbrev AreAlike : List RawAttr → List RawAttr → Type 0
+abbrev pub AreAlike : List RawAttr → List RawAttr → Type 0
 AreAlike [] [] = Unit {0}
 AreAlike [] (y ∷ ys) = ⊥
 AreAlike (x ∷ xs) [] = ⊥
 AreAlike (x ∷ xs) (y ∷ ys) = IsAlike x y × AreAlike xs ys
 
-alike_push : (xs ys : List RawAttr) (x y : RawAttr) → AreAlike xs ys → IsAlike x y → AreAlike (xs ++ x ∷ []) (ys ++ y ∷ [])
+pub alike_push : (xs ys : List RawAttr) (x y : RawAttr) → AreAlike xs ys → IsAlike x y → AreAlike (xs ++ x ∷ []) (ys ++ y ∷ [])
 alike_push [] [] x y h k = (k, tt)
 alike_push [] (b ∷ ys) x y h k = absurd h
 alike_push (a ∷ xs) [] x y h k = absurd h
@@ -54,6 +54,11 @@ alike_has name [] [] h = refl
 alike_has name [] (b ∷ ys) h = absurd h
 alike_has name (a ∷ xs) [] h = absurd h
 alike_has name (a ∷ xs) (b ∷ ys) h = rw (h.0.name, alike_has name xs ys h.1) refl
+
+-- which attribute comes next does not depend on what else those before it say
+pub same_next : (sections : SectionBytes) (context : UnitContext) (root : Bool) (field : Field) (xs ys : List RawAttr) (s : Spot) → AreAlike xs ys → attr_at sections context root field xs s ≡ attr_at sections context root field ys s
+unfolding attr_at value_meant_at
+same_next sections context root field xs ys s h = rw (alike_has DW_AT_stmt_list xs ys h) refl
 
 first_said : (none : ℕ) (t : Bool) (x y : RawAttr) (o p : Option RawAttr) → IsAlike x y → option_map_or (λ (a : RawAttr). base_in none a.form a.value) o none ≡ option_map_or (λ (a : RawAttr). base_in none a.form a.value) p none
     → option_map_or (λ (a : RawAttr). base_in none a.form a.value) (cond t (Some x) o) none ≡ option_map_or (λ (a : RawAttr). base_in none a.form a.value) (cond t (Some y) p) none
@@ -71,7 +76,7 @@ alike_said name none (a ∷ xs) (b ∷ ys) h =
 abbrev four : ℕ → ℕ → ℕ → ℕ → Bases
 four a b c d = record { texts = a; addresses = b; ranges = c; locations = d }
 
-alike_bases : (xs ys : List RawAttr) → AreAlike xs ys → bases_in xs ≡ bases_in ys
+pub alike_bases : (xs ys : List RawAttr) → AreAlike xs ys → bases_in xs ≡ bases_in ys
 alike_bases xs ys h =
     let a = alike_said DW_AT_str_offsets_base 8 xs ys h in
     let b = alike_said DW_AT_addr_base 8 xs ys h in

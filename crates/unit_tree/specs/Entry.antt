@@ -59,12 +59,17 @@ first_at start table before s = do
   _ ← refuse_if (is_full before) (fault_at s kinds.LimitEntries)
   Ok (declared, code.1)
 
+-- the bases in the attributes of a root with these fields
+abbrev pub bases_told : SectionBytes → UnitContext → List Field → Spot → Result Bases Fault
+bases_told sections context fields s = do
+  read ← attrs_at sections context true fields ([], []) s
+  Ok (bases_in read.0.0)
+
 -- the bases of the tables of the unit that begins at start, whose context has none: they stand in its root, of whose values no index is tried
 unfoldable pub bases_at : Spot → SectionBytes → UnitContext → List Abbrev → Parsed → Spot → Result Bases Fault
 bases_at start sections context table before s = do
   first ← first_at start table before s
-  read ← attrs_at sections context true first.0.fields ([], []) first.1
-  Ok (bases_in read.0.0)
+  bases_told sections context first.0.fields first.1
 
 -- the first entry of the unit that begins at start, and whether it has a list of children
 unfoldable pub root_at : Spot → SectionBytes → UnitContext → List Abbrev → Parsed → Spot → Result ((Bool × Parsed) × Spot) Fault

@@ -76,7 +76,7 @@ fn keep(
 /// The next attribute, behind those before: the place behind its value, that value, and the reference that
 /// it is.
 #[tactic(auto, unfolding(crate::specs::Attribute::attr_at))]
-fn read_attr<'a>(
+pub(crate) fn read_attr<'a>(
     cursor: &mut Cursor<'a>,
     sections: &Sections<'a>,
     context: UnitContext,

@@ -7,16 +7,16 @@ ghost use Rattle.ds_base.specs.Spot.{IsSmall};
 ghost use Rattle.dwarf_types.specs.SectionBytes.{bytes_in};
 ghost use Rattle.unit_tree.specs.declared.packed.TheConstants.{ANY_UNIT};
 ghost use Rattle.unit_tree.specs.Entry.{is_dwo_name, entry_at, first_at, bases_at, root_at, innermost, closed, opened, listed_at, child_at, children_at, tree_at};
-ghost use Rattle.index_tables.specs.Bases.{bases_in};
 ghost use Rattle.unit_tree.specs.Bounds.{AreNumbers, IsReady, NumbersNext, parsed_seen};
 
 use crate::attribute::{UnitContext, read_attrs};
+use crate::bases::read_bases;
 use crate::packed::PackedReference;
 use crate::table::Table;
 use ds_base::dwarf::{DW_AT_GNU_dwo_name, DW_AT_dwo_name, DW_TAG_compile_unit};
 use ds_base::{Cursor, Fault, Kind, List, NoMemory, ReadError};
 use dwarf_types::{Abbrev, Builder, Field, Sections};
-use index_tables::{Bases, bases_of};
+use index_tables::Bases;
 use std::alloc::Global;
 
 /// The most entries that an object may have.
@@ -136,32 +136,13 @@ pub(crate) fn find_bases<'a>(
 {
     let mut cursor = cursor.fork();
     let declared = read_first(start, &mut cursor, table, parsed)?;
-    let fields = declared.fields.as_slice();
-    let mut built = Builder::new(alloc, &[], &[], 0)?;
-    let mut references = List::new(alloc);
-    read_attrs(
+    read_bases(
+        alloc,
         &mut cursor,
         sections,
         context,
-        true,
-        fields,
-        &mut built,
-        &mut references,
-    )?;
-    Ok(bases_so_far(built)?)
-}
-
-/// The bases in a root whose attributes were put.
-fn bases_so_far(built: Builder) -> Result<Bases, NoMemory>
-    requires { built.entries ≡ [] }
-    ensures { IfOk result (λ bases. bases ≡ bases_in built.attrs) }
-{
-    let mut built = built;
-    built.close(None, 0, 0, DW_TAG_compile_unit)?;
-    match built.get(0) {
-        Some(root) => Ok(bases_of(&root)),
-        None => unreachable!(),
-    }
+        declared.fields.as_slice(),
+    )
 }
 
 /// Reads entries until no list is open.

@@ -13,6 +13,7 @@
 #![tactic(auto)]
 
 mod attribute;
+mod bases;
 mod entry;
 mod header;
 mod laws;

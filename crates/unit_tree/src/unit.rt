@@ -43,7 +43,7 @@ const BYTES_A_REFERENCE: usize = 8;
 /// Faults are placed in `__debug_info`, those of an abbreviation table in `__debug_abbrev`. Indices of a
 /// root's values are tried after its last value, since the bases of the unit's tables stand there. References
 /// are tried after all units; [`read_resolved_units`] says where they lead. The time is linear in the
-/// sections.
+/// sections, where no abbreviation tables run into one another and no long text is named again and again.
 pub fn read_units(alloc: Global, sections: &Sections) -> Result<RawUnits, ReadError>
     requires info { length sections.now.info.now < 2 ^ 32 }
     ensures exact { Gives (λ units. units) result (units_of (bytes_in sections.now)) }
