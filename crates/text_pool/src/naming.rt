@@ -1,6 +1,6 @@
 //! Texts that get their numbers while a part of the output is written.
 
-ghost use Rattle.std.specs.Prelude.{◌≡◌, [], Some, IfOk, OnOk, slice_get};
+ghost use Rattle.std.specs.Prelude.{◌≡◌, [], Some, IfOk, OnErr, OnOk, slice_get};
 ghost use Rattle.ds_base.specs.Texts.{with_text};
 ghost use Rattle.text_pool.specs.Kept.{texts_of};
 
@@ -45,10 +45,12 @@ impl<'a> Naming<'a> {
 
     /// The number of a text, which is put last where it is new.
     ///
-    /// The text is looked up once, by its hash, so the time is linear in its length.
+    /// The text is looked up once, by its hash, so the time is linear in its length. Where there is no memory for it, the
+    /// texts stay.
     pub fn number_of(&mut self, text: &'a [u8]) -> Result<usize, NoMemory>
         ensures grown { OnOk result (self.new ≡ with_text self.old text.now) }
         ensures number { IfOk result (λ i. slice_get self.new i ≡ Some text.now) }
+        ensures unchanged { OnErr result (self.new ≡ self.old) }
     {
         let number = keep(&mut self.texts, &mut self.kept, text)?;
         Ok(number)
@@ -73,6 +75,7 @@ fn keep<'a>(
     ensures kept { kept.new ≡ texts_of texts.new.keys }
     ensures grown { OnOk result (texts_of texts.new.keys ≡ with_text (texts_of texts.old.keys) text.now) }
     ensures number { IfOk result (λ i. slice_get (texts_of texts.new.keys) i ≡ Some text.now) }
+    ensures unchanged { OnErr result (texts_of texts.new.keys ≡ texts_of texts.old.keys) }
 {
     let (number, is_new) = texts.insert_full(TextKey { text })?;
     if !is_new {
