@@ -1,6 +1,6 @@
 -- The path of a row is that of the row above, and its piece.
 use Rattle.std.proofs.Common.{◌≡◌, Bool, true, false, cond, eqb, not, ℕ, zero, suc, ◌+◌, ◌-◌, ◌<◌, ◌≤◌, ◌↔◌, List, [], ◌∷◌, ◌++◌, length, map, Option, Some, None, refl, sym, ap, ◌∙◌, arith, slice_get, inl, inr}
-use Rattle.std.specs.Option.{ForSome, is_some, option_map, option_map_or}
+use Rattle.std.specs.Option.{ForSome, is_some, option_map, option_map_or, option_or}
 use Rattle.std.specs.Bool.{IsTrue}
 use Rattle.std.proofs.lemmas.Bool.{eqb-false, ne_eqb}
 use Rattle.std.proofs.lemmas.List.{length-map, same_from_push}
@@ -11,6 +11,8 @@ use Rattle.type_names.specs.Start.{path_hash}
 use Rattle.odr_names.specs.declared.path_book.Row.{Row}
 use Rattle.odr_names.specs.Book.{AreRows, Compared, IsLinked, bid_at, path_above, path_at, path_in, row_above, row_bid, row_name, row_path, row_piece}
 use Rattle.odr_names.specs.Entering.{rows_up}
+use Rattle.odr_names.specs.Innermost.{innermost}
+use Rattle.odr_names.proofs.Innermost.{innermost_more}
 
 -- ---- the row above
 
@@ -79,6 +81,16 @@ same_piece objects rows x y left right sound at_x at_y e =
 pub hash_is : (objects : List Object) (rows : List Row) (x : ℕ) (row : Row) → AreRows objects rows → slice_get rows x ≡ Some row → row.hash ≡ path_hash (path_in objects rows x)
 hash_is objects rows x row sound at = (sound.linked x row at).hash ∙ ap path_hash (sym (ap (λ (o : Option Row). option_map_or (row_path objects) o []) at))
 
+pub private_is : (objects : List Object) (rows : List Row) (x : ℕ) (row : Row) → AreRows objects rows → slice_get rows x ≡ Some row → row.private ≡ is_some (innermost (path_in objects rows x))
+private_is objects rows x row sound at = (sound.linked x row at).private ∙ ap (λ (path : List Piece). is_some (innermost path)) (sym (ap (λ (o : Option Row). option_map_or (row_path objects) o []) at))
+
+-- the innermost piece that only its own object and entry tell apart: its own, or one above
+pub innermost_is : (objects : List Object) (rows : List Row) (x : ℕ) (row : Row) (piece : Piece) → AreRows objects rows → slice_get rows x ≡ Some row → row_piece objects row ≡ Some piece
+    → innermost (path_in objects rows x) ≡ option_or piece.parts.private (innermost (path_above objects rows (row_above x row)))
+innermost_is objects rows x row piece sound at is =
+    let one : (sound.linked x row at).piece ≡ piece = same_Some (sound.linked x row at).piece piece (sym (sound.linked x row at).its_piece ∙ is) in
+    ap innermost (path_of_row objects rows x row sound at ∙ ap (λ (piece : Piece). path_above objects rows (row_above x row) ++ piece ∷ []) one) ∙ innermost_more (path_above objects rows (row_above x row)) piece
+
 -- a path has a piece
 not_empty : (objects : List Object) (rows : List Row) (x : ℕ) (row : Row) → AreRows objects rows → slice_get rows x ≡ Some row → [] ≡ path_in objects rows x → ⊥
 not_empty objects rows x row sound at none = go (path_above objects rows (row_above x row)) (sound.linked x row at).piece (none ∙ path_of_row objects rows x row sound at) where
@@ -88,7 +100,7 @@ not_empty objects rows x row sound at none = go (path_above objects rows (row_ab
 
 -- ---- two rows compared
 
-above_in : (objects : List Object) (rows : List Row) (x : ℕ) (row : Row) → AreRows objects rows → slice_get rows x ≡ Some row → ForSome (row_above x row) (λ p. p < length rows)
+pub above_in : (objects : List Object) (rows : List Row) (x : ℕ) (row : Row) → AreRows objects rows → slice_get rows x ≡ Some row → ForSome (row_above x row) (λ p. p < length rows)
 above_in objects rows x row sound at = λ p is. omega (arith, above_lower x row (sound.linked x row at).before p is, slice_get_within rows x row at)
 
 pub compared_more : (objects : List Object) (rows : List Row) (a b x y : ℕ) (first second : Row) → AreRows objects rows → slice_get rows x ≡ Some first → slice_get rows y ≡ Some second
@@ -178,4 +190,5 @@ link_before objects before more row x within link = record {
   before = link.before;
   path = link.path ∙ ap (λ (path : List Piece). path ++ link.piece ∷ []) (sym (above_before objects before more (row_above x row) x within (above_lower x row link.before)));
   hash = link.hash;
+  private = link.private;
 }

@@ -1,6 +1,6 @@
 -- Rows entered one after the other.
 use Rattle.std.proofs.Common.{suc, zero, ◌≡◌, inl, inr, ℕ, ◌+◌, ◌-◌, ◌<◌, ◌≤◌, ◌^◌, Bool, true, false, List, [], ◌∷◌, ◌++◌, length, map, take, Option, Some, None, slice_get, get_or, refl, sym, ap, ◌∙◌, arith, subst, append_assoc, append-nil, length-append, ◌*◌}
-use Rattle.std.specs.Prelude.{IfSome, if◌then◌else◌}
+use Rattle.std.specs.Prelude.{IfSome, ◌||◌, is_some, if◌then◌else◌}
 use Rattle.std.specs.List.{cons_option, enumerate_from, filter_map}
 use Rattle.std.specs.Option.{ForSome, option_and_then, option_map, option_map_or}
 use Rattle.std.proofs.lemmas.Bool.{both_ways, cases_eq, cases_lt}
@@ -13,7 +13,9 @@ use Rattle.odr_names.specs.declared.book_error.BookError.{BookError}
 use Rattle.odr_names.specs.declared.book_error.BookError.TheVariants as errors
 use Rattle.odr_names.specs.declared.path_book.Row.{Row}
 use Rattle.odr_names.specs.Book.{AreRows, IsLinked, IsRowOf, path_above, row_above, row_name, row_path}
-use Rattle.odr_names.specs.Entering.{AreEntered, AreLiveParents, Enters, IsEntered, IsEnteredTo, IsEntering, hash_above, names_to, new_row, piece_at}
+use Rattle.odr_names.specs.Entering.{AreEntered, AreLiveParents, Enters, IsEntered, IsEnteredTo, IsEntering, hash_above, names_to, new_row, piece_at, private_above}
+use Rattle.odr_names.specs.Innermost.{innermost}
+use Rattle.odr_names.proofs.Innermost.{private_more}
 use Rattle.type_names.specs.Entries.{is_declaration}
 use Rattle.type_names.specs.Heads.{Object, entries_of, is_pooled}
 use Rattle.type_names.specs.Names.{Named, named_of, names_in}
@@ -22,7 +24,7 @@ use Rattle.type_names.specs.Start.{hash_from, path_hash, piece_bytes}
 use Rattle.type_names.specs.Tree.{ParentsStandBefore, parent_of}
 use Rattle.type_names.proofs.HeadTests.{enumerated_more}
 use Rattle.type_names.proofs.Lineages.{parent_before}
-use Rattle.odr_names.proofs.BookPaths.{above_found, get_before, get_last, hash_is, link_before, row_in, up_within}
+use Rattle.odr_names.proofs.BookPaths.{above_found, get_before, get_last, hash_is, link_before, private_is, row_in, up_within}
 use Rattle.odr_names.proofs.Closed.{path_below, path_top, pooled_parent, spelled_pooled, unit_is_plain}
 use Rattle.odr_names.proofs.Hashes.{path_hash_more}
 use Rattle.odr_names.proofs.Counting.{entry_at}
@@ -76,6 +78,10 @@ hash_above_is : (objects : List Object) (rows : List Row) (parent : Option ℕ) 
 hash_above_is objects rows None sound within = none_hashed
 hash_above_is objects rows (Some p) sound within = let row = row_in rows p (within p refl) in ap (λ (o : Option Row). option_map_or (λ row. row.hash) o 0) row.1 ∙ hash_is objects rows p row.0 sound row.1
 
+private_above_is : (objects : List Object) (rows : List Row) (parent : Option ℕ) → AreRows objects rows → ForSome parent (λ p. p < length rows) → private_above rows parent ≡ is_some (innermost (path_above objects rows parent))
+private_above_is objects rows None sound within = refl
+private_above_is objects rows (Some p) sound within = let row = row_in rows p (within p refl) in ap (λ (o : Option Row). option_map_or (λ row. row.private) o false) row.1 ∙ private_is objects rows p row.0 sound row.1
+
 -- the row above that of a pooled entry
 pub above_is : (objects : List Object) (n : ℕ) (o : Object) (before rows : List Row) (numbers : List (Option ℕ)) (k : ℕ) → ParentsStandBefore (entries_of o) → AreLiveParents o → is_pooled o k ≡ true → IsEnteredTo objects n o before rows numbers k
     → (p : ℕ) × (parent_of (entries_of o) k ≡ Some p) × (path_above objects rows (option_and_then (λ (p : ℕ). get_or numbers p None) (parent_of (entries_of o) k)) ≡ path_of n o p)
@@ -128,8 +134,10 @@ entered objects n o before rows numbers k e parent stand live its counted small 
     let path : row_path objects row ≡ path_above objects rows (row_above (length rows) row) ++ piece ∷ [] = own ∙ path_below n o k above.0 piece stand above.1 its_piece ∙ ap (λ (path : List Piece). path ++ piece ∷ []) (sym over) in
     let hash : row.hash ≡ path_hash (row_path objects row) = ap (λ (h : ℕ). hash_from h (piece_bytes piece)) (hash_above_is objects rows parent so_far.are_rows within) ∙ sym (path_hash_more (path_above objects rows parent) piece)
     ∙ ap path_hash (sym (path ∙ ap (λ (above : Option ℕ). path_above objects rows above ++ piece ∷ []) up)) in
+    let private : row.private ≡ is_some (innermost (row_path objects row)) = ap (λ (above : Bool). is_some piece.parts.private || above) (private_above_is objects rows parent so_far.are_rows within) ∙ sym (private_more (path_above objects rows parent) piece)
+    ∙ ap (λ (path : List Piece). is_some (innermost path)) (sym (path ∙ ap (λ (above : Option ℕ). path_above objects rows above ++ piece ∷ []) up)) in
     let of_entry : IsRowOf objects row = record { object = o; entry = e; its_object = its; stands = at; counted = (counted, small); few = few; declared = refl; spelled = spelled_pooled o k stand pooled; ordinal = refl } in
-    let link : IsLinked objects rows (length rows) row = record { piece = piece; its_piece = ap (option_and_then (λ (o : Object). piece_of n o k)) its ∙ its_piece; before = up_within (length rows) parent; path = path; hash = hash } in
+    let link : IsLinked objects rows (length rows) row = record { piece = piece; its_piece = ap (option_and_then (λ (o : Object). piece_of n o k)) its ∙ its_piece; before = up_within (length rows) parent; path = path; hash = hash; private = private } in
     let name : row_name objects row ≡ named_of n o k e = ap (λ (path : List Piece). record { object = n; entry = k; path = path; bid = (if is_declaration e then 2 ^ 63 else 0) + n * 2 ^ 32 + k }) own in
     record {
       are_rows = rows_more objects rows row so_far.are_rows of_entry link;

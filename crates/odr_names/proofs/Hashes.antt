@@ -1,5 +1,5 @@
 -- The hash goes on where it was left.
-use Rattle.std.proofs.Common.{◌≡◌, ℕ, List, [], ◌∷◌, ◌++◌, sym, ap, ◌∙◌, append-nil}
+use Rattle.std.proofs.Common.{◌≡◌, ℕ, List, [], ◌∷◌, ◌++◌, refl, sym, ap, ◌∙◌, append-nil}
 use Rattle.std.specs.List.{flat_map}
 use Rattle.std.proofs.lemmas.List.Sums.{fold-append}
 use Rattle.std.proofs.lemmas.Grind.{flat_map-append}
@@ -20,3 +20,7 @@ pub hash_five : (h : ℕ) (a b c d e : List ℕ) → hash_from (hash_from (hash_
 hash_five h a b c d e =
     sym (hash_more h a (b ++ (c ++ (d ++ e))) ∙ hash_more (hash_from h a) b (c ++ (d ++ e)) ∙ hash_more (hash_from (hash_from h a) b) c (d ++ e)
     ∙ hash_more (hash_from (hash_from (hash_from h a) b) c) d e)
+
+pub hash_none : (h : ℕ) → hash_from h [] ≡ h
+unfolding hash_from
+hash_none h = refl

@@ -40,6 +40,7 @@ link_behind objects before rows row y link = record {
   before = omega (arith, link.before);
   path = link.path ∙ ap (λ (path : List Piece). path ++ link.piece ∷ []) (sym (ap (path_above objects (before ++ rows)) (above_moved (length before) y row link.before) ∙ above_behind objects before rows (row_above y row)));
   hash = link.hash;
+  private = link.private;
 }
 
 rows_behind : (objects : List Object) (before rows : List Row) → AreRows objects before → AreRows objects rows → AreRows objects (before ++ rows)

@@ -1,4 +1,5 @@
 pub mod Hashes
+pub mod Innermost
 pub mod FourBytes
 pub mod ObjectLists
 pub mod BookPaths

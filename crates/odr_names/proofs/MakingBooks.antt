@@ -1,6 +1,7 @@
 -- What a book is made of: fit objects, and their names.
-use Rattle.std.proofs.Common.{suc, zero, ◌≡◌, inl, inr, ℕ, ◌+◌, ◌-◌, ◌<◌, ◌≤◌, ◌^◌, Bool, List, [], ◌∷◌, ◌++◌, length, take, Option, Some, None, Result, Ok, Err, slice_get, sym, ap, ◌∙◌, arith, refl, append-nil, length-append}
-use Rattle.std.specs.List.{enumerate_from, flat_map}
+use Rattle.std.proofs.Common.{suc, zero, ◌≡◌, inl, inr, ℕ, ◌+◌, ◌-◌, ◌<◌, ◌≤◌, ◌^◌, Bool, true, false, cond, List, [], ◌∷◌, ◌++◌, length, take, Option, Some, None, Result, Ok, Err, slice_get, sym, ap, ◌∙◌, arith, refl, append-nil, length-append}
+use Rattle.std.specs.Prelude.{if◌then◌else◌}
+use Rattle.std.specs.List.{cons_option, enumerate_from, filter_map, flat_map}
 use Rattle.std.specs.Option.{option_and_then}
 use Rattle.std.proofs.lemmas.Grind.{flat_map-append}
 use Rattle.std.proofs.lemmas.List.{length-take-le, take_all, take_more}
@@ -14,8 +15,8 @@ use Rattle.odr_names.specs.declared.book_error.BookError.TheVariants as errors
 use Rattle.odr_names.specs.Book.{objects_of}
 use Rattle.odr_names.specs.Entering.{AreLiveParents}
 use Rattle.odr_names.specs.Making.{IsFit, IsLiveRow}
-use Rattle.type_names.specs.Heads.{Object}
-use Rattle.type_names.specs.Names.{Named, names, names_in}
+use Rattle.type_names.specs.Heads.{Object, is_pooled}
+use Rattle.type_names.specs.Names.{Named, named_of, names, names_in}
 use Rattle.type_names.specs.Objects.{object_of}
 use Rattle.type_names.specs.Tree.{parent_of}
 use Rattle.type_names.proofs.HeadTests.{enumerated_more}
@@ -38,6 +39,23 @@ live_parents a row is = λ k p lives up. (
 
 pub object_fit : (a : Analysis) (row : List Bool) → IsSound a → IsLiveRow a.entries row → IsFit (object_of a row)
 object_fit a row sound is = record { few = sound.few; parents = sound_parents a sound; live_parents = live_parents a row is }
+
+-- ---- names
+
+-- no more of them than entries
+names_few : (n : ℕ) (o : Object) (k : ℕ) (es : List Entry) → length (filter_map (λ (e : ℕ × Entry). if is_pooled o e.0 then Some (named_of n o e.0 e.1) else None) (enumerate_from k es)) ≤ length es
+names_few n o k [] = omega arith
+names_few n o k (e ∷ es) = go (is_pooled o k) (names_few n o (k + 1) es) where
+  rest : List Named
+  rest = filter_map (λ (e : ℕ × Entry). if is_pooled o e.0 then Some (named_of n o e.0 e.1) else None) (enumerate_from (k + 1) es)
+
+  go : (b : Bool) → length rest ≤ length es → length (cons_option (cond b (Some (named_of n o k e)) None) rest) ≤ suc (length es)
+  go true few = omega (arith, few)
+  go false few = omega (arith, few)
+
+-- a sound object is no reason to have no book
+pub never_pooled : (n : ℕ) (a : Analysis) (live : List Bool) → IsSound a → 2 ^ 25 ≤ length (names_in n (object_of a live)) → ⊥
+never_pooled n a live sound many = omega (arith, names_few n (object_of a live) 0 a.entries, sound.few, many)
 
 -- ---- objects
 

@@ -1,8 +1,8 @@
 -- Siblings in the order of the hashes of their parents and parts.
-use Rattle.std.proofs.Common.{◌≡◌, ℕ, ◌+◌, ◌-◌, ◌<◌, ◌≤◌, ◌⊎◌, inl, inr, Bool, true, false, cond, List, [], ◌∷◌, ◌++◌, length, Option, Some, None, slice_get, get_or, set, refl, sym, ap, ◌∙◌, arith, subst}
+use Rattle.std.proofs.Common.{◌≡◌, ℕ, ◌+◌, ◌-◌, ◌<◌, ◌≤◌, ◌⊎◌, inl, inr, Bool, true, false, cond, List, [], ◌∷◌, ◌++◌, length, Option, Some, None, is_some, slice_get, get_or, set, refl, sym, ap, ◌∙◌, arith, subst}
 use Rattle.std.specs.Prelude.{if◌then◌else◌}
 use Rattle.std.specs.Option.{option_and_then, option_map, option_map_or}
-use Rattle.std.specs.Prelude.{◌||◌}
+use Rattle.std.specs.Prelude.{◌||◌, ◌&&◌, not}
 use Rattle.std.specs.List.{list_any}
 use Rattle.std.proofs.lemmas.List.Folds.{list_any-append}
 use Rattle.std.specs.List.Sorted.{IsPermutation}
@@ -14,14 +14,14 @@ use Rattle.dwarf_types.specs.declared.entry.Entry.{Entry}
 use Rattle.odr_names.specs.declared.winners.Ranked.{Ranked}
 use Rattle.odr_names.specs.Pieces.{IsSpelled}
 use Rattle.odr_names.specs.Ranking.{AreInOrder}
-use Rattle.odr_names.specs.Twins.{AreCounted, AreNoTwins, AreSiblings, AreTwins, IsSibling, is_inside, parts_hash, parts_in, twins_before}
+use Rattle.odr_names.specs.Twins.{AreCounted, AreNoTwins, AreSiblings, AreTwins, IsSibling, is_inside, may_have_twins, own_in, parts_hash, parts_in, twins_before}
 use Rattle.type_names.specs.Heads.{Object, entries_of, is_head, is_in_head}
-use Rattle.type_names.specs.Paths.{parts_of, spelled_of}
+use Rattle.type_names.specs.Paths.{Parts, earlier_twins, is_overloaded, parts_of, spelled_of}
 use Rattle.type_names.specs.Rows.{IsRow}
 use Rattle.type_names.specs.Tree.{ParentsStandBefore, lineage, parent_of}
 use Rattle.type_names.proofs.Lineages.{lineage_below, parent_before}
 use Rattle.odr_names.proofs.BookPaths.{get_before, get_last}
-use Rattle.odr_names.proofs.Counting.{no_twin, one_twin_more}
+use Rattle.odr_names.proofs.Counting.{entry_at, no_twin, one_twin_more}
 
 -- the piece of an entry in the subtree of a head has the text that is told
 pub spelled_in_head : (o : Object) (k : ℕ) → is_in_head o k ≡ true → IsSpelled o k
@@ -43,18 +43,18 @@ siblings_more n o ranks i r is sibling so_far = record {
         let last : j ≡ length ranks = omega (arith, slice_get_within (ranks ++ r ∷ []) j s at, length_push ranks r) in
         subst (IsSibling n o) (same_Some r s (sym (ap (slice_get (ranks ++ r ∷ [])) last ∙ get_last ranks r) ∙ at)) sibling)
   ];
-  all = λ k lt inside. elim (cases_eq k i) [
+  all = λ k lt may. elim (cases_eq k i) [
     | inl same ↦ (length ranks, r, get_last ranks r, is ∙ sym same)
-    | inr other ↦ (let found = so_far.all k (omega arith) inside in (found.0, found.1, get_before ranks (r ∷ []) found.0 (slice_get_within ranks found.0 found.1 found.2) ∙ found.2, found.3))
+    | inr other ↦ (let found = so_far.all k (omega arith) may in (found.0, found.1, get_before ranks (r ∷ []) found.0 (slice_get_within ranks found.0 found.1 found.2) ∙ found.2, found.3))
   ];
 }
 
-pub siblings_same : (n : ℕ) (o : Object) (ranks : List Ranked) (i : ℕ) → is_inside o i ≡ false → AreSiblings n o ranks i → AreSiblings n o ranks (i + 1)
-siblings_same n o ranks i outside so_far = record {
+pub siblings_same : (n : ℕ) (o : Object) (ranks : List Ranked) (i : ℕ) → may_have_twins n o i ≡ false → AreSiblings n o ranks i → AreSiblings n o ranks (i + 1)
+siblings_same n o ranks i none so_far = record {
   each = so_far.each;
-  all = λ k lt inside. elim (cases_eq k i) [
-    | inl same ↦ absurd (both_ways _ outside (ap (is_inside o) (sym same) ∙ inside))
-    | inr other ↦ so_far.all k (omega arith) inside
+  all = λ k lt may. elim (cases_eq k i) [
+    | inl same ↦ absurd (both_ways _ none (ap (may_have_twins n o) (sym same) ∙ may))
+    | inr other ↦ so_far.all k (omega arith) may
   ];
 }
 
@@ -63,8 +63,8 @@ siblings_moved n o ranks moved i are same = record {
   each = λ j r at. (
       let there = Contains-permutation moved ranks r (IsPermutation-sym ranks moved same) (j, slice_get_within moved j r at, get_or_from_slice_get moved j r r at) in
       are.each there.0 r (slice_get_read ranks _ there.0 r refl there.1 (sym there.2)));
-  all = λ k within inside. (
-      let it = are.all k within inside in
+  all = λ k within may. (
+      let it = are.all k within may in
       let there = Contains-permutation ranks moved it.1 same (it.0, slice_get_within ranks it.0 it.1 it.2, get_or_from_slice_get ranks it.0 it.1 it.1 it.2) in
       (there.0, it.1, slice_get_read moved _ there.0 it.1 refl there.1 (sym there.2), it.3));
 }
@@ -81,6 +81,42 @@ no_twins_more n o ranks here r j i at differs so_far = record {
   ];
 }
 
+-- ---- entries that their own numbers tell apart
+
+own_told : (n : ℕ) (o : Object) (k : ℕ) (e : Entry) → slice_get (entries_of o) k ≡ Some e → own_in n o k ≡ (parts_of n o k e).private
+own_told n o k e at = ap (λ (x : Option Entry). option_and_then (λ (parts : Parts). parts.private) (option_map (parts_of n o k) x)) at
+
+may_have : (n : ℕ) (o : Object) (k : ℕ) → is_inside o k ≡ true → own_in n o k ≡ None → may_have_twins n o k ≡ true
+may_have n o k inside none = ap (λ (b : Bool). b && not (is_some (own_in n o k))) inside ∙ ap (λ (own : Option (ℕ × ℕ)). not (is_some own)) none
+
+own_number : (n : ℕ) (o : Object) (k : ℕ) (own : ℕ × ℕ) → own_in n o k ≡ Some own → own.1 ≡ k
+own_number n o k own is = go (slice_get (entries_of o) k) is where
+  told : (b : Bool) → cond b (Some (n, k)) None ≡ Some own → own.1 ≡ k
+  told true is = sym (ap (λ (x : ℕ × ℕ). x.1) (same_Some (n, k) own is))
+  told false is = absurd (none-some own is)
+
+  go : (e : Option Entry) → option_and_then (λ (parts : Parts). parts.private) (option_map (parts_of n o k) e) ≡ Some own → own.1 ≡ k
+  go None is = absurd (none-some own is)
+  go (Some e) is = told (is_overloaded e && not (is_some (spelled_of o k e))) is
+
+-- such an entry has no twins
+own_alone : (n : ℕ) (o : Object) (k : ℕ) (own : ℕ × ℕ) → k < length (entries_of o) → own_in n o k ≡ Some own → twins_before n o k ≡ 0
+own_alone n o k own within is = go e.0.parent refl where
+  e : (e : Entry) × (slice_get (entries_of o) k ≡ Some e)
+  e = entry_at (entries_of o) k within
+
+  never : (m : ℕ) → m < k → AreTwins n o m k → ⊥
+  never m under twins = (
+      let at_m = own_number n o m own (ap (option_and_then (λ (parts : Parts). parts.private)) twins.parts ∙ is) in
+      let at_k = own_number n o k own is in
+      omega (arith, at_m, at_k, under))
+
+  go : (p : Option ℕ) → e.0.parent ≡ p → twins_before n o k ≡ 0
+  go None top = ap (λ (x : Option Entry). option_map_or (λ e. option_map_or (λ p. length (earlier_twins n o p k (parts_of n o k e))) e.parent 0) x 0) e.1 ∙ ap (λ (x : Option ℕ). option_map_or (λ p. length (earlier_twins n o p k (parts_of n o k e.0))) x 0) top
+  go (Some p) child = no_twin n o k p e.0 e.1 child never
+
+-- ---- nearest before
+
 up : {a b c e : ℕ} → (a < b) ⊎ ((a ≡ b) × (c ≤ e)) → a ≤ b
 up (inl lt) = omega arith
 up (inr same) = omega (arith, same.0)
@@ -92,13 +128,14 @@ twin_before n o ranks here i m are order at before twins =
     let it = are.each i here at in
     let parent_m : parent_of (entries_of o) m ≡ Some it.parent = twins.parent ∙ parent_at o here.name it.entry it.stands ∙ it.child in
     let in_m : is_inside o m ≡ true = ap (λ (p : Option ℕ). option_map_or (is_in_head o) p false) parent_m ∙ it.inside in
+    let own_m : own_in n o m ≡ None = ap (option_and_then (λ (parts : Parts). parts.private)) twins.parts ∙ own_told n o here.name it.entry it.stands ∙ it.common in
     let inside : m < length (entries_of o) = omega (arith, before, slice_get_within (entries_of o) here.name it.entry it.stands) in
-    let found = are.all m inside in_m in
+    let found = are.all m inside (may_have n o m in_m own_m) in
     let k = found.0 in
     let r = found.1 in
     let its = are.each k r found.2 in
     let parent_r : its.parent ≡ it.parent = same_Some its.parent it.parent (sym (sym (ap (parent_of (entries_of o)) found.3) ∙ parent_at o r.name its.entry its.stands ∙ its.child) ∙ parent_m) in
-    let parts_r : parts_of n o r.name its.entry ≡ parts_of n o here.name it.entry = same_Some _ _ (sym (ap (option_map (parts_of n o r.name)) its.stands) ∙ ap (parts_in n o) found.3 ∙ twins.parts ∙ ap (option_map (parts_of n o here.name)) it.stands) in
+    let parts_r : parts_of n o r.name its.entry ≡ parts_of n o here.name it.entry = same_Some (parts_of n o r.name its.entry) (parts_of n o here.name it.entry) (sym (ap (option_map (parts_of n o r.name)) its.stands) ∙ ap (parts_in n o) found.3 ∙ twins.parts ∙ ap (option_map (parts_of n o here.name)) it.stands) in
     let hash : r.hash ≡ here.hash = its.hash ∙ (λ j. parts_hash (parent_r j) (parts_r j)) ∙ sym it.hash in
     let earlier : k < i = elim (cases_lt k i) [
       | inl lt ↦ lt
@@ -158,12 +195,19 @@ counted_more n o ranks counts i here count are at is so_far = record {
         ] in
         get_or-set_other counts here.name r.name count 0 other ∙ so_far.each j r earlier at_j)
   ];
+  others = λ k none. get_or-set_other counts here.name k count 0 (λ same. none (i, here, at, sym same)) ∙ so_far.others k none;
 }
 
 pub counted_all : (n : ℕ) (o : Object) (ranks : List Ranked) (counts : List ℕ) (k : ℕ) → AreSiblings n o ranks (length (entries_of o)) → AreCounted n o ranks counts (length ranks) → k < length (entries_of o) → is_inside o k ≡ true → get_or counts k 0 ≡ twins_before n o k
-counted_all n o ranks counts k are counted within inside =
-    let found = are.all k within inside in
-    subst (λ (x : ℕ). get_or counts x 0 ≡ twins_before n o x) found.3 (counted.each found.0 found.1 (slice_get_within ranks found.0 found.1 found.2) found.2)
+counted_all n o ranks counts k are counted within inside = go (own_in n o k) refl where
+  go : (own : Option (ℕ × ℕ)) → own_in n o k ≡ own → get_or counts k 0 ≡ twins_before n o k
+  go None none = (
+      let found = are.all k within (may_have n o k inside none) in
+      subst (λ (x : ℕ). get_or counts x 0 ≡ twins_before n o x) found.3 (counted.each found.0 found.1 (slice_get_within ranks found.0 found.1 found.2) found.2))
+  go (Some own) is = counted.others k (λ among. (
+      let it = are.each among.0 among.1 among.2 in
+      none-some own (sym (ap (own_in n o) (sym among.3) ∙ own_told n o among.1.name it.entry it.stands ∙ it.common) ∙ is)))
+      ∙ sym (own_alone n o k own within is)
 
 -- ---- what is told of siblings
 

@@ -11,7 +11,7 @@ use Rattle.std.proofs.lemmas.Bool.{both_ways, cases_eq, cases_lt, eq-eqb, le-ltb
 use Rattle.std.proofs.lemmas.List.{get_or-set_other, get_or-set_same, length-set, length_push}
 use Rattle.std.proofs.lemmas.Option.{get_or_from_slice_get, same_Some, slice_get-get_or, slice_get_read, slice_get_within}
 use Rattle.odr_names.specs.declared.winners.Ranked.{Ranked}
-use Rattle.type_names.specs.Start.{path_hash}
+use Rattle.odr_names.specs.Innermost.{rank_hash}
 use Rattle.type_names.specs.Names.{Named}
 use Rattle.odr_names.specs.Book.{SamePath, bid_at, path_at}
 use Rattle.odr_names.specs.Winners.{ArePut, AreWholePaths, AreWinners, IsWinner}
@@ -107,7 +107,7 @@ winner_itself names ranks here j i ranked order at run begins =
           let k = found.0 in
           let r = found.1 in
           let r_rank = ranked.each k r found.2 in
-          let hash : r.hash ≡ here.hash = r_rank.hash ∙ ap (λ (x : ℕ). path_hash (path_at names x)) found.3 ∙ ap path_hash is ∙ sym rank.hash in
+          let hash : r.hash ≡ here.hash = r_rank.hash ∙ ap (λ (x : ℕ). rank_hash (path_at names x)) found.3 ∙ ap rank_hash is ∙ sym rank.hash in
           let bid : r.bid ≡ bid_at names y = r_rank.bid ∙ ap (bid_at names) found.3 in
           elim (cases_lt k i) [
             | inr later ↦ elim (order i k here r later at found.2) [

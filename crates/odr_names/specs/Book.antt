@@ -1,11 +1,12 @@
 -- The book of names: rows that each stand for a pooled entry and lead to the row above.
-use Rattle.std.specs.Prelude.{◌≡◌, ◌↔◌, ℕ, ◌+◌, ◌-◌, ◌*◌, ◌^◌, ◌<◌, ◌≤◌, ◌==◌, Bool, List, [], ◌∷◌, ◌++◌, length, slice_get, Option, Some, None, if◌then◌else◌}
+use Rattle.std.specs.Prelude.{◌≡◌, ◌↔◌, ℕ, ◌+◌, ◌-◌, ◌*◌, ◌^◌, ◌<◌, ◌≤◌, ◌==◌, Bool, List, [], ◌∷◌, ◌++◌, length, slice_get, Option, Some, None, is_some, if◌then◌else◌}
 use Rattle.std.specs.List.Sorted.{IsNonDecreasingBy}
 use Rattle.std.specs.Option.{ForSome, option_and_then, option_map_or}
 use Rattle.dwarf_types.specs.declared.analysis.Analysis.{Analysis}
 use Rattle.dwarf_types.specs.declared.entry.Entry.{Entry}
 use Rattle.odr_names.specs.declared.path_book.Objects.{Objects}
 use Rattle.odr_names.specs.declared.path_book.Row.{Row}
+use Rattle.odr_names.specs.Innermost.{innermost}
 use Rattle.odr_names.specs.Pieces.{IsSpelled}
 use Rattle.type_names.specs.declared.pooled.TypeNames.{TypeNames}
 use Rattle.type_names.specs.Entries.{is_declaration}
@@ -90,6 +91,7 @@ pub record IsLinked (objects : List Object) (rows : List Row) (x : ℕ) (row : R
   pub before : row.up ≤ x
   pub path : row_path objects row ≡ path_above objects rows (row_above x row) ++ piece ∷ []
   pub hash : row.hash ≡ path_hash (row_path objects row)
+  pub private : row.private ≡ is_some (innermost (row_path objects row))
 
 pub record AreRows (objects : List Object) (rows : List Row) : Type 0 where
   pub of_entries : (x : ℕ) (row : Row) → slice_get rows x ≡ Some row → IsRowOf objects row

@@ -1,5 +1,5 @@
 -- The pooled entries of an object, entered into the book.
-use Rattle.std.specs.Prelude.{◌≡◌, ℕ, ◌+◌, ◌-◌, ◌^◌, ◌<◌, ◌≤◌, ◌==◌, Bool, true, false, List, [], ◌∷◌, ◌++◌, length, map, take, slice_get, slice_index_or, Option, Some, None, Result, Ok, Err, if◌then◌else◌}
+use Rattle.std.specs.Prelude.{◌≡◌, ℕ, ◌+◌, ◌-◌, ◌^◌, ◌<◌, ◌≤◌, ◌==◌, ◌||◌, Bool, true, false, List, [], ◌∷◌, ◌++◌, length, map, take, slice_get, slice_index_or, Option, Some, None, Result, Ok, Err, is_some, if◌then◌else◌}
 use Rattle.std.specs.List.{enumerate_from, filter_map}
 use Rattle.std.specs.Option.{option_map_or}
 use Rattle.dwarf_types.specs.declared.entry.Entry.{Entry}
@@ -18,6 +18,10 @@ use Rattle.type_names.specs.Start.{hash_from, piece_bytes}
 abbrev pub hash_above : List Row → Option ℕ → ℕ
 hash_above rows parent = option_map_or (λ p. option_map_or (λ row. row.hash) (slice_get rows p) 0) parent 0
 
+-- whether the path of the row above has a piece that only its own object and entry tell apart
+abbrev pub private_above : List Row → Option ℕ → Bool
+private_above rows parent = option_map_or (λ p. option_map_or (λ row. row.private) (slice_get rows p) false) parent false
+
 abbrev pub piece_at : ℕ → Object → ℕ → Entry → Piece
 piece_at n o k e = record { parts = parts_of n o k e; ordinal = ordinal_of n o k e }
 
@@ -34,6 +38,7 @@ new_row n o k e rows parent = record {
   up = rows_up (length rows) parent;
   object = n;
   declared = is_declaration e;
+  private = is_some (piece_at n o k e).parts.private || private_above rows parent;
 }
 
 -- a pooled entry has one row more, and others have none

@@ -1,4 +1,5 @@
 pub mod Pieces
+pub mod Innermost
 pub mod Book
 pub mod Stretches
 pub mod Winners

@@ -1,15 +1,15 @@
--- Names in the order in which their winners are found: those of one hash stand together, and of these the lowest bid first.
+-- Names in the order in which their winners are found: those of one rank hash stand together, and of these the lowest bid first.
 use Rattle.std.specs.Prelude.{◌≡◌, ℕ, ◌<◌, ◌≤◌, ◌⊎◌, List, length, slice_get, slice_index_or, Some}
 use Rattle.odr_names.specs.declared.winners.Ranked.{Ranked}
 use Rattle.type_names.specs.Names.{Named}
 use Rattle.odr_names.specs.Book.{SamePath, bid_at, path_at}
-use Rattle.type_names.specs.Start.{path_hash}
+use Rattle.odr_names.specs.Innermost.{rank_hash}
 use Rattle.odr_names.specs.Winners.{IsWinner}
 
 -- the rank of name x
 pub record IsRank (names : List Named) (r : Ranked) : Type 0 where
   pub within : r.name < length names
-  pub hash : r.hash ≡ path_hash (path_at names r.name)
+  pub hash : r.hash ≡ rank_hash (path_at names r.name)
   pub bid : r.bid ≡ bid_at names r.name
 
 -- a name of which there is a rank

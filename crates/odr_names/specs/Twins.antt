@@ -1,8 +1,9 @@
 -- How many earlier siblings of an entry have its parts.
-use Rattle.std.specs.Prelude.{◌≡◌, ℕ, ◌<◌, ◌≤◌, Bool, true, false, List, length, slice_get, slice_index_or, Option, Some}
-use Rattle.std.specs.Option.{option_map, option_map_or}
+use Rattle.std.specs.Prelude.{◌≡◌, ℕ, ◌<◌, ◌≤◌, ◌&&◌, not, Bool, true, false, List, length, slice_get, slice_index_or, Option, Some, None, is_some}
+use Rattle.std.specs.Option.{option_and_then, option_map, option_map_or}
 use Rattle.dwarf_types.specs.declared.entry.Entry.{Entry}
 use Rattle.odr_names.specs.declared.winners.Ranked.{Ranked}
+use Rattle.odr_names.specs.Ranking.{IsAmong}
 use Rattle.type_names.specs.Heads.{Object, entries_of, is_in_head}
 use Rattle.type_names.specs.Paths.{Parts, earlier_twins, parts_of}
 use Rattle.type_names.specs.Start.{hash_from, piece_bytes}
@@ -11,6 +12,10 @@ use Rattle.type_names.specs.Tree.{parent_of}
 -- the parts of entry k of object n
 abbrev pub parts_in : ℕ → Object → ℕ → Option Parts
 parts_in n o k = option_map (parts_of n o k) (slice_get (entries_of o) k)
+
+-- the object and the entry among its parts, where nothing else tells it apart
+abbrev pub own_in : ℕ → Object → ℕ → Option (ℕ × ℕ)
+own_in n o k = option_and_then (λ parts. parts.private) (parts_in n o k)
 
 -- entries a and b are children of one entry, and have the same parts
 pub record AreTwins (n : ℕ) (o : Object) (a b : ℕ) : Type 0 where
@@ -27,6 +32,10 @@ twins_before n o k = option_map_or (λ e. option_map_or (λ p. length (earlier_t
 abbrev pub is_inside : Object → ℕ → Bool
 is_inside o k = option_map_or (is_in_head o) (parent_of (entries_of o) k) false
 
+-- the same, and its own number is none of its parts, so that siblings may have them too
+abbrev pub may_have_twins : ℕ → Object → ℕ → Bool
+may_have_twins n o k = is_inside o k && not (is_some (own_in n o k))
+
 -- a hash of its parent and its parts
 abbrev pub parts_hash : ℕ → Parts → ℕ
 parts_hash parent parts = hash_from parent (piece_bytes (record { parts = parts; ordinal = 0 }))
@@ -38,17 +47,24 @@ pub record IsSibling (n : ℕ) (o : Object) (r : Ranked) : Type 0 where
   pub stands : slice_get (entries_of o) r.name ≡ Some entry
   pub child : entry.parent ≡ Some parent
   pub inside : is_in_head o parent ≡ true
+  pub common : (parts_of n o r.name entry).private ≡ None
   pub hash : r.hash ≡ parts_hash parent (parts_of n o r.name entry)
   pub bid : r.bid ≡ r.name
 
 pub record AreSiblings (n : ℕ) (o : Object) (ranks : List Ranked) (i : ℕ) : Type 0 where
   pub each : (j : ℕ) (r : Ranked) → slice_get ranks j ≡ Some r → IsSibling n o r
-  pub all : (k : ℕ) → k < i → is_inside o k ≡ true → (j : ℕ) × (r : Ranked) × (slice_get ranks j ≡ Some r) × (r.name ≡ k)
+  pub all : (k : ℕ) → k < i → may_have_twins n o k ≡ true → (j : ℕ) × (r : Ranked) × (slice_get ranks j ≡ Some r) × (r.name ≡ k)
 
--- the twins of the first i ranks are counted
+-- the rank of entry k, where it has one
+abbrev pub IsRankOf : ℕ → Object → ℕ → Option Ranked → Type 0
+IsRankOf n o k (Some r) = (r.name ≡ k) × IsSibling n o r
+IsRankOf n o k None = may_have_twins n o k ≡ false
+
+-- the twins of the first i ranks are counted; entries without a rank have none
 pub record AreCounted (n : ℕ) (o : Object) (ranks : List Ranked) (counts : List ℕ) (i : ℕ) : Type 0 where
   pub len : length counts ≡ length (entries_of o)
   pub each : (j : ℕ) (r : Ranked) → j < i → slice_get ranks j ≡ Some r → slice_index_or counts r.name 0 ≡ twins_before n o r.name
+  pub others : (k : ℕ) → (IsAmong ranks k → ⊥) → slice_index_or counts k 0 ≡ 0
 
 -- the entries from rank j up to rank i are no earlier twins of that at rank i
 pub record AreNoTwins (n : ℕ) (o : Object) (ranks : List Ranked) (here : Ranked) (j i : ℕ) : Type 0 where

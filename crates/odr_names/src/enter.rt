@@ -1,13 +1,14 @@
 //! The pooled entries of an object, entered into the book.
 
-ghost use Rattle.std.specs.Prelude.{◌≡◌, ◌+◌, ◌≤◌, ◌<◌, ◌^◌, ℕ, ◌-◌, List, [], true, false, length, slice_get, slice_index_or, Some, None, Err, OnOk, OnErr, if◌then◌else◌};
+ghost use Rattle.std.specs.Prelude.{◌≡◌, ◌||◌, is_some, ◌+◌, ◌≤◌, ◌<◌, ◌^◌, ℕ, ◌-◌, List, [], true, false, length, slice_get, slice_index_or, Some, None, Err, OnOk, OnErr, if◌then◌else◌};
 ghost use Rattle.std.specs.Option.{ForSome, option_and_then};
 ghost use Rattle.dwarf_types.specs.declared.entry.Entry.{Entry as AnEntry};
 ghost use Rattle.odr_names.specs.declared.path_book.Row.{Row as ARow};
 ghost use Rattle.odr_names.specs.declared.book_error.BookError.TheVariants as errors;
 ghost use Rattle.type_names.specs.Names.{names_in};
 ghost use Rattle.odr_names.specs.Book.{AreRows};
-ghost use Rattle.odr_names.specs.Entering.{AreEntered, AreLiveParents, Enters, hash_above, new_row, rows_up};
+ghost use Rattle.odr_names.specs.Entering.{AreEntered, AreLiveParents, Enters, hash_above, new_row, private_above, rows_up};
+ghost use Rattle.odr_names.specs.Pieces.{parts_seen};
 ghost use Rattle.odr_names.specs.Twins.{is_inside, twins_before};
 ghost use Rattle.type_names.specs.Entries.{is_declaration};
 ghost use Rattle.type_names.specs.Heads.{Object, is_pooled};
@@ -19,7 +20,7 @@ use crate::book_error::BookError;
 use crate::hash::hash_piece;
 use crate::ordinals::ordinal_at;
 use crate::path_book::Row;
-use crate::piece::{PieceRef, parts_at};
+use crate::piece::{PartsRef, PieceRef, parts_at};
 use crate::row_numbers::RowNumbers;
 use ds_base::BitRow;
 use dwarf_types::Analysis;
@@ -107,6 +108,7 @@ fn row_of(
         up: rows_up(rows.len() as u32, parent),
         object: object as u16,
         declared: is_declaration(&entry),
+        private: private_below(rows, parent, &parts),
     }
 }
 
@@ -129,6 +131,26 @@ fn hash_above(rows: &[Row], parent: Option<u32>) -> u64
     match parent {
         Some(p) => rows[p as usize].hash,
         None => 0,
+    }
+}
+
+/// Whether a path that goes on from the row above, or from no path, with a piece of these parts has a piece that only its
+/// own object and entry tell apart.
+fn private_below(rows: &[Row], parent: Option<u32>, parts: &PartsRef) -> bool
+    requires { ForSome parent (λ p. p < length rows.now) }
+    ensures { result ≡ (is_some (parts_seen parts.now).private || private_above rows.now parent) }
+{
+    parts.private.is_some() || private_above(rows, parent)
+}
+
+/// Whether the path of the row above has a piece that only its own object and entry tell apart.
+fn private_above(rows: &[Row], parent: Option<u32>) -> bool
+    requires { ForSome parent (λ p. p < length rows.now) }
+    ensures { result ≡ private_above rows.now parent }
+{
+    match parent {
+        Some(p) => rows[p as usize].private,
+        None => false,
     }
 }
 

@@ -2,10 +2,11 @@
 
 ghost use Rattle.std.specs.Prelude.{◌≡◌, ◌*◌, ◌≤◌, [], ◌∷◌, drop, length};
 ghost use Rattle.std.specs.Option.{option_map};
-ghost use Rattle.odr_names.specs.Pieces.{piece_seen};
+ghost use Rattle.odr_names.specs.Innermost.{own_bytes};
+ghost use Rattle.odr_names.specs.Pieces.{own_seen, piece_seen};
 ghost use Rattle.type_names.specs.Start.{hash_byte, hash_from, piece_bytes, text_bytes};
 
-use crate::piece::PieceRef;
+use crate::piece::{PieceRef, Private};
 use ds_base::bytes_from;
 
 /// What was hashed so far is multiplied by this with each byte.
@@ -29,6 +30,19 @@ pub(crate) fn hash_piece(hash: u64, piece: &PieceRef) -> u64
     let hash = hash_text(hash, piece.parts.linkage);
     let hash = hash_text(hash, piece.parts.spelled);
     hash_bytes(hash, &piece.ordinal.to_le_bytes())
+}
+
+/// The hash of what was hashed so far, and of an object and an entry, if there are these.
+pub(crate) fn hash_private(hash: u64, own: Option<Private>) -> u64
+    ensures { result ≡ hash_from hash (own_bytes (option_map own_seen own)) }
+{
+    match own {
+        Some(own) => {
+            let hash = hash_each(hash, &own.object.to_le_bytes());
+            hash_each(hash, &own.entry.to_le_bytes())
+        }
+        None => hash,
+    }
 }
 
 /// The hash of what was hashed so far, a text, and a zero byte.

@@ -27,8 +27,9 @@ pub struct ObjectNames {
 
 /// The names of an object, which is counted from 1.
 ///
-/// `live` marks the live entries. An object with 2^25 names or more has none ([`BookError::Pooled`]). Source: this
-/// project's profile (docs/PROFILE.md, "Names and the pool").
+/// `live` marks the live entries. An object with 2^25 names or more has none ([`BookError::Pooled`]); but a sound one has
+/// 2^24 entries at most, and no more names than entries, so that error does not come (`proofs/MakingBooks.antt`,
+/// `never_pooled`). Source: this project's profile (docs/PROFILE.md, "Names and the pool").
 pub fn object_names(
     alloc: Global,
     seen: &Analysis,

@@ -5,7 +5,7 @@ ghost use Rattle.std.specs.Option.{option_and_then};
 ghost use Rattle.dwarf_types.specs.declared.entry.Entry.{Entry as AnEntry};
 ghost use Rattle.odr_names.specs.Pieces.{IsSpelled, parts_seen};
 ghost use Rattle.odr_names.specs.Ranking.{AreInOrder};
-ghost use Rattle.odr_names.specs.Twins.{AreCounted, AreNoTwins, AreSiblings, AreTwins, is_inside, parts_hash, twins_before};
+ghost use Rattle.odr_names.specs.Twins.{AreCounted, AreNoTwins, AreSiblings, AreTwins, IsRankOf, is_inside, parts_hash, twins_before};
 ghost use Rattle.odr_names.specs.declared.winners.Ranked.{Ranked as RankedAs};
 ghost use Rattle.type_names.specs.Entries.{is_named_type, linkage_of, name_of};
 ghost use Rattle.type_names.specs.Heads.{is_in_head, is_pooled};
@@ -49,6 +49,9 @@ pub(crate) fn twins_of(
 }
 
 /// The entries below those in subtrees of heads, with the hashes of their parents and parts.
+///
+/// Those with a [`crate::Private`] have no twins, and are left out. It goes into no hash, so all members of a class that
+/// differ in it alone would stand together, each to be compared with all before.
 fn siblings_of(
     alloc: Global,
     seen: &Analysis,
@@ -64,17 +67,30 @@ fn siblings_of(
     let most = count_marked(&names.in_heads, seen.entries.len());
     let mut ranks = Vec::with_capacity(alloc, most)?;
     for i in 0..seen.entries.len() {
-        let k = i as u32;
-        if let Some(parent) = parent_inside(&seen.entries, names, k) {
-            let parts = parts_at(seen, live, names, object, k);
-            ranks.push(Ranked {
-                hash: hash_parts(parent, parts),
-                bid: u64::from(k),
-                name: k,
-            })?;
+        if let Some(rank) = rank_of(seen, live, names, object, i as u32) {
+            ranks.push(rank)?;
         }
     }
     Ok(ranks)
+}
+
+/// The rank of an entry, where siblings may have its parts.
+fn rank_of(seen: &Analysis, live: &BitRow, names: &TypeNames, object: u32, k: u32) -> Option<Ranked>
+    requires place { k < length seen.now.entries }
+    requires parents { ParentsStandBefore seen.now.entries }
+    requires names { AreNames (object_of seen.now live.now) names.now }
+    ensures { IsRankOf object (object_of seen.now live.now) k result }
+{
+    let parent = parent_inside(&seen.entries, names, k)?;
+    let parts = parts_at(seen, live, names, object, k);
+    if parts.private.is_some() {
+        return None;
+    }
+    Some(Ranked {
+        hash: hash_parts(parent, parts),
+        bid: u64::from(k),
+        name: k,
+    })
 }
 
 /// The parent of an entry, where that is in the subtree of a head.

@@ -7,10 +7,11 @@ ghost use Rattle.std.specs.Option.{ForSome, option_map, option_map_or};
 ghost use Rattle.dwarf_types.specs.Sound.{IsSound};
 ghost use Rattle.odr_names.specs.declared.book_error.BookError.TheVariants as errors;
 ghost use Rattle.odr_names.specs.Book.{AreRows, AreTold, IsBook, IsRowOf, SamePath, bid_at, objects_in, objects_of, path_at, path_in, row_above, row_bid, row_piece};
+ghost use Rattle.odr_names.specs.Innermost.{innermost, rank_hash};
 ghost use Rattle.odr_names.specs.Joining.{AreAllNames};
 ghost use Rattle.odr_names.specs.Making.{AreLiveRows, merged};
 ghost use Rattle.odr_names.specs.Stretches.{AreOfObjects, IsFirstOf};
-ghost use Rattle.odr_names.specs.Pieces.{piece_seen};
+ghost use Rattle.odr_names.specs.Pieces.{own_seen, piece_seen};
 ghost use Rattle.odr_names.specs.declared.path_book.Row.{Row as ARow};
 ghost use Rattle.type_names.specs.Names.{Named, names};
 ghost use Rattle.type_names.specs.Paths.{Piece};
@@ -19,9 +20,10 @@ ghost use Rattle.type_names.specs.Start.{path_hash, start_of};
 use crate::book_error::BookError;
 use crate::enter::MOST_POOLED;
 use crate::entry_place::Occurrence;
+use crate::hash::hash_private;
 use crate::joining::{joined, rows_in};
 use crate::one_object::{ObjectNames, object_names};
-use crate::piece::{PieceRef, parts_at, piece_equal};
+use crate::piece::{PieceRef, Private, parts_at, piece_equal};
 use ds_base::BitRow;
 use dwarf_types::Analysis;
 use std::alloc::Global;
@@ -49,6 +51,8 @@ pub struct Row {
     pub(crate) object: u16,
     /// Whether it is a declaration of a type.
     pub(crate) declared: bool,
+    /// Whether a piece of its path has a [`Private`].
+    pub(crate) private: bool,
 }
 
 const _: () = prove!(size_of::<Row>() == 24);
@@ -164,7 +168,7 @@ pub fn count(names: &PathBook) -> u32
     names.rows.len() as u32
 }
 
-/// How many objects there are, with names or without.
+/// A number of objects among which those of all names are: each is one of so many, which are counted from 1.
 pub fn object_count(names: &PathBook) -> u32
     ensures objects { AreOfObjects names.now result }
     ensures few { result < 2 ^ 16 }
@@ -238,6 +242,36 @@ pub(crate) fn hash_at(names: &PathBook, x: u32) -> u64
     ensures { result ≡ path_hash (path_at names.now x) }
 {
     row_at(&names.rows, x).hash
+}
+
+/// A hash of a name's path into which its innermost [`Private`] goes too.
+pub(crate) fn rank_hash_at(names: &PathBook, x: u32) -> u64
+    requires { x < length names.now }
+    ensures { result ≡ rank_hash (path_at names.now x) }
+{
+    let own = innermost_of(&names.objects, &names.rows, x);
+    hash_private(hash_at(names, x), own)
+}
+
+/// The innermost [`Private`] of a row's path. No row is looked at above one whose path has none.
+fn innermost_of(objects: &Objects, rows: &[Row], x: u32) -> Option<Private>
+    requires book { IsBook objects.now rows.now }
+    requires inside { x < length rows.now }
+    ensures { option_map own_seen result ≡ innermost (path_in (objects_in objects.now) rows.now x) }
+{
+    let mut next = Some(x);
+    while let Some(y) = next {
+        let row = row_at(rows, y);
+        if !row.private {
+            return None;
+        }
+        let own = piece_of(objects, row).parts.private;
+        if own.is_some() {
+            return own;
+        }
+        next = row_above(y, row);
+    }
+    None
 }
 
 /// The row of a name.

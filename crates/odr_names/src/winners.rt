@@ -4,16 +4,15 @@ ghost use Rattle.std.specs.Prelude.{◌≡◌, ◌<◌, ◌≤◌, ◌^◌, ◌�
 ghost use Rattle.std.specs.List.{All};
 ghost use Rattle.std.specs.List.Sorted.{IsPermutation};
 ghost use Rattle.odr_names.specs.Book.{SamePath, path_at};
-ghost use Rattle.type_names.specs.Start.{path_hash};
 ghost use Rattle.odr_names.specs.Ranking.{AreFound, AreInOrder, AreOthersKept, AreRanked, AreRanksOf, IsAmong, IsRank};
 ghost use Rattle.odr_names.specs.Winners.{ArePut, AreWholePaths, AreWinners, IsWinner};
 ghost use Rattle.odr_names.specs.declared.winners.Ranked.{Ranked as RankedAs};
 
-use crate::path_book::{PathBook, count, hash_at, number, path_equal};
+use crate::path_book::{PathBook, count, number, path_equal, rank_hash_at};
 use ds_base::NoMemory;
 use std::alloc::Global;
 
-/// A name by the hash of its path and its bid.
+/// A name by a hash of its path and its bid.
 #[derive(Clone, Copy, Debug, PartialEq, Eq)]
 pub struct Ranked {
     pub hash: u64,
@@ -24,7 +23,8 @@ pub struct Ranked {
 /// Of each name, the one that wins its path.
 ///
 /// Names of one path have one hash, so in the order by hash and bid they stand among a run of one hash, the winner
-/// before all others; runs that hold two paths are rare.
+/// before all others. The hash is a finer one than that by which a table is searched ([`crate::path_start`]): it takes in
+/// the object and the entry of a [`crate::Private`] (`specs/Innermost.antt`), so runs that hold two paths are rare.
 pub fn winners_plain(alloc: Global, names: &PathBook) -> Result<Vec<u32>, NoMemory>
     ensures { IfOk result (λ winners. AreWinners names.now winners.items) }
 {
@@ -84,7 +84,7 @@ fn rank_of(names: &PathBook, x: u32) -> Ranked
     ensures rank { IsRank names.now result }
 {
     Ranked {
-        hash: hash_at(names, x),
+        hash: rank_hash_at(names, x),
         bid: number(names, x),
         name: x,
     }
