@@ -1,5 +1,5 @@
 -- Stations between the code and the definitions: the parts of an image file, as they are written.
-use Rattle.std.specs.Prelude.{◌≡◌, ℕ, ◌+◌, ◌*◌, ◌<◌, ◌^◌, ◌==◌, ◌||◌, Bool, List, [], ◌∷◌, ◌++◌, length, map, Option, if◌then◌else◌}
+use Rattle.std.specs.Prelude.{◌≡◌, ℕ, ◌+◌, ◌*◌, ◌<◌, ◌≤◌, ◌^◌, ◌==◌, ◌||◌, Bool, List, [], ◌∷◌, ◌++◌, length, map, Option, if◌then◌else◌}
 use Rattle.std.specs.List.{flat_map}
 use Rattle.std.specs.Option.{option_map_or}
 use Rattle.byteorder.specs.Endian.{little_bytes}
@@ -12,10 +12,13 @@ use Rattle.macho_read.specs.declared.image.Image.{Image}
 use Rattle.macho_read.specs.declared.image.Section.{Section}
 use Rattle.macho_read.specs.declared.image.Segment.{Segment}
 use Rattle.macho_read.specs.declared.image.Symbol.{Symbol}
+use Rattle.macho_read.specs.Commands.{last_end}
 use Rattle.macho_read.specs.Fields.{before_zero}
 use Rattle.macho_read.specs.ImageSpelling.{LoadCommand, command_of, nlist_bytes}
 use Rattle.macho_read.specs.Spelling.{command_bytes, section_bytes, segment_fields, spelled}
 use Rattle.macho_read.specs.Standings.{is_stab}
+use Rattle.dsym_write.specs.declared.error.WriteError.{WriteError}
+use Rattle.dsym_write.specs.declared.error.WriteError.TheVariants as errors
 use Rattle.dsym_write.specs.declared.segments.SectionNumbers.{SectionNumbers}
 use Rattle.dsym_write.specs.declared.segments.SegmentNumbers.{SegmentNumbers}
 use Rattle.dsym_write.specs.declared.dwarf.TheConstants.{WRITTEN_PARTS}
@@ -126,6 +129,10 @@ commands_size program sections =
 abbrev pub IsUuidLen : Option (List ℕ) → Type 0
 IsUuidLen uuid = option_map_or (λ bytes. length bytes) uuid 16 ≡ 16
 
+-- a segment has room above it
+abbrev pub HasRoomAbove : Segment → Type 0
+HasRoomAbove s = s.vmaddr + s.vmsize ≤ last_end
+
 pub record ArePlaces (program : Image) (sizes : Sizes) (p : Places) : Type 0 where
   pub sections : p.sections ≡ count_of (sized sizes)
   pub contents : p.contents ≡ total (sized sizes)
@@ -138,8 +145,13 @@ pub record ArePlaces (program : Image) (sizes : Sizes) (p : Places) : Type 0 whe
   pub offset : p.offset ≡ page_end (p.stroff + p.strsize)
   pub size : p.size ≡ p.offset + p.contents
   pub vmaddr : p.vmaddr ≡ page_end (end_of program.segments)
-  -- the sections have addresses
-  pub above : p.vmaddr + p.contents < 2 ^ 64
+  -- the sections of a file of less than 2^32 bytes have addresses
+  pub above : p.vmaddr ≤ last_end
+
+-- why there is no room for a file of a size: it is 2^32 bytes or more; memory is wanted for a smaller one alone
+abbrev pub HasNoRoom : ℕ → WriteError → Type 0
+HasNoRoom size (errors.File n) = (n ≡ size) × (2 ^ 32 ≤ size)
+HasNoRoom size errors.NoMemory = size < 2 ^ 32
 
 -- ---- parts of the file
 

@@ -10,7 +10,7 @@ ghost use Rattle.dsym_write.specs.Pieces.{ArePlaces, commands_count, commands_te
 
 use crate::dwarf::{WRITTEN_PARTS, emit_records};
 use crate::fields::emit_words;
-use crate::page::PAGE_SIZE;
+use crate::page::page_end;
 use crate::places::Places;
 use crate::protection::{VM_PROT_ALL, VM_PROT_DEFAULT};
 use crate::segments::{SegmentNumbers, emit_segment_numbers, emit_segments};
@@ -117,7 +117,7 @@ fn emit_dwarf(layout: &Layout, places: Places, room: &mut [u8], at: usize) -> us
         &WRITTEN_PARTS,
         layout,
         places.vmaddr,
-        places.offset,
+        places.offset as u64,
         room,
         at,
     )
@@ -126,14 +126,15 @@ fn emit_dwarf(layout: &Layout, places: Places, room: &mut [u8], at: usize) -> us
 /// The numbers of segment `__DWARF`. It may be read, written and run at most, and is read and written.
 fn dwarf_numbers(places: Places) -> SegmentNumbers
     requires contents { places.contents < 2 ^ 32 }
+    requires offset { places.offset < 2 ^ 32 }
     requires sections { places.sections < 2 ^ 32 }
     ensures { result ≡ Pieces.dwarf_numbers places }
 {
     SegmentNumbers {
         vmaddr: places.vmaddr,
-        vmsize: (places.contents + (PAGE_SIZE - 1)) / PAGE_SIZE * PAGE_SIZE,
-        fileoff: places.offset,
-        filesize: places.contents,
+        vmsize: page_end(places.contents) as u64,
+        fileoff: places.offset as u64,
+        filesize: places.contents as u64,
         maxprot: VM_PROT_ALL,
         initprot: VM_PROT_DEFAULT,
         sections: places.sections as u32,

@@ -1,13 +1,15 @@
 //! The image file.
 
-ghost use Rattle.std.specs.Prelude.{◌≡◌, ◌+◌, ◌-◌, ◌<◌, ◌≤◌, ◌^◌, IfOk, Ok, length, replicate};
+ghost use Rattle.std.specs.Prelude.{◌≡◌, ◌+◌, ◌-◌, ◌<◌, ◌≤◌, ◌^◌, IfErr, IfOk, Ok, length, replicate};
 ghost use Rattle.ds_base.specs.Room.{Adds};
 ghost use Rattle.dwarf_types.specs.declared.graph.Graph.{Graph};
 ghost use Rattle.dwarf_types.specs.Encode.{encode};
 ghost use Rattle.layout.specs.Laid.{IsMeasured, Measures};
+ghost use Rattle.macho_read.specs.declared.kind.Role.TheVariants as roles;
+ghost use Rattle.macho_read.specs.Kind.{kind_of};
 ghost use Rattle.macho_read.specs.Sound.{IsSound};
 ghost use Rattle.dsym_write.specs.Bundle.{Writes, contents, image_file};
-ghost use Rattle.dsym_write.specs.Pieces.{ArePlaces};
+ghost use Rattle.dsym_write.specs.Pieces.{ArePlaces, HasNoRoom};
 
 use crate::commands::emit_front;
 use crate::error::WriteError;
@@ -21,9 +23,10 @@ use std::thread::Threads;
 /// The dSYM image of a program: the commands and the symbols of the program, and the sections of a graph that was
 /// measured (mach-o/loader.h).
 ///
-/// The file keeps the program's UUID, its segments and sections without their bytes, and the symbols that are not
-/// stabs. A file of 2^32 bytes or more is not made, and its size is told. The file takes the place of `room`, whatever that
-/// holds, and memory is asked for once, for what `room` has not. The sections are written by at most `workers` threads.
+/// The program has no debug information yet. The file keeps its UUID, its segments and sections without their bytes, and
+/// the symbols that are not stabs. A file of 2^32 bytes or more is not made, and its size is told. The file takes the place
+/// of `room`, whatever that holds, and memory is asked for once, for what `room` has not. The sections are written by at
+/// most `workers` threads.
 pub fn image_in<R: Threads + Sync>(
     rt: &R,
     room: Vec<u8>,
@@ -33,16 +36,27 @@ pub fn image_in<R: Threads + Sync>(
 ) -> Result<Bytes, WriteError>
     requires workers { (1 ≤ workers) × (workers ≤ 64) }
     requires sound { IsSound program.now }
+    requires kind { kind_of program.now roles.Program ≡ Ok tt }
     requires measured { IsMeasured layout.now }
     ensures { (graph : Graph) → Measures graph (Ok layout.now) → Writes program.now graph result }
 {
-    let places = places_of(program, layout)?;
-    if places.size > u64::from(u32::MAX) {
-        return Err(WriteError::File { size: places.size });
-    }
-    let mut file = room_of(room, places.size as usize)?;
+    let places = places_of(program, layout);
+    let mut file = file_room(room, places.size)?;
     write_image(rt, workers, program, layout, places, file.as_mut_slice());
     Ok(Bytes::from_vec(file))
+}
+
+/// A room for a file of so many bytes in the place of another one, or the file's size, where it is 2^32 or more.
+fn file_room(room: Vec<u8>, size: u128) -> Result<Vec<u8>, WriteError>
+    ensures len { IfOk result (λ room. length room.items ≡ size) }
+    ensures small { IfOk result (λ _. size < 2 ^ 32) }
+    ensures refused { IfErr result (HasNoRoom size) }
+{
+    if size > u128::from(u32::MAX) {
+        return Err(WriteError::File { size });
+    }
+    let room = room_of(room, size as usize)?;
+    Ok(room)
 }
 
 /// A room of so many bytes in the place of another one.

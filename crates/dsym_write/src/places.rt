@@ -1,64 +1,69 @@
 //! How large the parts of an image file are, and where they stand.
 
-ghost use Rattle.std.specs.Prelude.{◌≡◌, ◌+◌, ◌<◌, ◌≤◌, ◌^◌, Ok, Err, length, map, IfOk};
+ghost use Rattle.std.specs.Prelude.{◌≡◌, ◌+◌, ◌*◌, ◌<◌, ◌≤◌, ◌^◌, All, Ok, length, map};
 ghost use Rattle.std.specs.Option.{option_map_or};
 ghost use Rattle.ds_base.specs.declared.macho.TheConstants.{UUID_COMMAND_SIZE as uuid_command_size};
+ghost use Rattle.macho_read.specs.declared.kind.Role.TheVariants as roles;
+ghost use Rattle.macho_read.specs.Commands.{last_end};
+ghost use Rattle.macho_read.specs.Kind.{kind_of};
+ghost use Rattle.macho_read.specs.Sound.{IsSound};
+ghost use Rattle.dsym_write.specs.Bundle;
 ghost use Rattle.dsym_write.specs.Bundle.{end_of};
-ghost use Rattle.dsym_write.specs.Pieces.{ArePlaces, IsUuidLen, commands_size, count_of, total, with_size};
+ghost use Rattle.dsym_write.specs.Pieces.{ArePlaces, HasRoomAbove, IsUuidLen, commands_size, count_of, total, with_size};
 
 use crate::dwarf::WRITTEN_PARTS;
 use crate::page::page_end;
 use crate::symbols::{count_kept, texts_size};
+use ds_base::Part;
 use ds_base::macho::{
     MACH_HEADER_64_SIZE, NLIST_64_SIZE, SECTION_64_SIZE, SEGMENT_COMMAND_64_SIZE,
     SYMTAB_COMMAND_SIZE,
 };
-use ds_base::{NoMemory, Part, plus, times};
 use layout::{Layout, section_size};
 use macho_read::{Image, Segment};
 
 /// The size of what all load commands begin with (`load_command`): the command, and its own size.
 const LOAD_COMMAND_SIZE: u64 = 8;
 
-/// The parts of an image file; sizes, and offsets from its start, in bytes.
+/// The parts of an image file; sizes, and offsets from its start, in bytes. Those of a file that is too large to be written
+/// have 128 bits.
 #[derive(Clone, Copy)]
 pub(crate) struct Places {
     /// How many sections have bytes.
     pub(crate) sections: u64,
     /// The size of all sections.
-    pub(crate) contents: u64,
+    pub(crate) contents: u128,
     /// The size of all commands.
-    pub(crate) commands: u64,
+    pub(crate) commands: u128,
     /// Where the symbols stand, and how many there are.
-    pub(crate) symoff: u64,
+    pub(crate) symoff: u128,
     pub(crate) nsyms: u64,
     /// Where the strings stand, and their size.
-    pub(crate) stroff: u64,
-    pub(crate) strsize: u64,
+    pub(crate) stroff: u128,
+    pub(crate) strsize: u128,
     /// Where the sections stand.
-    pub(crate) offset: u64,
+    pub(crate) offset: u128,
     /// The size of the file.
-    pub(crate) size: u64,
+    pub(crate) size: u128,
     /// The address of the first section.
     pub(crate) vmaddr: u64,
 }
 
 /// The places of the parts of an image file.
-pub(crate) fn places_of(program: &Image, layout: &Layout) -> Result<Places, NoMemory>
-    ensures { IfOk result (ArePlaces program.now layout.now.sizes) }
+pub(crate) fn places_of(program: &Image, layout: &Layout) -> Places
+    requires sound { IsSound program.now }
+    requires kind { kind_of program.now roles.Program ≡ Ok tt }
+    ensures { ArePlaces program.now layout.now.sizes result }
 {
-    let sections = count_written(&WRITTEN_PARTS, layout)?;
-    let contents = written_size(&WRITTEN_PARTS, layout)?;
-    let commands = size_of_commands(program, sections)?;
-    let symoff = plus(u64::from(MACH_HEADER_64_SIZE), commands)?;
-    let nsyms = count_kept(&program.symbols)?;
-    let stroff = plus(symoff, times(u64::from(NLIST_64_SIZE), nsyms)?)?;
-    let strsize = plus(1, texts_size(&program.symbols)?)?;
-    let offset = page_end(plus(stroff, strsize)?)?;
-    let vmaddr = page_end(last_address(program.segments.as_slice())?)?;
-    // The addresses of the sections.
-    plus(vmaddr, contents)?;
-    Ok(Places {
+    let sections = count_written(&WRITTEN_PARTS, layout);
+    let contents = written_size(&WRITTEN_PARTS, layout);
+    let commands = size_of_commands(program, sections);
+    let symoff = u128::from(MACH_HEADER_64_SIZE) + commands;
+    let nsyms = count_kept(&program.symbols);
+    let stroff = symoff + u128::from(NLIST_64_SIZE) * u128::from(nsyms);
+    let strsize = 1 + texts_size(&program.symbols);
+    let offset = page_end(stroff + strsize);
+    Places {
         sections,
         contents,
         commands,
@@ -67,47 +72,49 @@ pub(crate) fn places_of(program: &Image, layout: &Layout) -> Result<Places, NoMe
         stroff,
         strsize,
         offset,
-        size: plus(offset, contents)?,
-        vmaddr,
-    })
+        size: offset + contents,
+        vmaddr: first_address(program.segments.as_slice()),
+    }
 }
 
 /// How many parts have bytes.
-fn count_written(parts: &[Part], layout: &Layout) -> Result<u64, NoMemory>
-    ensures { IfOk result (λ count. count ≡ count_of (map (with_size layout.now.sizes) parts.now)) }
+fn count_written(parts: &[Part], layout: &Layout) -> u64
+    ensures { result ≡ count_of (map (with_size layout.now.sizes) parts.now) }
 {
     let mut count = 0;
     for part in parts {
         if section_size(layout, *part) != 0 {
-            count = plus(count, 1)?;
+            count += 1;
         }
     }
-    Ok(count)
+    count
 }
 
 /// The size of parts.
-fn written_size(parts: &[Part], layout: &Layout) -> Result<u64, NoMemory>
-    ensures { IfOk result (λ size. size ≡ total (map (with_size layout.now.sizes) parts.now)) }
+fn written_size(parts: &[Part], layout: &Layout) -> u128
+    requires few { length parts.now < 2 ^ 32 }
+    ensures size { result ≡ total (map (with_size layout.now.sizes) parts.now) }
+    ensures room { result < 2 ^ 96 }
 {
     let mut size = 0;
     for part in parts {
-        size = plus(size, section_size(layout, *part))?;
+        size += u128::from(section_size(layout, *part));
     }
-    Ok(size)
+    size
 }
 
 /// The size of the commands, where `__DWARF` has so many sections.
-fn size_of_commands(program: &Image, sections: u64) -> Result<u64, NoMemory>
-    ensures size { IfOk result (λ size. size ≡ commands_size program.now sections) }
+fn size_of_commands(program: &Image, sections: u64) -> u128
+    ensures size { result ≡ commands_size program.now sections }
+    ensures room { result < 2 ^ 96 }
     ensures uuid { IsUuidLen program.now.uuid }
 {
     let uuid = uuid_size(&program.uuid);
-    let segments = plus(program.segments.len() as u64, 1)?;
-    let sections = plus(program.sections.len() as u64, sections)?;
-    let segments_size = times(u64::from(SEGMENT_COMMAND_64_SIZE), segments)?;
-    let sections_size = times(u64::from(SECTION_64_SIZE), sections)?;
-    let first = uuid + SYMTAB_COMMAND_SIZE as u64;
-    plus(plus(first, segments_size)?, sections_size)
+    let segments = program.segments.len() as u128 + 1;
+    let sections = program.sections.len() as u128 + u128::from(sections);
+    u128::from(uuid + u64::from(SYMTAB_COMMAND_SIZE))
+        + u128::from(SEGMENT_COMMAND_64_SIZE) * segments
+        + u128::from(SECTION_64_SIZE) * sections
 }
 
 /// The size of a UUID command, if there is a UUID.
@@ -129,13 +136,32 @@ fn uuid_command_len(uuid: &[u8; 16]) -> u64
     LOAD_COMMAND_SIZE + uuid.len() as u64
 }
 
+/// The address of the first section, behind all segments.
+fn first_address(segments: &[Segment]) -> u64
+    requires { All HasRoomAbove segments.now }
+    ensures place { result ≡ Bundle.page_end (end_of segments.now) }
+    ensures room { result ≤ last_end }
+{
+    page_end(u128::from(last_address(segments))) as u64
+}
+
 /// The place behind the last address of segments.
-fn last_address(segments: &[Segment]) -> Result<u64, NoMemory>
-    ensures { IfOk result (λ end. end ≡ end_of segments.now) }
+fn last_address(segments: &[Segment]) -> u64
+    requires { All HasRoomAbove segments.now }
+    ensures end { result ≡ end_of segments.now }
+    ensures room { result ≤ last_end }
 {
     let mut last = 0;
     for segment in segments {
-        last = last.max(plus(segment.vmaddr, segment.vmsize)?);
+        last = last.max(end_of_segment(segment));
     }
-    Ok(last)
+    last
+}
+
+/// The place behind the last address of a segment.
+fn end_of_segment(segment: &Segment) -> u64
+    requires { HasRoomAbove segment.now }
+    ensures { result ≡ segment.now.vmaddr + segment.now.vmsize }
+{
+    segment.vmaddr + segment.vmsize
 }

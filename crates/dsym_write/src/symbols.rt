@@ -1,6 +1,6 @@
 //! The symbols that are not stabs, and their names.
 
-ghost use Rattle.std.specs.Prelude.{◌≡◌, ◌+◌, ◌∷◌, ◌<◌, ◌≤◌, ◌^◌, length, filter, not, IfOk};
+ghost use Rattle.std.specs.Prelude.{◌≡◌, ◌+◌, ◌∷◌, ◌<◌, ◌≤◌, ◌^◌, length, filter, not};
 ghost use Rattle.std.specs.List.{flat_map};
 ghost use Rattle.ds_base.specs.Room.{Adds};
 ghost use Rattle.dsym_write.specs.Pieces.{entries_from, entry_of, text_of};
@@ -9,43 +9,47 @@ ghost use Rattle.macho_read.specs.Seen.{symbol_seen};
 ghost use Rattle.macho_read.specs.Standings;
 
 use crate::fields::emit_byte;
-use ds_base::{NoMemory, emit_bytes, emit_u8, emit_u16, emit_u32, emit_u64, plus};
+use ds_base::{emit_bytes, emit_u8, emit_u16, emit_u32, emit_u64};
 use macho_read::{SymbolRef, Symbols, is_stab};
 
 /// How many symbols are not stabs.
-pub(crate) fn count_kept(symbols: &Symbols) -> Result<u64, NoMemory>
-    ensures { IfOk result (λ count. count ≡ length (filter (λ s. not (Standings.is_stab s)) symbols.now)) }
+pub(crate) fn count_kept(symbols: &Symbols) -> u64
+    ensures { result ≡ length (filter (λ s. not (Standings.is_stab s)) symbols.now) }
 {
     let mut count = 0;
     for i in 0..symbols.len() {
         let symbol = symbols.symbol(i);
         if !is_stab(symbol) {
-            count = plus(count, 1)?;
+            count += 1;
         }
     }
-    Ok(count)
+    count
 }
 
 /// The size of all names in the strings.
-pub(crate) fn texts_size(symbols: &Symbols) -> Result<u64, NoMemory>
-    ensures { IfOk result (λ size. size ≡ length (flat_map text_of symbols.now)) }
+pub(crate) fn texts_size(symbols: &Symbols) -> u128
+    requires few { length symbols.now < 2 ^ 32 }
+    ensures size { result ≡ length (flat_map text_of symbols.now) }
+    ensures room { result < 2 ^ 96 }
 {
     let mut size = 0;
     for i in 0..symbols.len() {
         let symbol = symbols.symbol(i);
-        size = plus(size, text_size(symbol)?)?;
+        size += text_size(symbol);
     }
-    Ok(size)
+    size
 }
 
 /// The size of a symbol's name in the strings, with its end; 0 where it has no name there.
-fn text_size(symbol: SymbolRef<'_>) -> Result<u64, NoMemory>
-    ensures { IfOk result (λ size. size ≡ length (text_of (symbol_seen symbol.entry))) }
+fn text_size(symbol: SymbolRef<'_>) -> u128
+    ensures size { result ≡ length (text_of (symbol_seen symbol.entry)) }
+    // A name is in memory.
+    ensures room { result ≤ 2 ^ 64 }
 {
     if has_no_text(symbol) {
-        return Ok(0);
+        return 0;
     }
-    plus(symbol.name.len() as u64, 1)
+    symbol.name.len() as u128 + 1
 }
 
 /// Whether a symbol has no name in the strings.

@@ -14,3 +14,4 @@ pub mod ObjectsRead
 pub mod Refusing
 pub mod Bundling
 pub mod Unmerging
+pub mod WithinLimits

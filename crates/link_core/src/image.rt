@@ -5,6 +5,8 @@ ghost use Rattle.dwarf_types.specs.declared.analysis.Analysis.{Analysis as Seen}
 ghost use Rattle.dwarf_types.specs.declared.graph.Graph.{Graph as AGraph};
 ghost use Rattle.layout.specs.Laid.{AreDrafts, IsMeasured, Measures};
 ghost use Rattle.link_core.specs.Passes.{AreOfGraph, Images, IsDrafted, Lays, Links};
+ghost use Rattle.macho_read.specs.declared.kind.Role.TheVariants as roles;
+ghost use Rattle.macho_read.specs.Kind.{kind_of};
 ghost use Rattle.macho_read.specs.Sound.{IsSound};
 
 use crate::bundle::{Counted, Counts, Linked};
@@ -38,6 +40,7 @@ pub(crate) fn bundle_of<R: Threads + Sync>(
 ) -> Result<Linked, Refusal>
     requires workers { (1 ≤ workers) × (workers ≤ 64) }
     requires sound { IsSound program.now }
+    requires kind { kind_of program.now roles.Program ≡ Ok tt }
     requires drafted { (odr : Bool) × (seen : Listed Seen) × (marks : Listed (Listed Bool)) × IsDrafted odr seen marks drafts frames.now counted closed }
     ensures { (odr : Bool) (seen : Listed Seen) (marks : Listed (Listed Bool)) → IsDrafted odr seen marks drafts frames.now counted closed → Links odr program.now name.now seen marks result }
 {
@@ -74,6 +77,7 @@ fn image_of<R: Threads + Sync>(
 ) -> Result<Bytes, Refusal>
     requires workers { (1 ≤ workers) × (workers ≤ 64) }
     requires sound { IsSound program.now }
+    requires kind { kind_of program.now roles.Program ≡ Ok tt }
     requires few { length drafts < 2 ^ 32 - 1 }
     requires drafted { AreOfGraph drafts frames.now }
     ensures { (graph : AGraph) → AreDrafts graph drafts → graph.frames ≡ frames.now → Images program.now graph result }
@@ -126,6 +130,7 @@ fn write_image<R: Threads + Sync>(
 ) -> Result<Bytes, Refusal>
     requires workers { (1 ≤ workers) × (workers ≤ 64) }
     requires sound { IsSound program.now }
+    requires kind { kind_of program.now roles.Program ≡ Ok tt }
     requires measured { IsMeasured layout.now }
     ensures { (graph : AGraph) → Measures graph (Ok layout.now) → length graph.units < 2 ^ 32 - 1 → Images program.now graph result }
 {

@@ -158,6 +158,7 @@ fn link_marked<R: Threads + Sync, G: Gate + Sync>(
 ) -> Result<Linked, Refusal>
     requires workers { (1 ≤ options.now.workers) × (options.now.workers ≤ 64) }
     requires program { IsSoundImage program.now }
+    requires kind { kind_of program.now roles.Program ≡ Ok tt }
     requires few { length seen < 2 ^ 16 }
     requires sound { All IsSound seen }
     requires live { MarkLive seen marks.now }

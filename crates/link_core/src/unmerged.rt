@@ -1,8 +1,10 @@
 //! A link in which nothing is merged: the units of each object are drafted once it is read, and its analysis goes.
 
-ghost use Rattle.std.specs.Prelude.{◌≡◌, ◌<◌, ◌≤◌, ◌+◌, ◌^◌, ℕ, Bool, List as Listed, [], ◌∷◌, ◌++◌, false, length, IfOk, IfSome, OnOk};
+ghost use Rattle.std.specs.Prelude.{◌≡◌, ◌<◌, ◌≤◌, ◌+◌, ◌^◌, ℕ, Bool, List as Listed, [], ◌∷◌, ◌++◌, false, length, Ok, IfOk, IfSome, OnOk};
 ghost use Rattle.std.specs.List.{All};
 ghost use Rattle.dwarf_types.specs.declared.analysis.Analysis.{Analysis as Seen};
+ghost use Rattle.macho_read.specs.declared.kind.Role.TheVariants as roles;
+ghost use Rattle.macho_read.specs.Kind.{kind_of};
 ghost use Rattle.dwarf_types.specs.Sound.{IsSound};
 ghost use Rattle.macho_read.specs.Sound.{IsSound as IsSoundImage};
 ghost use Rattle.link_graph.specs.Merged.{shape_of};
@@ -63,6 +65,7 @@ pub(crate) fn link_unmerged<R: Threads + Sync, G: Gate + Sync>(
     source: &[Option<u32>],
 ) -> Result<Linked, Refusal>
     requires sound { IsSoundImage program.now }
+    requires kind { kind_of program.now roles.Program ≡ Ok tt }
     requires few { length objects.now < 2 ^ 16 }
     requires each { length source.now ≡ length objects.now }
     requires held { All (λ k. IfSome k (λ n. n < length files)) source.now }
@@ -176,6 +179,7 @@ impl Unmerged {
     ) -> Result<Linked, Refusal>
         requires workers { (1 ≤ workers) × (workers ≤ 64) }
         requires sound { IsSoundImage program.now }
+        requires kind { kind_of program.now roles.Program ≡ Ok tt }
         requires whole { (seen : Listed Seen) × (marks : Listed (Listed Bool)) × IsWhole seen marks self }
         requires closed { IsClosed [] closed }
         ensures { (seen : Listed Seen) (marks : Listed (Listed Bool)) → IsWhole seen marks self → Links false program.now name.now seen marks result }

@@ -17,7 +17,7 @@ use dwarf_types::{
     Sequences, Span,
 };
 use layout::measure;
-use macho_read::{Image, Section, Segment, Symbols, read_image};
+use macho_read::{Image, Role, Section, Segment, Symbols, check_kind, read_image};
 use sample_objects::program_file;
 use std::alloc::Global;
 use std::process::Abort;
@@ -96,7 +96,7 @@ fn program(rt: &impl Abort, alloc: Global) -> Image
     read_image(alloc, file.as_slice()).expect(rt, "a program")
 }
 
-// The image of a program and a graph, by four threads: two write the units.
+// The image of a program without debug information and of a graph, by four threads: two write the units.
 fn image_of<R: Threads + Abort + Sync>(
     rt: &R,
     alloc: Global,
@@ -106,6 +106,7 @@ fn image_of<R: Threads + Abort + Sync>(
     requires { IsSound program.now }
 {
     assert!(rt; graph.units.len() <= 2);
+    check_kind(program, Role::Program).expect(rt, "no debug information");
     let layout = measure(alloc, graph).expect(rt, "a layout");
     image_in(rt, Vec::new(alloc), 4, program, &layout).expect(rt, "an image")
 }

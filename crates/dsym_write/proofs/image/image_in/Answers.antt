@@ -1,10 +1,11 @@
-use Rattle.std.proofs.Common.{sym, subst, arith}
-use Rattle.dwarf_types.specs.Encode.{encode}
-use Rattle.dsym_write.proofs.TheFile.{file_length}
-use Rattle.dsym_write.proofs.Told.{AreTold, graph_told}
+use Rattle.std.proofs.Common.{Err, sym, subst, ◌∙◌, ap}
+use Rattle.std.proofs.lemmas.Result.{err_from_is_err_and}
+use Rattle.dsym_write.specs.Bundle.{Writes}
+use Rattle.dsym_write.proofs.FileRoom.{refused}
 use Rattle.dsym_write.proofs.image.image_in.Goals as goal
 
-pub returns-then-places-from : goal.returns-then-places-from
-returns-then-places-from g c = λ graph measured.
-    let told = subst (λ l. AreTold (encode graph) l.sizes) (sym measured.0) (graph_told graph) in
-    (sym (file_length c.args.program.now (encode graph) c.args.layout.now.sizes c.in_ok-places.places c.requires.sound c.in_ok-places.ensures told), omega (arith, c.if-places-from.true))
+pub returns-in_err-file : goal.returns-in_err-file
+returns-in_err-file g c = λ graph measured.
+    let given = err_from_is_err_and c.from_residual.result c.from_residual.ensures.1 in
+    subst (Writes c.args.program.now graph) (sym (given.1 ∙ ap Err given.2))
+    (refused c.args.program.now c.args.layout.now c.places_of-places.result c.requires.sound c.places_of-places.ensures graph measured c.in_err-file.field-0.0 c.in_err-file.ensures.refused)
