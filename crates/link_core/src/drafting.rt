@@ -14,7 +14,7 @@ ghost use Rattle.link_core.specs.Passes.{AreDrafting, DraftsBy, DraftsFrom, Draf
 use crate::batches::{batch_end, drop_analyses, first_needed};
 use crate::refusal::{LimitKind, Refusal};
 use crate::results::{in_turn, put_behind};
-use crate::room::{Rooming, let_go, start_text_room};
+use crate::room::{Rooming, TextRoom, let_go, start_text_room};
 use clone_units::clone_unit;
 use ds_base::limits::UNIT_BYTES;
 use ds_base::{List, NoMemory};
@@ -76,20 +76,21 @@ pub(crate) struct Drafts {
     /// So many of them went.
     pub dropped: usize,
     pub outs: Vec<Result<Draft, Refusal>>,
-    /// A thread that takes memory for the string section, where two draft a unit.
-    pub texts: Rooming,
+    /// Memory for the string section, where two draft a unit.
+    pub texts: TextRoom,
 }
 
 impl Drafts {
-    /// No drafts of objects with these analyses.
-    pub(crate) fn new(alloc: Global, seen: List<Analysis>) -> Drafts
+    /// No drafts of objects with these analyses. `texts` says whether memory for the string section is taken beside them: who
+    /// drafts batch after batch of the objects does not know how much, before the last.
+    pub(crate) fn new(alloc: Global, seen: List<Analysis>, texts: bool) -> Drafts
         ensures { (shape : Shaping) → AreDrafting seen shape result }
     {
         Drafts {
             left: seen,
             dropped: 0,
             outs: Vec::new(alloc),
-            texts: None,
+            texts: TextRoom::new(texts),
         }
     }
 
@@ -149,11 +150,17 @@ pub(crate) fn drafts_of<R: Threads + Sync, G: Gate + Sync>(
     requires drafted { MayDraftAll seen shape.now }
     ensures { DraftsUnits (graph_in seen shape.now) result }
 {
-    let mut drafts = Drafts::new(alloc, seen);
+    let mut drafts = Drafts::new(alloc, seen, true);
     drafts.draft_others(rt, alloc, workers, gate, shape)?;
-    *texts = drafts.texts;
-    let_go(rt, workers, drafts.left);
-    all_drafted(alloc, drafts.outs)
+    let Drafts {
+        left,
+        outs,
+        texts: room,
+        ..
+    } = drafts;
+    *texts = room.taken;
+    let_go(rt, workers, left);
+    all_drafted(alloc, outs)
 }
 
 /// What is drafted of the units from one up to another, by the analyses that are left.
@@ -168,7 +175,7 @@ fn batch<R: Threads + Sync, G: Gate + Sync>(
     shape: &Shape,
     first: u32,
     end: u32,
-    texts: &mut Rooming,
+    texts: &mut TextRoom,
 ) -> Result<Vec<Result<Draft, Refusal>>, NoMemory>
     requires workers { (1 ≤ workers) × (workers ≤ 64) }
     requires order { first ≤ end }
@@ -203,7 +210,7 @@ fn node_count(shape: &Shape, unit: u32) -> u64 {
 }
 
 /// What is drafted of a batch whose first unit is drafted by two threads, beside the others. Behind these, a thread begins to
-/// take memory for the string section.
+/// take memory for the string section, where that is wanted.
 fn first_by_two<R: Threads + Sync, G: Gate + Sync>(
     rt: &R,
     alloc: Global,
@@ -213,7 +220,7 @@ fn first_by_two<R: Threads + Sync, G: Gate + Sync>(
     shape: &Shape,
     first: u32,
     end: u32,
-    texts: &mut Rooming,
+    texts: &mut TextRoom,
 ) -> Result<Vec<Result<Draft, Refusal>>, NoMemory>
     requires workers { (4 ≤ workers) × (workers ≤ 64) }
     requires order { first < end }
@@ -223,6 +230,7 @@ fn first_by_two<R: Threads + Sync, G: Gate + Sync>(
     let second = first + 1;
     let beside = workers - 2;
     let nodes = node_count(shape, first) as usize;
+    let wanted = texts.wanted;
     let (draft, behind) = join(
         rt,
         || -> Result<Draft, Refusal>
@@ -232,18 +240,22 @@ fn first_by_two<R: Threads + Sync, G: Gate + Sync>(
         || -> (Result<Vec<Result<Draft, Refusal>>, NoMemory>, Rooming)
             requires { IsSync R.row × IsSync G.row × (1 ≤ beside) × (beside ≤ 64) × (second ≤ end) × MayDraftFrom left.now shape.now second end }
             ensures { IfOk result.0 (λ outs. DraftsFrom left.entry.now shape.entry.now second end outs.items) }
-        { each_with_room(rt, alloc, beside, gate, left, shape, second, end, nodes) },
+        {
+            each_with_room(
+                rt, alloc, beside, gate, left, shape, second, end, nodes, wanted,
+            )
+        },
     );
     let (others, taken) = behind;
-    *texts = taken;
+    texts.taken = taken;
     let mut outs = Vec::new(alloc);
     outs.push(draft)?;
     put_behind(&mut outs, others?)?;
     Ok(outs)
 }
 
-/// What is drafted of the units from one up to another, each by one of several threads, and a thread that takes memory for the
-/// string section while a unit of so many nodes is drafted beside them.
+/// What is drafted of the units from one up to another, each by one of several threads, and, where that is wanted, a thread that
+/// takes memory for the string section while a unit of so many nodes is drafted beside them.
 fn each_with_room<R: Threads + Sync, G: Gate + Sync>(
     rt: &R,
     alloc: Global,
@@ -254,6 +266,7 @@ fn each_with_room<R: Threads + Sync, G: Gate + Sync>(
     first: u32,
     end: u32,
     nodes: usize,
+    wanted: bool,
 ) -> (Result<Vec<Result<Draft, Refusal>>, NoMemory>, Rooming)
     requires workers { (1 ≤ workers) × (workers ≤ 64) }
     requires order { first ≤ end }
@@ -262,8 +275,8 @@ fn each_with_room<R: Threads + Sync, G: Gate + Sync>(
 {
     let others = each_by_one(rt, alloc, workers, gate, left, shape, first, end);
     let texts = match &others {
-        Ok(outs) => start_text_room(rt, alloc, nodes, outs.as_slice()),
-        Err(_) => None,
+        Ok(outs) if wanted => start_text_room(rt, alloc, nodes, outs.as_slice()),
+        _ => None,
     };
     (others, texts)
 }

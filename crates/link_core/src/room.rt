@@ -12,6 +12,23 @@ use unit_draft::Draft;
 /// is guessed: what is missing is taken later, and nothing depends on it.
 pub(crate) type Rooming = Option<JoinHandle<Vec<u8>>>;
 
+/// Memory for the string section, taken beside the drafts where it is wanted.
+#[derive(Drop)]
+pub(crate) struct TextRoom {
+    pub wanted: bool,
+    pub taken: Rooming,
+}
+
+impl TextRoom {
+    /// None is taken so far.
+    pub(crate) fn new(wanted: bool) -> TextRoom {
+        TextRoom {
+            wanted,
+            taken: None,
+        }
+    }
+}
+
 /// Bytes of the texts of a merged node, about.
 const TEXT_BYTES: usize = 24;
 

@@ -104,7 +104,7 @@ impl Unmerged {
     {
         Unmerged {
             shape: empty_shape(alloc),
-            drafts: Drafts::new(alloc, List::new(alloc)),
+            drafts: Drafts::new(alloc, List::new(alloc), false),
             frames: OutFrames::new(alloc),
             entries: 0,
             live: 0,
