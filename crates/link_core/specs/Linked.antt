@@ -90,7 +90,7 @@ graph_of odr seen live = graph_in seen (shape_of odr seen live)
 
 -- ---- limits
 
--- more units than a number of four bytes tells
+-- as many units as the limit of a section has bytes, or more
 abbrev pub are_many : Graph → Bool
 are_many graph = nat_le (2 ^ 32 - 1) (length graph.units)
 

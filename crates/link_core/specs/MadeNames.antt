@@ -7,9 +7,10 @@ use Rattle.odr_names.specs.declared.book_error.BookError.{BookError}
 use Rattle.odr_names.specs.declared.one_object.ObjectNames.{ObjectNames}
 use Rattle.type_names.specs.Objects.{object_of}
 use Rattle.link_core.specs.declared.objects.ReadObject.{ReadObject}
+use Rattle.link_core.specs.declared.reading.ReadObjects.{ReadObjects}
 use Rattle.link_core.specs.declared.refusal.Refusal.{Refusal}
 use Rattle.link_core.specs.Linked.{Source}
-use Rattle.link_core.specs.Passes.{ReadsAt}
+use Rattle.link_core.specs.Passes.{Reads, ReadsAt}
 
 -- what is made for the object of a number: its names, or it has too many; nothing where none are merged
 abbrev pub HasNames : Bool → ℕ → Analysis → List Bool → Option (Result ObjectNames BookError) → Type 0
@@ -29,3 +30,8 @@ ReadsNamed named cpu sources item out = ReadsAt cpu sources item out × NamesAt 
 abbrev pub HaveNames : Bool → List Analysis → List (List Bool) → List (Result ObjectNames BookError) → Type 0
 HaveNames true seen marks made = AreMade (objects_of seen marks) made
 HaveNames false seen marks made = made ≡ []
+
+-- all objects are read with their names, or the first fault of the first that has one is told, for a program of this CPU type
+pub record AllNamed (named : Bool) (cpu : ℕ) (sources : List Source) (answer : Result ReadObjects Refusal) : Type 0 where
+  pub read : Reads cpu sources answer
+  pub names : IfOk answer (λ it. HaveNames named it.seen it.marks it.made)

@@ -1,5 +1,4 @@
--- How a link ends.
-use Rattle.std.specs.Prelude.{Result, Ok, Err}
+-- The status with which a refusal ends a link.
 use Rattle.link_core.specs.declared.refusal.Refusal.{Refusal}
 use Rattle.link_core.specs.declared.refusal.Refusal.TheVariants as refusals
 use Rattle.link_core.specs.declared.status.Status.{Status}
@@ -10,8 +9,3 @@ abbrev pub refused_status : Refusal → Status
 refused_status (refusals.Faulty file fault) = statuses.Faulty file fault
 refused_status (refusals.Limit which number) = statuses.Limit which number
 refused_status refusals.NoMemory = statuses.NoMemory
-
--- the status of what went through, or broke off with one
-abbrev pub ended : Result (Unit {0}) Status → Status
-ended (Ok done) = statuses.Done
-ended (Err status) = status

@@ -1,13 +1,13 @@
 //! The bundle of a program, from the bytes of its objects.
 
-ghost use Rattle.std.specs.Prelude.{◌≡◌, ◌<◌, ◌≤◌, ◌^◌, IfSome, Ok, length};
+ghost use Rattle.std.specs.Prelude.{◌≡◌, ◌<◌, ◌≤◌, ◌^◌, IfSome, List as Listed, Ok, length};
 ghost use Rattle.std.specs.List.{All};
 ghost use Rattle.macho_read.specs.declared.kind.Role.TheVariants as roles;
 ghost use Rattle.macho_read.specs.Kind.{kind_of};
 ghost use Rattle.macho_read.specs.Sound.{IsSound as IsSoundImage};
 ghost use Rattle.dwarf_types.specs.Sound.{IsSound};
-ghost use Rattle.link_core.specs.Linked.{Bundles, MarkLive, sources_of};
-ghost use Rattle.link_core.specs.MadeNames.{HaveNames};
+ghost use Rattle.link_core.specs.Linked.{Bundles, MarkLive, Source, sources_of};
+ghost use Rattle.link_core.specs.MadeNames.{AllNamed, HaveNames};
 ghost use Rattle.link_core.specs.Passes.{Links};
 
 use crate::bundle::{Counted, Linked, Options};
@@ -67,19 +67,8 @@ pub fn link_objects<R: Threads + Sync, G: Gate + Sync>(
         objects,
         files,
         source,
-    )?;
-    let ReadObjects { seen, marks, made } = read;
-    link_marked(
-        rt,
-        alloc,
-        options,
-        gate,
-        program,
-        name,
-        seen,
-        marks.as_slice(),
-        made,
-    )
+    );
+    link_read(rt, alloc, options, gate, program, name, read)
 }
 
 /// Links the objects of a program to its bundle, as [`link_objects`] does, and lets the files go once they are read.
@@ -129,8 +118,27 @@ pub fn link_files<R: Threads + Sync, G: Gate + Sync>(
         objects,
         files,
         source,
-    )?;
-    let ReadObjects { seen, marks, made } = read;
+    );
+    link_read(rt, alloc, options, gate, program, name, read)
+}
+
+/// Links objects to the bundle of a program of this name, by what was read of them.
+fn link_read<R: Threads + Sync, G: Gate + Sync>(
+    rt: &R,
+    alloc: Global,
+    options: &Options,
+    gate: &G,
+    program: &Image,
+    name: &str,
+    read: Result<ReadObjects, Refusal>,
+) -> Result<Linked, Refusal>
+    requires workers { (1 ≤ options.now.workers) × (options.now.workers ≤ 64) }
+    requires program { IsSoundImage program.now }
+    requires kind { kind_of program.now roles.Program ≡ Ok tt }
+    requires read { (sources : Listed Source) × (length sources < 2 ^ 16) × AllNamed options.now.odr program.now.cpu sources read }
+    ensures { (sources : Listed Source) → AllNamed options.now.odr program.now.cpu sources read → Bundles options.now.odr program.now name.now sources result }
+{
+    let ReadObjects { seen, marks, made } = read?;
     link_marked(
         rt,
         alloc,

@@ -5,7 +5,7 @@ ghost use Rattle.std.specs.Option.{option_to_list};
 ghost use Rattle.std.specs.List.{All};
 ghost use Rattle.work_share.specs.Results.{GivesAll};
 ghost use Rattle.link_core.specs.Linked.{Source, sources_of};
-ghost use Rattle.link_core.specs.MadeNames.{HaveNames, NamesAt, ReadsNamed};
+ghost use Rattle.link_core.specs.MadeNames.{AllNamed, HaveNames, NamesAt, ReadsNamed};
 ghost use Rattle.link_core.specs.Passes.{HoldsFrom, MayRead, Reads, ReadsAt, ReadsBatch};
 
 use crate::files::{FilesLeft, batch_end, drop_files};
@@ -105,8 +105,7 @@ pub(crate) fn read_objects<R: Threads + Sync, G: Gate + Sync>(
     requires each { length source.now ≡ length objects.now }
     requires held { All (λ k. IfSome k (λ n. n < length files.now)) source.now }
     requires small { All (λ file. length file < 2 ^ 32) files.now }
-    ensures read { Reads cpu (sources_of objects.now files.now source.now) result }
-    ensures names { IfOk result (λ it. HaveNames named it.seen it.marks it.made) }
+    ensures { AllNamed named cpu (sources_of objects.now files.now source.now) result }
 {
     let outs = read_batch(
         rt,
@@ -141,8 +140,7 @@ pub(crate) fn read_files<R: Threads + Sync, G: Gate + Sync>(
     requires each { length source.now ≡ length objects.now }
     requires held { All (λ k. IfSome k (λ n. n < length files)) source.now }
     requires small { All (λ file. length file < 2 ^ 32) files }
-    ensures read { Reads cpu (sources_of objects.now files source.now) result }
-    ensures names { IfOk result (λ it. HaveNames named it.seen it.marks it.made) }
+    ensures { AllNamed named cpu (sources_of objects.now files source.now) result }
 {
     let read = read_objects(
         rt,

@@ -11,7 +11,7 @@ use ds_base::Fault;
 /// A file is numbered: 0 is the program, and its objects follow from 1. In `WriteFault` 0 is Info.plist and 1 the image.
 #[derive(Clone, Copy, Debug, PartialEq, Eq)]
 pub enum Status {
-    /// The bundle was written.
+    /// It is done: the bundle was written, or what was asked for is told.
     Done,
     /// The words are not those of the command.
     Usage,
