@@ -1,7 +1,6 @@
 //! Range lists and location lists (DWARF 4, sections 2.17.3 and 2.6.2; DWARF 5, sections 7.25, 7.28 and 7.29).
 
 ghost use Rattle.std.specs.Prelude.{◌≡◌, ◌++◌, OnOk};
-ghost use Rattle.byteorder.specs.Endian.{little_bytes};
 ghost use Rattle.ds_base.specs.declared.dwarf.TheConstants.{DW_LLE_start_end, DW_RLE_start_end};
 ghost use Rattle.dwarf_types.specs.Lists.{end_of_list, kind_bytes, location_bytes, location_list_bytes, range_bytes, range_list_bytes, size_bytes, span_bytes};
 ghost use Rattle.patches.specs.Filling.{Filling, filled};
@@ -10,6 +9,7 @@ ghost use Rattle.unit_draft.specs.Based.{AppendsBased};
 use crate::drafting::Scratch;
 use crate::expression::write_expression;
 use crate::numbers::ADDRESS_LEN;
+use appending::append_u64;
 use ds_base::dwarf::{DW_LLE_start_end, DW_RLE_end_of_list, DW_RLE_start_end, DWARF_5};
 use ds_base::{Bytes, NoMemory};
 use dwarf_types::{OutLocation, Span};
@@ -58,15 +58,8 @@ fn append_range_kind(out: &mut Bytes, version: u16) -> Result<(), NoMemory>
 fn append_span(out: &mut Bytes, span: &Span) -> Result<(), NoMemory>
     ensures { OnOk result (out.new ≡ out.old ++ span_bytes span.now) }
 {
-    extend_u64(out, span.low)?;
-    extend_u64(out, span.high)?;
-    Ok(())
-}
-
-fn extend_u64(out: &mut Bytes, n: u64) -> Result<(), NoMemory>
-    ensures { OnOk result (out.new ≡ out.old ++ little_bytes 8 n) }
-{
-    out.extend(&n.to_le_bytes())?;
+    append_u64(out, span.low)?;
+    append_u64(out, span.high)?;
     Ok(())
 }
 
