@@ -1,7 +1,7 @@
 //! What is linked is well.
 //!
 //! Layer: laws. [`linked_is_well`] says that the linked graph of objects (`dwarf_types/specs/LinkedGraph.antt`)
-//! keeps to what every writer asks of a graph (`dwarf_types/specs/Well.antt`), where the objects' analyses are sound and
+//! keeps to the rules of a well graph (`dwarf_types/specs/Well.antt`), where the objects' analyses are sound and
 //! say what the bytes of an object can say (`specs/Spellable.antt`), and where whatever an entry that is written needs is
 //! written too (`specs/Kept.antt`). [`live_entries_are_closed`] says the last of the live entries, and
 //! [`lists_end_by_ancestors`] which lists of siblings end behind a node of a well unit, and [`well_units_are_well_alone`]

@@ -1,7 +1,7 @@
 //! What is linked with merged entries is well.
 //!
 //! Layer: laws. [`merged_is_well`] says that the linked graph with the unit of merged entries
-//! (`link_graph/specs/Graph.antt`, `Merged.antt`) keeps to what every writer asks of a graph
+//! (`link_graph/specs/Graph.antt`, `Merged.antt`) keeps to the rules of a well graph
 //! (`dwarf_types/specs/Well.antt`), where the source files that merged entries name have numbers of 64 bits
 //! (`specs/Files.antt`). [`nothing_merged_is_linked`] says that without merging it is the graph of the live entries alone,
 //! and [`every_path_has_a_node`] that each name has a node, that of its path. Nothing here runs.
