@@ -5,11 +5,10 @@
 
 ghost use Rattle.std.specs.Prelude.{◌≡◌, ◌+◌, ◌<◌, ◌≤◌, ◌^◌, ◌∷◌, [], length, false};
 ghost use Rattle.byteorder.specs.Endian.{little_bytes};
-ghost use Rattle.ds_base.specs.Leb.{leb_digits, sleb, uleb};
+ghost use Rattle.ds_base.specs.Leb.{leb_digits};
 ghost use Rattle.ds_base.specs.Room.{Adds, put};
 
-use crate::leb::{sleb_len, uleb_len};
-use crate::put::{put_bytes, put_sleb, put_u8, put_u16, put_u32, put_u64, put_uleb, put_uleb4};
+use crate::put::{put_bytes, put_u8, put_u16, put_u32, put_u64, put_uleb4};
 
 /// Writes bytes.
 pub fn emit_bytes(room: &mut [u8], at: usize, bytes: &[u8]) -> usize
@@ -61,16 +60,6 @@ pub fn emit_u64(room: &mut [u8], at: usize, n: u64) -> usize
     at + 8
 }
 
-/// Writes the shortest LEB number without a sign (DWARF 4, section 7.6).
-pub fn emit_uleb(room: &mut [u8], at: usize, n: u64) -> usize
-    requires fits { at + length (uleb n) ≤ length room.old }
-    ensures put { room.new ≡ put room.old at (uleb n) }
-    ensures adds { Adds room.old at (uleb n) room.new result }
-{
-    put_uleb(room, at, n);
-    at + uleb_len(n) as usize
-}
-
 /// Writes a LEB number without a sign in exactly four bytes, padded where fewer would do.
 pub fn emit_uleb4(room: &mut [u8], at: usize, n: u32) -> usize
     requires small { n < 2 ^ 28 }
@@ -80,14 +69,4 @@ pub fn emit_uleb4(room: &mut [u8], at: usize, n: u32) -> usize
 {
     put_uleb4(room, at, n);
     at + 4
-}
-
-/// Writes the shortest LEB number with a sign (DWARF 4, section 7.6).
-pub fn emit_sleb(room: &mut [u8], at: usize, n: i64) -> usize
-    requires fits { at + length (sleb n) ≤ length room.old }
-    ensures put { room.new ≡ put room.old at (sleb n) }
-    ensures adds { Adds room.old at (sleb n) room.new result }
-{
-    put_sleb(room, at, n);
-    at + sleb_len(n) as usize
 }

@@ -50,6 +50,13 @@ impl<T> List<T> {
         List { items }
     }
 
+    /// The vector of the list's items, to be taken by value. It asks the allocator for nothing.
+    pub fn into_vec(self) -> Vec<T>
+        ensures { result.items ≡ self }
+    {
+        self.items
+    }
+
     /// Puts an item last. Where there is no memory for it, the item goes and the list stays.
     pub fn push(&mut self, item: T) -> Result<(), NoMemory>
     where
