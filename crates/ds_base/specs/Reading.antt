@@ -1,5 +1,5 @@
 -- Reading from where a cursor stands: an item is the value and the spot behind it, or the first fault.
-use Rattle.std.specs.Prelude.{◌≡◌, ℕ, zero, suc, ◌+◌, ◌-◌, ◌^◌, ℤ, Bool, List, [], ◌∷◌, ◌++◌, length, take, Option, Some, None, Result, Ok, Err, nat_lt, if◌then◌else◌}
+use Rattle.std.specs.Prelude.{◌≡◌, ℕ, zero, suc, ◌+◌, ◌-◌, ◌^◌, ℤ, Bool, List, [], ◌∷◌, ◌++◌, length, take, drop, Option, Some, None, Result, Ok, Err, nat_lt, if◌then◌else◌}
 use Rattle.std.specs.Option.{option_map}
 use Rattle.byteorder.specs.Endian.{little_number}
 use Rattle.ds_base.specs.declared.fault.Fault.{Fault}
@@ -40,6 +40,10 @@ unfoldable pub text_at : Spot → Result (List ℕ × Spot) Fault
 text_at s = do
   n ← or_fault (index_below 1 (rest s)) (fault_at s Truncated)
   Ok (take n (rest s), after s (n + 1))
+
+-- the text that begins at a place of a section, if it ends there
+unfoldable pub text_of : List ℕ → ℕ → Option (List ℕ)
+text_of section place = let tail = drop place section in option_map (λ n. take n tail) (index_below 1 tail)
 
 -- the bytes of the next LEB number: up to the first below 128 and with it
 unfoldable pub leb_at : Spot → Result (List ℕ) Fault

@@ -1,6 +1,6 @@
 //! A row of marks, one for each number below its length.
 
-ghost use Rattle.std.specs.Prelude.{◌≡◌, ◌<◌, true, false, length, replicate, slice_set, slice_index_or, IfOk};
+ghost use Rattle.std.specs.Prelude.{◌≡◌, ◌<◌, true, false, length, replicate, slice_set, slice_index_or, IfOk, if◌then◌else◌};
 
 use crate::fault::NoMemory;
 use std::alloc::Global;
@@ -43,5 +43,15 @@ impl BitRow {
         ensures { self.new ≡ slice_set self.old i true }
     {
         self.marks[i as usize] = true;
+    }
+
+    /// Makes the mark at place `i` true where there is cause, and leaves all others.
+    pub fn set_if(&mut self, i: u32, cause: bool)
+        requires { i < length self.old }
+        ensures { self.new ≡ (if cause then slice_set self.old i true else self.old) }
+    {
+        if cause {
+            self.set(i);
+        }
     }
 }

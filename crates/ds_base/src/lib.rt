@@ -32,7 +32,7 @@ pub use leb::{
     uleb4_reads_back,
 };
 pub use list::List;
-pub use pieces::{bytes_from, cut};
+pub use pieces::{bytes_from, cut, text_in};
 pub use put::{put_bytes, put_sleb, put_u8, put_u16, put_u32, put_u64, put_uleb, put_uleb4};
 pub use sums::{plus, times};
 pub use text_key::TextKey;

@@ -4,7 +4,7 @@
 //! list, so that a value of a type here is the value that definitions speak of. What is held by the
 //! million, entries with their values, operations and frames, stands in flat columns that contracts see
 //! as lists of the records here (`specs/Columns.antt`, `specs/Cells.antt`). The encoding of a
-//! graph is a definition alone (`specs/Encode.antt`): sections of DWARF 4, section 7, with this
+//! graph is a definition alone (`specs/Encode.antt`): sections of DWARF 4 and 5, section 7, with this
 //! project's choices (docs/PROFILE.md, "Bytes written"). What every linked graph keeps to is
 //! `specs/Well.antt`. The one table here is that of the operations of expressions
 //! ([`operands_after`]), by which they are read and written. Nothing here reads or writes bytes.

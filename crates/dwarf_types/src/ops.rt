@@ -1,12 +1,9 @@
 //! Operations and locations that are put one behind the other.
 
-ghost use Rattle.std.specs.Prelude.{◌≡◌, ◌<◌, [], ◌∷◌, ◌++◌, length, slice_get, slice_set, Some, IfOk, OnOk, OnErr};
-ghost use Rattle.dwarf_types.specs.declared.expr.Op.{Op as AnOp};
-ghost use Rattle.dwarf_types.specs.declared.expr.PlainOp.{PlainOp as APlainOp};
+ghost use Rattle.std.specs.Prelude.{◌≡◌, ◌<◌, [], ◌∷◌, ◌++◌, length, slice_get, Some, IfOk, OnOk, OnErr};
 ghost use Rattle.dwarf_types.specs.Seen.{inner_seen, op_seen};
 
-use crate::address::{Place, Span};
-use crate::expr::Base;
+use crate::address::Span;
 use crate::seen::{InnerOpRef, LocationsRef, OpRef, OpsRef};
 use crate::sides::{ItemRow, OpRow, Sides, Stretch, column_place};
 use ds_base::NoMemory;
@@ -104,52 +101,6 @@ impl Ops {
             inner,
         })?;
         self.open_from = self.sides.inner.len();
-        Ok(())
-    }
-
-    /// Puts in place what the operand of operation `k` means. Those that were put with `repeat_inner` stand inside it, in
-    /// place of those that did.
-    pub fn set_operand(
-        &mut self,
-        k: usize,
-        address: Option<Place>,
-        base: Option<Base>,
-    ) -> Result<(), NoMemory>
-        requires { k < length self.old.ops }
-        ensures ok { (op : AnOp) → slice_get self.old.ops k ≡ Some op
-            → OnOk result (self.new ≡ record { ops = slice_set self.old.ops k (record op { address = address; base = base; inner = self.old.inner }); inner = [] }) }
-        ensures unchanged { OnErr result (self.new ≡ self.old) }
-    {
-        let row = self.rows[k];
-        let address = self.sides.store_field(address)?;
-        let inner = stretch(self.open_from, self.sides.inner.len())?;
-        self.rows[k] = OpRow {
-            code: row.code,
-            bytes: row.bytes,
-            address,
-            base,
-            inner,
-        };
-        self.open_from = self.sides.inner.len();
-        Ok(())
-    }
-
-    /// Puts operation `j` inside operation `k` again, with what its operand means, behind those that will stand inside
-    /// the next one.
-    pub fn repeat_inner(
-        &mut self,
-        k: usize,
-        j: usize,
-        address: Option<Place>,
-        base: Option<Base>,
-    ) -> Result<(), NoMemory>
-        requires { (op : AnOp) × (slice_get self.old.ops k ≡ Some op) × (j < length op.inner) }
-        ensures ok { (op : AnOp) (inner : APlainOp) → slice_get self.old.ops k ≡ Some op → slice_get op.inner j ≡ Some inner
-            → OnOk result (self.new ≡ record self.old { inner = self.old.inner ++ record inner { address = address; base = base } ∷ [] }) }
-        ensures unchanged { OnErr result (self.new ≡ self.old) }
-    {
-        let at = self.rows[k].inner.from as usize + j;
-        self.sides.repeat_inner(at, address, base)?;
         Ok(())
     }
 }

@@ -4,6 +4,7 @@ ghost use Rattle.std.specs.Prelude.{◌≡◌, ◌<◌, [], All, IsSome, length,
 ghost use Rattle.std.specs.Option.{unwrap_or};
 ghost use Rattle.dwarf_types.specs.Cells.{InColumn, InnerWithin, IsAddress, IsStretch, IsWithin, ItemWithin, OpWithin, address_at, held_value, inner_of, item_of, op_of, stretch_at, stretch_of, text_from};
 ghost use Rattle.dwarf_types.specs.Columns.{CellWithin, attr_of};
+ghost use Rattle.dwarf_types.specs.Moves.{place_in};
 ghost use Rattle.dwarf_types.specs.Put.{number_form};
 ghost use Rattle.dwarf_types.specs.Seen.{attr_seen, inner_seen, location_seen, op_seen, value_seen};
 
@@ -39,6 +40,18 @@ pub enum ValueRef<'a> {
     Lines,
     /// Classes reference, lineptr, loclist and rnglist, as they are read: the stored number.
     Offset(u64),
+}
+
+impl ValueRef<'_> {
+    /// The address that a value of class address is.
+    pub fn place(&self) -> Option<Place>
+        ensures { result ≡ place_in (value_seen self.now) }
+    {
+        match self {
+            ValueRef::Address(place) => Some(*place),
+            _ => None,
+        }
+    }
 }
 
 /// An attribute where it stands.

@@ -180,7 +180,8 @@ impl SequenceBuilder {
 
     /// Makes a sequence of the rows that were put. `end` is the address behind its last instruction.
     pub fn close(&mut self, end: u64) -> Result<(), NoMemory>
-        ensures { OnOk result (self.new ≡ record { ended = self.old.ended ++ record { rows = self.old.rows; end = end } ∷ []; rows = [] }) }
+        ensures ok { OnOk result (self.new ≡ record { ended = self.old.ended ++ record { rows = self.old.rows; end = end } ∷ []; rows = [] }) }
+        ensures unchanged { OnErr result (self.new ≡ self.old) }
     {
         let rows = Run {
             from: self.open_from,
@@ -260,7 +261,8 @@ impl RawSequenceBuilder {
 
     /// Makes a sequence of the rows that were put. `end` is the address behind its last instruction.
     pub fn close(&mut self, end: Addr) -> Result<(), NoMemory>
-        ensures { OnOk result (self.new ≡ record { ended = self.old.ended ++ record { rows = self.old.rows; end = Some end } ∷ []; rows = [] }) }
+        ensures ok { OnOk result (self.new ≡ record { ended = self.old.ended ++ record { rows = self.old.rows; end = Some end } ∷ []; rows = [] }) }
+        ensures unchanged { OnErr result (self.new ≡ self.old) }
     {
         let rows = Run {
             from: self.open_from,

@@ -413,7 +413,7 @@ impl Sides {
     }
 
     /// An address of an operation, if it has one.
-    pub(crate) fn store_field(&mut self, address: Option<Place>) -> Result<Option<u32>, NoMemory>
+    fn store_field(&mut self, address: Option<Place>) -> Result<Option<u32>, NoMemory>
         ensures value { IfOk result (λ at. address_at self.new at ≡ address) }
         ensures within { IfOk result (λ at. IsAddress self.new at) }
         ensures grows { Grows self.old self.new }
@@ -452,30 +452,6 @@ impl Sides {
             bytes,
             address,
             base: op.base,
-        })?;
-        Ok(())
-    }
-
-    /// The row of an operation inside another again, behind the others and with another meaning of its operand.
-    pub(crate) fn repeat_inner(
-        &mut self,
-        at: usize,
-        address: Option<Place>,
-        base: Option<Base>,
-    ) -> Result<(), NoMemory>
-        requires { (r : AnInner) × (slice_get self.old.inner.items at ≡ Some r) × InnerWithin self.old r }
-        ensures row { (old : AnInner) → slice_get self.old.inner.items at ≡ Some old
-            → OnOk result ((r : AnInner) × (self.new.inner.items ≡ self.old.inner.items ++ r ∷ []) × (inner_of self.new r ≡ record (inner_of self.old old) { address = address; base = base }) × InnerWithin self.new r) }
-        ensures grows { Grows self.old self.new }
-        ensures unchanged { OnErr result (self.new.inner.items ≡ self.old.inner.items) }
-    {
-        let row = self.inner[at];
-        let address = self.store_field(address)?;
-        self.inner.push(InnerRow {
-            code: row.code,
-            bytes: row.bytes,
-            address,
-            base,
         })?;
         Ok(())
     }

@@ -1,12 +1,11 @@
 -- Reading one attribute value (DWARF 5, section 7.5.5): the value, or the first fault.
-use Rattle.std.specs.Prelude.{ℕ, ℤ, List, take, drop, Option, None, Result, Ok, Err, nat_lt}
-use Rattle.std.specs.Option.{option_map}
+use Rattle.std.specs.Prelude.{ℕ, ℤ, List, None, Result, Ok, Err, nat_lt}
 use Rattle.std.specs.Int.{w64, cast_unsigned}
 use Rattle.ds_base.specs.declared.dwarf.TheConstants.{DW_FORM_sdata}
 use Rattle.ds_base.specs.declared.fault.Fault.{Fault}
 use Rattle.ds_base.specs.declared.fault.Kind.TheVariants as kinds
 use Rattle.ds_base.specs.Spot.{Spot, fault_at}
-use Rattle.ds_base.specs.Reading.{◌>>=◌, refuse_if, or_fault, index_below, bytes_at, number_at, text_at, uleb_at, sleb_at}
+use Rattle.ds_base.specs.Reading.{◌>>=◌, refuse_if, or_fault, bytes_at, number_at, text_at, uleb_at, sleb_at, text_of}
 use Rattle.dwarf_types.specs.declared.address.Addr.TheVariants.{Fixed}
 use Rattle.dwarf_types.specs.declared.abbrev.Field.{Field}
 use Rattle.dwarf_types.specs.SectionBytes.{SectionBytes}
@@ -31,10 +30,6 @@ unfoldable pub block_at : Coding → Spot → Result (List ℕ × Spot) Fault
 block_at coding s = do
   n ← coded_at coding s
   bytes_at n.0 n.1
-
--- the text that begins at a place of a section, if it ends there
-unfoldable pub text_of : List ℕ → ℕ → Option (List ℕ)
-text_of section place = let tail = drop place section in option_map (λ n. take n tail) (index_below 1 tail)
 
 -- the text whose place in a section stands here
 unfoldable pub placed_text_at : List ℕ → Spot → Result (List ℕ × Spot) Fault

@@ -2,6 +2,7 @@
 use Rattle.std.specs.Prelude.{◌≡◌, ◌≤◌, ◌++◌, ℕ, List, [], length, Some, Ok}
 use Rattle.ds_base.specs.declared.dwarf.TheConstants.{DW_FORM_sdata}
 use Rattle.ds_base.specs.Spot.{Spot, rest}
+use Rattle.ds_base.specs.Reading.{text_of}
 use Rattle.dwarf_types.specs.Spelled.{InTurn, Made, IsUleb, IsSleb, IsNumber, IsCopy, IsText}
 use Rattle.dwarf_types.specs.declared.abbrev.Field.{Field}
 use Rattle.dwarf_types.specs.SectionBytes.{SectionBytes}
@@ -13,7 +14,7 @@ use Rattle.form_value.specs.declared.form.FormClass.{FormClass}
 use Rattle.form_value.specs.declared.form.FormClass.TheVariants.{Address, Text, StrText, LineStrText, Number, Signed, Present, Implicit, Wide, Block, Offset, Outside}
 use Rattle.form_value.specs.declared.form.FormRow.{FormRow}
 use Rattle.form_value.specs.Forms.{form_row}
-use Rattle.form_value.specs.Reading.{text_of, fixed_address, in_64_bits, value_at}
+use Rattle.form_value.specs.Reading.{fixed_address, in_64_bits, value_at}
 
 abbrev pub SpellsNumber : Coding → List ℕ → ℕ → Type 0
 SpellsNumber One bytes n = IsNumber 1 bytes n

@@ -13,4 +13,4 @@ mod value;
 
 pub use form::{Coding, FormClass, FormRow, form_class};
 pub use laws::{kinds_of_value_faults, values_are_read_as_spelled};
-pub use value::{read_value, text_in};
+pub use value::read_value;

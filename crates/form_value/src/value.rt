@@ -1,16 +1,15 @@
 //! One attribute value, by its form.
 
 ghost use Rattle.std.specs.Prelude.{◌≡◌, ◌<◌, Some, IfOk};
-ghost use Rattle.std.specs.Option.{option_copied};
-ghost use Rattle.ds_base.specs.Reading.{Moves, number_at};
+ghost use Rattle.ds_base.specs.Reading.{Moves, number_at, text_of};
 ghost use Rattle.dwarf_types.specs.Put.{value_read};
 ghost use Rattle.dwarf_types.specs.SectionBytes.{bytes_in};
 ghost use Rattle.form_value.specs.Forms.{form_row};
-ghost use Rattle.form_value.specs.Reading.{coded_at, block_at, text_of, placed_text_at, class_at, value_at};
+ghost use Rattle.form_value.specs.Reading.{coded_at, block_at, placed_text_at, class_at, value_at};
 
 use crate::form::{Coding, FormClass, FormRow, form_class};
 use byteorder::{ByteOrder, LittleEndian};
-use ds_base::{Cursor, Fault, Kind, Part};
+use ds_base::{Cursor, Fault, Kind, text_in};
 use dwarf_types::{Field, RawValue, Sections};
 
 /// The next value of an attribute in a unit of the given version (DWARF 5, section 7.5.5). What is long
@@ -99,20 +98,6 @@ fn place_behind(strings: &[u8], place: u32) -> Option<u32> {
         return None;
     };
     before.checked_add(place)
-}
-
-/// The text that begins at a place of a section, if it ends there.
-#[tactic(auto, unfolding(crate::specs::Reading::text_of, ds_base::specs::Reading::text_at))]
-pub fn text_in(section: &[u8], place: u32) -> Option<&[u8]>
-    ensures { option_copied result ≡ text_of section.now place }
-{
-    let place = u64::from(place);
-    let end = section.len() as u64;
-    if place >= end {
-        return None;
-    }
-    let mut cursor = Cursor::new(section, Part::Str, place, end);
-    cursor.text().ok()
 }
 
 /// The bytes behind their length.

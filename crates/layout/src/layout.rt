@@ -1,7 +1,6 @@
 //! The layout of a graph, and what writers ask of it.
 
 ghost use Rattle.std.specs.Prelude.{◌≡◌, ◌-◌, ◌^◌, ◌<◌, ◌≤◌, fold, length, Some, None, Ok, slice_get};
-ghost use Rattle.std.specs.Option.{option_map};
 ghost use Rattle.dwarf_types.specs.declared.graph.Graph.{Graph as Program};
 ghost use Rattle.dwarf_types.specs.declared.graph.OutUnit.{OutUnit as Clone};
 ghost use Rattle.layout.specs.Laid.{AreDrafts, Measures, size_in};
@@ -203,14 +202,6 @@ fn sizes_from(placing: &Placing, texts: &Bytes, line_texts: &Bytes, frames: &Byt
         aranges: placing.aranges.len() as u64,
         frames: frames.len() as u64,
     }
-}
-
-/// Where the header of a unit stands in `__debug_info`.
-pub fn unit_start(layout: &Layout, unit: u32) -> u32
-    requires { unit < length layout.now.units }
-    ensures { option_map (λ placed. placed.start) (slice_get layout.now.units unit) ≡ Some result }
-{
-    layout.units.as_slice()[unit as usize].start
 }
 
 /// What stands outside of a unit, as its draft asks for it.

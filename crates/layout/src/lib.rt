@@ -21,6 +21,6 @@ mod text;
 pub use error::LayoutError;
 pub use layout::{
     Layout, aranges, drafts, frames, line_texts, measure, outside_of, place_drafts,
-    place_drafts_by, section_size, texts, unit_start,
+    place_drafts_by, section_size, texts,
 };
 pub use sizes::LISTS_HEADER_LEN;

@@ -1,11 +1,11 @@
 -- The tables of directories and files of version 5 (DWARF 5, section 6.2.4, from directory_entry_format_count to file_names).
-use Rattle.std.specs.Prelude.{ℕ, ◌==◌, not, List, [], ◌∷◌, take, drop, Option, Some, None, Result, Ok, ◌&&◌}
+use Rattle.std.specs.Prelude.{ℕ, ◌==◌, not, List, [], ◌∷◌, Option, Some, None, Result, Ok, ◌&&◌}
 use Rattle.std.specs.List.{list_any}
-use Rattle.std.specs.Option.{option_map, unwrap_or}
+use Rattle.std.specs.Option.{unwrap_or}
 use Rattle.ds_base.specs.declared.fault.Fault.{Fault}
 use Rattle.ds_base.specs.declared.fault.Kind.TheVariants as kinds
 use Rattle.ds_base.specs.Spot.{Spot, fault_at}
-use Rattle.ds_base.specs.Reading.{◌>>=◌, refuse_if, or_fault, index_below, bytes_at, number_at, text_at, uleb_at, items_at}
+use Rattle.ds_base.specs.Reading.{◌>>=◌, refuse_if, or_fault, bytes_at, number_at, text_at, uleb_at, items_at, text_of}
 use Rattle.dwarf_types.specs.declared.lines.FileName.{FileName}
 use Rattle.dwarf_types.specs.SectionBytes.{SectionBytes}
 use Rattle.line_read.specs.declared.entries.EntryFormat.{EntryFormat}
@@ -41,10 +41,6 @@ format_at header s = do
   Ok (record { items = format.0; count = count.0 }, count.1)
 
 -- ---- values
-
--- the text that begins at a place of a section, if it ends there
-unfoldable pub text_of : List ℕ → ℕ → Option (List ℕ)
-text_of section place = let tail = drop place section in option_map (λ n. take n tail) (index_below 1 tail)
 
 -- the text whose place in a section stands here
 unfoldable pub placed_text_at : List ℕ → Spot → Result (List ℕ × Spot) Fault

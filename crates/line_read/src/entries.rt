@@ -3,16 +3,16 @@
 ghost use Rattle.std.specs.Prelude.{◌≡◌, [], Some};
 ghost use Rattle.std.specs.List.{list_any};
 ghost use Rattle.std.specs.Option.{option_copied, option_map};
-ghost use Rattle.ds_base.specs.Reading.{Reads, ReadsUnlessFull, bytes_at, items_at, number_at};
+ghost use Rattle.ds_base.specs.Reading.{Reads, ReadsUnlessFull, bytes_at, items_at, number_at, text_of};
 ghost use Rattle.dwarf_types.specs.SectionBytes.{bytes_in};
 ghost use Rattle.dwarf_types.specs.SeenLines.{file_seen};
-ghost use Rattle.line_read.specs.Entries.{pair_at, format_at, text_of, placed_text_at, form_text_at, form_number_at, block_at, passed_at, first, item_at, parts_at, no_parts, dir_entry_at, file_entry_at, entries_of};
+ghost use Rattle.line_read.specs.Entries.{pair_at, format_at, placed_text_at, form_text_at, form_number_at, block_at, passed_at, first, item_at, parts_at, no_parts, dir_entry_at, file_entry_at, entries_of};
 ghost use Rattle.line_read.specs.Formats;
 ghost use Rattle.line_read.specs.Names.{within};
 
 use crate::formats::{EntryForm, EntryItem, NumberForm, TextForm, is_path, item_of};
 use crate::names::{HeaderEnd, read_number};
-use ds_base::{Cursor, Fault, Kind, List, Part, ReadError};
+use ds_base::{Cursor, Fault, Kind, List, ReadError, text_in};
 use dwarf_types::{FileNameRef, FileNames, Paths, Sections, SharedTexts};
 use std::alloc::Global;
 use std::marker::Model;
@@ -478,20 +478,6 @@ fn read_placed_text<'a>(cursor: &mut Cursor, section: &'a [u8]) -> Result<Placed
         }),
         None => Err(first.fault(Kind::BadOffset)),
     }
-}
-
-/// The text that begins at a place of a section, if it ends there.
-#[tactic(auto, unfolding(crate::specs::Entries::text_of, ds_base::specs::Reading::text_at))]
-fn text_in(section: &[u8], place: u32) -> Option<&[u8]>
-    ensures { option_copied result ≡ text_of section.now place }
-{
-    let place = u64::from(place);
-    let end = section.len() as u64;
-    if place >= end {
-        return None;
-    }
-    let mut cursor = Cursor::new(section, Part::LineStr, place, end);
-    cursor.text().ok()
 }
 
 /// The next number.

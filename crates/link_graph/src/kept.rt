@@ -3,7 +3,7 @@
 ghost use Rattle.std.specs.Prelude.{◌≡◌, ◌≤◌, ◌<◌, ◌^◌, ◌&&◌, ◌||◌, ◌==◌, not, length, IfOk};
 ghost use Rattle.ds_base.specs.declared.dwarf.TheConstants.{DW_TAG_namespace as the_namespace};
 ghost use Rattle.dwarf_types.specs.Kept.{is_plain, kept_of};
-ghost use Rattle.type_names.specs.Rows.{IsRow, marked_if};
+ghost use Rattle.type_names.specs.Rows.{IsRow};
 ghost use Rattle.type_names.specs.Tree.{ParentsStandBefore, is_marked};
 
 use ds_base::dwarf::DW_TAG_namespace;
@@ -32,7 +32,7 @@ pub(crate) fn kept_row(
     let mut row = BitRow::new(alloc, entries.len() as u32)?;
     for i in 0..entries.len() {
         let kept = is_kept(&entries.entry(i), &plain, merged, &above, i as u32);
-        mark_if(&mut row, i as u32, kept);
+        row.set_if(i as u32, kept);
     }
     Ok(row)
 }
@@ -52,7 +52,7 @@ fn plain_row(
     let mut row = BitRow::new(alloc, entries.len() as u32)?;
     for i in 0..entries.len() {
         let plain = live.get(i as u32) && !merged.get(i as u32);
-        mark_if(&mut row, i as u32, plain);
+        row.set_if(i as u32, plain);
     }
     Ok(row)
 }
@@ -63,14 +63,4 @@ fn is_kept(entry: &EntryRef, plain: &BitRow, merged: &BitRow, above: &BitRow, k:
     ensures { result ≡ (is_marked plain.now k || (is_marked merged.now k && (entry.now.tag == the_namespace && is_marked above.now k))) }
 {
     plain.get(k) || (merged.get(k) && (entry.tag() == DW_TAG_namespace && above.get(k)))
-}
-
-/// Marks a place, where there is cause.
-fn mark_if(row: &mut BitRow, k: u32, cause: bool)
-    requires { k < length row.old }
-    ensures { row.new ≡ marked_if row.old k cause }
-{
-    if cause {
-        row.set(k);
-    }
 }

@@ -4,7 +4,7 @@ ghost use Rattle.std.specs.Prelude.{◌≡◌, ◌==◌, ◌&&◌, not, false, l
 ghost use Rattle.std.specs.List.{filter_map, list_any, list_all};
 ghost use Rattle.std.specs.Option.{option_map_or, option_to_list};
 ghost use Rattle.dwarf_types.specs.Live.{low_pc_moves};
-ghost use Rattle.dwarf_types.specs.Moves.{address_moved, has_address, has_location, has_piece, location_in, location_moves, moves, op_fields, place_in, tells_end, value_of};
+ghost use Rattle.dwarf_types.specs.Moves.{address_moved, has_address, has_location, has_piece, location_in, location_moves, moves, op_fields, tells_end, value_of};
 ghost use Rattle.dwarf_types.specs.Seen.{attr_seen, inner_seen, op_seen, value_seen};
 
 use ds_base::dwarf::{
@@ -39,16 +39,6 @@ pub(crate) fn location_moves(entry: &EntryRef) -> bool
     }
 }
 
-/// The address that a value of class address holds.
-fn place_in(value: &ValueRef) -> Option<Place>
-    ensures { result ≡ place_in (value_seen value.now) }
-{
-    match value {
-        ValueRef::Address(place) => Some(*place),
-        _ => None,
-    }
-}
-
 /// Whether an entry's low_pc moved. That of a call site tells where the call returns to, and moves as an end.
 pub fn low_pc_moves(entry: &EntryRef) -> bool
     ensures { result ≡ low_pc_moves entry.now }
@@ -76,7 +66,7 @@ fn place_moves(entry: &EntryRef) -> bool
 pub fn address_moved(tag: u16, attr: &AttrRef) -> Option<u64>
     ensures { result ≡ address_moved tag (attr_seen attr.now) }
 {
-    let place = place_in(&attr.value)?;
+    let place = attr.value.place()?;
     if tells_end(tag, attr.name) {
         place.linked_end
     } else {

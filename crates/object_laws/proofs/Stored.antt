@@ -6,7 +6,7 @@ use Rattle.ds_base.specs.Leb.{fits_i64}
 use Rattle.std.specs.Int.{w64, cast_unsigned}
 use Rattle.std.specs.Option.{option_map}
 use Rattle.ds_base.specs.declared.dwarf.TheConstants.{DW_FORM_exprloc}
-use Rattle.ds_base.specs.Reading.{index_below}
+use Rattle.ds_base.specs.Reading.{index_below, text_of}
 use Rattle.dwarf_types.specs.declared.abbrev.Field.{Field}
 use Rattle.dwarf_types.specs.declared.value.Value.{Value}
 use Rattle.dwarf_types.specs.declared.value.Value.TheVariants as values
@@ -20,7 +20,7 @@ use Rattle.form_value.specs.declared.form.FormClass.{FormClass}
 use Rattle.form_value.specs.declared.form.FormClass.TheVariants.{Address, Text, StrText, LineStrText, Number, Signed, Present, Implicit, Wide, Block, Offset, Outside}
 use Rattle.form_value.specs.declared.form.FormRow.{FormRow}
 use Rattle.form_value.specs.Forms.{form_row}
-use Rattle.form_value.specs.Reading.{in_64_bits, text_of}
+use Rattle.form_value.specs.Reading.{in_64_bits}
 use Rattle.form_value.specs.Spelling.{SpellsClass, SpellsNumber, SpellsValue}
 use Rattle.index_tables.specs.declared.bases.Bases.{Bases}
 use Rattle.line_read.proofs.EntryTables.{AreTexts}

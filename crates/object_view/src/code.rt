@@ -2,7 +2,7 @@
 
 ghost use Rattle.std.specs.Prelude.{◌≡◌, ◌<◌, ◌^◌, ◌++◌, length, map, IfOk, OnOk};
 ghost use Rattle.std.specs.Option.{option_and_then};
-ghost use Rattle.dwarf_types.specs.Moves.{place_in, spans_in, value_of};
+ghost use Rattle.dwarf_types.specs.Moves.{spans_in, value_of};
 ghost use Rattle.dwarf_types.specs.Seen.{value_seen};
 ghost use Rattle.addr_map.specs.Sound.{IsSound};
 ghost use Rattle.line_read.specs.Rising.{placed};
@@ -136,18 +136,9 @@ fn length_of(form: u16, bits: u64) -> Option<u64>
 fn object_address(value: &ValueRef<'_>) -> Option<u64>
     ensures { result ≡ Code.object_address (value_seen value.now) }
 {
-    match place_in(value)?.at {
+    match value.place()?.at {
         Addr::Placed(at) => Some(at),
         Addr::Named { .. } | Addr::Fixed(_) => None,
     }
 }
 
-/// The address that a value of class address holds.
-fn place_in(value: &ValueRef<'_>) -> Option<Place>
-    ensures { result ≡ place_in (value_seen value.now) }
-{
-    match value {
-        ValueRef::Address(place) => Some(*place),
-        _ => None,
-    }
-}

@@ -14,7 +14,6 @@ ghost use Rattle.type_names.specs.Tree.{ParentsStandBefore, is_at_top, is_marked
 use crate::entries::{
     has_field, holds, is_made_up, is_named_type, is_template_parameter, is_tied, is_type, name_of,
 };
-use crate::rows::mark_if;
 use crate::tree::{mark, marked_below};
 use ds_base::dwarf::{
     DW_AT_byte_size, DW_AT_containing_type, DW_AT_prototyped, DW_AT_sibling, DW_AT_type,
@@ -67,7 +66,7 @@ fn tied_of(alloc: Global, entries: &Entries) -> Result<BitRow, NoMemory>
     let mut row = BitRow::new(alloc, entries.len() as u32)?;
     for i in 0..entries.len() {
         let tied = is_tied(&entries.entry(i));
-        mark_if(&mut row, i as u32, tied);
+        row.set_if(i as u32, tied);
     }
     Ok(row)
 }
@@ -81,7 +80,7 @@ fn open_of(alloc: Global, entries: &Entries) -> Result<BitRow, NoMemory>
     let mut row = BitRow::new(alloc, entries.len() as u32)?;
     for i in 0..entries.len() {
         let open = is_open(&entries.entry(i), &row);
-        mark_if(&mut row, i as u32, open);
+        row.set_if(i as u32, open);
     }
     Ok(row)
 }
@@ -162,7 +161,7 @@ pub(crate) fn named_heads(
     let mut row = BitRow::new(alloc, seen.entries.len() as u32)?;
     for i in 0..seen.entries.len() {
         let head = is_named_head(seen, live, rows, i as u32);
-        mark_if(&mut row, i as u32, head);
+        row.set_if(i as u32, head);
     }
     Ok(row)
 }
@@ -304,7 +303,7 @@ pub(crate) fn common_of(
     let mut row = BitRow::new(alloc, seen.entries.len() as u32)?;
     for i in 0..seen.entries.len() {
         let common = is_common(seen, live, in_named, i as u32);
-        mark_if(&mut row, i as u32, common);
+        row.set_if(i as u32, common);
     }
     Ok(row)
 }

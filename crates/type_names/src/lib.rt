@@ -14,7 +14,6 @@ mod children;
 mod entries;
 mod heads;
 mod pooled;
-mod rows;
 mod spell;
 mod text_table;
 mod tree;

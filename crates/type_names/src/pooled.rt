@@ -20,7 +20,6 @@ use crate::entries::linkage_of;
 use crate::heads::{
     HeadRows, common_of, is_clean, is_derived_at_top, named_heads, rows_of, takes_part,
 };
-use crate::rows::mark_if;
 use crate::spell::{SpellError, Types, write_parameters, write_type};
 use crate::text_table::TextTable;
 use crate::tree::{in_marked, marked_below, parent_of};
@@ -232,7 +231,7 @@ fn heads_of(
     let mut row = BitRow::new(alloc, seen.entries.len() as u32)?;
     for i in 0..seen.entries.len() {
         let head = is_head(named, derived, i as u32);
-        mark_if(&mut row, i as u32, head);
+        row.set_if(i as u32, head);
     }
     Ok(row)
 }
@@ -280,7 +279,7 @@ fn pooled_of(
     let mut row = BitRow::new(alloc, seen.entries.len() as u32)?;
     for i in 0..seen.entries.len() {
         let pooled = is_pooled(&seen.entries, live, in_heads, &above, i as u32);
-        mark_if(&mut row, i as u32, pooled);
+        row.set_if(i as u32, pooled);
     }
     Ok(row)
 }
@@ -335,7 +334,7 @@ fn all_of(alloc: Global, entries: &Entries) -> Result<BitRow, NoMemory>
 {
     let mut row = BitRow::new(alloc, entries.len() as u32)?;
     for i in 0..entries.len() {
-        mark_if(&mut row, i as u32, true);
+        row.set_if(i as u32, true);
     }
     Ok(row)
 }

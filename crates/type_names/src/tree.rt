@@ -5,7 +5,6 @@ ghost use Rattle.std.specs.Option.{ForSome, option_map_or};
 ghost use Rattle.type_names.specs.Rows.{IsRow};
 ghost use Rattle.type_names.specs.Tree.{HasMarkedBelow, IsPassedTo, ParentsStandBefore, is_in_marked, is_marked, parent_of, passed_up};
 
-use crate::rows::mark_if;
 use ds_base::{BitRow, NoMemory};
 use dwarf_types::Entries;
 use std::alloc::Global;
@@ -20,7 +19,7 @@ pub fn in_marked(alloc: Global, entries: &Entries, marks: &BitRow) -> Result<Bit
     let mut row = BitRow::new(alloc, entries.len() as u32)?;
     for i in 0..entries.len() {
         let inherited = is_inherited(marks, i as u32, &row, entries.entry(i).parent());
-        mark_if(&mut row, i as u32, inherited);
+        row.set_if(i as u32, inherited);
     }
     Ok(row)
 }

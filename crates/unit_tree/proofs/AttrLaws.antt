@@ -8,7 +8,7 @@ use Rattle.std.proofs.lemmas.List.{append-nil}
 use Rattle.ds_base.specs.declared.fault.Fault.{Fault}
 use Rattle.ds_base.specs.declared.fault.Kind.TheVariants.{BadIndex, BadOffset}
 use Rattle.ds_base.specs.Spot.{Spot, rest, fault_at}
-use Rattle.ds_base.specs.Reading.{◌>>=◌, or_fault}
+use Rattle.ds_base.specs.Reading.{◌>>=◌, or_fault, text_of}
 use Rattle.dwarf_types.specs.declared.abbrev.Field.{Field}
 use Rattle.dwarf_types.specs.declared.entry.RawAttr.{RawAttr}
 use Rattle.dwarf_types.specs.declared.entry.RawEntry.{RawEntry}
@@ -20,7 +20,7 @@ use Rattle.dwarf_types.proofs.Readers.{Stands}
 use Rattle.dwarf_types.specs.Spelled.{Made}
 use Rattle.form_value.specs.declared.form.FormClass.{FormClass}
 use Rattle.form_value.specs.declared.form.FormClass.TheVariants.{Address, Text, StrText, LineStrText, Number, Signed, Present, Implicit, Wide, Block, Offset, Outside}
-use Rattle.form_value.specs.Reading.{fixed_address, in_64_bits, text_of, value_at}
+use Rattle.form_value.specs.Reading.{fixed_address, in_64_bits, value_at}
 use Rattle.form_value.specs.Spelling.{SpellsClass}
 use Rattle.form_value.proofs.ValueLaws.{value_spelled, value_read}
 use Rattle.index_tables.specs.declared.bases.Bases.{Bases}

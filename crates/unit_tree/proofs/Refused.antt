@@ -11,7 +11,7 @@ use Rattle.ds_base.specs.declared.fault.Kind.{Kind}
 use Rattle.ds_base.specs.declared.fault.Kind.TheVariants as kinds
 use Rattle.ds_base.specs.declared.fault.Part.TheVariants as parts
 use Rattle.ds_base.specs.Spot.{Spot, fault_at}
-use Rattle.ds_base.specs.Reading.{◌>>=◌, or_fault, bytes_at, number_at, uleb_at, refuse_if}
+use Rattle.ds_base.specs.Reading.{◌>>=◌, or_fault, bytes_at, number_at, uleb_at, refuse_if, text_of}
 use Rattle.dwarf_types.specs.declared.abbrev.Abbrev.{Abbrev}
 use Rattle.dwarf_types.specs.declared.abbrev.Field.{Field}
 use Rattle.dwarf_types.specs.declared.entry.RawAttr.{RawAttr}
@@ -22,7 +22,7 @@ use Rattle.dwarf_types.specs.SectionBytes.{SectionBytes}
 use Rattle.abbrev_read.specs.Reading.{table_at}
 use Rattle.ds_base.proofs.FaultKinds.{FaultsAre, ok_kinds, err_kinds, bind_kinds, refuse_kinds, either_kinds, found_kinds, bytes_kinds, number_kinds, uleb_kinds}
 use Rattle.abbrev_read.proofs.Refused.{IsOne as IsTableKind, table_faults_kinds as table_faults}
-use Rattle.form_value.specs.Reading.{text_of, value_at}
+use Rattle.form_value.specs.Reading.{value_at}
 use Rattle.form_value.proofs.Refused.{IsOne as IsValueKind, value_faults}
 use Rattle.index_tables.specs.declared.bases.Bases.{Bases}
 use Rattle.index_tables.specs.Tables.{text_place, address_place, list_place}

@@ -6,13 +6,13 @@ use Rattle.ds_base.specs.declared.dwarf.TheConstants.{DW_AT_stmt_list}
 use Rattle.ds_base.specs.declared.fault.Fault.{Fault}
 use Rattle.ds_base.specs.declared.fault.Kind.TheVariants.{BadIndex, BadOffset}
 use Rattle.ds_base.specs.Spot.{Spot, fault_at}
-use Rattle.ds_base.specs.Reading.{◌>>=◌, refuse_if, or_fault}
+use Rattle.ds_base.specs.Reading.{◌>>=◌, refuse_if, or_fault, text_of}
 use Rattle.dwarf_types.specs.declared.abbrev.Field.{Field}
 use Rattle.dwarf_types.specs.declared.entry.RawAttr.{RawAttr}
 use Rattle.dwarf_types.specs.SectionBytes.{SectionBytes}
 use Rattle.dwarf_types.specs.declared.value.Value.{Value}
 use Rattle.dwarf_types.specs.declared.value.Value.TheVariants as values
-use Rattle.form_value.specs.Reading.{text_of, value_at}
+use Rattle.form_value.specs.Reading.{value_at}
 use Rattle.index_tables.specs.declared.bases.Bases.{Bases}
 use Rattle.index_tables.specs.Tables.{text_place, address_place, list_place}
 use Rattle.ds_base.specs.declared.dwarf.TheConstants.{DWARF_5}

@@ -17,9 +17,9 @@ use crate::meaning::{Meaning, meaning_of_value};
 use crate::packed::PackedReference;
 use crate::reference::Reference;
 use ds_base::dwarf::{DW_AT_stmt_list, DWARF_5};
-use ds_base::{Cursor, Fault, Kind, List, NoMemory, ReadError};
+use ds_base::{Cursor, Fault, Kind, List, NoMemory, ReadError, text_in};
 use dwarf_types::{Builder, Field, RawValue, Sections};
-use form_value::{read_value, text_in};
+use form_value::read_value;
 use index_tables::{Bases, has_address, list_at, text_at};
 
 /// The unit whose entries are read.

@@ -52,13 +52,6 @@ impl TaskSeat {
 impl Tasks {
     ghost use Rattle.work_share.specs.Seats.{known, Belongs};
 
-    /// How many numbers there are to claim.
-    pub fn count(&self) -> u32
-        ensures { result ≡ self.now.count }
-    {
-        self.count
-    }
-
     /// The next number below the count, or `None` once the numbers are used up.
     ///
     /// A call draws one number at most. No other claim ever draws it, as two seats see once they are joined, and it is

@@ -1,4 +1,4 @@
-//! Results beside their items, and how they come into the order of the items.
+//! Items with their results, and no result yet for each item.
 
 /// An item with its result.
 #[derive(Drop)]

@@ -14,7 +14,7 @@ loop-i-preserved c =
     let i = c.loop-i.i in
     let is : c.is_kept-kept.result ≡ is_marked (kept_of entries live merged) i =
     c.is_kept-kept.ensures ∙ kept_more entries live merged c.in_ok-plain.plain c.in_ok-above.above i c.entry.result c.entry.ensures.stands c.requires.live c.in_ok-plain.ensures (c.in_ok-above.ensures.exact i) in
-    rw c.mark_if.ensures (row_more (is_marked (kept_of entries live merged)) (length entries) c.loop-i.row i c.is_kept-kept.result c.loop-i.invariant (omega arith) is)
+    rw c.set_if.ensures (row_more (is_marked (kept_of entries live merged)) (length entries) c.loop-i.row i c.is_kept-kept.result c.loop-i.invariant (omega arith) is)
 
 pub returns : goal.returns
 returns c =

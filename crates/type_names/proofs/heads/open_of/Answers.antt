@@ -8,4 +8,4 @@ pub loop-i-preserved : goal.loop-i-preserved
 loop-i-preserved c =
     let entries = c.args.entries.now in
     let is = c.is_open-open.ensures ∙ open_more entries c.loop-i.row c.loop-i.i c.entry.result c.requires.parents c.entry.ensures.stands c.loop-i.invariant.each in
-    rw c.mark_if.ensures (row_more (is_open_at entries) (length entries) c.loop-i.row c.loop-i.i c.is_open-open.result c.loop-i.invariant (omega arith) is)
+    rw c.set_if.ensures (row_more (is_open_at entries) (length entries) c.loop-i.row c.loop-i.i c.is_open-open.result c.loop-i.invariant (omega arith) is)

@@ -15,4 +15,4 @@ loop-i-preserved c =
     let is : c.is_pooled-pooled.result ≡ is_pooled o i =
     c.is_pooled-pooled.ensures ∙ ap (λ (b : Bool). (is_live o i && b) || (is_some (parent_of seen.entries i) && is_marked c.in_ok-above.above i)) (c.requires.in_heads.each i (omega arith))
     ∙ ap (λ (b : Bool). (is_live o i && is_in_head o i) || (is_some (parent_of seen.entries i) && b)) above in
-    rw c.mark_if.ensures (row_more (is_pooled o) (length seen.entries) c.loop-i.row i c.is_pooled-pooled.result c.loop-i.invariant (omega arith) is)
+    rw c.set_if.ensures (row_more (is_pooled o) (length seen.entries) c.loop-i.row i c.is_pooled-pooled.result c.loop-i.invariant (omega arith) is)

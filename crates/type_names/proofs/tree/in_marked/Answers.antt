@@ -12,4 +12,4 @@ loop-i-preserved c =
     let told = marked_more entries marks c.loop-i.row c.loop-i.i c.entry.result c.requires.parents c.entry.ensures.stands c.loop-i.invariant.each in
     let inherited : c.is_inherited-inherited.result ≡ is_in_marked entries marks c.loop-i.i =
     c.is_inherited-inherited.ensures ∙ ap (λ (o : Option ℕ). is_marked marks c.loop-i.i || option_map_or (is_marked c.loop-i.row) o false) c.parent.ensures ∙ told in
-    rw c.mark_if.ensures (row_more (is_in_marked entries marks) (length entries) c.loop-i.row c.loop-i.i c.is_inherited-inherited.result c.loop-i.invariant (omega arith) inherited)
+    rw c.set_if.ensures (row_more (is_in_marked entries marks) (length entries) c.loop-i.row c.loop-i.i c.is_inherited-inherited.result c.loop-i.invariant (omega arith) inherited)
