@@ -1,4 +1,4 @@
--- What is said of the world outside: files with names, a sink for messages, and how often either failed.
+-- What is said of the world outside: files with names, a sink for messages, and how often either was called and failed.
 use Rattle.std.specs.Prelude.{◌≡◌, ◌≢◌, ℕ, ◌+◌, ◌-◌, ◌^◌, ◌<◌, ◌≤◌, min, List, ◌++◌, length, take, Option, Some, None, Result, Ok, Err}
 use Rattle.std.specs.Ordering.{nat_cmp}
 use Rattle.std.specs.Cmp.Lexicographic.{slice_cmp}
@@ -10,8 +10,10 @@ use Rattle.ds_files.specs.declared.files.FileError.TheVariants as errors
 abbrev pub Contents : Type 0
 Contents = map.FinMap (slice_cmp nat_cmp) (List ℕ)
 
--- how often each thing went wrong, from 0
+-- how often files were asked for, and how often each thing went wrong, from 0
 pub record Counts : Type 0 where
+  -- calls of read and replace, however they ended
+  pub calls : ℕ
   -- calls that failed
   pub faults : ℕ
   -- reads of a file that was not there
@@ -21,11 +23,19 @@ pub record Counts : Type 0 where
 
 -- no count fell
 abbrev pub IsLater : Counts → Counts → Type 0
-IsLater before now = (before.faults ≤ now.faults) × (before.misses ≤ now.misses) × (before.longs ≤ now.longs)
+IsLater before now = (before.calls ≤ now.calls) × (before.faults ≤ now.faults) × (before.misses ≤ now.misses) × (before.longs ≤ now.longs)
 
 -- the count after one more; at 2 ^ 64 - 1, its last value, it stands still
 abbrev pub one_more : ℕ → ℕ
 one_more n = min (n + 1) (2 ^ 64 - 1)
+
+-- one more call is counted
+abbrev pub called : Counts → Counts
+called c = record c { calls = one_more c.calls }
+
+-- there was one call
+abbrev pub IsOneCall : Counts → Counts → Type 0
+IsOneCall before now = now.calls ≡ one_more before.calls
 
 -- the count rose; one that stands at its last value counts as risen
 abbrev pub Rose : ℕ → ℕ → Type 0
@@ -51,7 +61,7 @@ ReadFails files name most before now errors.Missing =
 ReadFails files name most before now errors.Failed = Rose before.faults now.faults
 ReadFails files name most before now errors.TooLong =
     Rose before.longs now.longs × Told files (λ m. IsLong name most m × IsQuiet before now)
-ReadFails files name most before now errors.NoMemory = now ≡ before
+ReadFails files name most before now errors.NoMemory = now ≡ called before
 
 -- the answer to a read of a file that is too long
 abbrev pub RefusesLong : Result (List ℕ) FileError → Type 0
@@ -73,7 +83,7 @@ abbrev pub ReplaceFails : Option Contents → Option Contents → List ℕ → C
 ReplaceFails old new name before now errors.Missing = ⊥
 ReplaceFails old new name before now errors.Failed = Rose before.faults now.faults × OthersKept name old new
 ReplaceFails old new name before now errors.TooLong = ⊥
-ReplaceFails old new name before now errors.NoMemory = (new ≡ old) × (now ≡ before)
+ReplaceFails old new name before now errors.NoMemory = (new ≡ old) × (now ≡ called before)
 
 -- the sink took the first of the bytes, perhaps none and perhaps all
 abbrev pub PrefixAdded : List ℕ → Option (List ℕ) → Option (List ℕ) → Type 0

@@ -13,7 +13,7 @@ pub enum FileError {
     Failed,
     /// The file has more bytes than the call allows.
     TooLong,
-    /// Memory ran out, and nothing changed.
+    /// Memory ran out, and nothing changed but the count of calls.
     NoMemory,
 }
 
@@ -31,8 +31,8 @@ impl From<NoMemory> for FileError {
 /// Files that are read and replaced whole, each by its name.
 ///
 /// `files` are the files where they are told, a map from the bytes of a name to the bytes of the file. `counts` says
-/// how often a call failed, missed its file, and found it too long. No count ever falls, and one that stands at
-/// 2^64 - 1, its last value, counts as risen.
+/// how many calls of [`Files::read`] and [`Files::replace`] there were, and how often one failed, missed its file, and
+/// found it too long. No count ever falls, and one that stands at 2^64 - 1, its last value, counts as risen.
 ///
 /// [`Files::size_ahead`], [`Files::fetch`] and [`Files::keep`] serve [`crate::read_ahead`]: by them files may be read
 /// before they are asked for. Where that gains nothing, the first two answer `None`, and the third does nothing.
@@ -40,12 +40,12 @@ pub trait Files {
     ghost use Rattle.std.specs.Prelude.{◌≡◌, ◌≤◌, length, Some, IfOk, IfSome, OnOk, IfErr, option_map};
     ghost use Rattle.std.specs.declared.option.Option.{Option as Maybe};
     ghost use Rattle.std.specs.FinMap as map;
-    ghost use Rattle.ds_files.specs.Outside.{Contents, Counts, IsLater, Told, IsLong, IsQuiet, ReadFails, RefusesLong, ReplaceFails};
+    ghost use Rattle.ds_files.specs.Outside.{Contents, Counts, IsLater, IsOneCall, Told, IsLong, IsQuiet, ReadFails, RefusesLong, ReplaceFails};
 
     /// The files, where they are told.
     ghost files: { Self → Maybe Contents };
 
-    /// What went wrong, how often.
+    /// How many calls there were, and what went wrong, how often.
     ghost counts: { Self → Counts };
 
     /// All bytes of the named file, which are at most `most`. No file changes.
@@ -58,6 +58,7 @@ pub trait Files {
         ensures long { Told (files self.old) (λ m. IsLong name.now most m → IsQuiet (counts self.old) (counts self.new) → RefusesLong result) }
 
         ensures same { files self.new ≡ files self.old }
+        ensures called { IsOneCall (counts self.old) (counts self.new) }
         ensures later { IsLater (counts self.old) (counts self.new) };
 
     /// Gives the name these bytes, whether or not there was a file of it, and leaves all other names.
@@ -66,6 +67,7 @@ pub trait Files {
     fn replace(&mut self, alloc: Global, name: &str, bytes: &[u8]) -> Result<(), FileError>
         ensures done { OnOk result (files self.new ≡ option_map (λ m. map.insert m name.now bytes.now) (files self.old)) }
         ensures failed { IfErr result (ReplaceFails (files self.old) (files self.new) name.now (counts self.old) (counts self.new)) }
+        ensures called { IsOneCall (counts self.old) (counts self.new) }
         ensures later { IsLater (counts self.old) (counts self.new) };
 
     /// How many bytes the named file is said to have, where it may be fetched before it is asked for.

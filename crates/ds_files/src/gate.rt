@@ -2,8 +2,8 @@
 
 /// What each worker passes before an item of a phase, so that a test can hold workers up.
 ///
-/// It gives nothing back and no contract speaks of it. Phases are 0 analyse, 1 bid, 2 clone, 3 emit, and 4 a program of
-/// a batch; items of a phase are counted from 0.
+/// It gives nothing back and no contract speaks of it. Phases are 0 analyse, 1 bid, 2 clone and 3 emit; the items of a
+/// phase, which are objects or units, are counted from 0.
 pub trait Gate {
     fn pass(&self, phase: u32, item: u32);
 }

@@ -42,7 +42,7 @@ impl<R> Model for HostFiles<R> {
 impl<R: rt::Files> HostFiles<R> {
     ghost use Rattle.ds_files.specs.Counting.{no_counts};
 
-    /// The files that a runtime reaches, with nothing counted yet. `rt` may be a reference to the runtime.
+    /// The files that a runtime reaches, with no call yet. `rt` may be a reference to the runtime.
     pub fn new(rt: R) -> HostFiles<R>
         ensures { result ≡ no_counts }
     {
@@ -69,6 +69,7 @@ impl<R: rt::Files> Files for HostFiles<R> {
         ensures after { self.new ≡ counts_after result self.old }
         ensures later { IsLater self.old self.new }
     {
+        self.tally.call();
         match read_once(&self.rt, &mut self.ahead, alloc, name, most) {
             Ok(bytes) => Ok(bytes),
             Err(error) => Err(self.tally.count(error)),
@@ -80,6 +81,7 @@ impl<R: rt::Files> Files for HostFiles<R> {
         ensures after { self.new ≡ counts_after result self.old }
         ensures later { IsLater self.old self.new }
     {
+        self.tally.call();
         self.ahead = Ahead::new();
         match replace_file(&self.rt, name, bytes) {
             Ok(()) => Ok(()),

@@ -7,42 +7,52 @@ use crate::streams::write_whole;
 use std::io;
 use std::marker::Model;
 
-/// Standard output. What was written is not told; a contract sees the count of failed calls alone.
+/// Standard output. What was written is not told; a contract sees the counts of calls and of failures alone.
 #[derive(Drop)]
 pub struct HostSink<R> {
     rt: R,
+    calls: u64,
     faults: u64,
 }
 
 impl<R> Model for HostSink<R> {
-    ghost use Rattle.std.specs.Prelude.{ℕ};
+    ghost use Rattle.ds_files.specs.Counting.{PutCounts};
 
-    ghost Value = { ℕ };
+    ghost Value = { PutCounts };
 
-    ghost view = { λ s. s.faults };
+    ghost view = { λ s. record { calls = s.calls; faults = s.faults } };
 }
 
 impl<R: Print> HostSink<R> {
-    /// The standard output of a runtime, with no failure counted yet. `rt` may be a reference to the runtime.
+    ghost use Rattle.ds_files.specs.Counting.{no_puts};
+
+    /// The standard output of a runtime, with no call yet. `rt` may be a reference to the runtime.
     pub fn new(rt: R) -> HostSink<R>
-        ensures { result ≡ 0 }
+        ensures { result ≡ no_puts }
     {
-        HostSink { rt, faults: 0 }
+        HostSink {
+            rt,
+            calls: 0,
+            faults: 0,
+        }
     }
 }
 
 impl<R: Print> Sink for HostSink<R> {
-    ghost use Rattle.std.specs.Prelude.{◌≡◌, ◌≤◌, None, is_ok, if◌then◌else◌};
-    ghost use Rattle.ds_files.specs.Outside.{one_more};
+    ghost use Rattle.std.specs.Prelude.{◌≡◌, ◌≤◌, None, is_ok};
+    ghost use Rattle.ds_files.specs.Counting.{counts_after_put};
 
     ghost text = { λ _. None };
 
-    ghost faults = { λ s. s };
+    ghost calls = { λ s. s.calls };
+
+    ghost faults = { λ s. s.faults };
 
     fn put(&mut self, bytes: &[u8]) -> Result<(), SinkFailed>
-        ensures after { self.new ≡ (if is_ok result then self.old else one_more self.old) }
-        ensures later { self.old ≤ self.new }
+        ensures after { self.new ≡ counts_after_put (is_ok result) self.old }
+        ensures later { self.old.faults ≤ self.new.faults }
     {
+        self.calls = self.calls.saturating_add(1);
         match write_whole(&mut io::writer(&self.rt), bytes) {
             Ok(()) => Ok(()),
             Err(_) => {

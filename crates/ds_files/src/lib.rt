@@ -2,7 +2,8 @@
 //!
 //! Layer: ground. All that the linker reads and writes goes through the traits [`Files`] and [`Sink`]. Their clauses say
 //! what a call gave and changed where the outside tells its content, and by which count each failure is known
-//! (`specs/Outside.antt`); a caller that is generic over them can tell the cause of each error.
+//! (`specs/Outside.antt`), and calls are counted too; so a caller that is generic over them can tell the cause of each
+//! error, and that it made one call and no more.
 //!
 //! [`MemoryFiles`] and [`MemorySink`] keep all in memory, tell it, and fail where they are asked to: their contracts say
 //! exactly what each call answers (`specs/MemoryFiles.antt`, `specs/MemorySink.antt`). [`HostFiles`] and [`HostSink`] are

@@ -19,8 +19,6 @@ pub struct MemoryFiles {
     /// The names with their bytes, the newest of a name first.
     stored: Vec<(Bytes, Bytes)>,
     tally: Tally,
-    /// Calls of `read` and `replace` so far.
-    calls: u64,
     /// The numbers of the calls that fail, from 1.
     failing: List<u64>,
 }
@@ -33,10 +31,11 @@ impl Model for MemoryFiles {
 
     ghost coded = { stored_files_code };
 
-    ghost view = { λ s. record { files = map.from_entries s.stored.items; counts = s.tally; calls = s.calls; failing = s.failing } };
+    ghost view = { λ s. record { files = map.from_entries s.stored.items; counts = s.tally; failing = s.failing } };
 }
 
 impl MemoryFiles {
+    ghost use Rattle.ds_files.specs.Outside.{IsLater};
     ghost use Rattle.ds_files.specs.MemoryFiles.{no_files, set_file, fails_next, call_more, long_error};
 
     /// No file, and no call yet. It asks the allocator for nothing.
@@ -48,7 +47,6 @@ impl MemoryFiles {
         MemoryFiles {
             stored: Vec::new(alloc),
             tally: Tally::new(),
-            calls: 0,
             failing,
         }
     }
@@ -75,9 +73,10 @@ impl MemoryFiles {
     fn call_fails(&mut self) -> bool
         ensures result { result ≡ fails_next self.old }
         ensures counted { self.new ≡ call_more self.old }
+        ensures later { IsLater self.old.counts self.new.counts }
     {
-        self.calls = self.calls.saturating_add(1);
-        self.failing.as_slice().contains(&self.calls)
+        let number = self.tally.call();
+        self.failing.as_slice().contains(&number)
     }
 
     /// The error of a file that is too long. A count at its last value counts as risen, so it is then `Failed`.
@@ -95,13 +94,14 @@ impl MemoryFiles {
 impl Files for MemoryFiles {
     ghost use Rattle.std.specs.Prelude.{◌≡◌, ◌≤◌, length, None, Some, IfOk, OnOk, IfErr, option_map};
     ghost use Rattle.std.specs.FinMap as map;
-    ghost use Rattle.ds_files.specs.Outside.{IsLater, Told, IsLong, IsQuiet, ReadFails, RefusesLong, ReplaceFails};
+    ghost use Rattle.ds_files.specs.Outside.{IsLater, IsOneCall, Told, IsLong, IsQuiet, ReadFails, RefusesLong, ReplaceFails};
     ghost use Rattle.ds_files.specs.MemoryFiles.{Answers, read_of, replace_of, after_read, after_replace};
 
     ghost files = { λ s. Some s.files };
 
     ghost counts = { λ s. s.counts };
 
+    #[tactic(auto, using(crate::proofs::Later::later_trans))]
     fn read(&mut self, alloc: Global, name: &str, most: u64) -> Result<Bytes, FileError>
         ensures exact { Answers result (read_of self.old name.now most) }
         ensures after { self.new ≡ after_read result self.old }
@@ -111,6 +111,7 @@ impl Files for MemoryFiles {
         ensures long { Told (Some self.old.files) (λ m. IsLong name.now most m → IsQuiet self.old.counts self.new.counts → RefusesLong result) }
 
         ensures same { Some self.new.files ≡ Some self.old.files }
+        ensures called { IsOneCall self.old.counts self.new.counts }
         ensures later { IsLater self.old.counts self.new.counts }
     {
         if self.call_fails() {
@@ -126,12 +127,14 @@ impl Files for MemoryFiles {
         Ok(Bytes::from_slice(alloc, bytes)?)
     }
 
+    #[tactic(auto, using(crate::proofs::Later::later_trans))]
     fn replace(&mut self, alloc: Global, name: &str, bytes: &[u8]) -> Result<(), FileError>
         ensures exact { Answers result (replace_of self.old) }
         ensures after { self.new ≡ after_replace result name.now bytes.now self.old }
 
         ensures done { OnOk result (Some self.new.files ≡ option_map (λ m. map.insert m name.now bytes.now) (Some self.old.files)) }
         ensures failed { IfErr result (ReplaceFails (Some self.old.files) (Some self.new.files) name.now self.old.counts self.new.counts) }
+        ensures called { IsOneCall self.old.counts self.new.counts }
         ensures later { IsLater self.old.counts self.new.counts }
     {
         if self.call_fails() {

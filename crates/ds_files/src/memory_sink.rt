@@ -60,10 +60,12 @@ impl MemorySink {
 
 impl Sink for MemorySink {
     ghost use Rattle.std.specs.Prelude.{◌≡◌, ◌≤◌, ◌++◌, Some, OnOk, OnErr, is_ok, option_map};
-    ghost use Rattle.ds_files.specs.Outside.{Rose, PrefixAdded};
+    ghost use Rattle.ds_files.specs.Outside.{Rose, PrefixAdded, one_more};
     ghost use Rattle.ds_files.specs.MemorySink.{takes, after_put};
 
     ghost text = { λ s. Some s.text };
+
+    ghost calls = { λ s. s.calls };
 
     ghost faults = { λ s. s.faults };
 
@@ -73,6 +75,7 @@ impl Sink for MemorySink {
 
         ensures done { OnOk result (Some self.new.text ≡ option_map (λ t. t ++ bytes.now) (Some self.old.text)) }
         ensures failed { OnErr result (Rose self.old.faults self.new.faults × PrefixAdded bytes.now (Some self.old.text) (Some self.new.text)) }
+        ensures called { self.new.calls ≡ one_more self.old.calls }
         ensures later { self.old.faults ≤ self.new.faults }
     {
         self.calls = self.calls.saturating_add(1);

@@ -1,13 +1,14 @@
-//! Counts of what went wrong.
+//! Counts of calls, and of what went wrong.
 
 ghost use Rattle.std.specs.Prelude.{◌≡◌};
 
 use crate::files::FileError;
 use std::marker::Model;
 
-/// Counts of what went wrong, each from 0. A count that stands at its last value stays there.
+/// Counts of calls, and of what went wrong, each from 0. A count that stands at its last value stays there.
 #[derive(Drop)]
 pub struct Tally {
+    calls: u64,
     faults: u64,
     misses: u64,
     longs: u64,
@@ -18,11 +19,11 @@ impl Model for Tally {
 
     ghost Value = { Counts };
 
-    ghost view = { λ t. record { faults = t.faults; misses = t.misses; longs = t.longs } };
+    ghost view = { λ t. record { calls = t.calls; faults = t.faults; misses = t.misses; longs = t.longs } };
 }
 
 impl Tally {
-    ghost use Rattle.ds_files.specs.Outside.{IsLater};
+    ghost use Rattle.ds_files.specs.Outside.{IsLater, called, one_more};
     ghost use Rattle.ds_files.specs.Counting.{no_counts, counted, is_full};
 
     /// Nothing was counted.
@@ -30,10 +31,21 @@ impl Tally {
         ensures { result ≡ no_counts }
     {
         Tally {
+            calls: 0,
             faults: 0,
             misses: 0,
             longs: 0,
         }
+    }
+
+    /// Counts a call, and gives its number, from 1.
+    pub fn call(&mut self) -> u64
+        ensures number { result ≡ one_more self.old.calls }
+        ensures counted { self.new ≡ called self.old }
+        ensures later { IsLater self.old self.new }
+    {
+        self.calls = self.calls.saturating_add(1);
+        self.calls
     }
 
     /// Counts an error, and gives it back. Want of memory is not counted.

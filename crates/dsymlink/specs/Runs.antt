@@ -9,10 +9,10 @@ use Rattle.link_core.specs.Codes.{code_of}
 use Rattle.link_cli.specs.Endings.{said}
 use Rattle.link_cli.specs.Files.{world}
 
--- Memory ran out when the arguments were read, or what the linker answers of the words. Arguments that are not all text are no words.
+-- Memory ran out when the arguments were read, or what the linker answers of the words, where nothing was called before. Arguments that are not all text are no words.
 pub data Runs : Status → Type 0 where
   no_memory : Runs statuses.NoMemory
-  linked : (words : List (List ℕ)) (after : Counts) (faults : ℕ) (status : Status) → Links words (world None no_counts) (world None after) (said None 0) (said None faults) status → Runs status
+  linked : (words : List (List ℕ)) (after : Counts) (faults calls : ℕ) (status : Status) → Links words (world None no_counts) (world None after) (said None 0 0) (said None faults calls) status → Runs status
 
 -- The program ends with the code of its status.
 pub data Ends : ℕ → Type 0 where

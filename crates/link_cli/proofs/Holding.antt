@@ -5,7 +5,7 @@ use Rattle.std.specs.Map.{lookup}
 use Rattle.std.specs.Str.{bytes_eq}
 use Rattle.std.specs.FinMap as fin
 use Rattle.std.proofs.lemmas.List.{map_push, drop_all}
-use Rattle.ds_files.specs.Outside.{Contents, Counts, IsLater, Told, ReadFails}
+use Rattle.ds_files.specs.Outside.{Contents, Counts, IsLater, IsOneCall, Told, ReadFails}
 use Rattle.ds_files.specs.declared.files.FileError.{FileError}
 use Rattle.stab_map.specs.declared.object.MapObject.{MapObject}
 use Rattle.link_core.specs.declared.status.Status.{Status}
@@ -81,21 +81,21 @@ module _ (keep_going : Bool) (number : ℕ) (object : MapObject) (old : Held) wh
     goes_missing now none missing (Err status) is = out_of_memory status now now (unwritten_same now) is
 
     pub goes_read : (path name bytes : List ℕ) (o m : Option Contents) (before middle : Counts) → IsNew old object → path ≡ object.file → name ≡ object.file
-        → (length bytes ≤ old.left) × Told o (λ files. fin.get files path ≡ Some bytes) → m ≡ o → IsLater before middle → (result : Result (Unit {0}) Status) → Becomes (with_file old name bytes) new result
+        → (length bytes ≤ old.left) × Told o (λ files. fin.get files path ≡ Some bytes) → m ≡ o → IsOneCall before middle → IsLater before middle → (result : Result (Unit {0}) Status) → Becomes (with_file old name bytes) new result
         → Goes (world o before) (world m middle) result
-    goes_read path name bytes o m before middle is_new is_path is_name found same later (Ok ok) is = λ objects after answer rest.
+    goes_read path name bytes o m before middle is_new is_path is_name found same once later (Ok ok) is = λ objects after answer rest.
         is_read number object objects old (world o before) (world m middle) after bytes answer is_new
-        (record { few = found.0; told = subst (λ (n : List ℕ). Told o (λ files. fin.get files n ≡ Some bytes)) is_path found.1; same = same; later = later })
+        (record { few = found.0; told = subst (λ (n : List ℕ). Told o (λ files. fin.get files n ≡ Some bytes)) is_path found.1; same = same; once = once; later = later })
         (subst (λ (h : Held). ReadsFiles keep_going (number + 1) objects h (world m middle) after answer) (is ∙ ap (λ (n : List ℕ). with_file old n bytes) is_name) rest)
-    goes_read path name bytes o m before middle is_new is_path is_name found same later (Err status) is =
+    goes_read path name bytes o m before middle is_new is_path is_name found same once later (Err status) is =
         out_of_memory status (world o before) (world m middle) (record { same = same; later = later }) is
 
 module _ (keep_going : Bool) (number : ℕ) (object : MapObject) (was new : HeldFiles) where
   module _ (path : List ℕ) (error : FileError) (o m : Option Contents) (before middle : Counts) (is_new : IsNew (held_of was) object) (is_path : path ≡ object.file)
-      (fails : ReadFails o path was.left before middle error) (same : m ≡ o) (later : IsLater before middle)
+      (fails : ReadFails o path was.left before middle error) (same : m ≡ o) (once : IsOneCall before middle) (later : IsLater before middle)
     where
       misses : MissesFile object.file was.left error (world o before) (world m middle)
-      misses = record { cause = subst (λ (n : List ℕ). ReadFails o n was.left before middle error) is_path fails; same = same; later = later }
+      misses = record { cause = subst (λ (n : List ℕ). ReadFails o n was.left before middle error) is_path fails; same = same; once = once; later = later }
 
       pub goes_missed : (result : Result (Unit {0}) Status) → PassesOver keep_going number object error was new result → Goes keep_going number object (held_of was) new (world o before) (world m middle) result
       goes_missed (Ok ok) is = λ objects after answer rest.

@@ -1,6 +1,7 @@
 -- No count falls.
 use Rattle.std.proofs.Common.{◌≡◌, ℕ, Bool, List, Result, refl, sym, subst, ◌∙◌, arith}
 use Rattle.ds_files.specs.Outside.{Counts, IsLater}
+use Rattle.ds_files.proofs.Later.{later_trans}
 use Rattle.stab_map.specs.declared.object.MapObject.{MapObject}
 use Rattle.link_core.specs.declared.bundle.Linked.{Linked}
 use Rattle.link_cli.specs.declared.ending.Ending.{Ending}
@@ -11,18 +12,8 @@ use Rattle.link_cli.specs.Files.{World, Held, IsUnwritten, ReadsFiles, all_held,
 use Rattle.link_cli.specs.Plan.{Planned}
 use Rattle.link_cli.specs.Answer.{Writes, not_made, plist_unwritten, image_unwritten, written, LinksSources, refused, untold, bundled, LinksObjects, file_unread, files_untold, files_read, Does, links, tells_map, map_untold, RunsProgram, program_unread, program_untold, program_refused, program_found, Runs, generates, reads_exe, Ends, usage, no_plan, planned}
 
-pub later_trans : (a b c : Counts) → IsLater a b → IsLater b c → IsLater a c
-later_trans a b c first next =
-    let f0 = first.0 in
-    let t0 = next.0 in
-    let f1 = first.1 in
-    let t1 = next.1 in
-    let f2 = first.2 in
-    let t2 = next.2 in
-    (omega (arith, f0, t0), omega (arith, f1, t1), omega (arith, f2, t2))
-
 pub later_same : (before after : World) → after ≡ before → IsLater before.counts after.counts
-later_same before after same = subst (λ (w : World). IsLater before.counts w.counts) (sym same) (omega arith, omega arith, omega arith)
+later_same before after same = subst (λ (w : World). IsLater before.counts w.counts) (sym same) (omega arith, omega arith, omega arith, omega arith)
 
 -- nothing was done
 pub unwritten_same : (now : World) → IsUnwritten now now

@@ -3,7 +3,7 @@ use Rattle.std.proofs.Common.{◌≡◌, ℕ, Bool, inl, inr, ◌-◌, ◌^◌, 
 use Rattle.std.specs.Option.{option_map}
 use Rattle.std.specs.FinMap as map
 use Rattle.std.specs.Result.{IsErrAnd}
-use Rattle.ds_files.specs.Outside.{Contents, Counts, IsLater, ReplaceFails}
+use Rattle.ds_files.specs.Outside.{Contents, Counts, IsLater, IsOneCall, ReplaceFails}
 use Rattle.ds_files.specs.declared.files.FileError.{FileError}
 use Rattle.stab_map.specs.declared.object.MapObject.{MapObject}
 use Rattle.link_core.specs.declared.bundle.Linked.{Linked}
@@ -36,41 +36,42 @@ told_or P wanted ending (inr is) good bad = subst P (sym is) bad
 
 -- a file was written under the name that was made
 pub replaces_as : (name made bytes shown : List ℕ) (old new : Option Contents) (before now : Counts) → made ≡ name → shown ≡ bytes
-    → new ≡ option_map (λ m. map.insert m made shown) old → IsLater before now → Replaces name bytes (world old before) (world new now)
-replaces_as name made bytes shown old new before now is_name is_bytes is later = record {
+    → new ≡ option_map (λ m. map.insert m made shown) old → IsOneCall before now → IsLater before now → Replaces name bytes (world old before) (world new now)
+replaces_as name made bytes shown old new before now is_name is_bytes is once later = record {
   files = is ∙ ap (λ (n : List ℕ). option_map (λ m. map.insert m n shown) old) is_name ∙ ap (λ (b : List ℕ). option_map (λ m. map.insert m name b) old) is_bytes;
+  once = once;
   later = later;
 }
 
 -- a file was not written under the name that was made
-not_replaced_as : (name made : List ℕ) (error : FileError) (old new : Option Contents) (before now : Counts) → made ≡ name → ReplaceFails old new made before now error → IsLater before now
-    → NotReplaced name error (world old before) (world new now)
-not_replaced_as name made error old new before now is_name fails later =
-    record { cause = subst (λ (n : List ℕ). ReplaceFails old new n before now error) is_name fails; later = later }
+not_replaced_as : (name made : List ℕ) (error : FileError) (old new : Option Contents) (before now : Counts) → made ≡ name → ReplaceFails old new made before now error → IsOneCall before now
+    → IsLater before now → NotReplaced name error (world old before) (world new now)
+not_replaced_as name made error old new before now is_name fails once later =
+    record { cause = subst (λ (n : List ℕ). ReplaceFails old new n before now error) is_name fails; once = once; later = later }
 
 module _ (plan : Planned) (objects : List MapObject) (warnings : List ℕ) (made_of : Linked) where
   pub plist_unwritten_as : (made message : List ℕ) (old new : Option Contents) (before now : Counts) (error : FileError) (ending : Ending) → made ≡ plist_name plan.out
       → message ≡ refusal_message plan objects warnings (statuses.WriteFault 0) → ending ≡ unwritten_ending 0 error message
-      → ReplaceFails old new made before now error → IsLater before now → Writes plan objects warnings made_of (world old before) (world new now) ending
-  plist_unwritten_as made message old new before now error ending is_name is_message is_ending fails later =
+      → ReplaceFails old new made before now error → IsOneCall before now → IsLater before now → Writes plan objects warnings made_of (world old before) (world new now) ending
+  plist_unwritten_as made message old new before now error ending is_name is_message is_ending fails once later =
       subst (λ (e : Ending). Writes plan objects warnings made_of (world old before) (world new now) e) (sym (is_ending ∙ ap (unwritten_ending 0 error) is_message))
-      (plist_unwritten error (not_replaced_as (plist_name plan.out) made error old new before now is_name fails later))
+      (plist_unwritten error (not_replaced_as (plist_name plan.out) made error old new before now is_name fails once later))
 
   pub image_unwritten_as : (made message : List ℕ) (old mid new : Option Contents) (before middle now : Counts) (error : FileError) (ending : Ending) → made ≡ image_name plan.out plan.exe
       → message ≡ refusal_message plan objects warnings (statuses.WriteFault 1) → ending ≡ unwritten_ending 1 error message
-      → Replaces (plist_name plan.out) made_of.plist (world old before) (world mid middle) → ReplaceFails mid new made middle now error → IsLater middle now
+      → Replaces (plist_name plan.out) made_of.plist (world old before) (world mid middle) → ReplaceFails mid new made middle now error → IsOneCall middle now → IsLater middle now
       → Writes plan objects warnings made_of (world old before) (world new now) ending
-  image_unwritten_as made message old mid new before middle now error ending is_name is_message is_ending first fails later =
+  image_unwritten_as made message old mid new before middle now error ending is_name is_message is_ending first fails once later =
       subst (λ (e : Ending). Writes plan objects warnings made_of (world old before) (world new now) e) (sym (is_ending ∙ ap (unwritten_ending 1 error) is_message))
-      (image_unwritten (world mid middle) error first (not_replaced_as (image_name plan.out plan.exe) made error mid new middle now is_name fails later))
+      (image_unwritten (world mid middle) error first (not_replaced_as (image_name plan.out plan.exe) made error mid new middle now is_name fails once later))
 
   pub written_as : (made shown message : List ℕ) (old mid new : Option Contents) (before middle now : Counts) → Replaces (plist_name plan.out) made_of.plist (world old before) (world mid middle)
       → made ≡ image_name plan.out plan.exe → shown ≡ made_of.image → message ≡ done_message plan warnings made_of.counts
-      → new ≡ option_map (λ m. map.insert m made shown) mid → IsLater middle now
+      → new ≡ option_map (λ m. map.insert m made shown) mid → IsOneCall middle now → IsLater middle now
       → Writes plan objects warnings made_of (world old before) (world new now) (record { status = statuses.Done; message = message })
-  written_as made shown message old mid new before middle now first is_name is_image is_message second later =
+  written_as made shown message old mid new before middle now first is_name is_image is_message second once later =
       subst (λ (m : List ℕ). Writes plan objects warnings made_of (world old before) (world new now) (record { status = statuses.Done; message = m })) (sym is_message)
-      (written (world mid middle) first (replaces_as (image_name plan.out plan.exe) made made_of.image shown mid new middle now is_name is_image second later))
+      (written (world mid middle) first (replaces_as (image_name plan.out plan.exe) made made_of.image shown mid new middle now is_name is_image second once later))
 
 -- ---- the objects
 

@@ -2,7 +2,7 @@
 use Rattle.std.proofs.Common.{◌≡◌, ◌≢◌, ℕ, true, false, true≢false, List, [], ◌∷◌, ◌++◌, length, Option, nat_eq, refl, sym, ap, subst, ◌∙◌, ◌≤◌, arith}
 use Rattle.std.specs.Option.{option_map}
 use Rattle.std.proofs.lemmas.Bool.{eqb-true}
-use Rattle.ds_files.specs.Outside.{PrefixAdded, Rose}
+use Rattle.ds_files.specs.Outside.{PrefixAdded, Rose, one_more}
 use Rattle.link_core.specs.declared.status.Status.TheVariants as statuses
 use Rattle.link_cli.specs.declared.ending.Ending.{Ending}
 use Rattle.link_cli.specs.Endings.{Puts, Said, nothing, put, failed, said}
@@ -18,9 +18,11 @@ module _ (ending : Ending) where
   pub nothing_told : (now : Said) → nat_eq (length ending.message) 0 ≡ true → Puts ending now now ending.status
   nothing_told now is = nothing (none_left ending.message is) refl
 
-  module _ (is : nat_eq (length ending.message) 0 ≡ false) (bytes : List ℕ) (same : bytes ≡ ending.message) (old new : Option (List ℕ)) (before now : ℕ) where
-    pub told : new ≡ option_map (λ text. text ++ bytes) old → before ≤ now → Puts ending (said old before) (said new now) ending.status
-    told done later = put (some_left ending.message is) (done ∙ ap (λ (more : List ℕ). option_map (λ text. text ++ more) old) same) later
+  module _ (is : nat_eq (length ending.message) 0 ≡ false) (bytes : List ℕ) (same : bytes ≡ ending.message) (old new : Option (List ℕ)) (before now first calls : ℕ)
+      (once : calls ≡ one_more first)
+    where
+      pub told : new ≡ option_map (λ text. text ++ bytes) old → before ≤ now → Puts ending (said old before first) (said new now calls) ending.status
+      told done later = put (some_left ending.message is) once (done ∙ ap (λ (more : List ℕ). option_map (λ text. text ++ more) old) same) later
 
-    pub not_told : Rose before now → PrefixAdded bytes old new → Puts ending (said old before) (said new now) statuses.MessageFault
-    not_told rose prefix = failed (some_left ending.message is) rose (subst (λ (more : List ℕ). PrefixAdded more old new) same prefix)
+      pub not_told : Rose before now → PrefixAdded bytes old new → Puts ending (said old before first) (said new now calls) statuses.MessageFault
+      not_told rose prefix = failed (some_left ending.message is) once rose (subst (λ (more : List ℕ). PrefixAdded more old new) same prefix)

@@ -26,10 +26,10 @@ rose_wider x y z le rose = omega (arith, le, rose)
 
 -- no fault in a call, and none in a later part or in an earlier part of it
 pub quiet_behind : (a b c : Counts) → IsLater a b → NoFault a c → NoFault b c
-quiet_behind a b c later quiet rose = quiet (rose_wider a.faults b.faults c.faults later.0 rose)
+quiet_behind a b c later quiet rose = quiet (rose_wider a.faults b.faults c.faults later.1 rose)
 
 pub quiet_before : (a b c : Counts) → IsLater b c → NoFault a c → NoFault a b
-quiet_before a b c later quiet rose = quiet (let le = later.0 in omega (arith, le, rose))
+quiet_before a b c later quiet rose = quiet (let le = later.1 in omega (arith, le, rose))
 
 -- ---- what is told
 

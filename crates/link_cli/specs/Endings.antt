@@ -1,7 +1,7 @@
 -- How the command ends: its status, and the message that goes out.
 use Rattle.std.specs.Prelude.{◌≡◌, ◌≢◌, ◌⊎◌, ℕ, ◌≤◌, List, [], ◌++◌, Bool, true, false, Option, if◌then◌else◌}
 use Rattle.std.specs.Option.{option_map}
-use Rattle.ds_files.specs.Outside.{PrefixAdded, Rose}
+use Rattle.ds_files.specs.Outside.{PrefixAdded, Rose, one_more}
 use Rattle.ds_files.specs.declared.files.FileError.{FileError}
 use Rattle.ds_files.specs.declared.files.FileError.TheVariants as errors
 use Rattle.stab_map.specs.declared.object.MapObject.{MapObject}
@@ -61,16 +61,17 @@ usage_ending = record { status = statuses.Usage; message = status_line statuses.
 
 -- ---- the message goes out
 
--- what the sink took, where it is told, and how often it failed
+-- what the sink took, where it is told, how often it failed, and how often it was called
 pub record Said : Type 0 where
   pub text : Option (List ℕ)
   pub faults : ℕ
+  pub calls : ℕ
 
-abbrev pub said : Option (List ℕ) → ℕ → Said
-said text faults = record { text = text; faults = faults }
+abbrev pub said : Option (List ℕ) → ℕ → ℕ → Said
+said text faults calls = record { text = text; faults = faults; calls = calls }
 
 -- A message goes out by one call, unless it is empty. Where that fails, its failure is the status.
 pub data Puts (ending : Ending) (before after : Said) : Status → Type 0 where
   nothing : ending.message ≡ [] → after ≡ before → Puts ending before after ending.status
-  put : ending.message ≢ [] → after.text ≡ option_map (λ text. text ++ ending.message) before.text → before.faults ≤ after.faults → Puts ending before after ending.status
-  failed : ending.message ≢ [] → Rose before.faults after.faults → PrefixAdded ending.message before.text after.text → Puts ending before after statuses.MessageFault
+  put : ending.message ≢ [] → after.calls ≡ one_more before.calls → after.text ≡ option_map (λ text. text ++ ending.message) before.text → before.faults ≤ after.faults → Puts ending before after ending.status
+  failed : ending.message ≢ [] → after.calls ≡ one_more before.calls → Rose before.faults after.faults → PrefixAdded ending.message before.text after.text → Puts ending before after statuses.MessageFault

@@ -4,7 +4,7 @@ use Rattle.std.specs.Option.{option_map}
 use Rattle.std.specs.List.{find, list_any}
 use Rattle.std.specs.Str.{bytes_eq}
 use Rattle.std.specs.FinMap as map
-use Rattle.ds_files.specs.Outside.{Contents, Counts, IsLater, Told, ReadFails}
+use Rattle.ds_files.specs.Outside.{Contents, Counts, IsLater, IsOneCall, Told, ReadFails}
 use Rattle.ds_files.specs.declared.files.FileError.{FileError}
 use Rattle.ds_files.specs.declared.files.FileError.TheVariants as errors
 use Rattle.stab_map.specs.declared.object.MapObject.{MapObject}
@@ -14,7 +14,7 @@ use Rattle.link_core.specs.declared.refusal.LimitKind.TheVariants as limits
 use Rattle.link_cli.specs.declared.files.Stopped.{Stopped}
 use Rattle.link_cli.specs.Texts.{warning}
 
--- the files, where they are told, and what went wrong so far
+-- the files, where they are told, how often they were asked for and what went wrong so far
 pub record World : Type 0 where
   pub files : Option Contents
   pub counts : Counts
@@ -26,17 +26,19 @@ world files counts = record { files = files; counts = counts }
 abbrev pub most_input : ℕ
 most_input = 2 ^ 29
 
--- a file was read: these bytes, which are the file's where files are told
+-- a file was read by one call: these bytes, which are the file's where files are told
 pub record ReadsFile (name : List ℕ) (most : ℕ) (bytes : List ℕ) (before after : World) : Type 0 where
   pub few : length bytes ≤ most
   pub told : Told before.files (λ files. map.get files name ≡ Some bytes)
   pub same : after.files ≡ before.files
+  pub once : IsOneCall before.counts after.counts
   pub later : IsLater before.counts after.counts
 
--- it was not read, and this is why
+-- the call did not read it, and this is why
 pub record MissesFile (name : List ℕ) (most : ℕ) (error : FileError) (before after : World) : Type 0 where
   pub cause : ReadFails before.files name most before.counts after.counts error
   pub same : after.files ≡ before.files
+  pub once : IsOneCall before.counts after.counts
   pub later : IsLater before.counts after.counts
 
 -- the status for a file that was not read
@@ -103,7 +105,7 @@ pub record IsNew (held : Held) (object : MapObject) : Type 0 where
   pub unread : content_in held.files object.file ≡ None
   pub kept : is_missing held.missing object.file ≡ false
 
--- The files of objects are read in the order of the objects, which have numbers from one on, each file once. The answer is what is held then, or why reading ended, with the warnings so far: a file was not read and not let go, or memory ran out.
+-- The files of objects are read in the order of the objects, which have numbers from one on, each file once and by one call. The answer is what is held then, or why reading ended, with the warnings so far: a file was not read and not let go, or memory ran out.
 pub data ReadsFiles (keep_going : Bool) : (number : ℕ) → List MapObject → Held → (before after : World) → Result Held Stopped → Type 0 where
   all_held : (number : ℕ) (held : Held) (now : World) → ReadsFiles keep_going number [] held now now (Ok held)
   is_held : (number : ℕ) (object : MapObject) (objects : List MapObject) (held : Held) (before after : World) (bytes : List ℕ) (answer : Result Held Stopped)

@@ -60,7 +60,7 @@ impl Ending {
 
     /// Puts the message out, unless it is empty. Where that fails, its failure is the status.
     pub fn put<S: Sink>(self, messages: &mut S) -> Status
-        ensures { spec.Puts self (spec.said (S.text messages.old) (S.faults messages.old)) (spec.said (S.text messages.new) (S.faults messages.new)) result }
+        ensures { spec.Puts self (spec.said (S.text messages.old) (S.faults messages.old) (S.calls messages.old)) (spec.said (S.text messages.new) (S.faults messages.new) (S.calls messages.new)) result }
     {
         if self.message.is_empty() {
             return self.status;

@@ -34,8 +34,10 @@ use std::thread::Threads;
 /// the image; or tells its debug map; or links a generated program, whatever the files are, and tells what was counted.
 /// The words are without the program's own name.
 ///
-/// Files are numbered: 0 is the program, and its objects follow from 1 in the order of its debug map. All that is told
-/// goes out last, by one call. What is answered does not depend on the number of threads that the words ask for.
+/// Files are numbered: 0 is the program, and its objects follow from 1 in the order of its debug map. The
+/// program, each file that its map names and each file of the bundle is asked for by one call, so that a failure is told of
+/// the file whose own call failed. All that is told goes out last, by one call. What is answered does not depend on the
+/// number of threads that the words ask for.
 pub fn link_main<R: Threads + Sync, F: Files + Sync, S: Sink, G: Gate + Sync>(
     rt: &R,
     alloc: Global,
@@ -44,7 +46,7 @@ pub fn link_main<R: Threads + Sync, F: Files + Sync, S: Sink, G: Gate + Sync>(
     messages: &mut S,
     gate: &G,
 ) -> Status
-    ensures exact { Links (map string_bytes words.now) (world (F.files files.old) (F.counts files.old)) (world (F.files files.new) (F.counts files.new)) (said (S.text messages.old) (S.faults messages.old)) (said (S.text messages.new) (S.faults messages.new)) result }
+    ensures exact { Links (map string_bytes words.now) (world (F.files files.old) (F.counts files.old)) (world (F.files files.new) (F.counts files.new)) (said (S.text messages.old) (S.faults messages.old) (S.calls messages.old)) (said (S.text messages.new) (S.faults messages.new) (S.calls messages.new)) result }
     ensures later { IsLater (F.counts files.old) (F.counts files.new) }
 {
     let ending = run(rt, alloc, words, files, gate);
