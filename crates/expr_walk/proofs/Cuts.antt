@@ -257,9 +257,9 @@ pub record Whole {A : Type 0} (items : Items A) (before : List A) (s : Spot) (op
   pub holds : flat_map items.bytes ops ≡ flat_map items.bytes before ++ rest s
   pub short : sum_by items.len ops ≤ sum_by items.len before + items.most * (s.end - s.place)
 
-abbrev pub AllCut : {A : Type 0} → Items A → ℕ → List A → Spot → Result (List A) Fault → Type 0
-AllCut items left before s (Ok ops) = s.end - s.place ≤ left → Whole items before s ops
-AllCut items left before s (Err f) = Inside s f
+abbrev pub AllCut : {A : Type 0} → Items A → List A → Spot → Result (List A) Fault → Type 0
+AllCut items before s (Ok ops) = Whole items before s ops
+AllCut items before s (Err f) = Inside s f
 
 none_left : {A : Type 0} (items : Items A) (before : List A) (s : Spot) → s.end - s.place ≡ 0 → Whole items before s before
 none_left items before s e =
@@ -290,13 +290,11 @@ in_both most before len count left behind pushed all one is most_all parts =
     let spread : most * left ≡ most * count + most * behind = ap (λ (n : ℕ). most * n) parts ∙ mul-add most count behind in
     omega (arith, spread, one, is, most_all)
 
-behind_item : {A : Type 0} (items : Items A) (left : ℕ) (before : List A) (s t : Spot) (a : A) (r : Result (List A) Fault) → Takes items s a t → AllCut items left (before ++ a ∷ []) t r
-    → AllCut items (suc left) before s r
-behind_item items left before s t a (Err f) c all = inside_behind items s t a f c all
-behind_item items left before s t a (Ok ops) c all = λ le.
+behind_item : {A : Type 0} (items : Items A) (before : List A) (s t : Spot) (a : A) (r : Result (List A) Fault) → Takes items s a t → AllCut items (before ++ a ∷ []) t r → AllCut items before s r
+behind_item items before s t a (Err f) c all = inside_behind items s t a f c all
+behind_item items before s t a (Ok ops) c known =
     let place : t.place ≡ s.place + c.count = ap (λ (u : Spot). u.place) c.is in
     let end : t.end ≡ s.end = ap (λ (u : Spot). u.end) c.is in
-    let known = all (omega (arith, c.some)) in
     let one : flat_map items.bytes (before ++ a ∷ []) ≡ flat_map items.bytes before ++ items.bytes a = sym (flat_map_more items.bytes [] before a) in
     record {
       holds = known.holds ∙ ap (λ (xs : List ℕ). xs ++ rest t) one ∙ append_assoc (flat_map items.bytes before) (items.bytes a) (rest t)
@@ -305,15 +303,15 @@ behind_item items left before s t a (Ok ops) c all = λ le.
     }
 
 all_step : {A : Type 0} (read : Spot → Result (A × Spot) Fault) (items : Items A) (left : ℕ) (before : List A) (s : Spot) (b : Bool) (r : Result (A × Spot) Fault)
-    → eqb (s.end - s.place) 0 ≡ b → Cuts items s r → ((a : A) (t : Spot) → AllCut items left (before ++ a ∷ []) t (all_at read left (before ++ a ∷ []) t))
-    → AllCut items (suc left) before s (cond b (Ok before) (r >>= λ op. all_at read left (before ++ op.0 ∷ []) op.1))
-all_step read items left before s true r e cut next = λ le. none_left items before s (eqb-true _ _ e)
+    → eqb (s.end - s.place) 0 ≡ b → Cuts items s r → ((a : A) (t : Spot) → AllCut items (before ++ a ∷ []) t (all_at read left (before ++ a ∷ []) t))
+    → AllCut items before s (cond b (Ok before) (r >>= λ op. all_at read left (before ++ op.0 ∷ []) op.1))
+all_step read items left before s true r e cut next = none_left items before s (eqb-true _ _ e)
 all_step read items left before s false (Err f) e cut next = cut
-all_step read items left before s false (Ok p) e cut next = behind_item items left before s p.1 p.0 (all_at read left (before ++ p.0 ∷ []) p.1) cut (next p.0 p.1)
+all_step read items left before s false (Ok p) e cut next = behind_item items before s p.1 p.0 (all_at read left (before ++ p.0 ∷ []) p.1) cut (next p.0 p.1)
 
 all_cut : {A : Type 0} (read : Spot → Result (A × Spot) Fault) (items : Items A) → ((s : Spot) → Cuts items s (read s)) → (left : ℕ) (before : List A) (s : Spot)
-    → AllCut items left before s (all_at read left before s)
-all_cut read items cuts zero before s = λ le. none_left items before s (omega (arith, le))
+    → AllCut items before s (all_at read left before s)
+all_cut read items cuts zero before s = here s 0 s kinds.Truncated (at_once s)
 all_cut read items cuts (suc left) before s =
     all_step read items left before s (eqb (s.end - s.place) 0) (read s) refl (cuts s) (λ a t. all_cut read items cuts left (before ++ a ∷ []) t)
 
@@ -321,18 +319,17 @@ all_cut read items cuts (suc left) before s =
 pub expression_whole : {A : Type 0} (read : Spot → Result (A × Spot) Fault) (items : Items A) → ((s : Spot) → Cuts items s (read s)) → (part : Part) (bytes : List ℕ) (ops : List A)
     → expression_of read part bytes ≡ Ok ops → (flat_map items.bytes ops ≡ bytes) × (sum_by items.len ops ≤ items.most * length bytes)
 expression_whole read items cuts part bytes ops e =
-    let c = subst (AllCut items (length bytes) [] (start part bytes)) e (all_cut read items cuts (length bytes) [] (start part bytes)) in
+    let c = subst (AllCut items [] (start part bytes)) e (all_cut read items cuts (suc (length bytes)) [] (start part bytes)) in
     let all : take (length bytes - 0) bytes ≡ bytes = ap (λ (n : ℕ). take n bytes) (omega arith) ∙ take-length bytes in
-    let w = c (omega arith) in
     let len : length bytes - 0 ≡ length bytes = omega arith in
-    let short : sum_by items.len ops ≤ items.most * (length bytes - 0) = (let known : sum_by items.len ops ≤ 0 + items.most * (length bytes - 0) = w.short in omega (arith, known)) in
-    (w.holds ∙ all, subst (λ (n : ℕ). sum_by items.len ops ≤ items.most * n) len short)
+    let short : sum_by items.len ops ≤ items.most * (length bytes - 0) = (let known : sum_by items.len ops ≤ 0 + items.most * (length bytes - 0) = c.short in omega (arith, known)) in
+    (c.holds ∙ all, subst (λ (n : ℕ). sum_by items.len ops ≤ items.most * n) len short)
 
 -- a fault of an expression stands in it or at its end
 pub expression_faults : {A : Type 0} (read : Spot → Result (A × Spot) Fault) (items : Items A) → ((s : Spot) → Cuts items s (read s)) → (part : Part) (bytes : List ℕ) (f : Fault)
     → expression_of read part bytes ≡ Err f → f.place ≤ length bytes
 expression_faults read items cuts part bytes f e =
-    let c = subst (AllCut items (length bytes) [] (start part bytes)) e (all_cut read items cuts (length bytes) [] (start part bytes)) in
+    let c = subst (AllCut items [] (start part bytes)) e (all_cut read items cuts (suc (length bytes)) [] (start part bytes)) in
     omega (arith, c.is, c.inside)
 
 -- ---- entry values

@@ -1,51 +1,46 @@
--- The loop over an expression's operations: the ways out, and the way on.
-use Rattle.std.proofs.Common.{◌≡◌, ℕ, suc, ◌+◌, ◌-◌, ◌<◌, ◌≤◌, List, [], ◌∷◌, ◌++◌, Result, Ok, Err, eqb, true, false, refl, subst, sym, ◌∙◌, arith}
+-- The loop over an expression's operations: how it begins, and the way on.
+use Rattle.std.proofs.Common.{◌≡◌, ℕ, suc, ◌-◌, ◌<◌, ◌≤◌, List, [], ◌∷◌, ◌++◌, length, Result, Ok, refl, ap, subst, sym, ◌∙◌, arith}
+use Rattle.std.proofs.lemmas.Bool.{ne_eqb}
 use Rattle.ds_base.specs.declared.fault.Fault.{Fault}
-use Rattle.ds_base.specs.Spot.{Spot}
-use Rattle.ds_base.proofs.Passing.{ok_is}
+use Rattle.ds_base.specs.declared.fault.Part.{Part}
+use Rattle.ds_base.specs.Spot.{Spot, start}
+use Rattle.ds_base.proofs.Passing.{bind_ok, ok_is}
 use Rattle.dwarf_types.specs.declared.expr.Op.{Op}
 use Rattle.dwarf_types.specs.Gathered.{Gathered}
-use Rattle.expr_walk.specs.Reading.{all_at}
+use Rattle.expr_walk.specs.Reading.{all_at, expression_of}
 use Rattle.expr_walk.specs.Steps.{behind}
+use Rattle.expr_walk.proofs.Cuts.{Cuts, Items}
+
+-- what is read on from a cursor, behind the operations before, is the total: the count is more than the bytes that are left
+pub record Goes {A : Type 0} (read : Spot → Result (A × Spot) Fault) (before : List A) (s : Spot) (total : Result (List A) Fault) : Type 0 where
+  pub left : ℕ
+  pub enough : s.end - s.place ≤ left
+  pub is : all_at read (suc left) before s ≡ total
+
+pub begins : {A : Type 0} (read : Spot → Result (A × Spot) Fault) (part : Part) (bytes : List ℕ) → Goes read [] (start part bytes) (expression_of read part bytes)
+begins read part bytes = record { left = length bytes; enough = omega arith; is = refl }
+
+-- fewer bytes are left behind an operation
+pub fewer_left : {A : Type 0} (items : Items A) (s t : Spot) (op : A) (r : Result (A × Spot) Fault) → Cuts items s r → 0 < s.end - s.place → r ≡ Ok (op, t) → t.end - t.place < s.end - s.place
+fewer_left items s t op r cuts some is =
+    let c = subst (Cuts items s) is cuts in
+    omega (arith, c.some, ap (λ (u : Spot). u.place) c.is, ap (λ (u : Spot). u.end) c.is, some)
 
 -- one more is read
-pub one_more : {A : Type 0} (read : Spot → Result (A × Spot) Fault) (count i : ℕ) (before : List A) (s : Spot) (op : A) (behind : Spot) (total : Result (List A) Fault)
-    → i < count → eqb (s.end - s.place) 0 ≡ false → read s ≡ Ok (op, behind) → all_at read (count - i) before s ≡ total → all_at read (count - (i + 1)) (before ++ op ∷ []) behind ≡ total
-one_more read count i before s op behind total lt some is so_far =
-    let left : count - i ≡ suc (count - (i + 1)) = omega arith in
-    sym (rw (left, some, is) refl) ∙ so_far
+pub one_more : {A : Type 0} (read : Spot → Result (A × Spot) Fault) (items : Items A) (before : List A) (s t : Spot) (op : A) (total : Result (List A) Fault) → Cuts items s (read s) → 0 < s.end - s.place → read s ≡ Ok (op, t) → Goes read before s total
+    → Goes read (before ++ op ∷ []) t total
+one_more read items before s t op total cuts some is g =
+    let turn : suc (g.left - 1) ≡ g.left = omega (arith, g.enough, some) in
+    record {
+      left = g.left - 1;
+      enough = omega (arith, g.enough, fewer_left items s t op (read s) cuts some is);
+      is = ap (λ (n : ℕ). all_at read n (before ++ op ∷ []) t) turn ∙ sym (rw (ne_eqb (s.end - s.place) 0 (λ e. omega (arith, some, e)), is) refl) ∙ g.is;
+    }
 
--- one is faulty
-pub one_fails : {A : Type 0} (read : Spot → Result (A × Spot) Fault) (count i : ℕ) (before : List A) (s : Spot) (fault : Fault) (total : Result (List A) Fault)
-    → i < count → eqb (s.end - s.place) 0 ≡ false → read s ≡ Err fault → all_at read (count - i) before s ≡ total → total ≡ Err fault
-one_fails read count i before s fault total lt some is so_far =
-    let left : count - i ≡ suc (count - (i + 1)) = omega arith in
-    sym so_far ∙ rw (left, some, is) refl
-
--- the end comes
-pub end_comes : {A : Type 0} (read : Spot → Result (A × Spot) Fault) (count i : ℕ) (before : List A) (s : Spot) (total : Result (List A) Fault)
-    → i < count → eqb (s.end - s.place) 0 ≡ true → all_at read (count - i) before s ≡ total → total ≡ Ok before
-end_comes read count i before s total lt none so_far =
-    let left : count - i ≡ suc (count - (i + 1)) = omega arith in
-    sym so_far ∙ rw (left, none) refl
-
--- the bytes' count is used up
-pub count_ends : {A : Type 0} (read : Spot → Result (A × Spot) Fault) (count i : ℕ) (before : List A) (s : Spot) (total : Result (List A) Fault)
-    → count ≤ i → all_at read (count - i) before s ≡ total → total ≡ Ok before
-count_ends read count i before s total le so_far =
-    let none : count - i ≡ 0 = omega arith in
-    sym so_far ∙ rw none refl
-
--- ---- operations that are put behind those before
-
-put_of : (read : Spot → Result (Op × Spot) Fault) (count i : ℕ) (before : List Op) (s : Spot) (r : Result (Op × Spot) Fault) (after : Gathered) (t : Spot) (total : Result (List Op) Fault)
-    → i < count → eqb (s.end - s.place) 0 ≡ false → read s ≡ r → behind before r ≡ Ok (after, t) → all_at read (count - i) before s ≡ total → (all_at read (count - (i + 1)) after.ops t ≡ total) × (after.inner ≡ [])
-put_of read count i before s (Ok p) after t total lt some is put so_far =
-    let made : Gathered × Spot = (record { ops = before ++ p.0 ∷ []; inner = [] }, p.1) in
-    subst (λ (q : Gathered × Spot). (all_at read (count - (i + 1)) q.0.ops q.1 ≡ total) × (q.0.inner ≡ [])) (ok_is made (after, t) put) (one_more read count i before s p.0 p.1 total lt some is so_far, refl)
-put_of read count i before s (Err f) after t total lt some is put so_far = absurd cc
-
--- one more is put
-pub one_put : (read : Spot → Result (Op × Spot) Fault) (count i : ℕ) (before : List Op) (s : Spot) (after : Gathered) (t : Spot) (total : Result (List Op) Fault)
-    → i < count → eqb (s.end - s.place) 0 ≡ false → behind before (read s) ≡ Ok (after, t) → all_at read (count - i) before s ≡ total → (all_at read (count - (i + 1)) after.ops t ≡ total) × (after.inner ≡ [])
-one_put read count i before s after t total lt some put so_far = put_of read count i before s (read s) after t total lt some refl put so_far
+-- an operation that is put behind those before was read
+pub put_is : (before : List Op) (r : Result (Op × Spot) Fault) (after : Gathered) (t : Spot) → behind before r ≡ Ok (after, t) → (op : Op) × (r ≡ Ok (op, t)) × (record { ops = before ++ op ∷ []; inner = [] } ≡ after)
+put_is before r after t put =
+    let made : Op × Spot → Gathered × Spot = λ op. (record { ops = before ++ op.0 ∷ []; inner = [] }, op.1) in
+    let b = bind_ok r (λ op. Ok (made op)) (after, t) put in
+    let is = ok_is (made b.0) (after, t) b.2 in
+    (b.0.0, b.1 ∙ ap (λ (u : Spot). Ok (b.0.0, u)) (ap (λ (q : Gathered × Spot). q.1) is), ap (λ (q : Gathered × Spot). q.0) is)

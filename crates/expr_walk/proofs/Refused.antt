@@ -81,7 +81,7 @@ plain_from_kinds first code row s =
     bind_kinds IsOne (operands_at row first s) _ (operands_kinds row first s) (λ named. bind_kinds IsOne (bytes_up_to named.1.place first) _ (up_to_kinds named.1.place first) (λ b. ok_kinds IsOne _))
 
 all_kinds : {A : Type 0} (read : Spot → Result (A × Spot) Fault) → ((s : Spot) → FaultsAre IsOne (read s)) → (left : ℕ) (before : List A) (s : Spot) → FaultsAre IsOne (all_at read left before s)
-all_kinds read h zero before s = ok_kinds IsOne _
+all_kinds read h zero before s = err_kinds IsOne (fault_at s kinds.Truncated) cut
 all_kinds read h (suc left) before s =
     either_kinds IsOne (s.end - s.place == 0) (Ok before) _ (ok_kinds IsOne _) (bind_kinds IsOne (read s) _ (h s) (λ op. all_kinds read h left (before ++ op.0 ∷ []) op.1))
 
@@ -108,7 +108,7 @@ module _ (version : ℕ) where
 
   inner_kinds : (inside : List ℕ) (part : Part) (first : ℕ) → FaultsAre IsOne (inner_of version inside part first)
   unfolding inner_of
-  inner_kinds inside part first = placed_kinds first (expression_of (plain_at version) part inside) (all_kinds (plain_at version) plain_kinds (length inside) [] (start part inside))
+  inner_kinds inside part first = placed_kinds first (expression_of (plain_at version) part inside) (all_kinds (plain_at version) plain_kinds (suc (length inside)) [] (start part inside))
 
   entry_value_kinds : (part : Part) (first : Spot) (code : ℕ) (s : Spot) → FaultsAre IsOne (entry_value_from version part first code s)
   unfolding entry_value_from
@@ -129,7 +129,7 @@ module _ (version : ℕ) where
 
   walk_kinds : (bytes : List ℕ) (part : Part) (first : ℕ) → FaultsAre IsOne (walk_of bytes part first version)
   unfolding walk_of
-  walk_kinds bytes part first = placed_kinds first (expression_of (op_at version part) part bytes) (all_kinds (op_at version part) (op_kinds part) (length bytes) [] (start part bytes))
+  walk_kinds bytes part first = placed_kinds first (expression_of (op_at version part) part bytes) (all_kinds (op_at version part) (op_kinds part) (suc (length bytes)) [] (start part bytes))
 
 pub walk_faults : (bytes : List ℕ) (part : Part) (first version : ℕ) → FaultsAre IsOne (walk_of bytes part first version)
 walk_faults bytes part first version = walk_kinds version bytes part first

@@ -1,5 +1,5 @@
 -- What is read of an expression is spelled so, and what is spelled so is read.
-use Rattle.std.proofs.Common.{◌≡◌, ℕ, zero, suc, ◌+◌, ◌-◌, ◌<◌, ◌≤◌, Bool, true, false, cond, eqb, List, [], ◌∷◌, ◌++◌, length, take, Some, None, Result, Ok, Err, refl, sym, ap, ap₂, subst, ◌∙◌, append_assoc, arith}
+use Rattle.std.proofs.Common.{◌≡◌, ℕ, zero, suc, ◌+◌, ◌-◌, ◌<◌, Bool, true, false, cond, eqb, List, [], ◌∷◌, ◌++◌, length, take, Some, None, Result, Ok, Err, refl, sym, ap, ap₂, subst, ◌∙◌, append_assoc, arith}
 use Rattle.std.specs.List.{flat_map}
 use Rattle.std.proofs.lemmas.Bool.{ne_eqb, eq-eqb}
 use Rattle.std.proofs.lemmas.List.{append_cancel_right, append-nil, length-append}
@@ -108,26 +108,23 @@ found_step read P left before ops false (Ok p) one behind each e = let q = one p
 
 all_found : {A : Type 0} (read : Spot → Result (A × Spot) Fault) (P : A → Type 0) → ((s : Spot) (a : A) (t : Spot) → Stands s → read s ≡ Ok (a, t) → P a × Stands t) → (left : ℕ) (before : List A) (s : Spot) → Stands s
     → (ops : List A) → Each P before → all_at read left before s ≡ Ok ops → Each P ops
-all_found read P takes zero before s h ops each e = subst (Each P) (ok_is before ops e) each
+all_found read P takes zero before s h ops each e = absurd cc
 all_found read P takes (suc left) before s h ops each e =
     found_step read P left before ops (eqb (s.end - s.place) 0) (read s) (λ a t is. takes s a t h is) (λ a t one stands is. all_found read P takes left (before ++ a ∷ []) t stands ops (Each-push P before a each one) is) each e
 
 all_only : {A : Type 0} (read : Spot → Result (A × Spot) Fault) (items : Items A) (P : A → Type 0) → ((s : Spot) (a : A) (more : List ℕ) → Stands s → P a → rest s ≡ items.bytes a ++ more → Again read s a more)
-    → ((a : A) → P a → 0 < length (items.bytes a)) → (ops : List A) (left : ℕ) (before : List A) (s : Spot) → Stands s → s.end - s.place ≤ left → Each P ops → rest s ≡ flat_map items.bytes ops
+    → ((a : A) → P a → 0 < length (items.bytes a)) → (ops : List A) (left : ℕ) (before : List A) (s : Spot) → Stands s → s.end - s.place < left → Each P ops → rest s ≡ flat_map items.bytes ops
     → all_at read left before s ≡ Ok (before ++ ops)
-all_only read items P again some [] zero before s h le each parts = ap (λ (xs : List _). Ok xs) (sym (append-nil before))
-all_only read items P again some [] (suc left) before s h le each parts =
+all_only read items P again some ops zero before s h enough each parts = absurd (omega (arith, enough))
+all_only read items P again some [] (suc left) before s h enough each parts =
     let none : s.end - s.place ≡ 0 = omega (arith, length_rest_is s h, ap length parts) in
     rw (eq-eqb _ _ none) (ap (λ (xs : List _). Ok xs) (sym (append-nil before)))
-all_only read items P again some (op ∷ ops) zero before s h le each parts =
-    let whole : rest s ≡ items.bytes op ++ flat_map items.bytes ops = parts ∙ flat_map-cons items.bytes op ops in
-    absurd (omega (arith, length_rest_is s h, ap length whole, length-append (items.bytes op) (flat_map items.bytes ops), some op each.0))
-all_only read items P again some (op ∷ ops) (suc left) before s h le each parts =
+all_only read items P again some (op ∷ ops) (suc left) before s h enough each parts =
     let whole : rest s ≡ items.bytes op ++ flat_map items.bytes ops = parts ∙ flat_map-cons items.bytes op ops in
     let f = again s op (flat_map items.bytes ops) h each.0 whole in
     let lens : s.end - s.place ≡ length (items.bytes op) + length (flat_map items.bytes ops) = omega (arith, length_rest_is s h, ap length whole, length-append (items.bytes op) (flat_map items.bytes ops)) in
     let one = some op each.0 in
-    let fewer : f.next.end - f.next.place ≤ left = omega (arith, length_rest_is f.next f.stands, ap length f.left, lens, one, le) in
+    let fewer : f.next.end - f.next.place < left = omega (arith, length_rest_is f.next f.stands, ap length f.left, lens, one, enough) in
     rw (ne_eqb (s.end - s.place) 0 (λ e. omega (arith, lens, one)), f.reads) (all_only read items P again some ops left (before ++ op ∷ []) f.next f.stands fewer each.1 f.left ∙ ap (λ (xs : List _). Ok xs) (append_assoc before (op ∷ []) ops))
 
 start_stands : (part : Part) (bytes : List ℕ) → AreBytes bytes → Stands (start part bytes)
@@ -297,7 +294,7 @@ module _ (version : ℕ) where
         an_entry_value (record {
           known = ap operands_of p.code_is ∙ known;
           spells = record { front = f.bytes; back = g.bytes; is = bytes; first = subst (λ (k : ℕ). IsNumber 1 f.bytes k) (sym p.code_is) f.spells; second = subst (λ (xs : List ℕ). SpellsBlock g.bytes xs) (sym all) g.spells };
-          each = all_found (plain_at version) (IsPlain version) plain_takes (length p.inside) [] (start part p.inside) (start_stands part p.inside copy.sound) op.inner tt p.inner;
+          each = all_found (plain_at version) (IsPlain version) plain_takes (suc (length p.inside)) [] (start part p.inside) (start_stands part p.inside copy.sound) op.inner tt p.inner;
           address = p.address;
           base = p.base;
         }),
@@ -308,7 +305,7 @@ module _ (version : ℕ) where
   unfolding inner_of
   inner_reads part place inner each sound =
       let bytes : List ℕ = flat_map plain_items.bytes inner in
-      ap (placed_from place) (all_only (plain_at version) plain_items (IsPlain version) plain_again plain_some inner (length bytes) [] (start part bytes) (start_stands part bytes sound) (omega arith) each (start_rest part bytes))
+      ap (placed_from place) (all_only (plain_at version) plain_items (IsPlain version) plain_again plain_some inner (suc (length bytes)) [] (start part bytes) (start_stands part bytes sound) (omega arith) each (start_rest part bytes))
 
   entry_again : (part : Part) (s : Spot) (op : Op) (more : List ℕ) → Stands s → IsEntryValue version op → rest s ≡ op.bytes ++ more → Again (op_at version part) s op more
   unfolding op_at op_from entry_value_from
@@ -378,13 +375,13 @@ module _ (version : ℕ) where
       let read : expression_of (op_at version part) part bytes ≡ Ok ops = placed_ok first (expression_of (op_at version part) part bytes) ops e in
       record {
         whole = (expression_whole (op_at version part) op_items (op_cuts version part) part bytes ops read).0;
-        each = all_found (op_at version part) (IsOp version) (op_takes part) (length bytes) [] (start part bytes) (start_stands part bytes sound) ops tt read;
+        each = all_found (op_at version part) (IsOp version) (op_takes part) (suc (length bytes)) [] (start part bytes) (start_stands part bytes sound) ops tt read;
       }
 
   expression_again : (bytes : List ℕ) (part : Part) (first : ℕ) (ops : List Op) → AreBytes bytes → SpellsExpression version bytes ops → walk_of bytes part first version ≡ Ok ops
   unfolding walk_of
   expression_again bytes part first ops sound w =
-      ap (placed_from first) (all_only (op_at version part) op_items (IsOp version) (op_again part) op_some ops (length bytes) [] (start part bytes) (start_stands part bytes sound) (omega arith) w.each (start_rest part bytes ∙ sym w.whole))
+      ap (placed_from first) (all_only (op_at version part) op_items (IsOp version) (op_again part) op_some ops (suc (length bytes)) [] (start part bytes) (start_stands part bytes sound) (omega arith) w.each (start_rest part bytes ∙ sym w.whole))
 
 pub expression_spelled : (bytes : List ℕ) (part : Part) (first version : ℕ) (ops : List Op) → AreBytes bytes → walk_of bytes part first version ≡ Ok ops → SpellsExpression version bytes ops
 expression_spelled bytes part first version = expression_found version bytes part first

@@ -104,14 +104,14 @@ plain_at version s = do
   code ← code_at version s
   plain_from s code.0.0 code.0.1 code.1
 
--- Operations one after the other up to the end, behind those before. Each takes a byte at least, so the count of the bytes bounds them.
+-- Operations one after the other up to the end, behind those before. Each takes a byte at least, so a count of more than the bytes that are left never runs out; it would be a fault.
 abbrev pub all_at : {A : Type 0} → (Spot → Result (A × Spot) Fault) → ℕ → List A → Spot → Result (List A) Fault
-all_at read zero before s = Ok before
+all_at read zero before s = Err (fault_at s kinds.Truncated)
 all_at read (suc left) before s = if s.end - s.place == 0 then Ok before else (read s >>= λ op. all_at read left (before ++ op.0 ∷ []) op.1)
 
 -- the operations of which all of some bytes are made; places of faults are counted from the first of them
 abbrev pub expression_of : {A : Type 0} → (Spot → Result (A × Spot) Fault) → Part → List ℕ → Result (List A) Fault
-expression_of read part bytes = all_at read (length bytes) [] (start part bytes)
+expression_of read part bytes = all_at read (suc (length bytes)) [] (start part bytes)
 
 -- the same, where the first byte stands at a place
 abbrev pub placed_from : {A : Type 0} → ℕ → Result A Fault → Result A Fault

@@ -89,10 +89,7 @@ fn read_ops(bytes: &[u8], part: Part, version: u16, ops: &mut Ops) -> Result<(),
     ensures none { OnOk result (ops.new.inner ≡ []) }
 {
     let mut cursor = Cursor::new(bytes, part, 0, bytes.len() as u64);
-    for _ in 0..bytes.len() {
-        if cursor.left() == 0 {
-            return Ok(());
-        }
+    while cursor.left() > 0 {
         read_op(&mut cursor, part, version, ops)?;
     }
     Ok(())
@@ -106,10 +103,7 @@ fn read_plain_ops(bytes: &[u8], part: Part, version: u16, ops: &mut Ops) -> Resu
     ensures others { OnOk result (ops.new.ops ≡ ops.old.ops) }
 {
     let mut cursor = Cursor::new(bytes, part, 0, bytes.len() as u64);
-    for _ in 0..bytes.len() {
-        if cursor.left() == 0 {
-            return Ok(());
-        }
+    while cursor.left() > 0 {
         let op = read_plain_op(&mut cursor, version)?;
         ops.push_inner(&op)?;
     }

@@ -1,5 +1,5 @@
 -- An analysis of an object is sound, and what is linked of analysed objects is well.
-use Rattle.std.proofs.Common.{◌≡◌, ◌<◌, ◌^◌, ℕ, List, [], length, Option, Some, None, Ok, Err, subst, arith}
+use Rattle.std.proofs.Common.{◌≡◌, ◌<◌, ◌^◌, ℕ, List, length, Option, Some, None, Ok, Err, subst, arith}
 use Rattle.std.specs.List.{All}
 use Rattle.std.specs.Option.{option_map_or}
 use Rattle.std.proofs.lemmas.Option.{get_or_from_slice_get, slice_get_within}
@@ -21,7 +21,7 @@ use Rattle.stab_map.specs.declared.object.MapObject.{MapObject}
 use Rattle.addr_map.specs.Ranges.{map_of}
 use Rattle.unit_tree.specs.Reference.{resolved}
 use Rattle.unit_tree.specs.Sound.{AreSound}
-use Rattle.unit_tree.specs.Unit.{nothing, units_at, units_of}
+use Rattle.unit_tree.specs.Unit.{parsed_of, units_of}
 use Rattle.unit_tree.proofs.Soundness.{units_sound}
 use Rattle.linked_laws.specs.Kept.{IsWhole}
 use Rattle.linked_laws.proofs.Live.{live_whole}
@@ -46,9 +46,9 @@ resolved_is entries now references e = kept_or_fault entries now (λ r. record {
 raw_sound : (sections : SectionBytes) (raw : RawUnits) → units_of sections ≡ Ok raw → AreSound raw
 unfolding units_of
 raw_sound sections raw e =
-    let read = bind_ok (units_at sections (length sections.info) [] nothing 0) (λ read. resolved read.1.entries read.1.references >>= λ entries. Ok (record { units = read.0; entries = entries })) raw e in
+    let read = bind_ok (parsed_of sections) (λ read. resolved read.1.entries read.1.references >>= λ entries. Ok (record { units = read.0; entries = entries })) raw e in
     let entries = bind_ok (resolved read.0.1.entries read.0.1.references) (λ entries. Ok (record { units = read.0.0; entries = entries })) raw read.2 in
-    let sound = units_sound sections (length sections.info) read.0.0 read.0.1 read.1 in
+    let sound = units_sound sections read.0.0 read.0.1 read.1 in
     subst AreSound (ok_is (record { units = read.0.0; entries = entries.0 }) raw entries.2)
     (subst (λ (es : List RawEntry). AreSound (record { units = read.0.0; entries = es })) (resolved_is read.0.1.entries entries.0 read.0.1.references entries.1) sound)
 

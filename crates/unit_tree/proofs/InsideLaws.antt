@@ -33,7 +33,7 @@ use Rattle.unit_tree.specs.Inside.{AreInside, IsListInside, IsOffsetInside, IsRo
 use Rattle.unit_tree.specs.Meaning.{index_of, is_address_index, meaning_of, table_of}
 use Rattle.unit_tree.specs.Spelling.{AreSoundUnits, AttrsLead, Forest, IsMeant, Means, Names, NamesAddress, NamesList, NamesText, Node, NodeLeads, Origin, SpellsAttr, SpellsAttrs, SpellsBelow, SpellsFields, SpellsNode, SpellsTrees, SpellsUnit, SpellsUnits, TreesLead, UnitTree, ValueLeads, begins_at, entries_of, entry_of, in_unit, in_units, no_more, origin_in, preorder, raw_units, size, tree, unit_entries}
 use Rattle.unit_tree.specs.Reference.{resolved}
-use Rattle.unit_tree.specs.Unit.{nothing, units_at, units_of}
+use Rattle.unit_tree.specs.Unit.{parsed_of, units_of}
 use Rattle.unit_tree.proofs.AttrLaws.{both_true}
 use Rattle.unit_tree.proofs.Rising.{both_false}
 use Rattle.unit_tree.proofs.RootBases.{is_index, offsets_plain}
@@ -494,7 +494,7 @@ entries_inside sections raw small info abbrevs e =
     subst (AreInside sections) (sym s.is) (record { values = λ k d lt. (fine k d lt).0; lines = λ k d lt. (fine k d lt).1 })
 
 -- units whose references were tried
-pub read_inside : (sections : SectionBytes) (units : List AUnit) (parsed : Parsed) → length sections.info < 2 ^ 32 → AreBytes sections.info → AreBytes sections.abbrev_ → units_at sections (length sections.info) [] nothing 0 ≡ Ok (units, parsed)
+pub read_inside : (sections : SectionBytes) (units : List AUnit) (parsed : Parsed) → length sections.info < 2 ^ 32 → AreBytes sections.info → AreBytes sections.abbrev_ → parsed_of sections ≡ Ok (units, parsed)
     → resolved parsed.entries parsed.references ≡ Ok parsed.entries → AreInside sections (record { units = units; entries = parsed.entries })
 unfolding units_of
 read_inside sections units parsed small info abbrevs read lead = entries_inside sections (record { units = units; entries = parsed.entries }) small info abbrevs (rw (read, lead) refl)

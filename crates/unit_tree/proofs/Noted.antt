@@ -30,8 +30,8 @@ use Rattle.unit_tree.specs.Attribute.{Described, address_named, attr_at, attrs_a
 use Rattle.unit_tree.specs.Entry.{Parsed, Walk, child_at, children_at, entry_at, innermost, root_at, tree_at}
 use Rattle.unit_tree.specs.Meaning.{meaning_of}
 use Rattle.unit_tree.specs.Targets.{target_in, targets_in, targets_of}
-use Rattle.unit_tree.specs.Unit.{nothing, unit_at, units_at}
-use Rattle.unit_tree.proofs.Steps.{children_end, children_steps, child_steps, entry_steps, listed_steps, root_steps, tree_steps, unit_steps, units_end, units_steps}
+use Rattle.unit_tree.specs.Unit.{nothing, parsed_of, unit_at, units_at}
+use Rattle.unit_tree.proofs.Steps.{children_end, children_steps, child_steps, entry_steps, listed_steps, root_steps, tree_steps, unit_steps, some_left, units_steps}
 
 -- ---- values
 
@@ -213,13 +213,12 @@ unit_noted sections number before place y e so_far =
     subst (λ (p : (AUnit × Parsed) × ℕ). AreTargets p.0.1) w.is (tree_noted _ sections _ w.table before w.header.1 w.tree w.tree_is so_far)
 
 units_noted_from : (sections : SectionBytes) (left : ℕ) (units : List AUnit) (before : Parsed) (place : ℕ) (y : List AUnit × Parsed) → units_at sections left units before place ≡ Ok y → AreTargets before → AreTargets y.1
-units_noted_from sections zero units before place y e so_far =
-    subst (λ (p : List AUnit × Parsed). AreTargets p.1) (units_end sections units before place y e) so_far
+units_noted_from sections zero units before place y e so_far = absurd (some_left sections units before place y e)
 units_noted_from sections (suc left) units before place y e so_far =
     elim (units_steps sections left units before place y e) [
       | inl w ↦ subst (λ (p : List AUnit × Parsed). AreTargets p.1) w.1 so_far
       | inr w ↦ units_noted_from sections left _ w.read.0.1 w.read.1 y w.others (unit_noted sections (length units) before place w.read w.unit so_far)
     ]
 
-pub units_noted : (sections : SectionBytes) (left : ℕ) (y : List AUnit × Parsed) → units_at sections left [] nothing 0 ≡ Ok y → AreTargets y.1
-units_noted sections left y e = units_noted_from sections left [] nothing 0 y e refl
+pub units_noted : (sections : SectionBytes) (y : List AUnit × Parsed) → parsed_of sections ≡ Ok y → AreTargets y.1
+units_noted sections y e = units_noted_from sections (suc (length sections.info)) [] nothing 0 y e refl

@@ -37,7 +37,7 @@ use Rattle.unit_tree.specs.Entry.{Parsed, Walk, bases_at, child_at, children_at,
 use Rattle.unit_tree.specs.Header.{behind_length, fields_4_at, fields_5_at, fields_at, header_at, info_at, is_bad_length}
 use Rattle.unit_tree.specs.Meaning.{meaning_of}
 use Rattle.unit_tree.specs.Reference.{leads, resolved}
-use Rattle.unit_tree.specs.Unit.{context_in, is_zero, nothing, unit_at, units_at, units_of, zeros_at}
+use Rattle.unit_tree.specs.Unit.{context_in, is_zero, nothing, parsed_of, unit_at, units_at, units_of, zeros_at}
 
 abbrev pub IsOne : Kind → Type 0
 IsOne = Contains (
@@ -268,7 +268,7 @@ unit_read_kinds sections number before place =
 
 units_read_kinds : (sections : SectionBytes) (left : ℕ) (units : List AUnit) (before : Parsed) (place : ℕ) → FaultsAre IsOne (units_at sections left units before place)
 unfolding units_at
-units_read_kinds sections zero units before place = ok_kinds IsOne _
+units_read_kinds sections zero units before place = err_kinds IsOne (fault_at (info_at sections place) kinds.Truncated) cut
 units_read_kinds sections (suc left) units before place =
     either_kinds IsOne (place == length sections.info) (Ok (units, before)) _ (ok_kinds IsOne _)
     (bind_kinds IsOne (unit_at sections (length units) before place) _ (unit_read_kinds sections (length units) before place) (λ read. units_read_kinds sections left (units ++ read.0.0 ∷ []) read.0.1 read.1))
@@ -281,5 +281,5 @@ resolved_kinds entries references =
 pub unit_faults : (sections : SectionBytes) → FaultsAre IsOne (units_of sections)
 unfolding units_of
 unit_faults sections =
-    bind_kinds IsOne (units_at sections (length sections.info) [] nothing 0) _ (units_read_kinds sections (length sections.info) [] nothing 0) (λ read.
+    bind_kinds IsOne (parsed_of sections) _ (units_read_kinds sections (suc (length sections.info)) [] nothing 0) (λ read.
     bind_kinds IsOne (resolved read.1.entries read.1.references) _ (resolved_kinds read.1.entries read.1.references) (λ entries. ok_kinds IsOne _))

@@ -15,10 +15,10 @@ use Rattle.unit_tree.specs.Entry.{Parsed, entry_at, root_at, Walk, child_at, chi
 use Rattle.unit_tree.specs.Header.{info_at, behind_length, header_at}
 use Rattle.ds_base.specs.declared.dwarf.TheConstants.{LENGTH_RESERVED}
 use Rattle.unit_tree.specs.Reference.{IsRising}
-use Rattle.unit_tree.specs.Unit.{nothing, unit_at, units_at}
+use Rattle.unit_tree.specs.Unit.{nothing, parsed_of, unit_at, units_at}
 use Rattle.ds_base.proofs.Onward.{Onward, Further, stays, onward_then, further_then, end_kept, place_rises, number_fits, number_onward, uleb_further}
 use Rattle.unit_tree.proofs.Onward.{attrs_onward}
-use Rattle.unit_tree.proofs.Steps.{entry_steps, root_steps, listed_steps, child_steps, children_end, children_steps, tree_steps, FieldsSteps, header_steps, unit_steps, units_end, units_steps}
+use Rattle.unit_tree.proofs.Steps.{entry_steps, root_steps, listed_steps, child_steps, children_end, children_steps, tree_steps, FieldsSteps, header_steps, unit_steps, some_left, units_steps}
 
 -- entries in order, all of which begin below a place
 pub record RisesBelow (entries : List RawEntry) (place : ℕ) : Type 0 where
@@ -191,8 +191,7 @@ unit_passes sections number before place y e =
 
 units_rise_from : (sections : SectionBytes) (left : ℕ) (units : List InUnit) (before : Parsed) (place : ℕ) (y : List InUnit × Parsed) → units_at sections left units before place ≡ Ok y → place ≤ length sections.info → RisesBelow before.entries place
     → RisesBelow y.1.entries (length sections.info)
-units_rise_from sections zero units before place y e le h =
-    subst (λ (p : List InUnit × Parsed). RisesBelow p.1.entries (length sections.info)) (units_end sections units before place y e) (higher before.entries place (length sections.info) le h)
+units_rise_from sections zero units before place y e le h = absurd (some_left sections units before place y e)
 units_rise_from sections (suc left) units before place y e le h =
     elim (units_steps sections left units before place y e) [
       | inl w ↦ subst (λ (p : List InUnit × Parsed). RisesBelow p.1.entries (length sections.info)) w.1 (higher before.entries place (length sections.info) le h)
@@ -201,5 +200,5 @@ units_rise_from sections (suc left) units before place y e le h =
           units_rise_from sections left _ w.read.0.1 w.read.1 y w.others u.inside u.rises
     ]
 
-pub units_rise : (sections : SectionBytes) (left : ℕ) (y : List InUnit × Parsed) → units_at sections left [] nothing 0 ≡ Ok y → RisesBelow y.1.entries (length sections.info)
-units_rise sections left y e = units_rise_from sections left [] nothing 0 y e (omega arith) (record { rising = λ i j d lt within. absurd (omega (arith, within)); below = λ i d lt. absurd (omega (arith, lt)) })
+pub units_rise : (sections : SectionBytes) (y : List InUnit × Parsed) → parsed_of sections ≡ Ok y → RisesBelow y.1.entries (length sections.info)
+units_rise sections y e = units_rise_from sections (suc (length sections.info)) [] nothing 0 y e (omega arith) (record { rising = λ i j d lt within. absurd (omega (arith, within)); below = λ i d lt. absurd (omega (arith, lt)) })

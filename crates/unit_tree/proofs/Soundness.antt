@@ -13,10 +13,10 @@ use Rattle.unit_tree.specs.declared.attribute.UnitContext.{UnitContext}
 use Rattle.unit_tree.specs.declared.entry.TheConstants.{MOST_ENTRIES}
 use Rattle.unit_tree.specs.Entry.{Parsed, entry_at, innermost, opened, Walk, child_at, children_at, tree_at}
 use Rattle.unit_tree.specs.Sound.{LiesInUnit, AreSound}
-use Rattle.unit_tree.specs.Unit.{unit_from, nothing, unit_at, units_at}
+use Rattle.unit_tree.specs.Unit.{unit_from, nothing, parsed_of, unit_at, units_at}
 use Rattle.unit_tree.proofs.Rising.{units_rise}
 use Rattle.unit_tree.proofs.TreeLaws.{has_room}
-use Rattle.unit_tree.proofs.Steps.{entry_steps, root_steps, listed_steps, child_steps, children_end, children_steps, tree_steps, unit_steps, units_end, units_steps}
+use Rattle.unit_tree.proofs.Steps.{entry_steps, root_steps, listed_steps, child_steps, children_end, children_steps, tree_steps, unit_steps, some_left, units_steps}
 
 -- ---- places in lists
 
@@ -210,15 +210,15 @@ unit_reads sections units before place y e h =
     })
 
 units_read : (sections : SectionBytes) (left : ℕ) (units : List InUnit) (before : Parsed) (place : ℕ) (y : List InUnit × Parsed) → units_at sections left units before place ≡ Ok y → Reads units before.entries → Reads y.0 y.1.entries
-units_read sections zero units before place y e h = subst (λ (p : List InUnit × Parsed). Reads p.0 p.1.entries) (units_end sections units before place y e) h
+units_read sections zero units before place y e h = absurd (some_left sections units before place y e)
 units_read sections (suc left) units before place y e h =
     elim (units_steps sections left units before place y e) [
       | inl w ↦ subst (λ (p : List InUnit × Parsed). Reads p.0 p.1.entries) w.1 h
       | inr w ↦ units_read sections left _ w.read.0.1 w.read.1 y w.others (unit_reads sections units before place w.read w.unit h)
     ]
 
-pub units_sound : (sections : SectionBytes) (left : ℕ) (units : List InUnit) (parsed : Parsed) → units_at sections left [] nothing 0 ≡ Ok (units, parsed) → AreSound (record { units = units; entries = parsed.entries })
-units_sound sections left units parsed e =
-    let r = units_read sections left [] nothing 0 (units, parsed) e (record { few = omega arith; follow = refl; each = λ k d at. absurd cc }) in
-    let rises = units_rise sections left (units, parsed) e in
+pub units_sound : (sections : SectionBytes) (units : List InUnit) (parsed : Parsed) → parsed_of sections ≡ Ok (units, parsed) → AreSound (record { units = units; entries = parsed.entries })
+units_sound sections units parsed e =
+    let r = units_read sections (suc (length sections.info)) [] nothing 0 (units, parsed) e (record { few = omega arith; follow = refl; each = λ k d at. absurd cc }) in
+    let rises = units_rise sections (units, parsed) e in
     record { few = r.few; units = r.follow; entries = r.each; rising = rises.rising }

@@ -351,9 +351,10 @@ choice_is : {A : Type 0} (b : Bool) (x y : A) (next : Result A Fault) → (if b 
 choice_is true x y next e = inl (refl, cc)
 choice_is false x y next e = inr (refl, e)
 
-pub units_end : (sections : SectionBytes) (units : List InUnit) (before : Parsed) (place : ℕ) (y : List InUnit × Parsed) → units_at sections zero units before place ≡ Ok y → (units, before) ≡ y
+-- no units are told where the count ran out
+pub some_left : (sections : SectionBytes) (units : List InUnit) (before : Parsed) (place : ℕ) (y : List InUnit × Parsed) → units_at sections zero units before place ≡ Ok y → ⊥
 unfolding units_at
-units_end sections units before place y e = ok_is (units, before) y e
+some_left sections units before place y e = absurd cc
 
 pub units_steps : (sections : SectionBytes) (left : ℕ) (units : List InUnit) (before : Parsed) (place : ℕ) (y : List InUnit × Parsed) → units_at sections (suc left) units before place ≡ Ok y
     → (((place == length sections.info) ≡ true) × ((units, before) ≡ y)) ⊎ UnitsSteps sections left units before place y

@@ -35,13 +35,13 @@ use Rattle.unit_tree.specs.Header.{info_at, behind_length}
 use Rattle.unit_tree.specs.Reference.{leads, resolved}
 use Rattle.unit_tree.specs.Spelling.{Origin, origin_in, SpellsFields, SpellsHeader, Node, Forest, size, entry_of, preorder, UnitTree, unit_entries, entries_of, in_unit, in_units, raw_units, InTurnFrom, SpellsNode, SpellsBelow, SpellsTrees, IsShallow, NodeLeads, TreesLead, SpellsTree, AreZeros, SpellsBody, SpellsUnit, SpellsUnits, IsSoundUnit, AreSoundUnits, IsSpelled}
 use Rattle.unit_tree.specs.Spelling.Forest.{no_more}
-use Rattle.unit_tree.specs.Unit.{context_in, is_zero, unit_from, unit_at, units_at, units_of, nothing}
+use Rattle.unit_tree.specs.Unit.{context_in, is_zero, unit_from, unit_at, units_at, parsed_of, units_of, nothing}
 use Rattle.unit_tree.proofs.AttrLaws.{Lead, AreLow, lead_front, origin_of}
 use Rattle.unit_tree.proofs.RootBases.{RootBases, root_bases, unbased}
 use Rattle.unit_tree.proofs.Placed.{Passed, passed_then, stands_on, number_taken}
 use Rattle.unit_tree.proofs.Rising.{entry_onward, both_false, unit_passes, units_rise}
 use Rattle.ds_base.proofs.Onward.{uleb_onward, number_onward}
-use Rattle.unit_tree.proofs.Steps.{RootSteps, root_steps, bases_steps, tree_steps, FieldsSteps, HeaderSteps, header_steps, unit_steps, units_end, UnitsSteps, units_steps}
+use Rattle.unit_tree.proofs.Steps.{RootSteps, root_steps, bases_steps, tree_steps, FieldsSteps, HeaderSteps, header_steps, unit_steps, some_left, UnitsSteps, units_steps}
 use Rattle.unit_tree.proofs.TreeLaws.{node_of, node_taken, OpenThere, open_entries, ChildrenTaken, children_taken, has_room, length_preorder}
 
 -- ---- the tree of a unit
@@ -410,11 +410,11 @@ section_taken all sections units before place y le is =
     (record { trees = []; spells = drop_all place sections.info le; units_are = sym (append-nil units); entries = sym (append-nil before.entries); sound = tt; references = []; grown = sym (append-nil before.references); few = λ h. h })
 
 more_taken : (all : List RawEntry) → AreLow all → (sections : SectionBytes) (left : ℕ) (units : List InUnit) (before : Parsed) (place : ℕ) (y : List InUnit × Parsed) → AreBytes sections.info → AreBytes sections.abbrev_ → place ≤ length sections.info
-    → UnitsSteps sections left units before place y → Lead all y.1.references → ((unit : InUnit) (now : Parsed) (next : ℕ) → place < next → next ≤ length sections.info → units_at sections left (units ++ unit ∷ []) now next ≡ Ok y → UnitsTaken all sections (units ++ unit ∷ []) now next y)
+    → UnitsSteps sections left units before place y → Lead all y.1.references → ((unit : InUnit) (now : Parsed) (next : ℕ) → next ≤ length sections.info → units_at sections left (units ++ unit ∷ []) now next ≡ Ok y → UnitsTaken all sections (units ++ unit ∷ []) now next y)
     → UnitsTaken all sections units before place y
 more_taken all low sections left units before place y info abbrev_bytes le w h known =
     let u = unit_passes sections (length units) before place w.read w.unit in
-    let r = known w.read.0.0 w.read.0.1 w.read.1 u.some u.inside w.others in
+    let r = known w.read.0.0 w.read.0.1 w.read.1 u.inside w.others in
     let t = unit_taken all low sections (length units) before place w.read info abbrev_bytes le w.unit (lead_front all w.read.0.1.references r.references (subst (Lead all) r.grown h)) in
     let number = length before.entries in
     let own = unit_entries (length units) number t.t in
@@ -439,12 +439,12 @@ more_taken all low sections left units before place y info abbrev_bytes le w h k
     }
 
 units_taken : (all : List RawEntry) → AreLow all → (sections : SectionBytes) (left : ℕ) (units : List InUnit) (before : Parsed) (place : ℕ) (y : List InUnit × Parsed) → AreBytes sections.info → AreBytes sections.abbrev_ → place ≤ length sections.info
-    → length sections.info ≤ left + place → units_at sections left units before place ≡ Ok y → Lead all y.1.references → UnitsTaken all sections units before place y
-units_taken all low sections zero units before place y info abbrev_bytes le all_turns e h = section_taken all sections units before place y (omega (arith, all_turns)) (units_end sections units before place y e)
-units_taken all low sections (suc left) units before place y info abbrev_bytes le all_turns e h =
+    → units_at sections left units before place ≡ Ok y → Lead all y.1.references → UnitsTaken all sections units before place y
+units_taken all low sections zero units before place y info abbrev_bytes le e h = absurd (some_left sections units before place y e)
+units_taken all low sections (suc left) units before place y info abbrev_bytes le e h =
     elim (units_steps sections left units before place y e) [
       | inl w ↦ section_taken all sections units before place y (omega (arith, eqb-true _ _ w.0)) w.1
-      | inr w ↦ more_taken all low sections left units before place y info abbrev_bytes le w h (λ unit now next some inside others. units_taken all low sections left (units ++ unit ∷ []) now next y info abbrev_bytes inside (omega (arith, all_turns, some)) others h)
+      | inr w ↦ more_taken all low sections left units before place y info abbrev_bytes le w h (λ unit now next inside others. units_taken all low sections left (units ++ unit ∷ []) now next y info abbrev_bytes inside others h)
     ]
 
 -- ---- an object
@@ -491,12 +491,12 @@ pub units_spelled : (sections : SectionBytes) (units : RawUnits) → length sect
 unfolding units_of
 units_spelled sections units small info abbrev_bytes e =
     let made : List InUnit × Parsed → List RawEntry → Result RawUnits Fault = λ read entries. Ok (raw read.0 entries) in
-    let a = bind_ok (units_at sections (length sections.info) [] nothing 0) (λ read. resolved read.1.entries read.1.references >>= made read) units e in
+    let a = bind_ok (parsed_of sections) (λ read. resolved read.1.entries read.1.references >>= made read) units e in
     let b = bind_ok (resolved a.0.1.entries a.0.1.references) (made a.0) units a.2 in
     let r = resolved_ok a.0.1.entries a.0.1.references b.0 b.1 in
-    let rise = units_rise sections (length sections.info) a.0 a.1 in
+    let rise = units_rise sections a.0 a.1 in
     let low = low_below a.0.1.entries (length sections.info) small rise.below in
-    let t = units_taken a.0.1.entries low sections (length sections.info) [] nothing 0 a.0 info abbrev_bytes (omega arith) (omega arith) a.1 r.lead in
+    let t = units_taken a.0.1.entries low sections (suc (length sections.info)) [] nothing 0 a.0 info abbrev_bytes (omega arith) a.1 r.lead in
     let entries_are : a.0.1.entries ≡ entries_of 0 0 t.trees = t.entries in
     let is : raw a.0.0 b.0 ≡ raw_units t.trees = raw_is a.0.0 b.0 t.trees t.units_are (sym r.same ∙ entries_are) in
     record {

@@ -2,7 +2,7 @@
 use Rattle.std.proofs.Common.{◌≡◌, ℕ, zero, suc, ◌+◌, ◌-◌, ◌^◌, ◌<◌, ◌≤◌, ◌==◌, ◌&&◌, Bool, true, false, not, List, [], ◌∷◌, ◌++◌, length, take, drop, Option, Some, None, Result, Ok, refl, sym, ap, ap₂, subst, ◌∙◌, append_assoc, inl, inr, arith}
 use Rattle.std.specs.Prelude.{if◌then◌else◌}
 use Rattle.std.specs.List.{find, list_all}
-use Rattle.std.proofs.lemmas.Bool.{eq-eqb, ne_eqb, lt-ltb, le-ltb}
+use Rattle.std.proofs.lemmas.Bool.{eq-eqb, lt-ltb, le-ltb}
 use Rattle.std.proofs.lemmas.List.{append-nil, length-append, length-drop, take_all, take_at, drop_at, drop-drop}
 use Rattle.ds_base.specs.declared.dwarf.TheConstants.{DW_TAG_compile_unit, DW_UT_compile}
 use Rattle.ds_base.specs.declared.fault.Fault.{Fault}
@@ -31,13 +31,14 @@ use Rattle.unit_tree.specs.Header.{info_at, behind_length, is_bad_length, fields
 use Rattle.unit_tree.specs.Reference.{leads, resolved}
 use Rattle.unit_tree.specs.Spelling.{Origin, origin_in, SpellsFields, SpellsHeader, Node, Forest, size, entry_of, preorder, UnitTree, unit_entries, entries_of, in_unit, in_units, raw_units, SpellsNode, SpellsBelow, SpellsTrees, SpellsTree, AreZeros, SpellsUnit, SpellsUnits, IsSoundUnit, AreSoundUnits, SpellsObject}
 use Rattle.unit_tree.specs.Spelling.Forest.{no_more, tree}
-use Rattle.unit_tree.specs.Unit.{context_in, zeros_at, unit_from, unit_at, units_at, units_of, nothing}
+use Rattle.unit_tree.specs.Unit.{context_in, zeros_at, unit_from, unit_at, units_at, parsed_of, units_of, nothing}
 use Rattle.unit_tree.proofs.AttrLaws.{Lead, AreLow, both_true, origin_of}
 use Rattle.unit_tree.proofs.ChildLoop.{ends}
 use Rattle.unit_tree.proofs.Placed.{Passed, passed_then, number_goes}
 use Rattle.unit_tree.proofs.RootBases.{RootBases, root_bases, unbased}
 use Rattle.unit_tree.proofs.TreeLaws.{back, NodeGoes, node_goes, TreesThere, trees_go, turns, below_list, below_none, leb_some, room_for, parsed, length_preorder}
 use Rattle.unit_tree.proofs.UnitLaws.{info_left, info_stands, body_left, body_stands, length_number, unit_is}
+use Rattle.unit_tree.proofs.UnitLoop.{units_end, one_more}
 
 -- ---- entries begin inside of the section
 
@@ -372,30 +373,18 @@ record UnitsGo (all : List RawEntry) (sections : SectionBytes) (trees : List Uni
   reads : units_at sections left units before place ≡ Ok (units ++ in_units (length before.entries) trees, parsed (before.entries ++ entries_of (length units) (length before.entries) trees) references)
   lead : Lead all references
 
-section_ends : (sections : SectionBytes) (left : ℕ) (units : List InUnit) (before : Parsed) (place : ℕ) → place ≡ length sections.info → units_at sections left units before place ≡ Ok (units, before)
-unfolding units_at
-section_ends sections zero units before place last = refl
-section_ends sections (suc left) units before place last = rw (eq-eqb place (length sections.info) last) refl
-
-one_more : (sections : SectionBytes) (left : ℕ) (units : List InUnit) (before : Parsed) (place : ℕ) (read : (InUnit × Parsed) × ℕ) → (place ≡ length sections.info → ⊥) → unit_at sections (length units) before place ≡ Ok read
-    → units_at sections (suc left) units before place ≡ units_at sections left (units ++ read.0.0 ∷ []) read.0.1 read.1
-unfolding units_at
-one_more sections left units before place read more unit = rw (ne_eqb place (length sections.info) more, unit) refl
-
 units_go : (all : List RawEntry) → AreLow all → (sections : SectionBytes) (trees : List UnitTree) (left : ℕ) (units : List InUnit) (before : Parsed) (place : ℕ) → AreBytes sections.info → AreBytes sections.abbrev_ → place ≤ length sections.info
-    → length sections.info ≤ left + place → SpellsUnits sections trees place (drop place sections.info) → AreSoundUnits all (length units) trees → Lead all before.references
+    → length sections.info < left + place → SpellsUnits sections trees place (drop place sections.info) → AreSoundUnits all (length units) trees → Lead all before.references
     → length before.entries + length (entries_of (length units) (length before.entries) trees) ≤ MOST_ENTRIES → UnitsGo all sections trees left units before place
-units_go all low sections [] left units before place info abbrev_bytes le all_turns w sound lead room =
+units_go all low sections trees zero units before place info abbrev_bytes le enough w sound lead room = absurd (omega (arith, le, enough))
+units_go all low sections [] (suc left) units before place info abbrev_bytes le enough w sound lead room =
     let last : place ≡ length sections.info = omega (arith, le, ap length w, length-drop place sections.info) in
     record {
       references = before.references;
-      reads = section_ends sections left units before place last ∙ ap₂ (λ (us : List InUnit) (es : List RawEntry). Ok (us, parsed es before.references)) (sym (append-nil units)) (sym (append-nil before.entries));
+      reads = units_end sections left units before place last ∙ ap₂ (λ (us : List InUnit) (es : List RawEntry). Ok (us, parsed es before.references)) (sym (append-nil units)) (sym (append-nil before.entries));
       lead = lead;
     }
-units_go all low sections (t ∷ ts) zero units before place info abbrev_bytes le all_turns w sound lead room =
-    let first = w.first in
-    absurd (omega (arith, all_turns, ap length w.is, length-append w.front w.back, length-drop place sections.info, ap length first.is, length-append first.count first.body, length_number 4 (length first.body) first.count first.counts))
-units_go all low sections (t ∷ ts) (suc left) units before place info abbrev_bytes le all_turns w sound lead room =
+units_go all low sections (t ∷ ts) (suc left) units before place info abbrev_bytes le enough w sound lead room =
     let first = w.first in
     let number : ℕ = length before.entries in
     let own : List RawEntry = unit_entries (length units) number t in
@@ -414,10 +403,10 @@ units_go all low sections (t ∷ ts) (suc left) units before place info abbrev_b
     let few : length now.entries + length (entries_of (length (units ++ unit ∷ [])) (length now.entries) ts) ≤ MOST_ENTRIES =
     subst (λ (n : ℕ). length now.entries + length (entries_of n (length now.entries) ts) ≤ MOST_ENTRIES) (sym count)
     (subst (λ (n : ℕ). length now.entries + length (entries_of (suc (length units)) n ts) ≤ MOST_ENTRIES) (sym now_len) (omega (arith, room, all_len, now_len, own_len))) in
-    let r = units_go all low sections ts left (units ++ unit ∷ []) now next info abbrev_bytes (omega (arith, len)) (omega (arith, all_turns, some)) spells (subst (λ (n : ℕ). AreSoundUnits all n ts) (sym count) sound.1) u.lead few in
+    let r = units_go all low sections ts left (units ++ unit ∷ []) now next info abbrev_bytes (omega (arith, len)) (omega (arith, enough, some)) spells (subst (λ (n : ℕ). AreSoundUnits all n ts) (sym count) sound.1) u.lead few in
     record {
       references = r.references;
-      reads = one_more sections left units before place ((unit, now), next) (λ e. absurd (omega (arith, e, len, some))) u.reads
+      reads = one_more sections left units before place ((unit, now), next) (omega (arith, len, some)) u.reads
           ∙ r.reads
           ∙ ap₂ (λ (us : List InUnit) (es : List RawEntry). Ok (us, parsed es r.references))
           (append_assoc units (unit ∷ []) (in_units (length now.entries) ts) ∙ ap (λ (n : ℕ). units ++ unit ∷ in_units n ts) now_len)
@@ -438,7 +427,7 @@ all_resolved : (entries : List RawEntry) (references : List Reference) → Lead 
 unfolding resolved
 all_resolved entries references lead = rw (none_found entries references lead) refl
 
-object_reads : (sections : SectionBytes) (units : List InUnit) (entries : List RawEntry) (references : List Reference) → units_at sections (length sections.info) [] nothing 0 ≡ Ok (units, parsed entries references) → resolved entries references ≡ Ok entries
+object_reads : (sections : SectionBytes) (units : List InUnit) (entries : List RawEntry) (references : List Reference) → parsed_of sections ≡ Ok (units, parsed entries references) → resolved entries references ≡ Ok entries
     → units_of sections ≡ Ok (record { units = units; entries = entries })
 unfolding units_of
 object_reads sections units entries references a b = rw (a, b) refl
@@ -447,5 +436,5 @@ pub units_read : (sections : SectionBytes) (trees : List UnitTree) → length se
 units_read sections trees small info abbrev_bytes w =
     let all : List RawEntry = entries_of 0 0 trees in
     let low = units_low sections 0 0 trees 0 sections.info w.spells (omega (arith, small)) in
-    let u = units_go all low sections trees (length sections.info) [] nothing 0 info abbrev_bytes (omega arith) (omega arith) w.spells w.sound refl (omega (arith, w.few)) in
+    let u = units_go all low sections trees (suc (length sections.info)) [] nothing 0 info abbrev_bytes (omega arith) (omega arith) w.spells w.sound refl (omega (arith, w.few)) in
     object_reads sections (in_units 0 trees) all u.references u.reads (all_resolved all u.references u.lead)

@@ -1,5 +1,5 @@
 -- The units of an object (DWARF 4, section 7.5.1; DWARF 5, section 7.5.1), one after the other, and then the references between their entries.
-use Rattle.std.specs.Prelude.{ℕ, zero, suc, ◌-◌, ◌^◌, ◌==◌, Bool, not, List, [], ◌∷◌, ◌++◌, length, slice_get, Option, Some, None, Result, Ok, nat_lt, if◌then◌else◌}
+use Rattle.std.specs.Prelude.{ℕ, zero, suc, ◌-◌, ◌^◌, ◌==◌, Bool, not, List, [], ◌∷◌, ◌++◌, length, slice_get, Option, Some, None, Result, Ok, Err, nat_lt, if◌then◌else◌}
 use Rattle.std.specs.List.{find, list_all}
 use Rattle.std.specs.Option.{option_map_or}
 use Rattle.ds_base.specs.declared.dwarf.TheConstants.{DW_AT_language}
@@ -59,9 +59,9 @@ unit_at sections number before place = do
   _ ← zeros_at (info_at sections place) tree.1
   Ok ((unit_from header.0.version (length before.entries) tree.0.entries, tree.0), header.0.end)
 
--- Units up to the section's end. Each takes a byte at least, so a count of the bytes that are left bounds them.
+-- Units up to the section's end. Each takes a byte at least, so a count of more than the bytes that are left never runs out; it would be a fault.
 unfoldable pub units_at : SectionBytes → ℕ → List InUnit → Parsed → ℕ → Result (List InUnit × Parsed) Fault
-units_at sections zero units before place = Ok (units, before)
+units_at sections zero units before place = Err (fault_at (info_at sections place) kinds.Truncated)
 units_at sections (suc left) units before place =
     if place == length sections.info then Ok (units, before)
     else (unit_at sections (length units) before place >>= λ read. units_at sections left (units ++ read.0.0 ∷ []) read.0.1 read.1)
@@ -69,9 +69,13 @@ units_at sections (suc left) units before place =
 abbrev pub nothing : Parsed
 nothing = record { entries = []; references = [] }
 
+-- all units of an object, before it is tried where their references lead
+abbrev pub parsed_of : SectionBytes → Result (List InUnit × Parsed) Fault
+parsed_of sections = units_at sections (suc (length sections.info)) [] nothing 0
+
 -- all units of an object
 unfoldable pub units_of : SectionBytes → Result RawUnits Fault
 units_of sections = do
-  read ← units_at sections (length sections.info) [] nothing 0
+  read ← parsed_of sections
   entries ← resolved read.1.entries read.1.references
   Ok (record { units = read.0; entries = entries })

@@ -14,7 +14,7 @@ ghost use Rattle.unit_tree.specs.Inside.{AreInside};
 ghost use Rattle.unit_tree.specs.Sound.{AreSound};
 ghost use Rattle.unit_tree.specs.Table.{AreRead};
 ghost use Rattle.unit_tree.specs.Targets.{number_at, targets_of};
-ghost use Rattle.unit_tree.specs.Unit.{short_in, language_of, unit_from, is_zero, zeros_at, unit_at, units_at, units_of, nothing};
+ghost use Rattle.unit_tree.specs.Unit.{short_in, language_of, unit_from, is_zero, zeros_at, unit_at, parsed_of, units_of, nothing};
 
 use crate::attribute::UnitContext;
 use crate::entry::{Parsed, find_bases, read_tree};
@@ -104,16 +104,14 @@ fn read_each(
     requires info { length sections.now.info.now < 2 ^ 32 }
     requires nothing { parsed_seen parsed.old ≡ nothing }
     requires ready { IsReady parsed.old }
-    ensures read { Gives (λ units. (units, parsed_seen parsed.new)) result (units_at (bytes_in sections.now) (length sections.now.info.now) [] nothing 0) }
+    ensures read { Gives (λ units. (units, parsed_seen parsed.new)) result (parsed_of (bytes_in sections.now)) }
 {
     let mut tables: Tables = BTreeMap::new(alloc);
     let mut units = List::new(alloc);
     let end = sections.info.len() as u64;
     let mut place = 0u64;
-    for number in 0..end as u32 {
-        if place == end {
-            return Ok(units);
-        }
+    while place < end {
+        let number = units.len() as u32;
         let (unit, next) = read_unit(alloc, sections, &mut tables, number, place, parsed)?;
         units.push(unit)?;
         place = next;

@@ -1,4 +1,4 @@
-use Rattle.std.proofs.Common.{◌≡◌, true, List, [], ◌∷◌, ◌++◌, get_or, Result, Ok, refl, sym, ap, ◌∙◌, arith, pos}
+use Rattle.std.proofs.Common.{true, [], ◌∷◌, ◌++◌, get_or, Result, Ok, refl, sym, ap, ◌∙◌, arith, pos}
 use Rattle.std.specs.Option.{option_to_list}
 use Rattle.std.proofs.lemmas.Result.{err_from_is_err_and}
 use Rattle.ds_base.specs.declared.fault.Fault.{Fault}
@@ -6,8 +6,6 @@ use Rattle.ds_base.specs.Spot.{Spot}
 use Rattle.ds_base.specs.Reading.{◌>>=◌}
 use Rattle.ds_base.proofs.Onward.{small_kept}
 use Rattle.dwarf_types.specs.declared.abbrev.Field.{Field}
-use Rattle.dwarf_types.specs.declared.entry.RawAttr.{RawAttr}
-use Rattle.dwarf_types.specs.Put.{value_read}
 use Rattle.dwarf_types.specs.SectionBytes.{bytes_in}
 use Rattle.index_tables.specs.declared.bases.Bases.{Bases}
 use Rattle.index_tables.specs.Bases.{bases_in}

@@ -1,14 +1,19 @@
-use Rattle.std.proofs.Common.{◌≡◌, ◌≤◌, ◌-◌, [], length}
+use Rattle.std.proofs.Common.{◌≤◌, ◌-◌, length}
 use Rattle.dwarf_types.specs.SectionBytes.{bytes_in}
 use Rattle.unit_tree.specs.Bounds.{IsReady, parsed_seen}
 use Rattle.unit_tree.specs.Table.{AreRead}
-use Rattle.unit_tree.specs.Unit.{nothing, units_at}
+use Rattle.unit_tree.specs.Unit.{parsed_of}
+use Rattle.unit_tree.proofs.UnitLoop.{Goes}
 use Rattle.unit_tree.proofs.unit.read_each.Given as goal
 
-abbrev pub invariant-loop-number : goal.invariant-loop-number
-invariant-loop-number l =
+-- each unit took a byte at least
+abbrev pub invariant-loop-place : goal.invariant-loop-place
+invariant-loop-place l =
     (l.place ≤ length l.sections.info.now)
-    × (length l.units ≡ l.number)
+    × (length l.units ≤ l.place)
     × IsReady l.parsed
     × AreRead l.sections.abbrev.now l.tables
-    × (units_at (bytes_in l.sections) (length l.sections.info.now - l.number) l.units (parsed_seen l.parsed) l.place ≡ units_at (bytes_in l.sections) (length l.sections.info.now) [] nothing 0)
+    × Goes (bytes_in l.sections) l.units (parsed_seen l.parsed) l.place (parsed_of (bytes_in l.sections))
+
+abbrev pub decreases-loop-place : goal.decreases-loop-place
+decreases-loop-place l = length l.sections.info.now - l.place

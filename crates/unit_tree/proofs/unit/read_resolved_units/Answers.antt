@@ -12,16 +12,16 @@ use Rattle.unit_tree.proofs.unit.read_resolved_units.Goals as goal
 
 pub resolve-requires-clause-rising : goal.resolve-requires-clause-rising
 resolve-requires-clause-rising c =
-    let r = units_rise (bytes_in c.args.sections.now) _ _ c.in_ok-units.ensures.read in
+    let r = units_rise (bytes_in c.args.sections.now) _ c.in_ok-units.ensures.read in
     rw c.finish-entries.ensures r.rising
 
 pub resolve-requires-clause-few : goal.resolve-requires-clause-few
 resolve-requires-clause-few c =
-    let sound = units_sound (bytes_in c.args.sections.now) _ _ _ c.in_ok-units.ensures.read in
+    let sound = units_sound (bytes_in c.args.sections.now) _ _ c.in_ok-units.ensures.read in
     rw c.finish-entries.ensures (omega (arith, sound.few))
 
 pub returns-clause-sound : goal.returns-clause-sound
-returns-clause-sound c = rw c.finish-entries.ensures (units_sound (bytes_in c.args.sections.now) _ _ _ c.in_ok-units.ensures.read)
+returns-clause-sound c = rw c.finish-entries.ensures (units_sound (bytes_in c.args.sections.now) _ _ c.in_ok-units.ensures.read)
 
 pub returns-clause-inside : goal.returns-clause-inside
 returns-clause-inside c info abbrevs =
@@ -29,7 +29,7 @@ returns-clause-inside c info abbrevs =
 
 pub returns-clause-numbers : goal.returns-clause-numbers
 returns-clause-numbers c =
-    let noted = units_noted (bytes_in c.args.sections.now) _ _ c.in_ok-units.ensures.read in
+    let noted = units_noted (bytes_in c.args.sections.now) _ c.in_ok-units.ensures.read in
     let found = rw (c.finish-entries.ensures, c.as_slice.ensures) at c.in_ok-numbers.ensures.numbers in
     rw c.finish-entries.ensures (found ∙ ap (map (number_at (places_of _))) noted)
 
