@@ -1,5 +1,5 @@
 -- What a shape is joined of, made by several workers, and the limit of units.
-use Rattle.std.proofs.Common.{◌≡◌, ◌<◌, ◌≤◌, ◌+◌, ◌-◌, ◌^◌, ℕ, suc, Bool, List, [], ◌∷◌, ◌++◌, length, map, Some, Result, Ok, slice_get, refl, sym, ap, subst, ◌∙◌, arith, append_assoc}
+use Rattle.std.proofs.Common.{◌≡◌, ◌<◌, ◌≤◌, ◌+◌, ◌-◌, ◌^◌, ℕ, suc, Bool, List, ◌∷◌, ◌++◌, length, map, Some, Result, Ok, slice_get, refl, sym, ap, subst, ◌∙◌, arith}
 use Rattle.std.specs.List.{All}
 use Rattle.std.specs.Option.{option_map}
 use Rattle.std.proofs.lemmas.List.{length-map}
@@ -66,36 +66,20 @@ all_given odr seen live names winners count outs paths own sound marked few name
     first : Result Made NoMemory
     first = Ok (made.Paths paths)
 
--- ---- taken apart, the last one first
+-- ---- taken apart, from the front
 
-first_of_all : (outs left : List (Result Made NoMemory)) (paths : PathNodes) (rest : List ObjectShape) → IsPathsFirst outs → left ++ Ok (made.Paths paths) ∷ as_made rest ≡ outs → Ok (made.Paths paths) ∷ as_made rest ≡ outs
-first_of_all outs [] paths rest first whole = whole
-first_of_all outs (out ∷ left) paths rest first whole =
-    let here : slice_get outs (length (out ∷ left)) ≡ Some (Ok (made.Paths paths)) =
-    ap (λ (xs : List (Result Made NoMemory)). slice_get xs (length (out ∷ left))) (sym whole) ∙ slice_get_behind (out ∷ left) (Ok (made.Paths paths)) (as_made rest) in
-    absurd (omega (arith, first.paths (length (out ∷ left)) paths here))
+module _ (outs behind : List (Result Made NoMemory)) (out : Result Made NoMemory) (first : IsPathsFirst outs) (is : outs ≡ out ∷ behind) where
+  -- the first one is of no object
+  pub not_first : (one : Made) (own : ObjectShape) → out ≡ Ok one → one ≡ made.Object own → ⊥
+  not_first one own ok object = omega (arith, first.objects 0 own (ap (λ (xs : List (Result Made NoMemory)). slice_get xs 0) is ∙ ap (λ (o : Result Made NoMemory). Some o) (ok ∙ ap (λ (m : Made). Ok m) object)))
 
--- the nodes of merged entries are met: nothing is left before them
-pub paths_met : (outs old left : List (Result Made NoMemory)) (out : Result Made NoMemory) (one : Made) (paths : PathNodes) (rest own : List ObjectShape) → IsPathsFirst outs → old ≡ left ++ out ∷ [] → out ≡ Ok one → one ≡ made.Paths paths
-    → own ≡ rest → old ++ as_made rest ≡ outs → Ok (made.Paths paths) ∷ as_made own ≡ outs
-paths_met outs old left out one paths rest own first last ok is same whole =
-    ap (λ (xs : List ObjectShape). with_paths (as_made xs)) same
-    ∙ first_of_all outs left paths rest first (ap (λ (last_one : Result Made NoMemory). left ++ last_one ∷ as_made rest) (sym (ok ∙ ap (λ (m : Made). made_of m) is)) ∙ sym (append_assoc left (out ∷ []) (as_made rest))
-    ∙ ap (λ (xs : List (Result Made NoMemory)). xs ++ as_made rest) (sym last) ∙ whole)
-  where
-    made_of : Made → Result Made NoMemory
-    made_of m = Ok m
-
-    with_paths : List (Result Made NoMemory) → List (Result Made NoMemory)
-    with_paths xs = Ok (made.Paths paths) ∷ xs
-
--- they are met before all are gone
-pub never_gone : (outs old : List (Result Made NoMemory)) (rest : List ObjectShape) → IsPathsFirst outs → old ≡ [] → old ++ as_made rest ≡ outs → ⊥
-never_gone outs old rest first none whole = by rest (ap (λ (xs : List (Result Made NoMemory)). xs ++ as_made rest) (sym none) ∙ whole)
-  where
-    by : (rest : List ObjectShape) → as_made rest ≡ outs → ⊥
-    by [] is = omega (arith, first.some_item, ap length is)
-    by (one ∷ rest) is = omega (arith, first.objects 0 one (ap (λ (xs : List (Result Made NoMemory)). slice_get xs 0) (sym is)))
+  -- and behind it no nodes of merged entries come
+  pub not_later : (front left rest : List (Result Made NoMemory)) (next : Result Made NoMemory) (one : Made) (paths : PathNodes) → front ++ left ≡ behind → left ≡ next ∷ rest → next ≡ Ok one → one ≡ made.Paths paths → ⊥
+  not_later front left rest next one paths whole step ok met =
+      let parts : outs ≡ (out ∷ front) ++ next ∷ rest = is ∙ ap (λ (xs : List (Result Made NoMemory)). out ∷ xs) (sym whole ∙ ap (λ (xs : List (Result Made NoMemory)). front ++ xs) step) in
+      let at : slice_get outs (length (out ∷ front)) ≡ Some (Ok (made.Paths paths)) =
+      ap (λ (xs : List (Result Made NoMemory)). slice_get xs (length (out ∷ front))) parts ∙ slice_get_behind (out ∷ front) next rest ∙ ap (λ (o : Result Made NoMemory). Some o) (ok ∙ ap (λ (m : Made). Ok m) met) in
+      absurd (omega (arith, first.paths (length (out ∷ front)) paths at))
 
 -- ---- the limit of units
 

@@ -1,5 +1,5 @@
 -- Results of a phase, one after the other.
-use Rattle.std.proofs.Common.{◌≡◌, ◌<◌, ◌≤◌, ◌+◌, ◌-◌, ℕ, zero, suc, List, [], ◌∷◌, ◌++◌, length, slice_get, Some, Result, Ok, Err, IfOk, refl, sym, ap, subst, ◌∙◌, arith, inl, inr, append_assoc, length-append}
+use Rattle.std.proofs.Common.{◌≡◌, ◌<◌, ◌≤◌, ◌+◌, ◌-◌, ℕ, zero, suc, List, [], ◌∷◌, ◌++◌, length, slice_get, Some, refl, sym, ap, subst, ◌∙◌, arith, inl, inr, append_assoc, length-append}
 use Rattle.std.proofs.lemmas.Bool.{cases_lt}
 use Rattle.std.proofs.lemmas.Option.{slice_get_within}
 use Rattle.work_share.specs.Results.{GivesAll}
@@ -83,8 +83,3 @@ module _ {O : Type 0} (gives : ℕ → O → Type 0) where
   given_first first end o more none front all lt empty pushed put one others =
       let is : all ≡ o ∷ more = put ∙ ap (λ (xs : List O). xs ++ more) (pushed ∙ ap (λ (xs : List O). xs ++ o ∷ []) empty) in
       subst (GivesAll (λ k out. gives (first + k) out) (end - first)) (sym is) (given_front first end o more lt one others)
-
--- results are given as they stand in another list
-pub given_turn : {O V E : Type 0} (gives : ℕ → O → Type 0) (count : ℕ) (items : V → List O) (outs : List O) (r : Result V E) → IfOk r (λ v. items v ≡ outs) → GivesAll gives count outs → IfOk r (λ v. GivesAll gives count (items v))
-given_turn gives count items outs (Ok v) same given = subst (GivesAll gives count) (sym same) given
-given_turn gives count items outs (Err e) same given = tt

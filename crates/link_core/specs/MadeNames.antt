@@ -1,10 +1,9 @@
--- What is made of the names of the objects that are read, where those of one name are merged.
+-- The names of the objects that are read, where those of one name are merged.
 use Rattle.std.specs.Prelude.{◌≡◌, ◌+◌, ℕ, Bool, true, false, List, [], Option, Some, None, Result, IfOk}
 use Rattle.dwarf_types.specs.declared.analysis.Analysis.{Analysis}
-use Rattle.name_bids.specs.Making.{AreMade, GivesNames}
 use Rattle.odr_names.specs.Book.{objects_of}
-use Rattle.odr_names.specs.declared.book_error.BookError.{BookError}
 use Rattle.odr_names.specs.declared.one_object.ObjectNames.{ObjectNames}
+use Rattle.odr_names.specs.Joining.{AreAllNames, AreNamesOf}
 use Rattle.type_names.specs.Objects.{object_of}
 use Rattle.link_core.specs.declared.objects.ReadObject.{ReadObject}
 use Rattle.link_core.specs.declared.reading.ReadObjects.{ReadObjects}
@@ -12,9 +11,9 @@ use Rattle.link_core.specs.declared.refusal.Refusal.{Refusal}
 use Rattle.link_core.specs.Linked.{Source}
 use Rattle.link_core.specs.Passes.{Reads, ReadsAt}
 
--- what is made for the object of a number: its names, or it has too many; nothing where none are merged
-abbrev pub HasNames : Bool → ℕ → Analysis → List Bool → Option (Result ObjectNames BookError) → Type 0
-HasNames true number object row (Some one) = GivesNames number (object_of object row) one
+-- what is made for the object of a number: its names, or nothing where none are merged
+abbrev pub HasNames : Bool → ℕ → Analysis → List Bool → Option ObjectNames → Type 0
+HasNames true number object row (Some one) = AreNamesOf number (object_of object row) one
 HasNames true number object row None = ⊥
 HasNames false number object row made = made ≡ None
 
@@ -26,9 +25,9 @@ NamesAt named item out = IfOk out (λ it. HasNames named (item + 1) it.analysis 
 abbrev pub ReadsNamed : Bool → ℕ → List Source → ℕ → Result ReadObject Refusal → Type 0
 ReadsNamed named cpu sources item out = ReadsAt cpu sources item out × NamesAt named item out
 
--- what is made for each object, or nothing
-abbrev pub HaveNames : Bool → List Analysis → List (List Bool) → List (Result ObjectNames BookError) → Type 0
-HaveNames true seen marks made = AreMade (objects_of seen marks) made
+-- the names of each object, or nothing
+abbrev pub HaveNames : Bool → List Analysis → List (List Bool) → List ObjectNames → Type 0
+HaveNames true seen marks made = AreAllNames (objects_of seen marks) made
 HaveNames false seen marks made = made ≡ []
 
 -- all objects are read with their names, or the first fault of the first that has one is told, for a program of this CPU type

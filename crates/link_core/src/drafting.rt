@@ -13,7 +13,7 @@ ghost use Rattle.link_core.specs.Passes.{AreDrafting, DraftsBy, DraftsFrom, Draf
 
 use crate::batches::{batch_end, drop_analyses, first_needed};
 use crate::refusal::{LimitKind, Refusal};
-use crate::results::{in_turn, put_behind};
+use crate::results::put_behind;
 use crate::room::{Rooming, TextRoom, let_go, start_text_room};
 use clone_units::clone_unit;
 use ds_base::limits::UNIT_BYTES;
@@ -306,7 +306,7 @@ fn each_by_one<R: Threads + Sync, G: Gate + Sync>(
     };
     let open = OpenGate::new();
     let outs = each(rt, alloc, workers, end - first, CLONE, &open, &job)?;
-    in_turn(alloc, outs)
+    Ok(outs.into_vec())
 }
 
 /// The draft of a unit of a shape, or that it is too long.

@@ -14,7 +14,6 @@ ghost use Rattle.link_core.specs.MadeNames.{HaveNames};
 ghost use Rattle.link_core.specs.Passes.{HasPool, Names, Shapes, ShapesAll};
 ghost use Rattle.name_bids.specs.Opening.{IsOpenFor};
 
-use crate::objects::MadeNames;
 use crate::refusal::{LimitKind, Refusal};
 use crate::shaping::shared_shape;
 use ds_base::limits::SECTION_BYTES;
@@ -23,7 +22,7 @@ use ds_files::Gate;
 use dwarf_types::{Analysis, OutFrames, Shape};
 use link_graph::ShapeError;
 use name_bids::{OpenTable, joined_names, open_table, shared_winners};
-use odr_names::{BookError, MOST_POOLED, PathBook, book, count};
+use odr_names::{BookError, MOST_POOLED, ObjectNames, PathBook, book, count};
 use std::alloc::Global;
 use std::thread::Threads;
 use type_pool::ClosedPool;
@@ -41,7 +40,7 @@ pub(crate) struct Shaped {
 }
 
 /// The shape of the graph of the live entries of all objects, where those of one name are merged or not; or that too many
-/// entries are merged, or that it has too many units. `made` is what was made of their names; so many threads bid for them.
+/// entries are merged, or that it has too many units. `made` are the names of each object; so many threads bid for them.
 pub(crate) fn shape_of<R: Threads + Sync, G: Gate + Sync>(
     rt: &R,
     alloc: Global,
@@ -50,7 +49,7 @@ pub(crate) fn shape_of<R: Threads + Sync, G: Gate + Sync>(
     odr: bool,
     seen: &[Analysis],
     live: &[BitRow],
-    made: List<MadeNames>,
+    made: List<ObjectNames>,
 ) -> Result<Shaped, Refusal>
     requires workers { (1 ≤ workers) × (workers ≤ 64) }
     requires sound { All IsSound seen.now }
@@ -105,8 +104,8 @@ fn no_book<'a>(alloc: Global) -> Result<(PathBook<'a>, OpenTable), NoMemory>
     Ok((names, table))
 }
 
-/// The names of the entries that are merged, joined of what was made for each object, with a table that is open for them; or
-/// that there are too many.
+/// The names of the entries that are merged, joined of those of each object, with a table that is open for them; or that
+/// there are too many.
 fn names_of<'a, R: Threads>(
     rt: &R,
     alloc: Global,
@@ -114,7 +113,7 @@ fn names_of<'a, R: Threads>(
     odr: bool,
     seen: &'a [Analysis],
     live: &'a [BitRow],
-    made: List<MadeNames>,
+    made: List<ObjectNames>,
 ) -> Result<(PathBook<'a>, OpenTable), Refusal>
     requires live { MarkLive seen.now live.now }
     requires few { length seen.now < 2 ^ 16 }

@@ -15,7 +15,6 @@ use crate::counts::{count_entries, count_live};
 use crate::drafting::drafts_of;
 use crate::graph::{Shaped, frames_of, shape_of};
 use crate::image::bundle_of;
-use crate::objects::MadeNames;
 use crate::reading::{ReadObjects, read_files, read_objects};
 use crate::refusal::Refusal;
 use crate::room::let_go;
@@ -24,6 +23,7 @@ use ds_base::{BitRow, Bytes, List};
 use ds_files::Gate;
 use dwarf_types::Analysis;
 use macho_read::Image;
+use odr_names::ObjectNames;
 use stab_map::MapObject;
 use std::alloc::Global;
 use std::thread::Threads;
@@ -152,7 +152,7 @@ fn link_read<R: Threads + Sync, G: Gate + Sync>(
     )
 }
 
-/// Links the marked entries of objects to the bundle of a program of this name. `made` is what was made of their names.
+/// Links the marked entries of objects to the bundle of a program of this name. `made` are the names of each object.
 fn link_marked<R: Threads + Sync, G: Gate + Sync>(
     rt: &R,
     alloc: Global,
@@ -162,7 +162,7 @@ fn link_marked<R: Threads + Sync, G: Gate + Sync>(
     name: &str,
     seen: List<Analysis>,
     marks: &[BitRow],
-    made: List<MadeNames>,
+    made: List<ObjectNames>,
 ) -> Result<Linked, Refusal>
     requires workers { (1 ≤ options.now.workers) × (options.now.workers ≤ 64) }
     requires program { IsSoundImage program.now }

@@ -19,7 +19,7 @@ use ds_base::{BitRow, Bytes, Fault, List, NoMemory, ReadError};
 use dwarf_types::{Analysis, Entries, OutFrames};
 use liveness::live;
 use object_view::analyse;
-use odr_names::{BookError, ObjectNames, object_names};
+use odr_names::{ObjectNames, object_names};
 use stab_map::MapObject;
 use std::alloc::Global;
 
@@ -29,15 +29,11 @@ pub(crate) struct ReadObject {
     pub analysis: Analysis,
     /// The marks of its live entries.
     pub live: BitRow,
-    /// What was made of its names, where those of one name are merged.
-    pub made: Option<MadeNames>,
+    /// Its names, where those of one name are merged.
+    pub made: Option<ObjectNames>,
 }
 
-/// The names of an object, or why it has none.
-pub(crate) type MadeNames = Result<ObjectNames, BookError>;
-
-/// The object of a number for a program of this CPU type, or its first fault; with its names, if they are wanted. That it has
-/// too many is no fault.
+/// The object of a number for a program of this CPU type, or its first fault; with its names, if they are wanted.
 pub(crate) fn read_object(
     alloc: Global,
     cpu: u32,
@@ -58,7 +54,7 @@ pub(crate) fn read_object(
     let read = analysis(alloc, cpu, object, files, archives, source);
     let analysis = numbered(number, read)?;
     let live = live(alloc, &analysis)?;
-    let made = made_names(alloc, named, number, &analysis, &live);
+    let made = made_names(alloc, named, number, &analysis, &live)?;
     Ok(ReadObject {
         analysis,
         live,
@@ -66,23 +62,24 @@ pub(crate) fn read_object(
     })
 }
 
-/// What is made of the names of the object of a number, if they are wanted.
+/// The names of the object of a number, if they are wanted.
 fn made_names(
     alloc: Global,
     named: bool,
     number: u32,
     analysis: &Analysis,
     live: &BitRow,
-) -> Option<MadeNames>
+) -> Result<Option<ObjectNames>, NoMemory>
     requires counted { (1 ≤ number) × (number < 2 ^ 16) }
     requires sound { IsSound analysis.now }
     requires live { IsLiveRow analysis.now.entries live.now }
-    ensures { HasNames named number analysis.now live.now result }
+    ensures { IfOk result (HasNames named number analysis.now live.now) }
 {
     if !named {
-        return None;
+        return Ok(None);
     }
-    Some(object_names(alloc, analysis, live, number))
+    let made = object_names(alloc, analysis, live, number)?;
+    Ok(Some(made))
 }
 
 /// The members of each file; a file that is no archive has none.

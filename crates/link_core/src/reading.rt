@@ -9,15 +9,15 @@ ghost use Rattle.link_core.specs.MadeNames.{AllNamed, HaveNames, NamesAt, ReadsN
 ghost use Rattle.link_core.specs.Passes.{HoldsFrom, MayRead, Reads, ReadsAt, ReadsBatch};
 
 use crate::files::{FilesLeft, batch_end, drop_files};
-use crate::objects::{MadeNames, ReadObject, members_of, read_object};
+use crate::objects::{ReadObject, members_of, read_object};
 use crate::refusal::Refusal;
-use crate::results::in_turn;
 use crate::room::let_go;
 use crate::sizes::large_first;
 use ar_read::Members;
 use ds_base::{BitRow, Bytes, List, NoMemory};
 use ds_files::{Gate, OpenGate};
 use dwarf_types::Analysis;
+use odr_names::ObjectNames;
 use stab_map::MapObject;
 use std::alloc::Global;
 use std::thread::Threads;
@@ -32,8 +32,8 @@ pub(crate) struct ReadObjects {
     pub seen: List<Analysis>,
     /// The marks of the live entries of each.
     pub marks: List<BitRow>,
-    /// What was made of the names of each, where those of one name are merged.
-    pub made: List<MadeNames>,
+    /// The names of each, where those of one name are merged.
+    pub made: List<ObjectNames>,
 }
 
 /// What is read of a batch of objects.
@@ -249,7 +249,7 @@ fn read_batch<R: Threads + Sync, G: Gate + Sync>(
         &open,
         &job,
     )?;
-    in_turn(alloc, outs)
+    Ok(outs.into_vec())
 }
 
 /// The objects that were read, or the first fault of the first that has one.
@@ -269,8 +269,8 @@ fn all_read(alloc: Global, outs: Vec<Result<ReadObject, Refusal>>) -> Result<Rea
     Ok(ReadObjects { seen, marks, made })
 }
 
-/// Puts what was made of the names of an object behind that of the objects before, if anything was made.
-fn put_made(all: &mut List<MadeNames>, made: Option<MadeNames>) -> Result<(), NoMemory>
+/// Puts the names of an object behind those of the objects before, if they were made.
+fn put_made(all: &mut List<ObjectNames>, made: Option<ObjectNames>) -> Result<(), NoMemory>
     ensures { OnOk result (all.new ≡ all.old ++ option_to_list made) }
 {
     let Some(made) = made else {

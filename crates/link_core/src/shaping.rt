@@ -125,16 +125,19 @@ fn parted(
     requires { IsPathsFirst outs }
     ensures { IfOk result (λ parts. Ok (made.Paths parts.0) ∷ map (λ one. Ok (made.Object one)) parts.1.items ≡ outs) }
 {
-    let mut left = outs;
-    let mut own = Vec::with_capacity(alloc, left.len())?;
-    while let Some(out) = left.pop() {
-        match out? {
-            Made::Object(one) => own.push(one)?,
-            Made::Paths(paths) => {
-                own.reverse();
-                return Ok((paths, own));
-            }
-        }
+    let mut own = Vec::with_capacity(alloc, outs.len())?;
+    let mut left = outs.into_vec().into_iter();
+    let Some(first) = left.next() else {
+        unreachable!()
+    };
+    let Made::Paths(paths) = first? else {
+        unreachable!()
+    };
+    for out in left {
+        let Made::Object(one) = out? else {
+            unreachable!()
+        };
+        own.push(one)?;
     }
-    unreachable!()
+    Ok((paths, own))
 }

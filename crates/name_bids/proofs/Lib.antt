@@ -3,5 +3,4 @@ pub mod Claiming
 pub mod Tables
 pub mod Workers
 pub mod Reading
-pub mod MadeNames
 pub mod NotedCells

@@ -4,4 +4,3 @@ pub mod Tables
 pub mod Sharing
 pub mod Opening
 pub mod Reading
-pub mod Making

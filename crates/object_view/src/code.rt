@@ -141,4 +141,3 @@ fn object_address(value: &ValueRef<'_>) -> Option<u64>
         Addr::Named { .. } | Addr::Fixed(_) => None,
     }
 }
-

@@ -1,5 +1,5 @@
 -- Rows entered one after the other.
-use Rattle.std.proofs.Common.{suc, zero, ◌≡◌, inl, inr, ℕ, ◌+◌, ◌-◌, ◌<◌, ◌≤◌, ◌^◌, Bool, true, false, List, [], ◌∷◌, ◌++◌, length, map, take, Option, Some, None, slice_get, get_or, refl, sym, ap, ◌∙◌, arith, subst, append_assoc, append-nil, length-append, ◌*◌}
+use Rattle.std.proofs.Common.{◌≡◌, inl, inr, ℕ, ◌+◌, ◌-◌, ◌<◌, ◌≤◌, ◌^◌, Bool, true, false, List, [], ◌∷◌, ◌++◌, length, map, take, Option, Some, None, slice_get, get_or, refl, sym, ap, ◌∙◌, arith, subst, append_assoc, append-nil, ◌*◌}
 use Rattle.std.specs.Prelude.{IfSome, ◌||◌, is_some, if◌then◌else◌}
 use Rattle.std.specs.List.{cons_option, enumerate_from, filter_map}
 use Rattle.std.specs.Option.{ForSome, option_and_then, option_map, option_map_or}
@@ -8,17 +8,14 @@ use Rattle.std.proofs.lemmas.List.{get_or_append_left, get_or_past, get_or_push,
 use Rattle.std.proofs.lemmas.List.Elements.{filter_map-append}
 use Rattle.std.proofs.lemmas.Option.{get_or_from_slice_get, none-some, same_Some, slice_get_within}
 use Rattle.dwarf_types.specs.declared.entry.Entry.{Entry}
-use Rattle.std.proofs.Common.{Result, Err}
-use Rattle.odr_names.specs.declared.book_error.BookError.{BookError}
-use Rattle.odr_names.specs.declared.book_error.BookError.TheVariants as errors
 use Rattle.odr_names.specs.declared.path_book.Row.{Row}
 use Rattle.odr_names.specs.Book.{AreRows, IsLinked, IsRowOf, path_above, row_above, row_name, row_path}
-use Rattle.odr_names.specs.Entering.{AreEntered, AreLiveParents, Enters, IsEntered, IsEnteredTo, IsEntering, hash_above, names_to, new_row, piece_at, private_above}
+use Rattle.odr_names.specs.Entering.{AreEntered, AreLiveParents, IsEntered, IsEnteredTo, IsEntering, hash_above, names_to, new_row, piece_at, private_above}
 use Rattle.odr_names.specs.Innermost.{innermost}
 use Rattle.odr_names.proofs.Innermost.{private_more}
 use Rattle.type_names.specs.Entries.{is_declaration}
 use Rattle.type_names.specs.Heads.{Object, entries_of, is_pooled}
-use Rattle.type_names.specs.Names.{Named, named_of, names_in}
+use Rattle.type_names.specs.Names.{Named, named_of}
 use Rattle.type_names.specs.Paths.{Piece, path_of, piece_of}
 use Rattle.type_names.specs.Start.{hash_from, path_hash, piece_bytes}
 use Rattle.type_names.specs.Tree.{ParentsStandBefore, parent_of}
@@ -27,7 +24,6 @@ use Rattle.type_names.proofs.Lineages.{parent_before}
 use Rattle.odr_names.proofs.BookPaths.{above_found, get_before, get_last, hash_is, link_before, private_is, row_in, up_within}
 use Rattle.odr_names.proofs.Closed.{path_below, path_top, pooled_parent, spelled_pooled, unit_is_plain}
 use Rattle.odr_names.proofs.Hashes.{path_hash_more}
-use Rattle.odr_names.proofs.Counting.{entry_at}
 
 -- ---- names
 
@@ -160,11 +156,10 @@ entered objects n o before rows numbers k e parent stand live its counted small 
       ];
     }
 
-pub begun : (n : ℕ) (o : Object) (rows : List Row) → length rows < 2 ^ 25 → IsEntering n o rows rows [] 0
-begun n o rows few = record {
-  few = few;
+pub begun : (n : ℕ) (o : Object) (rows : List Row) → IsEntering n o rows rows [] 0
+begun n o rows = record {
+  few = omega arith;
   len = refl;
-  count = omega arith;
   bounded = λ j x is. absurd (none-some x is);
   state = λ objects its sound. record {
     are_rows = sound;
@@ -176,9 +171,9 @@ begun n o rows few = record {
 }
 
 pub entering : (n : ℕ) (o : Object) (before old new : List Row) (numbers : List (Option ℕ)) (k : ℕ) (e : Entry) (number : Option ℕ) → ParentsStandBefore (entries_of o) → AreLiveParents o → 1 ≤ n → n < 2 ^ 16 → k < 2 ^ 24 → slice_get (entries_of o) k ≡ Some e
-    → length new < 2 ^ 25 → IsEntered (is_pooled o k) (new_row n o k e old (option_and_then (λ (p : ℕ). get_or numbers p None) (parent_of (entries_of o) k))) old new number
+    → IsEntered (is_pooled o k) (new_row n o k e old (option_and_then (λ (p : ℕ). get_or numbers p None) (parent_of (entries_of o) k))) old new number
     → length numbers ≡ k → IsEntering n o before old numbers k → IsEntering n o before new (numbers ++ number ∷ []) (k + 1)
-entering n o before old new numbers k e number stand live counted small few at room step len so_far = go (is_pooled o k) refl step where
+entering n o before old new numbers k e number stand live counted small few at step len so_far = go (is_pooled o k) refl step where
   parent : Option ℕ
   parent = option_and_then (λ (p : ℕ). get_or numbers p None) (parent_of (entries_of o) k)
 
@@ -198,9 +193,8 @@ entering n o before old new numbers k e number stand live counted small few at r
   go true pooled is = (
       let grown : length new ≡ length old + 1 = ap length is.1 ∙ length_push old row in
       record {
-        few = room;
+        few = omega (arith, grown, so_far.few);
         len = length_push numbers number ∙ ap (λ m. m + 1) len;
-        count = (let named = ap length (names_more n o k e at pooled) ∙ length_push (names_to n o k) (named_of n o k e) in omega (arith, named, grown, so_far.count));
         bounded = bound number (omega arith) (λ x same. (let one = same_Some (length old) x (sym is.0 ∙ same) in omega arith));
         state = λ objects its sound. subst (λ (rows : List Row). IsEnteredTo objects n o before rows (numbers ++ number ∷ []) (k + 1)) (sym is.1)
             (subst (λ (x : Option ℕ). IsEnteredTo objects n o before (old ++ row ∷ []) (numbers ++ x ∷ []) (k + 1)) (sym is.0) (entered objects n o before old numbers k e parent stand live its counted small few at pooled refl (so_far.state objects its sound)));
@@ -208,9 +202,8 @@ entering n o before old new numbers k e number stand live counted small few at r
   go false plain is = (
       let same_len : length new ≡ length old = ap length is.1 in
       record {
-        few = room;
+        few = omega (arith, same_len, so_far.few);
         len = length_push numbers number ∙ ap (λ m. m + 1) len;
-        count = (let named = ap length (names_skip n o k e at plain ∙ append-nil (names_to n o k)) in omega (arith, named, same_len, so_far.count));
         bounded = bound number (omega arith) (λ x same. absurd (none-some x (sym is.0 ∙ same)));
         state = λ objects its sound. subst (λ (rows : List Row). IsEnteredTo objects n o before rows (numbers ++ number ∷ []) (k + 1)) (sym is.1)
             (subst (λ (x : Option ℕ). IsEnteredTo objects n o before old (numbers ++ x ∷ []) (k + 1)) (sym is.0) (skipped objects n o before old numbers k e at plain (so_far.state objects its sound)));
@@ -232,35 +225,6 @@ bounded_above o numbers m k bounded x is = go (parent_of (entries_of o) k) is wh
   go (Some p) is = bounded p x is
 
 -- a row that is entered has a small number
-pub number_small : (pooled : Bool) (row : Row) (old new : List Row) (number : Option ℕ) → length new < 2 ^ 25 → IsEntered pooled row old new number → IfSome number (λ x. x < 2 ^ 25)
-number_small true row old new number few is = (
-    let grown : length new ≡ length old + 1 = ap length is.1 ∙ length_push old row in
-    subst (λ (x : Option ℕ). IfSome x (λ x. x < 2 ^ 25)) (sym is.0) (omega (arith, grown, few)))
+pub number_small : (pooled : Bool) (row : Row) (old new : List Row) (number : Option ℕ) → length old < 2 ^ 25 → IsEntered pooled row old new number → IfSome number (λ x. x < 2 ^ 25)
+number_small true row old new number few is = subst (λ (x : Option ℕ). IfSome x (λ x. x < 2 ^ 25)) (sym is.0) few
 number_small false row old new number few is = subst (λ (x : Option ℕ). IfSome x (λ x. x < 2 ^ 25)) (sym is.0) tt
-
--- ---- the limit
-
-grows : (n : ℕ) (o : Object) (k : ℕ) (e : Entry) → slice_get (entries_of o) k ≡ Some e → length (names_to n o k) ≤ length (names_to n o (k + 1))
-grows n o k e at = (
-    let name : Option Named = if is_pooled o k then Some (named_of n o k e) else None in
-    let is = ap length (one_name n o k e at) ∙ length-append (names_to n o k) (cons_option name []) in
-    omega (arith, is))
-
-names_within : (n : ℕ) (o : Object) (d k : ℕ) → k + d ≡ length (entries_of o) → length (names_to n o k) ≤ length (names_to n o (length (entries_of o)))
-names_within n o zero k is = (let same : k ≡ length (entries_of o) = omega arith in let it = ap (λ (m : ℕ). length (names_to n o m)) same in omega (arith, it))
-names_within n o (suc d) k is =
-    let e = entry_at (entries_of o) k (omega arith) in
-    let rest = names_within n o d (k + 1) (omega arith) in
-    omega (arith, grows n o k e.0 e.1, rest)
-
-pub too_many : (n : ℕ) (o : Object) (before rows : List Row) (numbers : List (Option ℕ)) (k : ℕ) (e : Entry) → slice_get (entries_of o) k ≡ Some e → is_pooled o k ≡ true → 2 ^ 25 ≤ length rows + 1 → IsEntering n o before rows numbers k → 2 ^ 25 ≤ length before + length (names_in n o)
-too_many n o before rows numbers k e at pooled limit so_far =
-    let named = ap length (names_more n o k e at pooled) ∙ length_push (names_to n o k) (named_of n o k e) in
-    let within = names_within n o (length (entries_of o) - (k + 1)) (k + 1) (omega (arith, slice_get_within (entries_of o) k e at)) in
-    let whole = ap (λ (es : List Entry). length (filter_map (λ (e : ℕ × Entry). if is_pooled o e.0 then Some (named_of n o e.0 e.1) else None) (enumerate_from 0 es))) (take_all (length (entries_of o)) (entries_of o) (omega arith)) in
-    omega (arith, named, within, whole, so_far.count, limit)
-
-pub limit_reached : (n : ℕ) (o : Object) (before rows new : List Row) (numbers : List (Option ℕ)) (k : ℕ) (e : Entry) (parent : Option ℕ) (error : BookError) (r : Result (Unit {0}) BookError) → slice_get (entries_of o) k ≡ Some e → r ≡ Err error → r ≡ Err errors.Pooled
-    → Enters n o k e parent rows new (Err error) → IsEntering n o before rows numbers k → 2 ^ 25 ≤ length before + length (names_in n o)
-limit_reached n o before rows new numbers k e parent errors.Pooled r at is same step so_far = too_many n o before rows numbers k e at step.0 step.1 so_far
-limit_reached n o before rows new numbers k e parent errors.NoMemory r at is same step so_far = absurd (let differ = sym is ∙ same in cc)

@@ -1,11 +1,9 @@
 -- The pooled entries of an object, entered into the book.
-use Rattle.std.specs.Prelude.{◌≡◌, ℕ, ◌+◌, ◌-◌, ◌^◌, ◌<◌, ◌≤◌, ◌==◌, ◌||◌, Bool, true, false, List, [], ◌∷◌, ◌++◌, length, map, take, slice_get, slice_index_or, Option, Some, None, Result, Ok, Err, is_some, if◌then◌else◌}
+use Rattle.std.specs.Prelude.{◌≡◌, ℕ, ◌+◌, ◌-◌, ◌<◌, ◌≤◌, ◌==◌, ◌||◌, Bool, true, false, List, [], ◌∷◌, ◌++◌, length, map, take, slice_get, slice_index_or, Option, Some, None, is_some, if◌then◌else◌}
 use Rattle.std.specs.List.{enumerate_from, filter_map}
 use Rattle.std.specs.Option.{option_map_or}
 use Rattle.dwarf_types.specs.declared.entry.Entry.{Entry}
 use Rattle.odr_names.specs.declared.path_book.Row.{Row}
-use Rattle.odr_names.specs.declared.book_error.BookError.{BookError}
-use Rattle.odr_names.specs.declared.book_error.BookError.TheVariants as errors
 use Rattle.odr_names.specs.Book.{AreRows, path_in, row_name}
 use Rattle.type_names.specs.Entries.{is_declaration}
 use Rattle.type_names.specs.Heads.{Object, entries_of, is_live, is_pooled}
@@ -46,11 +44,9 @@ abbrev pub IsEntered : Bool → Row → List Row → List Row → Option ℕ →
 IsEntered true row old new number = (number ≡ Some (length old)) × (new ≡ old ++ row ∷ [])
 IsEntered false row old new number = (number ≡ None) × (new ≡ old)
 
--- entry k of object n is entered; at the limit none is
-abbrev pub Enters : ℕ → Object → ℕ → Entry → Option ℕ → List Row → List Row → Result (Option ℕ) BookError → Type 0
-Enters n o k e parent old new (Ok number) = (length new < 2 ^ 25) × IsEntered (is_pooled o k) (new_row n o k e old parent) old new number
-Enters n o k e parent old new (Err errors.Pooled) = (is_pooled o k ≡ true) × (2 ^ 25 ≤ length old + 1)
-Enters n o k e parent old new (Err errors.NoMemory) = Unit {0}
+-- entry k of object n is entered
+abbrev pub Enters : ℕ → Object → ℕ → Entry → Option ℕ → List Row → List Row → Option ℕ → Type 0
+Enters n o k e parent old new number = IsEntered (is_pooled o k) (new_row n o k e old parent) old new number
 
 -- the names of the pooled ones of the first k entries
 abbrev pub names_to : ℕ → Object → ℕ → List Named
@@ -75,9 +71,8 @@ pub record AreEntered (objects : List Object) (n : ℕ) (o : Object) (before row
 
 -- the first k entries are entered, whatever the objects are among which this one stands
 pub record IsEntering (n : ℕ) (o : Object) (before rows : List Row) (numbers : List (Option ℕ)) (k : ℕ) : Type 0 where
-  pub few : length rows < 2 ^ 25
+  pub few : length rows ≤ length before + k
   pub len : length numbers ≡ k
-  pub count : length rows ≡ length before + length (names_to n o k)
   pub bounded : (j x : ℕ) → slice_index_or numbers j None ≡ Some x → x < length rows
   pub state : (objects : List Object) → slice_get objects (n - 1) ≡ Some o → AreRows objects before → IsEnteredTo objects n o before rows numbers k
 

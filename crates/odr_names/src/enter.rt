@@ -1,11 +1,9 @@
 //! The pooled entries of an object, entered into the book.
 
-ghost use Rattle.std.specs.Prelude.{◌≡◌, ◌||◌, is_some, ◌+◌, ◌≤◌, ◌<◌, ◌^◌, ℕ, ◌-◌, List, [], true, false, length, slice_get, slice_index_or, Some, None, Err, OnOk, OnErr, if◌then◌else◌};
+ghost use Rattle.std.specs.Prelude.{◌≡◌, ◌||◌, is_some, ◌+◌, ◌≤◌, ◌<◌, ◌^◌, ℕ, ◌-◌, List, true, length, slice_get, slice_index_or, Some, None, IfOk, OnOk};
 ghost use Rattle.std.specs.Option.{ForSome, option_and_then};
 ghost use Rattle.dwarf_types.specs.declared.entry.Entry.{Entry as AnEntry};
 ghost use Rattle.odr_names.specs.declared.path_book.Row.{Row as ARow};
-ghost use Rattle.odr_names.specs.declared.book_error.BookError.TheVariants as errors;
-ghost use Rattle.type_names.specs.Names.{names_in};
 ghost use Rattle.odr_names.specs.Book.{AreRows};
 ghost use Rattle.odr_names.specs.Entering.{AreEntered, AreLiveParents, Enters, hash_above, new_row, private_above, rows_up};
 ghost use Rattle.odr_names.specs.Pieces.{parts_seen};
@@ -16,19 +14,15 @@ ghost use Rattle.type_names.specs.Objects.{object_of};
 ghost use Rattle.type_names.specs.Pooled.{AreNames};
 ghost use Rattle.type_names.specs.Tree.{ParentsStandBefore, parent_of};
 
-use crate::book_error::BookError;
 use crate::hash::hash_piece;
 use crate::ordinals::ordinal_at;
 use crate::path_book::Row;
 use crate::piece::{PartsRef, PieceRef, parts_at};
 use crate::row_numbers::RowNumbers;
-use ds_base::BitRow;
+use ds_base::{BitRow, NoMemory};
 use dwarf_types::Analysis;
 use std::alloc::Global;
 use type_names::{TypeNames, is_declaration};
-
-/// The number of entries from which on no book is made.
-pub const MOST_POOLED: usize = 1 << 25;
 
 /// Enters an entry, where it is pooled, and gives the number of its row.
 pub(crate) fn enter_entry(
@@ -40,7 +34,7 @@ pub(crate) fn enter_entry(
     numbers: &RowNumbers,
     rows: &mut Vec<Row>,
     k: u32,
-) -> Result<Option<u32>, BookError>
+) -> Result<Option<u32>, NoMemory>
     requires place { k < length seen.now.entries }
     requires parents { ParentsStandBefore seen.now.entries }
     requires names { AreNames (object_of seen.now live.now) names.now }
@@ -51,15 +45,12 @@ pub(crate) fn enter_entry(
     requires numbers { (x : ℕ) → option_and_then (λ p. slice_index_or numbers.now p None) (parent_of seen.now.entries k) ≡ Some x → x < length rows.old.items }
     requires few { length rows.old.items < 2 ^ 25 }
     ensures { (e : AnEntry) → slice_get seen.now.entries k ≡ Some e
-        → Enters object (object_of seen.now live.now) k e (option_and_then (λ p. slice_index_or numbers.now p None) (parent_of seen.now.entries k)) rows.old.items rows.new.items result }
+        → IfOk result (Enters object (object_of seen.now live.now) k e (option_and_then (λ p. slice_index_or numbers.now p None) (parent_of seen.now.entries k)) rows.old.items rows.new.items) }
 {
     if !names.pooled.get(k) {
         return Ok(None);
     }
     let number = rows.len();
-    if number + 1 >= MOST_POOLED {
-        return Err(BookError::Pooled);
-    }
     let parent = number_of(numbers, seen.entries.entry(k as usize).parent());
     let row = row_of(seen, live, names, object, counts, rows, parent, k);
     rows.push(row)?;
@@ -163,7 +154,7 @@ pub(crate) fn enter_entries(
     object: u32,
     counts: &[u32],
     rows: &mut Vec<Row>,
-) -> Result<(), BookError>
+) -> Result<(), NoMemory>
     requires few { length seen.now.entries ≤ 2 ^ 24 }
     requires counted { (1 ≤ object) × (object < 2 ^ 16) }
     requires parents { ParentsStandBefore seen.now.entries }
@@ -172,11 +163,10 @@ pub(crate) fn enter_entries(
     requires len { length counts.now ≡ length seen.now.entries }
     requires counts { (j : ℕ) → j < length seen.now.entries → is_inside (object_of seen.now live.now) j ≡ true
         → slice_index_or counts.now j 0 ≡ twins_before object (object_of seen.now live.now) j }
-    requires rows { length rows.old.items < 2 ^ 25 }
+    requires rows { length rows.old.items + length seen.now.entries < 2 ^ 25 }
     ensures few { OnOk result (length rows.new.items < 2 ^ 25) }
     ensures all { (objects : List Object) → slice_get objects (object - 1) ≡ Some (object_of seen.now live.now) → AreRows objects rows.old.items
         → OnOk result (AreEntered objects object (object_of seen.now live.now) rows.old.items rows.new.items) }
-    ensures pooled { result ≡ Err errors.Pooled → 2 ^ 25 ≤ length rows.old.items + length (names_in object (object_of seen.now live.now)) }
 {
     let mut numbers = RowNumbers::with_capacity(alloc, seen.entries.len())?;
     for i in 0..seen.entries.len() {

@@ -1,7 +1,6 @@
 //! The rows of all objects, those of each behind those of earlier ones.
 
-ghost use Rattle.std.specs.Prelude.{◌≡◌, ◌<◌, ◌^◌, length, map, IfOk};
-ghost use Rattle.std.specs.List.{All, sum_by};
+ghost use Rattle.std.specs.Prelude.{◌≡◌, length, map, IfOk};
 ghost use Rattle.odr_names.specs.Book.{AreRows, AreTold, objects_of, row_name};
 ghost use Rattle.odr_names.specs.Joining.{AreAllNames};
 ghost use Rattle.type_names.specs.Names.{names};
@@ -11,19 +10,6 @@ use crate::path_book::{Objects, Row};
 use ds_base::{BitRow, NoMemory};
 use dwarf_types::Analysis;
 use std::alloc::Global;
-
-/// How many rows these objects have together.
-pub(crate) fn rows_in(own: &[ObjectNames]) -> usize
-    requires few { length own.now < 2 ^ 16 }
-    requires each { All (λ one. length one.rows.items < 2 ^ 25) own.now }
-    ensures { result ≡ sum_by (λ one. length one.rows.items) own.now }
-{
-    let mut total = 0;
-    for i in 0..own.len() {
-        total += own[i].rows.len();
-    }
-    total
-}
 
 /// The objects with what is told of the names of each, and the rows of all, of which there are `total`. A row tells the
 /// one above by how far it stands before, so rows are copied as they are.

@@ -3,11 +3,11 @@
 //! Layer: names. [`object_names`] makes the names of one object, whatever the others are: [`type_names::type_names`] tells
 //! which entries are pooled, and each of these gets a row (`enter`). A row takes 24 bytes and leads to the row above; names
 //! and linkage names stay in the analyses. [`joined_book`] puts the rows of all objects behind one another (`joining`,
-//! `specs/Joining.antt`), of which there are [`names_together`]; [`book`] makes and joins them one by one. What a book's
-//! names are stands in `type_names/specs/Names.antt`; when rows stand for them, in `specs/Book.antt`; which rows of live
-//! entries a book is made of, in `specs/Making.antt`. Paths are compared hash first and then piece by piece upwards
-//! (`path_book`, `piece`). Ordinals (`ordinals`) and winners ([`winners_plain`], `specs/Winners.antt`) come from a sort by
-//! hashes. A [`PathBook`] is a `NameBook` of `pool_core` (`name_book`).
+//! `specs/Joining.antt`), once [`names_together`] has told that they are few enough; [`book`] makes and joins them one by
+//! one. What a book's names are stands in `type_names/specs/Names.antt`; when rows stand for them, in `specs/Book.antt`;
+//! which rows of live entries a book is made of, in `specs/Making.antt`. Paths are compared hash first and then piece by
+//! piece upwards (`path_book`, `piece`). Ordinals (`ordinals`) and winners ([`winners_plain`], `specs/Winners.antt`) come
+//! from a sort by hashes. A [`PathBook`] is a `NameBook` of `pool_core` (`name_book`).
 #![tactic(auto)]
 
 mod book_error;
@@ -26,7 +26,6 @@ mod together;
 mod winners;
 
 pub use book_error::BookError;
-pub use enter::MOST_POOLED;
 pub use entry_place::Occurrence;
 pub use one_object::{ObjectNames, object_names};
 pub use path_book::{
@@ -34,5 +33,5 @@ pub use path_book::{
     object_count, occurrence, path_equal, path_start,
 };
 pub use piece::{PartsRef, PieceRef, Private};
-pub use together::names_together;
+pub use together::{MOST_POOLED, names_together};
 pub use winners::{Ranked, put_winners, winners_plain};

@@ -1,19 +1,16 @@
 //! The names of one object: what is told of them, and their rows.
 
-ghost use Rattle.std.specs.Prelude.{◌≡◌, ◌<◌, ◌≤◌, ◌^◌, length, Err, IfOk};
+ghost use Rattle.std.specs.Prelude.{◌<◌, ◌≤◌, ◌^◌, IfOk};
 ghost use Rattle.dwarf_types.specs.Sound.{IsSound};
-ghost use Rattle.odr_names.specs.declared.book_error.BookError.TheVariants as errors;
 ghost use Rattle.odr_names.specs.Joining.{AreNamesOf};
 ghost use Rattle.odr_names.specs.Making.{IsLiveRow};
-ghost use Rattle.type_names.specs.Names.{names_in};
 ghost use Rattle.type_names.specs.Objects.{object_of};
 
-use crate::book_error::BookError;
 use crate::enter::enter_entries;
 use crate::marks::count_marked;
 use crate::ordinals::twins_of;
 use crate::path_book::Row;
-use ds_base::BitRow;
+use ds_base::{BitRow, NoMemory};
 use dwarf_types::Analysis;
 use std::alloc::Global;
 use type_names::{TypeNames, type_names};
@@ -27,20 +24,18 @@ pub struct ObjectNames {
 
 /// The names of an object, which is counted from 1.
 ///
-/// `live` marks the live entries. An object with 2^25 names or more has none ([`BookError::Pooled`]); but a sound one has
-/// 2^24 entries at most, and no more names than entries, so that error does not come (`proofs/MakingBooks.antt`,
-/// `never_pooled`). Source: this project's profile (docs/PROFILE.md, "Names and the pool").
+/// `live` marks the live entries. A sound object has 2^24 entries at most, and no more names than entries, so there are
+/// never too many of one object alone. Source: this project's profile (docs/PROFILE.md, "Names and the pool").
 pub fn object_names(
     alloc: Global,
     seen: &Analysis,
     live: &BitRow,
     object: u32,
-) -> Result<ObjectNames, BookError>
+) -> Result<ObjectNames, NoMemory>
     requires sound { IsSound seen.now }
     requires live { IsLiveRow seen.now.entries live.now }
     requires counted { (1 ≤ object) × (object < 2 ^ 16) }
-    ensures made { IfOk result (λ own. AreNamesOf object (object_of seen.now live.now) own) }
-    ensures pooled { result ≡ Err errors.Pooled → 2 ^ 25 ≤ length (names_in object (object_of seen.now live.now)) }
+    ensures { IfOk result (λ own. AreNamesOf object (object_of seen.now live.now) own) }
 {
     let names = type_names(alloc, seen, live)?;
     let counts = twins_of(alloc, seen, live, &names, object)?;

@@ -18,13 +18,13 @@ ghost use Rattle.type_names.specs.Paths.{Piece};
 ghost use Rattle.type_names.specs.Start.{path_hash, start_of};
 
 use crate::book_error::BookError;
-use crate::enter::MOST_POOLED;
 use crate::entry_place::Occurrence;
 use crate::hash::hash_private;
-use crate::joining::{joined, rows_in};
+use crate::joining::joined;
 use crate::one_object::{ObjectNames, object_names};
 use crate::piece::{PieceRef, Private, parts_at, piece_equal};
-use ds_base::BitRow;
+use crate::together::names_together;
+use ds_base::{BitRow, NoMemory};
 use dwarf_types::Analysis;
 use std::alloc::Global;
 use std::marker::Model;
@@ -115,7 +115,10 @@ fn merged_book<'a>(
     ensures pooled { result ≡ Err errors.Pooled → 2 ^ 25 ≤ length (names (objects_of seen.now live.now)) }
 {
     let own = all_names(alloc, seen, live)?;
-    joined_book(alloc, seen, live, own)
+    let Some(total) = names_together(&own) else {
+        return Err(BookError::Pooled);
+    };
+    Ok(joined_book(alloc, seen, live, own, total)?)
 }
 
 /// The names of each object.
@@ -123,12 +126,11 @@ fn all_names(
     alloc: Global,
     seen: &[Analysis],
     live: &[BitRow],
-) -> Result<Vec<ObjectNames>, BookError>
+) -> Result<Vec<ObjectNames>, NoMemory>
     requires few { length seen.now < 2 ^ 16 }
     requires sound { All IsSound seen.now }
     requires live { AreLiveRows seen.now live.now }
-    ensures made { IfOk result (λ own. AreAllNames (objects_of seen.now live.now) own.items) }
-    ensures pooled { result ≡ Err errors.Pooled → 2 ^ 25 ≤ length (names (objects_of seen.now live.now)) }
+    ensures { IfOk result (λ own. AreAllNames (objects_of seen.now live.now) own.items) }
 {
     let mut own = Vec::with_capacity(alloc, seen.len())?;
     for i in 0..seen.len() {
@@ -139,25 +141,22 @@ fn all_names(
 
 /// The book of the names of these objects, where the names of each are made.
 ///
-/// `own` are those of each object, in the order of the objects ([`object_names`]); their rows are put behind one another.
-/// Objects with 2^25 names or more together have no book ([`BookError::Pooled`]).
+/// `own` are those of each object, in the order of the objects ([`object_names`]), and `total` tells how many they are
+/// together ([`names_together`]). Their rows are put behind one another.
 pub fn joined_book<'a>(
     alloc: Global,
     seen: &'a [Analysis],
     live: &'a [BitRow],
     own: Vec<ObjectNames>,
-) -> Result<PathBook<'a>, BookError>
+    total: u32,
+) -> Result<PathBook<'a>, NoMemory>
     requires few { length seen.now < 2 ^ 16 }
     requires live { length live.now ≡ length seen.now }
     requires own { AreAllNames (objects_of seen.now live.now) own.items }
-    ensures made { IfOk result (λ book. (book ≡ names (objects_of seen.now live.now)) × (length book < 2 ^ 25)) }
-    ensures pooled { result ≡ Err errors.Pooled → 2 ^ 25 ≤ length (names (objects_of seen.now live.now)) }
+    requires total { (total ≡ length (names (objects_of seen.now live.now))) × (total < 2 ^ 25) }
+    ensures { IfOk result (λ book. (book ≡ names (objects_of seen.now live.now)) × (length book < 2 ^ 25)) }
 {
-    let total = rows_in(&own);
-    if total >= MOST_POOLED {
-        return Err(BookError::Pooled);
-    }
-    let (objects, rows) = joined(alloc, seen, live, own, total)?;
+    let (objects, rows) = joined(alloc, seen, live, own, total as usize)?;
     Ok(PathBook { objects, rows })
 }
 

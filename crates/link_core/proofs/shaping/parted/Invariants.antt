@@ -1,10 +1,7 @@
-use Rattle.std.proofs.Common.{◌≡◌, ◌++◌, length, reverse}
+use Rattle.std.proofs.Common.{◌≡◌, ◌++◌}
 use Rattle.link_core.proofs.ShapesMade.{as_made}
 use Rattle.link_core.proofs.shaping.parted.Given as goal
 
--- what is left, and what was taken from behind it
+-- those behind the first one are, so far, what objects gave
 abbrev pub invariant-loop-out : goal.invariant-loop-out
-invariant-loop-out l = l.left ++ as_made (reverse l.own.items) ≡ l.fn.outs
-
-abbrev pub decreases-loop-out : goal.decreases-loop-out
-decreases-loop-out l = length l.left
+invariant-loop-out l = (l.yielded ++ l.out-iterator.rest.items ≡ l.initial.out-iterator.rest.items) × (as_made l.own.items ≡ l.yielded)

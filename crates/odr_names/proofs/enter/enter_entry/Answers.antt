@@ -1,6 +1,5 @@
 use Rattle.std.proofs.Common.{◌≡◌, ◌∙◌, ◌++◌, ◌∷◌, [], ℕ, List, Bool, Option, Some, None, refl, length, get_or, ap, arith, sym, subst}
 use Rattle.std.specs.Option.{option_and_then}
-use Rattle.std.proofs.lemmas.List.{length_push}
 use Rattle.odr_names.specs.declared.path_book.Row.{Row}
 use Rattle.odr_names.specs.Entering.{IsEntered, new_row}
 use Rattle.type_names.specs.Heads.{Object, entries_of, is_pooled}
@@ -16,14 +15,7 @@ returns-then-not-get c = λ e at. (
     let told : c.get.result ≡ is_pooled o k = c.get.ensures ∙ c.requires.names.pooled.each k c.requires.place in
     let rows = c.args.rows.now.items in
     let parent : Option ℕ = option_and_then (λ (p : ℕ). get_or c.args.numbers.now p None) (parent_of (entries_of o) k) in
-    (c.requires.few, subst (λ (b : Bool). IsEntered b (new_row c.args.object o k e rows parent) rows rows None) (sym (sym told ∙ c.if-not-get.true)) (refl, refl)))
-
-pub returns-then-number-ge-MOST_POOLED : goal.returns-then-number-ge-MOST_POOLED
-returns-then-number-ge-MOST_POOLED c = λ e at. (
-    let o : Object = object_of c.args.seen.now c.args.live.now in
-    let k = c.args.k in
-    let told : c.get.result ≡ is_pooled o k = c.get.ensures ∙ c.requires.names.pooled.each k c.requires.place in
-    (sym told ∙ c.if-not-get.false, omega (arith, c.if-number-ge-MOST_POOLED.true, c.len-number.ensures)))
+    subst (λ (b : Bool). IsEntered b (new_row c.args.object o k e rows parent) rows rows None) (sym (sym told ∙ c.if-not-get.true)) (refl, refl))
 
 pub returns : goal.returns
 returns c = λ e at. (
@@ -38,7 +30,4 @@ returns c = λ e at. (
     ∙ ap (λ (parent : Option ℕ). new_row c.args.object o k e rows parent) its in
     let pushed = c.in_ok-push.ensures.items ∙ ap (λ (row : Row). rows ++ row ∷ []) row in
     let small : c.len-number.result ≡ length rows = omega (arith, c.len-number.ensures) in
-    let len = ap length c.in_ok-push.ensures.items ∙ length_push rows c.row_of-row.result in (
-      omega (arith, len, c.if-number-ge-MOST_POOLED.false, small),
-      subst (λ (b : Bool). IsEntered b (new_row c.args.object o k e rows parent) rows c.push.new.self.items (Some c.len-number.result)) (sym (sym told ∙ c.if-not-get.false)) (ap (λ (x : ℕ). Some x) small, pushed),
-    ))
+    subst (λ (b : Bool). IsEntered b (new_row c.args.object o k e rows parent) rows c.push.new.self.items (Some c.len-number.result)) (sym (sym told ∙ c.if-not-get.false)) (ap (λ (x : ℕ). Some x) small, pushed))

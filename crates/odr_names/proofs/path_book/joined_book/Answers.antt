@@ -1,48 +1,29 @@
 use Rattle.std.proofs.Common.{◌≡◌, ◌∙◌, ◌<◌, ◌^◌, List, length, map, ap, subst, sym, arith}
-use Rattle.std.specs.List.{sum_by}
 use Rattle.dwarf_types.specs.declared.analysis.Analysis.{Analysis}
 use Rattle.odr_names.specs.Book.{AreRows, objects_in, objects_of, row_name}
 use Rattle.type_names.specs.Heads.{Object}
 use Rattle.type_names.specs.Names.{names}
 use Rattle.odr_names.proofs.BookPaths.{length_names}
-use Rattle.odr_names.proofs.JoinedRows.{count_all, each_few, row_count}
-use Rattle.odr_names.proofs.MakingBooks.{length_objects}
 use Rattle.odr_names.proofs.Stretches.{rows_in_order}
 use Rattle.odr_names.proofs.path_book.joined_book.Goals as goal
-
-pub rows_in-total-requires-clause-few : goal.rows_in-total-requires-clause-few
-rows_in-total-requires-clause-few c =
-    let long = length_objects c.args.seen.now c.args.live.now c.requires.live in
-    rw c.deref.ensures.value (omega (arith, long, c.requires.few, c.requires.own.len))
-
-pub rows_in-total-requires-clause-each : goal.rows_in-total-requires-clause-each
-rows_in-total-requires-clause-each c = rw c.deref.ensures.value (each_few (objects_of c.args.seen.now c.args.live.now) c.args.own.items c.requires.own)
-
-pub returns-then-total-ge-MOST_POOLED-clause-pooled : goal.returns-then-total-ge-MOST_POOLED-clause-pooled
-returns-then-total-ge-MOST_POOLED-clause-pooled c = λ same. (
-    let objects : List Object = objects_of c.args.seen.now c.args.live.now in
-    let total : c.rows_in-total.result ≡ length (names objects) = c.rows_in-total.ensures ∙ ap (sum_by row_count) c.deref.ensures.value ∙ count_all objects c.args.own.items c.requires.own in
-    omega (arith, total, c.if-total-ge-MOST_POOLED.true))
 
 pub invariant_of-result : goal.invariant_of-result
 invariant_of-result c =
     let objects : List Object = objects_of c.args.seen.now c.args.live.now in
-    let total : c.rows_in-total.result ≡ length (names objects) = c.rows_in-total.ensures ∙ ap (sum_by row_count) c.deref.ensures.value ∙ count_all objects c.args.own.items c.requires.own in
     let count = sym (length_names objects c.in_ok-objects.rows.items) ∙ ap length c.in_ok-objects.ensures.named in
     let same : objects ≡ objects_in c.in_ok-objects.objects = (λ i. objects_of (sym c.in_ok-objects.ensures.told.1 i) (sym c.in_ok-objects.ensures.told.2 i)) in
     let rows : AreRows (objects_in c.in_ok-objects.objects) c.in_ok-objects.rows.items = subst (λ (os : List Object). AreRows os c.in_ok-objects.rows.items) same c.in_ok-objects.ensures.rows in
     record {
       told = c.in_ok-objects.ensures.told.0;
       few_objects = subst (λ (xs : List Analysis). length xs < 2 ^ 16) (sym c.in_ok-objects.ensures.told.1) c.requires.few;
-      few = omega (arith, count, total, c.if-total-ge-MOST_POOLED.false);
+      few = omega (arith, count, c.requires.total.0, c.requires.total.1);
       are_rows = rows;
       in_order = rows_in_order objects objects c.in_ok-objects.rows.items c.in_ok-objects.ensures.named;
     }
 
-pub returns-clause-made : goal.returns-clause-made
-returns-clause-made c =
+pub returns : goal.returns
+returns c =
     let objects : List Object = objects_of c.args.seen.now c.args.live.now in
-    let total : c.rows_in-total.result ≡ length (names objects) = c.rows_in-total.ensures ∙ ap (sum_by row_count) c.deref.ensures.value ∙ count_all objects c.args.own.items c.requires.own in
     let same : objects ≡ objects_in c.in_ok-objects.objects = (λ i. objects_of (sym c.in_ok-objects.ensures.told.1 i) (sym c.in_ok-objects.ensures.told.2 i)) in
     let is : map (row_name (objects_in c.in_ok-objects.objects)) c.in_ok-objects.rows.items ≡ names objects = subst (λ (os : List Object). map (row_name os) c.in_ok-objects.rows.items ≡ names objects) same c.in_ok-objects.ensures.named in
-    (is, omega (arith, ap length is, total, c.if-total-ge-MOST_POOLED.false))
+    (is, omega (arith, ap length is, c.requires.total.0, c.requires.total.1))
