@@ -64,11 +64,9 @@ pub(crate) fn shared_program<R: Threads + Sync>(
 fn all_made(alloc: Global, outs: List<Result<Bytes, NoMemory>>) -> Result<List<Bytes>, NoMemory>
     ensures { IfOk result (λ files. map (λ file. Ok file) files ≡ outs) }
 {
-    let mut left = outs;
-    let mut files = Vec::with_capacity(alloc, left.len())?;
-    while let Some(out) = left.pop() {
+    let mut files = Vec::with_capacity(alloc, outs.len())?;
+    for out in outs.into_vec() {
         files.push(out?)?;
     }
-    files.reverse();
     Ok(List::from_vec(files))
 }
