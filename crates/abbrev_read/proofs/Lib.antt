@@ -1,4 +1,5 @@
 mod FieldLoop
 mod DeclarationLoop
+mod Few
 pub mod TableLaws
 pub mod Refused

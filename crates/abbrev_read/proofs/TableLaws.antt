@@ -11,6 +11,7 @@ use Rattle.ds_base.specs.Leb.{IsSpelled}
 use Rattle.ds_base.specs.Spot.{Spot, rest, fault_at}
 use Rattle.ds_base.specs.Reading.{◌>>=◌, refuse_if, number_at, uleb_at, sleb_at}
 use Rattle.dwarf_types.specs.Spelled.{AreBytes, InTurn, IsUleb, IsSleb, IsNumber, Made}
+use Rattle.dwarf_types.specs.declared.abbrev.TheConstants.{MOST_FIELDS}
 use Rattle.dwarf_types.specs.declared.abbrev.Field.{Field}
 use Rattle.dwarf_types.specs.declared.abbrev.Abbrev.{Abbrev}
 use Rattle.ds_base.proofs.Passing.{bind_ok, passed, ok_is}
@@ -155,7 +156,7 @@ not_some : {A : Type 0} (o : Option A) → is_some o ≡ false → o ≡ None
 not_some None e = refl
 not_some (Some x) e = absurd cc
 
-abbrev after_pair : ℕ → List Field → Spot → Option (ℕ × ℕ) × Spot → Result (List Field × Spot) Fault
+abbrev pub after_pair : ℕ → List Field → Spot → Option (ℕ × ℕ) × Spot → Result (List Field × Spot) Fault
 after_pair room before first p = option_map_or (λ pair. field_at pair p.1 >>= λ field. fields_at room (before ++ field.0 ∷ []) first field.1) p.0 (Ok (before, p.1))
 
 field_spelled : (pair : ℕ × ℕ) (field : Field) (x y : List ℕ) → SpellsPair x (Some pair) → IsFieldOf pair y field → SpellsField field (x ++ y)
@@ -241,14 +242,14 @@ fields_again (field ∷ own) (suc room) before first s bytes more h sound few sp
 record AllFields (bytes : List ℕ) (fields : List Field) : Type 0 where
   spells : SpellsFields fields bytes
   sound : AreFields fields
-  few : length fields ≤ 256
+  few : length fields ≤ MOST_FIELDS
 
-fields_reader : (first : Spot) → Reader (fields_at 256 [] first) AllFields
+fields_reader : (first : Spot) → Reader (fields_at MOST_FIELDS [] first) AllFields
 fields_reader first = record {
   takes = λ s fields t h e.
-      let p = fields_take 256 [] first s fields t h e in
+      let p = fields_take MOST_FIELDS [] first s fields t h e in
       record { bytes = p.bytes; spells = subst (AllFields p.bytes) (sym p.is) (record { spells = p.spells; sound = p.sound; few = p.few }); parts = p.parts; stands = p.stands };
-  again = λ s bytes fields more h a parts. fields_again fields 256 [] first s bytes more h a.sound a.few a.spells parts;
+  again = λ s bytes fields more h a parts. fields_again fields MOST_FIELDS [] first s bytes more h a.sound a.few a.spells parts;
 }
 
 -- ---- declarations
@@ -265,17 +266,17 @@ RawRest code tag bytes d = ((tag == 0) ≡ false) × Both (IsNumber 1) (λ child
 raw_reader : (code : ℕ) (first : Spot) → Reader (declaration_at code first) (Both Short (λ tag. RawRest code tag))
 unfolding declaration_at
 raw_reader code first =
-    both_reader (short_at first) (λ tag s. refuse_if (tag == 0) (fault_at first BadAbbrev) >>= λ u. number_at 1 s >>= λ children. refuse_if (nat_lt 1 children.0) (fault_at first BadAbbrev) >>= λ v. fields_at 256 [] first children.1 >>= λ fields. Ok (declared code tag children.0 fields.0, fields.1)) Short (λ tag. RawRest code tag) (short_reader first) (λ tag.
-    tested_reader (tag == 0) (λ s. fault_at first BadAbbrev) (λ s. number_at 1 s >>= λ children. refuse_if (nat_lt 1 children.0) (fault_at first BadAbbrev) >>= λ v. fields_at 256 [] first children.1 >>= λ fields. Ok (declared code tag children.0 fields.0, fields.1)) _
-    (both_reader (number_at 1) (λ children s. refuse_if (nat_lt 1 children) (fault_at first BadAbbrev) >>= λ v. fields_at 256 [] first s >>= λ fields. Ok (declared code tag children fields.0, fields.1)) (IsNumber 1) (λ children. RawFields code tag children) (number_reader 1) (λ children.
-    tested_reader (nat_lt 1 children) (λ s. fault_at first BadAbbrev) (λ s. fields_at 256 [] first s >>= λ fields. Ok (declared code tag children fields.0, fields.1)) _ (made_reader (declared code tag children) (fields_at 256 [] first) AllFields (fields_reader first)))))
+    both_reader (short_at first) (λ tag s. refuse_if (tag == 0) (fault_at first BadAbbrev) >>= λ u. number_at 1 s >>= λ children. refuse_if (nat_lt 1 children.0) (fault_at first BadAbbrev) >>= λ v. fields_at MOST_FIELDS [] first children.1 >>= λ fields. Ok (declared code tag children.0 fields.0, fields.1)) Short (λ tag. RawRest code tag) (short_reader first) (λ tag.
+    tested_reader (tag == 0) (λ s. fault_at first BadAbbrev) (λ s. number_at 1 s >>= λ children. refuse_if (nat_lt 1 children.0) (fault_at first BadAbbrev) >>= λ v. fields_at MOST_FIELDS [] first children.1 >>= λ fields. Ok (declared code tag children.0 fields.0, fields.1)) _
+    (both_reader (number_at 1) (λ children s. refuse_if (nat_lt 1 children) (fault_at first BadAbbrev) >>= λ v. fields_at MOST_FIELDS [] first s >>= λ fields. Ok (declared code tag children fields.0, fields.1)) (IsNumber 1) (λ children. RawFields code tag children) (number_reader 1) (λ children.
+    tested_reader (nat_lt 1 children) (λ s. fault_at first BadAbbrev) (λ s. fields_at MOST_FIELDS [] first s >>= λ fields. Ok (declared code tag children fields.0, fields.1)) _ (made_reader (declared code tag children) (fields_at MOST_FIELDS [] first) AllFields (fields_reader first)))))
 
 -- what stands behind a code
 record RestOf (code : ℕ) (bytes : List ℕ) (d : Abbrev) : Type 0 where
   code_is : d.code ≡ code
   spells : InTurn (λ b. IsUleb b d.tag) (InTurn (λ b. IsNumber 1 b (children_byte d.children)) (SpellsFields d.fields)) bytes
   tag : IsShort d.tag
-  few : length d.fields ≤ 256
+  few : length d.fields ≤ MOST_FIELDS
   fields : AreFields d.fields
 
 byte_again : (n : ℕ) → nat_lt 1 n ≡ false → n ≡ children_byte (n == 1)
@@ -351,10 +352,10 @@ record TableTaken (before : List Abbrev) (s : Spot) (table : List Abbrev) : Type
   spells : SpellsTable own bytes
   parts : rest s ≡ bytes ++ more
 
-abbrev after_code : ℕ → List Abbrev → Spot → ℕ × Spot → Result (List Abbrev) Fault
+abbrev pub after_code : ℕ → List Abbrev → Spot → ℕ × Spot → Result (List Abbrev) Fault
 after_code left before s code = if code.0 == 0 then Ok before else (refuse_if (is_declared code.0 before) (fault_at s DuplicateCode) >>= λ u. declaration_at code.0 s code.1 >>= λ d. declarations_at left (before ++ d.0 ∷ []) d.1)
 
-abbrev declared_then : ℕ → List Abbrev → Abbrev × Spot → Result (List Abbrev) Fault
+abbrev pub declared_then : ℕ → List Abbrev → Abbrev × Spot → Result (List Abbrev) Fault
 declared_then left before d = declarations_at left (before ++ d.0 ∷ []) d.1
 
 abbrev done : List Abbrev → Result (List Abbrev) Fault
@@ -391,13 +392,13 @@ table_more before s u v code d table some fresh p f others =
     }
 
 -- what was read behind a code that is 0, and behind one that is not
-code_zero : (left : ℕ) (before : List Abbrev) (s : Spot) (code : ℕ × Spot) (table : List Abbrev) → code.0 ≡ 0 → after_code left before s code ≡ Ok table → before ≡ table
+pub code_zero : (left : ℕ) (before : List Abbrev) (s : Spot) (code : ℕ × Spot) (table : List Abbrev) → code.0 ≡ 0 → after_code left before s code ≡ Ok table → before ≡ table
 code_zero left before s code table z e =
     let here : (code.0 == 0) ≡ true = eq-eqb code.0 0 z in
     let step : after_code left before s code ≡ Ok before = rw here refl in
     table_is before table (sym step ∙ e)
 
-code_some : (left : ℕ) (before : List Abbrev) (s : Spot) (code : ℕ × Spot) (table : List Abbrev) → (code.0 ≡ 0 → ⊥) → after_code left before s code ≡ Ok table
+pub code_some : (left : ℕ) (before : List Abbrev) (s : Spot) (code : ℕ × Spot) (table : List Abbrev) → (code.0 ≡ 0 → ⊥) → after_code left before s code ≡ Ok table
     → (is_declared code.0 before ≡ false) × ((declaration_at code.0 s code.1 >>= declared_then left before) ≡ Ok table)
 code_some left before s code table nz e =
     let here : (code.0 == 0) ≡ false = ne_eqb code.0 0 nz in

@@ -2,6 +2,7 @@
 use Rattle.std.specs.Prelude.{◌≡◌, ◌<◌, ◌≤◌, ◌==◌, ◌++◌, ℕ, pos, Bool, true, false, List, [], ◌∷◌, length, drop}
 use Rattle.ds_base.specs.declared.dwarf.TheConstants.{DW_FORM_implicit_const}
 use Rattle.dwarf_types.specs.Spelled.{InTurn, IsUleb, IsSleb, IsNumber}
+use Rattle.dwarf_types.specs.declared.abbrev.TheConstants.{MOST_FIELDS}
 use Rattle.dwarf_types.specs.declared.abbrev.Field.{Field}
 use Rattle.dwarf_types.specs.declared.abbrev.Abbrev.{Abbrev}
 use Rattle.abbrev_read.specs.Codes.{is_declared}
@@ -41,10 +42,14 @@ abbrev pub AreFields : List Field → Type 0
 AreFields [] = Unit {0}
 AreFields (field ∷ fields) = (IsShort field.name × IsShort field.form) × AreFields fields
 
+-- an entry of such a declaration has few attributes
+abbrev pub HasFewFields : Abbrev → Type 0
+HasFewFields d = length d.fields ≤ MOST_FIELDS
+
 pub record IsDeclaration (d : Abbrev) : Type 0 where
   pub code : 0 < d.code
   pub tag : IsShort d.tag
-  pub few : length d.fields ≤ 256
+  pub few : HasFewFields d
   pub fields : AreFields d.fields
 
 -- declarations behind others, no two of which have one code

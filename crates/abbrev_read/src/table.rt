@@ -1,17 +1,16 @@
 //! One table, from its place in the section.
 
-ghost use Rattle.std.specs.Prelude.{◌≡◌, ◌<◌, [], length, IfOk};
+ghost use Rattle.std.specs.Prelude.{◌≡◌, ◌<◌, [], length, All, IfOk};
 ghost use Rattle.ds_base.specs.Reading.{Gives, Reads, ReadsUnlessFull};
+ghost use Rattle.dwarf_types.specs.declared.abbrev.TheConstants.{MOST_FIELDS};
 ghost use Rattle.abbrev_read.specs.Reading.{short_at, pair_at, field_at, fields_at, declaration_at, table_at};
+ghost use Rattle.abbrev_read.specs.Spelling.{HasFewFields};
 
 use crate::codes::Codes;
 use ds_base::dwarf::DW_FORM_implicit_const;
 use ds_base::{Cursor, Fault, Kind, List, Part, ReadError};
-use dwarf_types::{Abbrev, Field};
+use dwarf_types::{Abbrev, Field, MOST_FIELDS};
 use std::alloc::Global;
-
-/// The most attributes that a declaration may have.
-const MOST_FIELDS: usize = 256;
 
 /// The declarations of the abbreviation table at `offset` (DWARF 4, section 7.5.3), in their order.
 ///
@@ -21,6 +20,7 @@ const MOST_FIELDS: usize = 256;
 pub fn read_table(alloc: Global, bytes: &[u8], offset: u32) -> Result<List<Abbrev>, ReadError>
     requires inside { offset < length bytes.now }
     ensures exact { Gives (λ table. table) result (table_at bytes.now offset) }
+    ensures few { IfOk result (λ table. All HasFewFields table) }
 {
     let end = bytes.len() as u64;
     let mut cursor = Cursor::new(bytes, Part::Abbrev, u64::from(offset), end);
@@ -73,7 +73,7 @@ fn read_declaration(
 
 /// The attributes of a declaration, up to the two zeros.
 fn read_fields(alloc: Global, cursor: &mut Cursor, first: &Cursor) -> Result<List<Field>, ReadError>
-    ensures { ReadsUnlessFull (λ fields. fields) result cursor.new (fields_at 256 [] first.now cursor.old) }
+    ensures { ReadsUnlessFull (λ fields. fields) result cursor.new (fields_at MOST_FIELDS [] first.now cursor.old) }
 {
     let mut fields = List::new(alloc);
     for _ in 0..MOST_FIELDS {

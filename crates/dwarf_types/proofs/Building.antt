@@ -1,8 +1,9 @@
 -- What columns stand for as they grow, and as heads and cells are put.
-use Rattle.std.proofs.Common.{◌≡◌, ℕ, ◌+◌, ◌≤◌, List, [], ◌∷◌, ◌++◌, map, length, drop, ap, ap₂, sym, ◌∙◌, arith}
+use Rattle.std.proofs.Common.{◌≡◌, ℕ, ◌+◌, ◌-◌, ◌≤◌, List, [], ◌∷◌, ◌++◌, map, length, drop, ap, ap₂, sym, ◌∙◌, arith}
 use Rattle.std.specs.List.{zip}
-use Rattle.std.proofs.lemmas.List.{append-nil, drop-append-le, drop_all, map_push}
+use Rattle.std.proofs.lemmas.List.{append-nil, drop-append-le, drop_all, length-append, length-drop, length-map, map_push}
 use Rattle.std.proofs.lemmas.List.Elements.{All-drop}
+use Rattle.dwarf_types.specs.declared.abbrev.TheConstants.{MOST_FIELDS}
 use Rattle.dwarf_types.specs.declared.columns.Cell.{Cell}
 use Rattle.dwarf_types.specs.declared.columns.Head.{Head}
 use Rattle.dwarf_types.specs.declared.entry.Attr.{Attr}
@@ -12,10 +13,10 @@ use Rattle.dwarf_types.specs.declared.sides.Sides.{Sides}
 use Rattle.dwarf_types.specs.declared.value.Value.{Value}
 use Rattle.dwarf_types.specs.Built.{Built}
 use Rattle.dwarf_types.specs.Cells.{Grows}
-use Rattle.dwarf_types.specs.Columns.{CellWithin, IsFlat, IsRaw, attr_of, built_of, entries_of, entry_with, raw_attr_of, raw_entries_of, raw_entry_with, row}
+use Rattle.dwarf_types.specs.Columns.{CellWithin, IsBuilt, IsFlat, IsRaw, attr_of, built_of, entries_of, entry_with, raw_attr_of, raw_entries_of, raw_entry_with, row}
 use Rattle.dwarf_types.proofs.Ends.{RawWithin, raw_flat, zip_long, zip_push}
 use Rattle.dwarf_types.proofs.Growing.{grows_not}
-use Rattle.dwarf_types.proofs.Heads.{flat_as, maps_same, rows_close, rows_kept}
+use Rattle.dwarf_types.proofs.Heads.{flat_as, flat_close, maps_same, rows_close, rows_kept}
 use Rattle.dwarf_types.proofs.Kept.{held_kept, within_kept}
 
 attr_kept : (old new : Sides) → Grows old new → (c : Cell) → CellWithin old c → attr_of new c ≡ attr_of old c
@@ -77,3 +78,11 @@ built_close s heads cells ends at h first count beside =
     let long = zip_long cells ends beside in
     let attrs = ap (map (raw_attr_of s)) (drop_all (length cells) (zip cells ends) (omega arith)) in
     ap₂ built_with (rows_close (RawWithin s) raw_entry_with (raw_attr_of s) heads (zip cells ends) at h first (omega arith)) attrs
+
+-- the next entry has an attribute a cell
+pub open_long : (s : Sides) (heads : List Head) (cells : List Cell) (ends : List ℕ) (at : ℕ) → length ends ≡ length cells → length (built_of s heads cells ends at).attrs ≡ length cells - at
+open_long s heads cells ends at beside = omega (arith, length-map (drop at (zip cells ends)) (raw_attr_of s), length-drop at (zip cells ends), zip_long cells ends beside)
+
+pub still_built : (s : Sides) (heads : List Head) (cells : List Cell) (ends : List ℕ) (at : ℕ) (h : Head) → h.first ≡ at → at + h.count ≡ length cells → h.count ≤ MOST_FIELDS → IsBuilt s heads cells ends at → IsBuilt s (heads ++ h ∷ []) cells ends (length cells)
+still_built s heads cells ends at h first count few b =
+    record { raw = record { flat = flat_close (CellWithin s) heads cells at h first count b.raw.flat; beside = b.raw.beside }; few = omega (arith, b.few, length-append heads (h ∷ [])) }

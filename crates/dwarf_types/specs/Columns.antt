@@ -1,6 +1,7 @@
 -- What heads and cells stand for.
-use Rattle.std.specs.Prelude.{ℕ, ◌≡◌, ◌+◌, ◌≤◌, ◌==◌, List, [], ◌∷◌, All, length, map, drop, slice_range, Option, None, Some, if◌then◌else◌}
+use Rattle.std.specs.Prelude.{ℕ, ◌≡◌, ◌+◌, ◌*◌, ◌≤◌, ◌==◌, List, [], ◌∷◌, All, length, map, drop, slice_range, Option, None, Some, if◌then◌else◌}
 use Rattle.std.specs.List.{zip}
+use Rattle.dwarf_types.specs.declared.abbrev.TheConstants.{MOST_FIELDS}
 use Rattle.dwarf_types.specs.declared.columns.Cell.{Cell}
 use Rattle.dwarf_types.specs.declared.columns.Head.{Head}
 use Rattle.dwarf_types.specs.declared.columns.TheConstants.{NO_PARENT}
@@ -73,3 +74,8 @@ pub record IsFlat {X : Type 0} (Within : X → Type 0) (heads : List Head) (cell
 pub record IsRaw (s : Sides) (heads : List Head) (cells : List Cell) (ends : List ℕ) (open_from : ℕ) : Type 0 where
   pub flat : IsFlat (CellWithin s) heads cells open_from
   pub beside : length ends ≡ length cells
+
+-- the same of entries that are still put: each head has few cells, so 32 bits hold their places
+pub record IsBuilt (s : Sides) (heads : List Head) (cells : List Cell) (ends : List ℕ) (open_from : ℕ) : Type 0 where
+  pub raw : IsRaw s heads cells ends open_from
+  pub few : open_from ≤ MOST_FIELDS * length heads

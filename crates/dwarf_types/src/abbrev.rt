@@ -2,6 +2,9 @@
 
 use ds_base::List;
 
+/// The most attributes that a declaration of an object may have, and so an entry.
+pub const MOST_FIELDS: usize = 256;
+
 /// What an abbreviation says of one attribute (DWARF 5, section 7.5.3): an attribute specification.
 #[derive(Drop)]
 pub struct Field {

@@ -1,7 +1,9 @@
 //! Entries that are put one behind the other.
 
-ghost use Rattle.std.specs.Prelude.{◌≡◌, ◌<◌, ◌-◌, ◌^◌, [], ◌∷◌, ◌++◌, ◌==◌, length, slice_get, IfOk, OnOk, OnErr, IfSome};
+ghost use Rattle.std.specs.Prelude.{◌≡◌, ◌<◌, ◌≤◌, ◌-◌, ◌^◌, [], ◌∷◌, ◌++◌, ◌==◌, length, slice_get, IfOk, OnOk, OnErr, IfSome};
 ghost use Rattle.std.specs.List.{list_any};
+ghost use Rattle.dwarf_types.specs.declared.abbrev.TheConstants.{MOST_FIELDS};
+ghost use Rattle.dwarf_types.specs.declared.entry.TheConstants.{MOST_ENTRIES};
 ghost use Rattle.dwarf_types.specs.Columns.{parent_of};
 ghost use Rattle.dwarf_types.specs.Put.{value_read};
 
@@ -36,11 +38,11 @@ impl Model for Builder {
 
     ghost Value = { Built };
 
-    ghost use Rattle.dwarf_types.specs.Columns.{IsRaw, built_of};
+    ghost use Rattle.dwarf_types.specs.Columns.{IsBuilt, built_of};
 
     ghost view = { λ b. built_of b.sides b.heads.items b.cells.items b.ends.items b.open_from };
 
-    ghost invariant = { λ b. IsRaw b.sides b.heads.items b.cells.items b.ends.items b.open_from };
+    ghost invariant = { λ b. IsBuilt b.sides b.heads.items b.cells.items b.ends.items b.open_from };
 }
 
 impl Builder {
@@ -127,6 +129,8 @@ impl Builder {
         tag: u16,
     ) -> Result<(), NoMemory>
         requires parent { IfSome parent (λ p. p < 2 ^ 32 - 1) }
+        requires few { length self.old.attrs ≤ MOST_FIELDS }
+        requires room { length self.old.entries < MOST_ENTRIES }
         ensures ok { OnOk result (self.new ≡ record { entries = self.old.entries ++ record { parent = parent; unit = unit; place = place; tag = tag; attrs = self.old.attrs } ∷ []; attrs = [] }) }
         ensures unchanged { OnErr result (self.new ≡ self.old) }
     {
@@ -134,8 +138,8 @@ impl Builder {
             parent: stored_parent(parent),
             unit,
             place,
-            first: stored_place(self.open_from)?,
-            count: stored_place(self.cells.len() - self.open_from)?,
+            first: self.open_from as u32,
+            count: (self.cells.len() - self.open_from) as u32,
             tag,
         };
         self.heads.push(head)?;
@@ -167,11 +171,4 @@ fn stored_parent(parent: Option<u32>) -> u32
         None => NO_PARENT,
         Some(number) => number,
     }
-}
-
-/// A place or a count as a head has it: 32 bits hold it where memory holds the cells.
-fn stored_place(place: usize) -> Result<u32, NoMemory>
-    ensures { IfOk result (λ n. n ≡ place) }
-{
-    u32::try_from(place).map_err(|_| NoMemory)
 }

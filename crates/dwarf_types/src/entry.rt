@@ -5,6 +5,9 @@ use crate::lines::OutLines;
 use crate::value::Value;
 use ds_base::List;
 
+/// The most entries that an object may have.
+pub const MOST_ENTRIES: usize = 1 << 24;
+
 /// An attribute of an entry.
 #[derive(Drop)]
 pub struct Attr {

@@ -43,12 +43,12 @@ mod shared_texts;
 mod sides;
 mod value;
 
-pub use abbrev::{Abbrev, Declaration, Field};
+pub use abbrev::{Abbrev, Declaration, Field, MOST_FIELDS};
 pub use address::{Addr, Place, Span};
 pub use analysis::{Analysis, CodeRange};
 pub use builder::Builder;
 pub use entries::{Entries, RawEntries};
-pub use entry::{Attr, Entry, InUnit, RawAttr, RawEntry, RawUnits};
+pub use entry::{Attr, Entry, InUnit, MOST_ENTRIES, RawAttr, RawEntry, RawUnits};
 pub use entry_ref::{EntryRef, RawEntryRef};
 pub use expr::{Base, Op, PlainOp};
 pub use files::{FileNameRef, FileNames};

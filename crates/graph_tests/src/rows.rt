@@ -1,6 +1,6 @@
 //! Small analyses: a row is an entry, in the order of their numbers, the root of a unit or an entry under another.
 
-ghost use Rattle.std.specs.Prelude.{◌≡◌, ◌<◌, ◌-◌, ◌^◌, length, slice_get, Some, IfSome};
+ghost use Rattle.std.specs.Prelude.{◌≡◌, ◌<◌, ◌≤◌, ◌+◌, ◌-◌, ◌^◌, [], length, slice_get, Some, IfSome, OnOk};
 ghost use Rattle.std.specs.Bool.{OnTrue};
 ghost use Rattle.dwarf_types.specs.declared.entry.Entry.{Entry as EntrySpec};
 
@@ -12,8 +12,8 @@ use ds_base::dwarf::{
 use ds_base::{BitRow, List, NoMemory};
 use dwarf_types::{
     Addr, Analysis, Builder, CodeRange, Entries, FileNameRef, FileNames, InUnit, InnerOpRef,
-    LocationList, NewValue, Ops, OutFrames, OutLines, Paths, Place, RawValue, SequenceBuilder,
-    Sequences, Span,
+    LocationList, MOST_ENTRIES, NewValue, Ops, OutFrames, OutLines, Paths, Place, RawValue,
+    SequenceBuilder, Sequences, Span,
 };
 use std::alloc::Global;
 use std::process::Abort;
@@ -162,7 +162,10 @@ fn pieces(rt: &impl Abort, alloc: Global, count: u8) -> List<Span> {
 }
 
 /// Puts what an entry says behind its other attributes, as a reader finds it.
-fn push_said(built: &mut Builder, says: Says) -> Result<(), NoMemory> {
+fn push_said(built: &mut Builder, says: Says) -> Result<(), NoMemory>
+    ensures few { OnOk result (length built.new.attrs ≤ length built.old.attrs + 1) }
+    ensures entries { OnOk result (built.new.entries ≡ built.old.entries) }
+{
     match says {
         Says::Nothing => Ok(()),
         Says::Moved(name, _) | Says::Ended(name, _) | Says::Stayed(name) => {
@@ -181,7 +184,10 @@ fn push_said(built: &mut Builder, says: Says) -> Result<(), NoMemory> {
     }
 }
 
-fn push_text(built: &mut Builder, name: u16, bytes: &[u8]) -> Result<(), NoMemory> {
+fn push_text(built: &mut Builder, name: u16, bytes: &[u8]) -> Result<(), NoMemory>
+    ensures few { OnOk result (length built.new.attrs ≤ length built.old.attrs + 1) }
+    ensures entries { OnOk result (built.new.entries ≡ built.old.entries) }
+{
     built.push(
         name,
         DW_FORM_string,
@@ -190,15 +196,22 @@ fn push_text(built: &mut Builder, name: u16, bytes: &[u8]) -> Result<(), NoMemor
     )
 }
 
-fn push_offset(built: &mut Builder, name: u16) -> Result<(), NoMemory> {
+fn push_offset(built: &mut Builder, name: u16) -> Result<(), NoMemory>
+    ensures few { OnOk result (length built.new.attrs ≤ length built.old.attrs + 1) }
+    ensures entries { OnOk result (built.new.entries ≡ built.old.entries) }
+{
     built.push(name, DW_FORM_sec_offset, 0, RawValue::Offset(9))
 }
 
 /// Makes an entry of a row, as a reader finds it.
-fn push_row(rt: &impl Abort, built: &mut Builder, row: &Row, unit: u32) {
+fn push_row(rt: &impl Abort, built: &mut Builder, row: &Row, unit: u32)
+    requires { built.old.attrs ≡ [] }
+    ensures { built.new.attrs ≡ [] }
+{
     for says in &row.says {
         push_said(built, *says).expect(rt, "memory");
     }
+    assert!(rt; built.len() < MOST_ENTRIES, "few entries");
     built
         .close(number_of(row.parent), unit, 0, row.tag)
         .expect(rt, "memory");

@@ -11,8 +11,8 @@ ghost use Rattle.graph_tests.specs.SoundTests.{has_no_base, is_within};
 
 use ds_base::dwarf::DW_TAG_subprogram;
 use dwarf_types::{
-    Analysis, CodeRange, Entries, EntryRef, InUnit, InnerOpsRef, LocationsRef, OpRef, OpsRef,
-    ValueRef,
+    Analysis, CodeRange, Entries, EntryRef, InUnit, InnerOpsRef, LocationsRef, MOST_ENTRIES, OpRef,
+    OpsRef, ValueRef,
 };
 use std::process::Abort;
 
@@ -23,9 +23,6 @@ pub(crate) fn sound(rt: &impl Abort, label: &str, seen: Analysis) -> Analysis
     assert!(rt; is_sound(&seen), "{label}: not sound");
     seen
 }
-
-/// The most entries that an analysis may have.
-const MOST_ENTRIES: usize = 1 << 24;
 
 /// Whether an analysis is sound. One whose expressions name base types is not tried.
 fn is_sound(seen: &Analysis) -> bool

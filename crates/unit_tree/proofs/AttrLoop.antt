@@ -1,10 +1,11 @@
 -- The ways out of the loop over the attributes of an entry, and the way on.
 use Rattle.std.proofs.Common.{◌≡◌, ℕ, suc, ◌+◌, ◌<◌, ◌≤◌, Bool, List, [], ◌∷◌, ◌++◌, length, get_or, drop, Option, Result, Ok, Err, refl, sym, ap, ◌∙◌, drop-cons, arith}
 use Rattle.std.specs.Option.{option_to_list}
-use Rattle.std.proofs.lemmas.List.{drop_all}
+use Rattle.std.proofs.lemmas.List.{drop_all, length-append}
 use Rattle.ds_base.specs.declared.fault.Fault.{Fault}
 use Rattle.ds_base.specs.Spot.{Spot}
 use Rattle.ds_base.specs.Reading.{◌>>=◌}
+use Rattle.ds_base.proofs.Passing.{bind_ok, ok_is}
 use Rattle.dwarf_types.specs.declared.abbrev.Field.{Field}
 use Rattle.dwarf_types.specs.declared.entry.RawAttr.{RawAttr}
 use Rattle.dwarf_types.specs.SectionBytes.{SectionBytes}
@@ -35,3 +36,11 @@ pub attrs_end : (sections : SectionBytes) (context : UnitContext) (root : Bool) 
     → attrs_at sections context root (drop i fields) before s ≡ total → total ≡ Ok (before, s)
 unfolding attrs_at
 attrs_end sections context root fields i before s total le so_far = sym so_far ∙ ap (λ (fs : List Field). attrs_at sections context root fs before s) (drop_all i fields le)
+
+-- an attribute a field
+pub attrs_long : (sections : SectionBytes) (context : UnitContext) (root : Bool) (fields : List Field) (before : Described) (s : Spot) (y : Described × Spot) → attrs_at sections context root fields before s ≡ Ok y → length y.0.0 ≡ length before.0 + length fields
+unfolding attrs_at
+attrs_long sections context root [] before s y e = omega (arith, ap (λ (read : Described × Spot). length read.0.0) (ok_is (before, s) y e))
+attrs_long sections context root (field ∷ fields) before s y e =
+    let b = bind_ok (attr_at sections context root field before.0 s) (λ attr. attrs_at sections context root fields (before.0 ++ attr.0.0 ∷ [], before.1 ++ option_to_list attr.0.1) attr.1) y e in
+    omega (arith, attrs_long sections context root fields (before.0 ++ b.0.0.0 ∷ [], before.1 ++ option_to_list b.0.0.1) b.0.1 y b.2, length-append before.0 (b.0.0.0 ∷ []))

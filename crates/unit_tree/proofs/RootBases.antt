@@ -1,5 +1,5 @@
 -- The bases of a unit's tables are those in its root, whether its values are read with no index tried or with the bases at hand.
-use Rattle.std.proofs.Common.{◌≡◌, ℕ, ◌==◌, ◌&&◌, Bool, true, false, not, List, [], ◌∷◌, ◌++◌, length, Option, Some, None, Result, Ok, refl, sym, ap, subst, cond, ◌∙◌, inl, inr, ◌⊎◌}
+use Rattle.std.proofs.Common.{◌≡◌, ℕ, suc, ◌==◌, ◌&&◌, Bool, true, false, not, List, [], ◌∷◌, ◌++◌, length, Option, Some, None, Result, Ok, refl, sym, ap, subst, cond, ◌∙◌, inl, inr, ◌⊎◌}
 use Rattle.std.specs.Prelude.{slice_get, if◌then◌else◌}
 use Rattle.std.specs.List.{find}
 use Rattle.std.specs.Option.{option_map_or, option_to_list}
@@ -48,6 +48,12 @@ alike_push [] [] x y h k = (k, tt)
 alike_push [] (b ∷ ys) x y h k = absurd h
 alike_push (a ∷ xs) [] x y h k = absurd h
 alike_push (a ∷ xs) (b ∷ ys) x y h k = (h.0, alike_push xs ys x y h.1 k)
+
+pub alike_long : (xs ys : List RawAttr) → AreAlike xs ys → length xs ≡ length ys
+alike_long [] [] h = refl
+alike_long [] (b ∷ ys) h = absurd h
+alike_long (a ∷ xs) [] h = absurd h
+alike_long (a ∷ xs) (b ∷ ys) h = ap suc (alike_long xs ys h.1)
 
 alike_has : (name : ℕ) (xs ys : List RawAttr) → AreAlike xs ys → has_attr name xs ≡ has_attr name ys
 alike_has name [] [] h = refl

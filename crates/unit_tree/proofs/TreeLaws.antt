@@ -13,7 +13,8 @@ use Rattle.dwarf_types.specs.declared.entry.RawEntry.{RawEntry}
 use Rattle.dwarf_types.specs.SectionBytes.{SectionBytes}
 use Rattle.dwarf_types.proofs.Readers.{Stands, length_rest}
 use Rattle.unit_tree.specs.declared.attribute.UnitContext.{UnitContext}
-use Rattle.unit_tree.specs.declared.entry.TheConstants.{MOST_ENTRIES, MOST_OPEN}
+use Rattle.dwarf_types.specs.declared.entry.TheConstants.{MOST_ENTRIES}
+use Rattle.unit_tree.specs.declared.entry.TheConstants.{MOST_OPEN}
 use Rattle.unit_tree.specs.declared.reference.Reference.{Reference}
 use Rattle.unit_tree.specs.Entry.{Parsed, is_full, entry_at, innermost, closed, opened, Walk, listed_at, child_at, children_at}
 use Rattle.unit_tree.specs.Entry.{declared_as}

@@ -20,7 +20,7 @@ use Rattle.abbrev_read.proofs.TableLaws.{table_read}
 use Rattle.index_tables.specs.declared.bases.Bases.{Bases}
 use Rattle.index_tables.specs.Bases.{bases_in}
 use Rattle.unit_tree.specs.declared.attribute.UnitContext.{UnitContext}
-use Rattle.unit_tree.specs.declared.entry.TheConstants.{MOST_ENTRIES}
+use Rattle.dwarf_types.specs.declared.entry.TheConstants.{MOST_ENTRIES}
 use Rattle.unit_tree.specs.declared.header.Header.{Header}
 use Rattle.ds_base.specs.declared.dwarf.TheConstants.{LENGTH_RESERVED}
 use Rattle.ds_base.specs.declared.dwarf.TheConstants.{DWARF_4, DWARF_5, ADDRESS_SIZE}

@@ -14,7 +14,8 @@ use Rattle.index_tables.specs.declared.bases.Bases.{Bases}
 use Rattle.index_tables.specs.Bases.{bases_in}
 use Rattle.unit_tree.specs.declared.attribute.UnitContext.{UnitContext}
 use Rattle.unit_tree.specs.declared.reference.Reference.{Reference}
-use Rattle.unit_tree.specs.declared.entry.TheConstants.{MOST_ENTRIES, MOST_OPEN}
+use Rattle.dwarf_types.specs.declared.entry.TheConstants.{MOST_ENTRIES}
+use Rattle.unit_tree.specs.declared.entry.TheConstants.{MOST_OPEN}
 use Rattle.unit_tree.specs.Attribute.{Described, attrs_at}
 
 -- what was read of an object: its entries, and the references of their values

@@ -4,7 +4,7 @@ use Rattle.dwarf_types.specs.declared.entry.RawEntry.{RawEntry}
 use Rattle.dwarf_types.specs.declared.entry.InUnit.{InUnit}
 use Rattle.dwarf_types.specs.declared.entry.RawUnits.{RawUnits}
 use Rattle.dwarf_types.specs.Sound.{AreUnits, IsIn, IsParent}
-use Rattle.unit_tree.specs.declared.entry.TheConstants.{MOST_ENTRIES}
+use Rattle.dwarf_types.specs.declared.entry.TheConstants.{MOST_ENTRIES}
 use Rattle.unit_tree.specs.Reference.{IsRising}
 
 -- entry k lies in its unit, and its parent stands before it there

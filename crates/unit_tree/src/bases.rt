@@ -1,8 +1,9 @@
 //! The bases of a unit's tables, read from its root before its entries are.
 
-ghost use Rattle.std.specs.Prelude.{◌≡◌, ℕ, [], IfOk};
+ghost use Rattle.std.specs.Prelude.{◌≡◌, ◌≤◌, ℕ, [], length, IfOk};
 ghost use Rattle.ds_base.specs.Reading.{Gives};
 ghost use Rattle.ds_base.specs.Spot.{IsSmall};
+ghost use Rattle.dwarf_types.specs.declared.abbrev.TheConstants.{MOST_FIELDS};
 ghost use Rattle.dwarf_types.specs.Put.{value_read};
 ghost use Rattle.dwarf_types.specs.SectionBytes.{bytes_in};
 ghost use Rattle.index_tables.specs.Bases.{base_in, bases_in};
@@ -26,6 +27,7 @@ pub(crate) fn read_bases<'a>(
     fields: &[Field],
 ) -> Result<Bases, ReadError>
     requires small { IsSmall cursor.old }
+    requires few { length fields.now ≤ MOST_FIELDS }
     ensures { Gives (λ bases. bases) result (bases_told (bytes_in sections.now) context fields.now cursor.old) }
 {
     let mut built = Builder::new(alloc, &[], &[], 0)?;
@@ -51,7 +53,8 @@ fn without_text(value: RawValue<'_>) -> RawValue<'_>
 
 /// The bases in a root whose attributes were put.
 fn bases_so_far(built: Builder) -> Result<Bases, NoMemory>
-    requires { built.entries ≡ [] }
+    requires none { built.entries ≡ [] }
+    requires few { length built.attrs ≤ MOST_FIELDS }
     ensures { IfOk result (λ bases. bases ≡ bases_in built.attrs) }
 {
     let mut built = built;

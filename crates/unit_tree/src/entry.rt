@@ -4,7 +4,9 @@ ghost use Rattle.std.specs.Prelude.{◌≡◌, ◌<◌, ◌-◌, ◌==◌, [], l
 ghost use Rattle.std.specs.List.{list_any};
 ghost use Rattle.ds_base.specs.Reading.{Finds, Gives, Moves, Reads, ReadsUnlessFull, uleb_at};
 ghost use Rattle.ds_base.specs.Spot.{IsSmall};
+ghost use Rattle.dwarf_types.specs.declared.entry.TheConstants.{MOST_ENTRIES};
 ghost use Rattle.dwarf_types.specs.SectionBytes.{bytes_in};
+ghost use Rattle.abbrev_read.specs.Spelling.{HasFewFields};
 ghost use Rattle.unit_tree.specs.declared.packed.TheConstants.{ANY_UNIT};
 ghost use Rattle.unit_tree.specs.Entry.{is_dwo_name, entry_at, first_at, bases_at, root_at, innermost, closed, opened, listed_at, child_at, children_at, tree_at};
 ghost use Rattle.unit_tree.specs.Bounds.{AreNumbers, IsReady, NumbersNext, parsed_seen};
@@ -15,12 +17,9 @@ use crate::packed::PackedReference;
 use crate::table::Table;
 use ds_base::dwarf::{DW_AT_GNU_dwo_name, DW_AT_dwo_name, DW_TAG_compile_unit};
 use ds_base::{Cursor, Fault, Kind, List, NoMemory, ReadError};
-use dwarf_types::{Abbrev, Builder, Field, Sections};
+use dwarf_types::{Abbrev, Builder, Field, MOST_ENTRIES, Sections};
 use index_tables::Bases;
 use std::alloc::Global;
-
-/// The most entries that an object may have.
-const MOST_ENTRIES: usize = 1 << 24;
 
 /// The most lists of children that may be open at once.
 const MOST_OPEN: usize = 1000;
@@ -98,6 +97,7 @@ fn read_first<'t>(
     requires small { IsSmall cursor.old }
     ensures read { Reads (λ declared. declared.now) result cursor.new (first_at start.now table.now (parsed_seen parsed.now) cursor.old) }
     ensures room { IfOk result (λ declared. length parsed.now.built.entries < MOST_ENTRIES) }
+    ensures few { IfOk result (λ declared. HasFewFields declared.now) }
     ensures small { OnOk result (IsSmall cursor.new) }
 {
     let first = cursor.fork();
@@ -228,6 +228,7 @@ fn read_listed<'a>(
     requires unit { context.unit < ANY_UNIT }
     requires ready { IsReady parsed.old }
     requires numbers { AreNumbers lists.old }
+    requires few { HasFewFields declared.now }
     requires first { IsSmall first.now }
     requires small { IsSmall cursor.old }
     ensures read { ReadsUnlessFull (λ _. (parsed_seen parsed.new, lists.new)) result cursor.new (listed_at (bytes_in sections.now) context declared.now (parsed_seen parsed.old, lists.old) first.now cursor.old) }
@@ -259,6 +260,7 @@ fn read_entry<'a>(
     requires unit { context.unit < ANY_UNIT }
     requires ready { IsReady parsed.old }
     requires room { length parsed.old.built.entries < MOST_ENTRIES }
+    requires few { HasFewFields declared.now }
     requires parent { IfSome parent (λ p. p < MOST_ENTRIES) }
     requires small { IsSmall cursor.old }
     ensures read { ReadsUnlessFull (λ _. parsed_seen parsed.new) result cursor.new (entry_at (bytes_in sections.now) context parent place declared.now (parsed_seen parsed.old) cursor.old) }

@@ -1,11 +1,12 @@
 //! Abbreviation tables, each read once and looked up by code.
 
-ghost use Rattle.std.specs.Prelude.{◌≡◌, ◌<◌, ◌≤◌, ◌==◌, ◌↔◌, length, Some, IsSome, IsTrue, IfOk};
+ghost use Rattle.std.specs.Prelude.{◌≡◌, ◌<◌, ◌≤◌, ◌==◌, ◌↔◌, length, All, Some, IfSome, IsSome, IsTrue, IfOk};
 ghost use Rattle.std.specs.Option.{option_copied};
 ghost use Rattle.std.specs.List.{position_from};
 ghost use Rattle.std.specs.BTreeMap.{get};
 ghost use Rattle.std.specs.Ordering.{nat_cmp};
 ghost use Rattle.ds_base.specs.Reading.{Gives};
+ghost use Rattle.abbrev_read.specs.Spelling.{HasFewFields};
 ghost use Rattle.unit_tree.specs.Table.{IsRun, AreApart, AreRead, found_at};
 ghost use Rattle.unit_tree.specs.Entry.{declared_as};
 
@@ -29,20 +30,22 @@ pub(crate) struct Table {
 }
 
 impl Model for Table {
-    ghost use Rattle.std.specs.Prelude.{List};
+    ghost use Rattle.std.specs.Prelude.{List, All};
     ghost use Rattle.dwarf_types.specs.declared.abbrev.Abbrev.{Abbrev};
+    ghost use Rattle.abbrev_read.specs.Spelling.{HasFewFields};
     ghost use Rattle.unit_tree.specs.Table.{IsRun, AreApart};
 
     ghost Value = { List Abbrev };
 
     ghost view = { λ t. t.declarations };
 
-    ghost invariant = { λ t. IsRun t.declarations t.run × AreApart t.declarations t.run t.apart };
+    ghost invariant = { λ t. IsRun t.declarations t.run × AreApart t.declarations t.run t.apart × All HasFewFields t.declarations };
 }
 
 impl Table {
     /// A table of declarations, none of which has the code 0.
     pub(crate) fn new(alloc: Global, declarations: List<Abbrev>) -> Result<Table, NoMemory>
+        requires { All HasFewFields declarations }
         ensures { IfOk result (λ table. table ≡ declarations) }
     {
         let run = run_of(declarations.as_slice());
@@ -56,7 +59,8 @@ impl Table {
 
     /// The declaration that has a code.
     pub(crate) fn find(&self, code: u64) -> Option<&Abbrev>
-        ensures { option_copied result ≡ declared_as code self.now }
+        ensures found { option_copied result ≡ declared_as code self.now }
+        ensures few { IfSome result (λ declared. HasFewFields declared.now) }
     {
         match self.place_of(code) {
             Some(place) => self.declarations.get(place),

@@ -7,7 +7,7 @@ ghost use Rattle.dwarf_types.specs.PlaceSteps.{places_of};
 ghost use Rattle.dwarf_types.specs.SectionBytes.{bytes_in};
 ghost use Rattle.dwarf_types.specs.Seen.{value_seen};
 ghost use Rattle.dwarf_types.specs.Spelled.{AreBytes};
-ghost use Rattle.unit_tree.specs.declared.entry.TheConstants.{MOST_ENTRIES};
+ghost use Rattle.dwarf_types.specs.declared.entry.TheConstants.{MOST_ENTRIES};
 ghost use Rattle.unit_tree.specs.declared.packed.TheConstants.{ANY_UNIT};
 ghost use Rattle.unit_tree.specs.Bounds.{IsReady, parsed_seen};
 ghost use Rattle.unit_tree.specs.Inside.{AreInside};

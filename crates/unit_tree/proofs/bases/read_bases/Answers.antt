@@ -10,9 +10,9 @@ use Rattle.dwarf_types.specs.SectionBytes.{bytes_in}
 use Rattle.index_tables.specs.declared.bases.Bases.{Bases}
 use Rattle.index_tables.specs.Bases.{bases_in}
 use Rattle.unit_tree.specs.Attribute.{Described}
-use Rattle.unit_tree.proofs.AttrLoop.{attr_fails, attr_more, attrs_end}
+use Rattle.unit_tree.proofs.AttrLoop.{attr_fails, attr_more, attrs_end, attrs_long}
 use Rattle.unit_tree.proofs.Onward.{attr_onward}
-use Rattle.unit_tree.proofs.RootBases.{alike_bases, alike_push, same_next}
+use Rattle.unit_tree.proofs.RootBases.{alike_bases, alike_long, alike_push, same_next}
 use Rattle.unit_tree.proofs.bases.read_bases.Goals as goal
 
 abbrev bases_of_read : Result (Described × Spot) Fault → Result Bases Fault
@@ -48,6 +48,13 @@ loop-field-preserved c =
       read = attr_more sections c.args.context true c.args.fields.now c.loop-field.field-index some (i.attrs, i.references) c.loop-field.cursor c.read_attr.new.cursor _ c.in_ok-end.field-0-2 _ c.loop-field-test.true
           (sym same ∙ c.in_ok-end.ensures.read) i.read;
     }
+
+pub bases_so_far-requires-clause-few : goal.bases_so_far-requires-clause-few
+bases_so_far-requires-clause-few c =
+    let i = c.loop-field.invariant in
+    let sections = bytes_in c.args.sections.now in
+    let all = attrs_end sections c.args.context true c.args.fields.now c.loop-field.field-index (i.attrs, i.references) c.loop-field.cursor _ (omega (arith, c.loop-field-test.false)) i.read in
+    omega (arith, c.requires.few, alike_long c.loop-field.built.attrs i.attrs i.alike, attrs_long sections c.args.context true c.args.fields.now ([], []) _ _ all)
 
 pub returns : goal.returns
 returns c =

@@ -6,11 +6,11 @@ use Rattle.dwarf_types.proofs.builder.Builder.get.Goals as goal
 
 pub cells_in-cells-requires : goal.cells_in-cells-requires
 cells_in-cells-requires c =
-    rw c.deref.ensures.value (head_read (CellWithin c.self.inside.sides) _ _ c.self.inside.open_from c.args.i c.index.result.now c.self.invariant.flat (omega arith) c.index.ensures)
+    rw c.deref.ensures.value (head_read (CellWithin c.self.inside.sides) _ _ c.self.inside.open_from c.args.i c.index.result.now c.self.invariant.raw.flat (omega arith) c.index.ensures)
 
 pub cells_in-ends-requires : goal.cells_in-ends-requires
 cells_in-ends-requires c =
-    rw (c.deref-2.ensures.value, c.self.invariant.beside) (head_read (CellWithin c.self.inside.sides) _ _ c.self.inside.open_from c.args.i c.index.result.now c.self.invariant.flat (omega arith) c.index.ensures)
+    rw (c.deref-2.ensures.value, c.self.invariant.raw.beside) (head_read (CellWithin c.self.inside.sides) _ _ c.self.inside.open_from c.args.i c.index.result.now c.self.invariant.raw.flat (omega arith) c.index.ensures)
 
 pub returns : goal.returns
 returns c =

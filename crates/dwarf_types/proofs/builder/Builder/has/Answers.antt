@@ -13,5 +13,5 @@ returns c =
     let ends = c.self.inside.ends.items in
     let from = c.self.inside.open_from in
     let named = any_map (raw_attr_of c.self.inside.sides) (λ (a : RawAttr). a.name == c.args.name) (drop from (zip cells ends)) in
-    let beside = any_open (λ (cell : Cell). cell.name == c.args.name) from cells ends c.self.invariant.beside in
+    let beside = any_open (λ (cell : Cell). cell.name == c.args.name) from cells ends c.self.invariant.raw.beside in
     rw (← c.self.view_is, c.has_name.ensures, c.cells_from.ensures, c.deref.ensures.value) (sym (named ∙ beside))
