@@ -27,6 +27,7 @@ grows_on r s t g h = record {
   bytes = begins_on _ _ _ g.bytes h.bytes;
   stretches = begins_on _ _ _ g.stretches h.stretches;
   places = begins_on _ _ _ g.places h.places;
+  addresses = begins_on _ _ _ g.addresses h.addresses;
   spans = begins_on _ _ _ g.spans h.spans;
   ops = begins_on _ _ _ g.ops h.ops;
   inner = begins_on _ _ _ g.inner h.inner;
@@ -34,7 +35,7 @@ grows_on r s t g h = record {
 }
 
 pub grows_not : (s : Sides) → Grows s s
-grows_not s = record { large = begins_not _; bytes = begins_not _; stretches = begins_not _; places = begins_not _; spans = begins_not _; ops = begins_not _; inner = begins_not _; items = begins_not _ }
+grows_not s = record { large = begins_not _; bytes = begins_not _; stretches = begins_not _; places = begins_not _; addresses = begins_not _; spans = begins_not _; ops = begins_not _; inner = begins_not _; items = begins_not _ }
 
 -- rows of a column that were put behind the others for some parts of a value
 pub record Rows {R A : Type 0} (column : Sides → List R) (mean : Sides → R → A) (Within : Sides → R → Type 0) (old now : Sides) (parts : List A) : Type 0 where

@@ -90,11 +90,11 @@ text_kept old new place b w =
 
 address_kept : (old new : Sides) → Grows old new → (at : Option ℕ) → IsAddress old at → address_at new at ≡ address_at old at
 address_kept old new g None w = refl
-address_kept old new g (Some i) w = ap Some (get_begins _ _ i no_place g.places w)
+address_kept old new g (Some i) w = ap Some (get_begins _ _ i no_place g.addresses w)
 
 address_within : (old new : Sides) → Grows old new → (at : Option ℕ) → IsAddress old at → IsAddress new at
 address_within old new g None w = tt
-address_within old new g (Some i) w = let l = longer _ _ g.places in omega arith
+address_within old new g (Some i) w = let l = longer _ _ g.addresses in omega arith
 
 inner_kept : (old new : Sides) → Grows old new → (r : InnerRow) → InnerWithin old r → inner_of new r ≡ inner_of old r
 inner_kept old new g r w =

@@ -48,7 +48,7 @@ text_from bytes place = first_text (drop place bytes)
 -- ---- operations
 
 abbrev pub address_at : Sides → Option ℕ → Option Place
-address_at s at = option_map (λ i. get_or s.places.items i no_place) at
+address_at s at = option_map (λ i. get_or s.addresses.items i no_place) at
 
 abbrev pub inner_of : Sides → InnerRow → PlainOp
 inner_of s r = record { code = r.code; bytes = stretch_of s.bytes.items r.bytes; address = address_at s r.address; base = r.base }
@@ -85,7 +85,7 @@ abbrev pub InColumn : {A : Type 0} → List A → Stretch → Type 0
 InColumn items s = (s.from ≤ s.to) × (s.to ≤ length items)
 
 abbrev pub IsAddress : Sides → Option ℕ → Type 0
-IsAddress s at = IfSome at (λ i. i < length s.places.items)
+IsAddress s at = IfSome at (λ i. i < length s.addresses.items)
 
 abbrev pub InnerWithin : Sides → InnerRow → Type 0
 InnerWithin s r = InColumn s.bytes.items r.bytes × IsAddress s r.address
@@ -128,6 +128,7 @@ pub record Grows (old new : Sides) : Type 0 where
   pub bytes : Begins old.bytes.items new.bytes.items
   pub stretches : Begins old.stretches.items new.stretches.items
   pub places : Begins old.places.items new.places.items
+  pub addresses : Begins old.addresses.items new.addresses.items
   pub spans : Begins old.spans.items new.spans.items
   pub ops : Begins old.ops.items new.ops.items
   pub inner : Begins old.inner.items new.inner.items

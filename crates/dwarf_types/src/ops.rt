@@ -1,11 +1,11 @@
 //! Operations and locations that are put one behind the other.
 
-ghost use Rattle.std.specs.Prelude.{◌≡◌, ◌<◌, [], ◌∷◌, ◌++◌, length, slice_get, Some, IfOk, OnOk, OnErr};
+ghost use Rattle.std.specs.Prelude.{◌≡◌, ◌<◌, [], ◌∷◌, ◌++◌, length, slice_get, Some, OnOk, OnErr};
 ghost use Rattle.dwarf_types.specs.Seen.{inner_seen, op_seen};
 
 use crate::address::Span;
 use crate::seen::{InnerOpRef, LocationsRef, OpRef, OpsRef};
-use crate::sides::{ItemRow, OpRow, Sides, Stretch, column_place};
+use crate::sides::{ItemRow, OpRow, Sides, Stretch};
 use ds_base::NoMemory;
 use std::alloc::Global;
 use std::marker::Model;
@@ -92,7 +92,11 @@ impl Ops {
         ensures unchanged { OnErr result (self.new ≡ self.old) }
     {
         let (bytes, address) = self.sides.store_parts(op.bytes, op.address)?;
-        let inner = stretch(self.open_from, self.sides.inner.len())?;
+        let end = self.sides.inner.len();
+        let inner = Stretch {
+            from: self.open_from,
+            to: end,
+        };
         self.rows.push(OpRow {
             code: op.code,
             bytes,
@@ -100,19 +104,9 @@ impl Ops {
             base: op.base,
             inner,
         })?;
-        self.open_from = self.sides.inner.len();
+        self.open_from = end;
         Ok(())
     }
-}
-
-/// From one place of a column up to another.
-fn stretch(from: usize, to: usize) -> Result<Stretch, NoMemory>
-    ensures { IfOk result (λ s. (s.from ≡ from) × (s.to ≡ to)) }
-{
-    Ok(Stretch {
-        from: column_place(from)?,
-        to: column_place(to)?,
-    })
 }
 
 /// A location list that is put together item by item, which contracts see as the list of its items.

@@ -158,16 +158,16 @@ fn part_of<'a, T>(column: &'a [T], stretch: Stretch) -> &'a [T]
     requires { InColumn column.now stretch }
     ensures { result.now ≡ stretch_of column.now stretch }
 {
-    &column[stretch.from as usize..stretch.to as usize]
+    &column[stretch.from..stretch.to]
 }
 
 /// The address at a place of the column.
-fn address_in(sides: &Sides, at: Option<u32>) -> Option<Place>
+fn address_in(sides: &Sides, at: Option<usize>) -> Option<Place>
     requires { IsAddress sides.now at }
     ensures { result ≡ address_at sides.now at }
 {
     match at {
-        Some(i) => Some(sides.places[i as usize]),
+        Some(i) => Some(sides.addresses[i]),
         None => None,
     }
 }

@@ -57,8 +57,8 @@ pub(crate) enum Kind {
 /// From one place of a column up to another.
 #[derive(Clone, Copy, Debug, PartialEq, Eq)]
 pub(crate) struct Stretch {
-    pub(crate) from: u32,
-    pub(crate) to: u32,
+    pub(crate) from: usize,
+    pub(crate) to: usize,
 }
 
 /// An operation inside another, in its column.
@@ -67,7 +67,7 @@ pub(crate) struct InnerRow {
     pub(crate) code: u8,
     pub(crate) bytes: Stretch,
     /// The place of its address in the column of addresses.
-    pub(crate) address: Option<u32>,
+    pub(crate) address: Option<usize>,
     pub(crate) base: Option<Base>,
 }
 
@@ -77,7 +77,7 @@ pub(crate) struct OpRow {
     pub(crate) code: u8,
     pub(crate) bytes: Stretch,
     /// The place of its address in the column of addresses.
-    pub(crate) address: Option<u32>,
+    pub(crate) address: Option<usize>,
     pub(crate) base: Option<Base>,
     /// The operations inside.
     pub(crate) inner: Stretch,
@@ -105,7 +105,10 @@ pub(crate) struct Sides {
     /// The sections of texts, one behind the other, and behind them all other bytes.
     pub(crate) bytes: Vec<u8>,
     pub(crate) stretches: Vec<Stretch>,
+    /// The addresses of cells.
     pub(crate) places: Vec<Place>,
+    /// Those of operations.
+    pub(crate) addresses: Vec<Place>,
     pub(crate) spans: Vec<Span>,
     pub(crate) ops: Vec<OpRow>,
     pub(crate) inner: Vec<InnerRow>,
@@ -122,6 +125,7 @@ impl Sides {
             bytes: Vec::new(alloc),
             stretches: Vec::new(alloc),
             places: Vec::new(alloc),
+            addresses: Vec::new(alloc),
             spans: Vec::new(alloc),
             ops: Vec::new(alloc),
             inner: Vec::new(alloc),
@@ -153,6 +157,7 @@ impl Sides {
             bytes: copied(alloc, &self.bytes)?,
             stretches: copied(alloc, &self.stretches)?,
             places: copied(alloc, &self.places)?,
+            addresses: copied(alloc, &self.addresses)?,
             spans: copied(alloc, &self.spans)?,
             ops: copied(alloc, &self.ops)?,
             inner: copied(alloc, &self.inner)?,
@@ -370,11 +375,11 @@ impl Sides {
         ensures grows { Grows self.old self.new }
         ensures others { self.new.items.items ≡ self.old.items.items }
     {
-        let from = column_place(self.ops.len())?;
+        let from = self.ops.len();
         for k in 0..ops.len() {
             self.store_op(&ops.op(k))?;
         }
-        let to = column_place(self.ops.len())?;
+        let to = self.ops.len();
         Ok(Stretch { from, to })
     }
 
@@ -401,7 +406,7 @@ impl Sides {
         &mut self,
         bytes: &[u8],
         address: Option<Place>,
-    ) -> Result<(Stretch, Option<u32>), NoMemory>
+    ) -> Result<(Stretch, Option<usize>), NoMemory>
         ensures value { IfOk result (λ at. (stretch_of self.new.bytes.items at.0 ≡ bytes.now) × (address_at self.new at.1 ≡ address)) }
         ensures within { IfOk result (λ at. InColumn self.new.bytes.items at.0 × IsAddress self.new at.1) }
         ensures grows { Grows self.old self.new }
@@ -413,14 +418,18 @@ impl Sides {
     }
 
     /// An address of an operation, if it has one.
-    fn store_field(&mut self, address: Option<Place>) -> Result<Option<u32>, NoMemory>
+    fn store_field(&mut self, address: Option<Place>) -> Result<Option<usize>, NoMemory>
         ensures value { IfOk result (λ at. address_at self.new at ≡ address) }
         ensures within { IfOk result (λ at. IsAddress self.new at) }
         ensures grows { Grows self.old self.new }
         ensures others { (self.new.bytes.items ≡ self.old.bytes.items) × (self.new.ops.items ≡ self.old.ops.items) × (self.new.inner.items ≡ self.old.inner.items) × (self.new.items.items ≡ self.old.items.items) }
     {
         match address {
-            Some(place) => Ok(Some(push_at(&mut self.places, place)?)),
+            Some(place) => {
+                let at = self.addresses.len();
+                self.addresses.push(place)?;
+                Ok(Some(at))
+            }
             None => Ok(None),
         }
     }
@@ -431,11 +440,11 @@ impl Sides {
         ensures grows { Grows self.old self.new }
         ensures others { (self.new.ops.items ≡ self.old.ops.items) × (self.new.items.items ≡ self.old.items.items) }
     {
-        let from = column_place(self.inner.len())?;
+        let from = self.inner.len();
         for k in 0..ops.len() {
             self.store_inner(&ops.op(k))?;
         }
-        let to = column_place(self.inner.len())?;
+        let to = self.inner.len();
         Ok(Stretch { from, to })
     }
 
@@ -461,7 +470,7 @@ impl Sides {
         ensures { self.new.inner.items ≡ [] }
     {
         self.bytes.clear();
-        self.places.clear();
+        self.addresses.clear();
         self.inner.clear();
     }
 
@@ -470,11 +479,11 @@ impl Sides {
         ensures rows { IfOk result (λ at. InColumn self.new.items.items at × (map (item_of self.new) (stretch_of self.new.items.items at) ≡ items.now) × All (ItemWithin self.new) (stretch_of self.new.items.items at)) }
         ensures grows { Grows self.old self.new }
     {
-        let from = column_place(self.items.len())?;
+        let from = self.items.len();
         for k in 0..items.len() {
             self.store_item(&items.item(k))?;
         }
-        let to = column_place(self.items.len())?;
+        let to = self.items.len();
         Ok(Stretch { from, to })
     }
 
@@ -531,7 +540,8 @@ fn first_zero(bytes: &[u8]) -> Option<usize>
     memchr(0, bytes)
 }
 
-/// Puts an item last, and answers its place.
+/// Puts an item last, and answers its place for a cell, which holds it in 32 bits: at most so many attributes hold a
+/// value beside their cell.
 fn push_at<T: Copy + Drop>(column: &mut Vec<T>, item: T) -> Result<u32, NoMemory>
     ensures ok { IfOk result (λ at. (at ≡ length column.old.items) × (column.new.items ≡ column.old.items ++ item ∷ [])) }
     ensures unchanged { OnErr result (column.new.items ≡ column.old.items) }
@@ -547,18 +557,10 @@ fn append<T: Copy>(column: &mut Vec<T>, items: &[T]) -> Result<Stretch, NoMemory
     ensures at { IfOk result (λ at. (at.from ≡ length column.old.items) × (at.to ≡ length column.old.items + length items.now)) }
     ensures unchanged { OnErr result (column.new.items ≡ column.old.items) }
 {
-    let from = u32::try_from(column.len()).map_err(|_| NoMemory)?;
-    let len = u32::try_from(items.len()).map_err(|_| NoMemory)?;
-    let to = from.checked_add(len).ok_or(NoMemory)?;
+    let from = column.len();
     column.extend_from_slice(items)?;
+    let to = column.len();
     Ok(Stretch { from, to })
-}
-
-/// A place of a column.
-pub(crate) fn column_place(place: usize) -> Result<u32, NoMemory>
-    ensures { IfOk result (λ n. n ≡ place) }
-{
-    u32::try_from(place).map_err(|_| NoMemory)
 }
 
 /// A copy of a column.

@@ -1,6 +1,7 @@
-use Rattle.std.proofs.Common.{rules, ◌≡◌, [], ◌∷◌, ◌++◌, ℕ, List, Option, map, length, arith, ap, ◌∙◌}
+use Rattle.std.proofs.Common.{rules, ◌≡◌, [], ◌∷◌, ◌++◌, ℕ, List, Option, map, length, arith, refl, ap, ◌∙◌}
 use Rattle.dwarf_types.specs.declared.address.Place.{Place}
 use Rattle.dwarf_types.specs.declared.sides.OpRow.{OpRow}
+use Rattle.dwarf_types.specs.declared.sides.Stretch.{Stretch}
 use Rattle.dwarf_types.specs.Cells.{inner_of}
 use Rattle.dwarf_types.specs.Gathered.{Gathered, gathered_of}
 use Rattle.dwarf_types.proofs.Gathering.{gathered_put, gathered_stay, open_part, rows_put, rows_stay}
@@ -12,14 +13,6 @@ invariant_of-self c = rows_stay _ _ _ _ c.store_parts.ensures.grows c.store_part
 pub returns-in_err-bytes-clause-unchanged : goal.returns-in_err-bytes-clause-unchanged
 returns-in_err-bytes-clause-unchanged c =
     let kept = gathered_stay _ _ _ _ c.store_parts.ensures.grows c.store_parts.ensures.others.1 c.self.invariant in
-    search rules
-
-pub invariant_of-self-in_err-inner : goal.invariant_of-self-in_err-inner
-invariant_of-self-in_err-inner c = rows_stay _ c.store_parts.new.self _ _ c.store_parts.ensures.grows c.store_parts.ensures.others.1 c.self.invariant
-
-pub returns-in_err-inner-clause-unchanged : goal.returns-in_err-inner-clause-unchanged
-returns-in_err-inner-clause-unchanged c =
-    let kept = gathered_stay _ c.store_parts.new.self _ _ c.store_parts.ensures.grows c.store_parts.ensures.others.1 c.self.invariant in
     search rules
 
 pub invariant_of-self-in_err-push : goal.invariant_of-self-in_err-push
@@ -36,12 +29,10 @@ invariant_of-self-2 c =
     let s = c.store_parts.new.self in
     let at = c.self.inside.open_from in
     let stay = rows_stay _ s _ at c.store_parts.ensures.grows c.store_parts.ensures.others.1 c.self.invariant in
-    let inner = c.in_ok-inner.inner in
-    let from = c.in_ok-inner.ensures.0 in
-    let to : inner.to ≡ length s.inner.items = omega (arith, c.in_ok-inner.ensures.1, c.len.ensures) in
-    let part = open_part s.inner.items inner at from to stay.few in
+    let end : c.len-end.result ≡ length s.inner.items = omega arith in
+    let inner : Stretch = record { from = at; to = length s.inner.items } in
+    let part = open_part s.inner.items inner at refl refl stay.few in
     let row : OpRow = record { code = c.args.op.now.code; bytes = c.in_ok-bytes.bytes; address = c.in_ok-bytes.address; base = c.args.op.now.base; inner = inner } in
-    let end : c.len-self-inside.result ≡ length s.inner.items = omega arith in
     let own = c.in_ok-bytes.ensures.within in
     rw (c.in_ok-push.ensures.items, end) (rows_put s _ at row (own, (part.1, rw part.0 stay.inside)) stay)
 
@@ -52,12 +43,10 @@ returns-clause-ok c =
     let rows = c.self.inside.rows.items in
     let stay = rows_stay _ s _ at c.store_parts.ensures.grows c.store_parts.ensures.others.1 c.self.invariant in
     let kept : gathered_of s rows at ≡ c.args.self.now = gathered_stay _ s _ _ c.store_parts.ensures.grows c.store_parts.ensures.others.1 c.self.invariant ∙ c.self.view_is in
-    let inner = c.in_ok-inner.inner in
-    let from = c.in_ok-inner.ensures.0 in
-    let to : inner.to ≡ length s.inner.items = omega (arith, c.in_ok-inner.ensures.1, c.len.ensures) in
-    let part = open_part s.inner.items inner at from to stay.few in
+    let end : c.len-end.result ≡ length s.inner.items = omega arith in
+    let inner : Stretch = record { from = at; to = length s.inner.items } in
+    let part = open_part s.inner.items inner at refl refl stay.few in
     let row : OpRow = record { code = c.args.op.now.code; bytes = c.in_ok-bytes.bytes; address = c.in_ok-bytes.address; base = c.args.op.now.base; inner = inner } in
-    let end : c.len-self-inside.result ≡ length s.inner.items = omega arith in
     let with_parts : List ℕ → Option Place → Gathered → Gathered = λ bytes address g. record { ops = g.ops ++ record { code = c.args.op.now.code; bytes = bytes; address = address; base = c.args.op.now.base; inner = g.inner } ∷ []; inner = [] } in
     let own = c.in_ok-bytes.ensures.value in
     let taken = ap (map (inner_of s)) part.0 in
