@@ -9,7 +9,6 @@ use Rattle.ds_base.specs.declared.fault.Kind.TheVariants.{BadAbbrev, LimitAttrib
 use Rattle.ds_base.specs.Spot.{Spot, fault_at}
 use Rattle.ds_base.specs.Reading.{◌>>=◌, refuse_if, number_at, uleb_at}
 use Rattle.ds_base.proofs.Passing.{bind_ok, passed, ok_is}
-use Rattle.dwarf_types.specs.declared.abbrev.TheConstants.{MOST_FIELDS}
 use Rattle.dwarf_types.specs.declared.abbrev.Abbrev.{Abbrev}
 use Rattle.dwarf_types.specs.declared.abbrev.Field.{Field}
 use Rattle.abbrev_read.specs.Reading.{short_at, pair_at, field_at, fields_at, declaration_at, declarations_at, table_at, table_spot}
@@ -38,14 +37,14 @@ declaration_few : (code : ℕ) (first s : Spot) (y : Abbrev × Spot) → declara
 unfolding declaration_at
 declaration_few code first s y e =
     let last : ℕ → ℕ → List Field × Spot → _ = λ tag children fields. Ok (record { code = code; tag = tag; children = children == 1; fields = fields.0 }, fields.1) in
-    let fields : ℕ → ℕ × Spot → _ = λ tag children. fields_at MOST_FIELDS [] first children.1 >>= last tag children.0 in
+    let fields : ℕ → ℕ × Spot → _ = λ tag children. fields_at 256 [] first children.1 >>= last tag children.0 in
     let flagged : ℕ → ℕ × Spot → _ = λ tag children. refuse_if (nat_lt 1 children.0) (fault_at first BadAbbrev) >>= λ u. fields tag children in
     let a = bind_ok (short_at first s) (λ tag. refuse_if (tag.0 == 0) (fault_at first BadAbbrev) >>= λ u. number_at 1 tag.1 >>= flagged tag.0) y e in
     let b = passed (a.0.0 == 0) (fault_at first BadAbbrev) (number_at 1 a.0.1 >>= flagged a.0.0) y a.2 in
     let c = bind_ok (number_at 1 a.0.1) (flagged a.0.0) y b.1 in
     let d = passed (nat_lt 1 c.0.0) (fault_at first BadAbbrev) (fields a.0.0 c.0) y c.2 in
-    let f = bind_ok (fields_at MOST_FIELDS [] first c.0.1) (last a.0.0 c.0.0) y d.1 in
-    omega (arith, fields_few MOST_FIELDS [] first c.0.1 f.0 f.1, ap (λ (read : Abbrev × Spot). length read.0.fields) (ok_is _ y f.2))
+    let f = bind_ok (fields_at 256 [] first c.0.1) (last a.0.0 c.0.0) y d.1 in
+    omega (arith, fields_few 256 [] first c.0.1 f.0 f.1, ap (λ (read : Abbrev × Spot). length read.0.fields) (ok_is _ y f.2))
 
 declarations_few : (left : ℕ) (before : List Abbrev) (s : Spot) (table : List Abbrev) → All HasFewFields before → declarations_at left before s ≡ Ok table → All HasFewFields table
 unfolding declarations_at

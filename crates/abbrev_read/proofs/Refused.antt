@@ -10,7 +10,6 @@ use Rattle.ds_base.specs.declared.fault.Kind.TheVariants as kinds
 use Rattle.ds_base.specs.Spot.{Spot, fault_at}
 use Rattle.ds_base.specs.Reading.{◌>>=◌, number_at, uleb_at, sleb_at, refuse_if}
 use Rattle.dwarf_types.specs.declared.abbrev.Abbrev.{Abbrev}
-use Rattle.dwarf_types.specs.declared.abbrev.TheConstants.{MOST_FIELDS}
 use Rattle.dwarf_types.specs.declared.abbrev.Field.{Field}
 use Rattle.abbrev_read.specs.Codes.{is_declared}
 use Rattle.abbrev_read.specs.Reading.{short_at, one_is_zero, pair_at, field_at, fields_at, declaration_at, declarations_at, table_at, table_spot}
@@ -71,7 +70,7 @@ unfolding declaration_at
 declaration_kinds code first s =
     bind_kinds IsOne (short_at first s) _ (short_kinds first s) (λ tag.
     tried_kinds (tag.0 == 0) (fault_at first kinds.BadAbbrev) _ bad (bind_kinds IsOne (number_at 1 tag.1) _ (number_kinds IsOne 1 tag.1 cut) (λ children.
-    tried_kinds (nat_lt 1 children.0) (fault_at first kinds.BadAbbrev) _ bad (bind_kinds IsOne (fields_at MOST_FIELDS [] first children.1) _ (fields_kinds MOST_FIELDS [] first children.1) (λ fields. ok_kinds IsOne _)))))
+    tried_kinds (nat_lt 1 children.0) (fault_at first kinds.BadAbbrev) _ bad (bind_kinds IsOne (fields_at 256 [] first children.1) _ (fields_kinds 256 [] first children.1) (λ fields. ok_kinds IsOne _)))))
 
 declarations_kinds : (left : ℕ) (before : List Abbrev) (s : Spot) → FaultsAre IsOne (declarations_at left before s)
 unfolding declarations_at

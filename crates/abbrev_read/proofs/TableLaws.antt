@@ -11,7 +11,6 @@ use Rattle.ds_base.specs.Leb.{IsSpelled}
 use Rattle.ds_base.specs.Spot.{Spot, rest, fault_at}
 use Rattle.ds_base.specs.Reading.{◌>>=◌, refuse_if, number_at, uleb_at, sleb_at}
 use Rattle.dwarf_types.specs.Spelled.{AreBytes, InTurn, IsUleb, IsSleb, IsNumber, Made}
-use Rattle.dwarf_types.specs.declared.abbrev.TheConstants.{MOST_FIELDS}
 use Rattle.dwarf_types.specs.declared.abbrev.Field.{Field}
 use Rattle.dwarf_types.specs.declared.abbrev.Abbrev.{Abbrev}
 use Rattle.ds_base.proofs.Passing.{bind_ok, passed, ok_is}
@@ -242,14 +241,14 @@ fields_again (field ∷ own) (suc room) before first s bytes more h sound few sp
 record AllFields (bytes : List ℕ) (fields : List Field) : Type 0 where
   spells : SpellsFields fields bytes
   sound : AreFields fields
-  few : length fields ≤ MOST_FIELDS
+  few : length fields ≤ 256
 
-fields_reader : (first : Spot) → Reader (fields_at MOST_FIELDS [] first) AllFields
+fields_reader : (first : Spot) → Reader (fields_at 256 [] first) AllFields
 fields_reader first = record {
   takes = λ s fields t h e.
-      let p = fields_take MOST_FIELDS [] first s fields t h e in
+      let p = fields_take 256 [] first s fields t h e in
       record { bytes = p.bytes; spells = subst (AllFields p.bytes) (sym p.is) (record { spells = p.spells; sound = p.sound; few = p.few }); parts = p.parts; stands = p.stands };
-  again = λ s bytes fields more h a parts. fields_again fields MOST_FIELDS [] first s bytes more h a.sound a.few a.spells parts;
+  again = λ s bytes fields more h a parts. fields_again fields 256 [] first s bytes more h a.sound a.few a.spells parts;
 }
 
 -- ---- declarations
@@ -266,17 +265,17 @@ RawRest code tag bytes d = ((tag == 0) ≡ false) × Both (IsNumber 1) (λ child
 raw_reader : (code : ℕ) (first : Spot) → Reader (declaration_at code first) (Both Short (λ tag. RawRest code tag))
 unfolding declaration_at
 raw_reader code first =
-    both_reader (short_at first) (λ tag s. refuse_if (tag == 0) (fault_at first BadAbbrev) >>= λ u. number_at 1 s >>= λ children. refuse_if (nat_lt 1 children.0) (fault_at first BadAbbrev) >>= λ v. fields_at MOST_FIELDS [] first children.1 >>= λ fields. Ok (declared code tag children.0 fields.0, fields.1)) Short (λ tag. RawRest code tag) (short_reader first) (λ tag.
-    tested_reader (tag == 0) (λ s. fault_at first BadAbbrev) (λ s. number_at 1 s >>= λ children. refuse_if (nat_lt 1 children.0) (fault_at first BadAbbrev) >>= λ v. fields_at MOST_FIELDS [] first children.1 >>= λ fields. Ok (declared code tag children.0 fields.0, fields.1)) _
-    (both_reader (number_at 1) (λ children s. refuse_if (nat_lt 1 children) (fault_at first BadAbbrev) >>= λ v. fields_at MOST_FIELDS [] first s >>= λ fields. Ok (declared code tag children fields.0, fields.1)) (IsNumber 1) (λ children. RawFields code tag children) (number_reader 1) (λ children.
-    tested_reader (nat_lt 1 children) (λ s. fault_at first BadAbbrev) (λ s. fields_at MOST_FIELDS [] first s >>= λ fields. Ok (declared code tag children fields.0, fields.1)) _ (made_reader (declared code tag children) (fields_at MOST_FIELDS [] first) AllFields (fields_reader first)))))
+    both_reader (short_at first) (λ tag s. refuse_if (tag == 0) (fault_at first BadAbbrev) >>= λ u. number_at 1 s >>= λ children. refuse_if (nat_lt 1 children.0) (fault_at first BadAbbrev) >>= λ v. fields_at 256 [] first children.1 >>= λ fields. Ok (declared code tag children.0 fields.0, fields.1)) Short (λ tag. RawRest code tag) (short_reader first) (λ tag.
+    tested_reader (tag == 0) (λ s. fault_at first BadAbbrev) (λ s. number_at 1 s >>= λ children. refuse_if (nat_lt 1 children.0) (fault_at first BadAbbrev) >>= λ v. fields_at 256 [] first children.1 >>= λ fields. Ok (declared code tag children.0 fields.0, fields.1)) _
+    (both_reader (number_at 1) (λ children s. refuse_if (nat_lt 1 children) (fault_at first BadAbbrev) >>= λ v. fields_at 256 [] first s >>= λ fields. Ok (declared code tag children fields.0, fields.1)) (IsNumber 1) (λ children. RawFields code tag children) (number_reader 1) (λ children.
+    tested_reader (nat_lt 1 children) (λ s. fault_at first BadAbbrev) (λ s. fields_at 256 [] first s >>= λ fields. Ok (declared code tag children fields.0, fields.1)) _ (made_reader (declared code tag children) (fields_at 256 [] first) AllFields (fields_reader first)))))
 
 -- what stands behind a code
 record RestOf (code : ℕ) (bytes : List ℕ) (d : Abbrev) : Type 0 where
   code_is : d.code ≡ code
   spells : InTurn (λ b. IsUleb b d.tag) (InTurn (λ b. IsNumber 1 b (children_byte d.children)) (SpellsFields d.fields)) bytes
   tag : IsShort d.tag
-  few : length d.fields ≤ MOST_FIELDS
+  few : length d.fields ≤ 256
   fields : AreFields d.fields
 
 byte_again : (n : ℕ) → nat_lt 1 n ≡ false → n ≡ children_byte (n == 1)

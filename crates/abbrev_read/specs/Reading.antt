@@ -7,7 +7,6 @@ use Rattle.ds_base.specs.declared.fault.Kind.TheVariants as kinds
 use Rattle.ds_base.specs.declared.fault.Part.TheVariants as parts
 use Rattle.ds_base.specs.Spot.{Spot, fault_at}
 use Rattle.ds_base.specs.Reading.{◌>>=◌, refuse_if, number_at, uleb_at, sleb_at}
-use Rattle.dwarf_types.specs.declared.abbrev.TheConstants.{MOST_FIELDS}
 use Rattle.dwarf_types.specs.declared.abbrev.Field.{Field}
 use Rattle.dwarf_types.specs.declared.abbrev.Abbrev.{Abbrev}
 use Rattle.abbrev_read.specs.Codes.{is_declared}
@@ -54,7 +53,7 @@ declaration_at code first s = do
   _ ← refuse_if (tag.0 == 0) (fault_at first kinds.BadAbbrev)
   children ← number_at 1 tag.1
   _ ← refuse_if (nat_lt 1 children.0) (fault_at first kinds.BadAbbrev)
-  fields ← fields_at MOST_FIELDS [] first children.1
+  fields ← fields_at 256 [] first children.1
   Ok (record { code = code; tag = tag.0; children = children.0 == 1; fields = fields.0 }, fields.1)
 
 -- Declarations up to the code 0. Each takes a byte at least, so the count of the bytes that are left bounds them.

@@ -2,7 +2,6 @@
 use Rattle.std.specs.Prelude.{◌≡◌, ◌<◌, ◌≤◌, ◌==◌, ◌++◌, ℕ, pos, Bool, true, false, List, [], ◌∷◌, length, drop}
 use Rattle.ds_base.specs.declared.dwarf.TheConstants.{DW_FORM_implicit_const}
 use Rattle.dwarf_types.specs.Spelled.{InTurn, IsUleb, IsSleb, IsNumber}
-use Rattle.dwarf_types.specs.declared.abbrev.TheConstants.{MOST_FIELDS}
 use Rattle.dwarf_types.specs.declared.abbrev.Field.{Field}
 use Rattle.dwarf_types.specs.declared.abbrev.Abbrev.{Abbrev}
 use Rattle.abbrev_read.specs.Codes.{is_declared}
@@ -44,7 +43,7 @@ AreFields (field ∷ fields) = (IsShort field.name × IsShort field.form) × Are
 
 -- an entry of such a declaration has few attributes
 abbrev pub HasFewFields : Abbrev → Type 0
-HasFewFields d = length d.fields ≤ MOST_FIELDS
+HasFewFields d = length d.fields ≤ 256
 
 pub record IsDeclaration (d : Abbrev) : Type 0 where
   pub code : 0 < d.code

@@ -2,7 +2,6 @@
 
 ghost use Rattle.std.specs.Prelude.{◌≡◌, ◌<◌, [], length, All, IfOk};
 ghost use Rattle.ds_base.specs.Reading.{Gives, Reads, ReadsUnlessFull};
-ghost use Rattle.dwarf_types.specs.declared.abbrev.TheConstants.{MOST_FIELDS};
 ghost use Rattle.abbrev_read.specs.Reading.{short_at, pair_at, field_at, fields_at, declaration_at, table_at};
 ghost use Rattle.abbrev_read.specs.Spelling.{HasFewFields};
 
@@ -73,7 +72,7 @@ fn read_declaration(
 
 /// The attributes of a declaration, up to the two zeros.
 fn read_fields(alloc: Global, cursor: &mut Cursor, first: &Cursor) -> Result<List<Field>, ReadError>
-    ensures { ReadsUnlessFull (λ fields. fields) result cursor.new (fields_at MOST_FIELDS [] first.now cursor.old) }
+    ensures { ReadsUnlessFull (λ fields. fields) result cursor.new (fields_at 256 [] first.now cursor.old) }
 {
     let mut fields = List::new(alloc);
     for _ in 0..MOST_FIELDS {
