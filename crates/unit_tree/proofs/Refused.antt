@@ -27,7 +27,6 @@ use Rattle.form_value.proofs.Refused.{IsOne as IsValueKind, value_faults}
 use Rattle.index_tables.specs.declared.bases.Bases.{Bases}
 use Rattle.index_tables.specs.Tables.{text_place, address_place, list_place}
 use Rattle.unit_tree.specs.declared.attribute.UnitContext.{UnitContext}
-use Rattle.unit_tree.specs.declared.entry.TheConstants.{MOST_OPEN}
 use Rattle.ds_base.specs.declared.dwarf.TheConstants.{DWARF_4, DWARF_5, ADDRESS_SIZE}
 use Rattle.unit_tree.specs.declared.meaning.Meaning.{Meaning}
 use Rattle.unit_tree.specs.declared.meaning.Meaning.TheVariants.{InUnit, InObject, LineTable, RangeList, LocationList, TextIndex, AddressIndex, RangeListIndex, LocationListIndex, Other}
@@ -188,7 +187,7 @@ root_kinds start sections context table before s =
 listed_kinds : (sections : SectionBytes) (context : UnitContext) (declared : Abbrev) (walk : Walk) (first s : Spot) → FaultsAre IsOne (listed_at sections context declared walk first s)
 unfolding listed_at
 listed_kinds sections context declared walk first s =
-    tried_kinds (declared.children && not (nat_lt (length walk.1) MOST_OPEN)) (fault_at first kinds.LimitDepth) _ deep
+    tried_kinds (declared.children && not (nat_lt (length walk.1) 1000)) (fault_at first kinds.LimitDepth) _ deep
     (tried_kinds (is_full walk.0) (fault_at first kinds.LimitEntries) _ many
     (bind_kinds IsOne (entry_at sections context (innermost walk.1) first.place declared walk.0 s) _ (entry_kinds sections context (innermost walk.1) first.place declared walk.0 s) (λ read. ok_kinds IsOne _)))
 

@@ -1,5 +1,5 @@
 -- The units and entries that are read follow one another, and each parent stands before its children in the unit.
-use Rattle.std.proofs.Common.{◌≡◌, ℕ, zero, suc, ◌+◌, ◌-◌, ◌<◌, ◌≤◌, ◌==◌, Bool, true, false, List, [], ◌∷◌, ◌++◌, length, take, get_or, Option, Some, None, Ok, refl, sym, ap, subst, ◌∙◌, inl, inr, ◌⊎◌, arith}
+use Rattle.std.proofs.Common.{◌≡◌, ℕ, zero, suc, ◌+◌, ◌-◌, ◌^◌, ◌<◌, ◌≤◌, ◌==◌, Bool, true, false, List, [], ◌∷◌, ◌++◌, length, take, get_or, Option, Some, None, Ok, refl, sym, ap, subst, ◌∙◌, inl, inr, ◌⊎◌, arith}
 use Rattle.std.specs.Prelude.{slice_get}
 use Rattle.std.proofs.lemmas.List.{length-append}
 use Rattle.std.proofs.lemmas.Option.{slice_get-get_or, slice_get_within}
@@ -10,7 +10,6 @@ use Rattle.dwarf_types.specs.declared.entry.InUnit.{InUnit}
 use Rattle.dwarf_types.specs.SectionBytes.{SectionBytes}
 use Rattle.dwarf_types.specs.Sound.{AreUnits, IsParent}
 use Rattle.unit_tree.specs.declared.attribute.UnitContext.{UnitContext}
-use Rattle.dwarf_types.specs.declared.entry.TheConstants.{MOST_ENTRIES}
 use Rattle.unit_tree.specs.Entry.{Parsed, entry_at, innermost, opened, Walk, child_at, children_at, tree_at}
 use Rattle.unit_tree.specs.Sound.{LiesInUnit, AreSound}
 use Rattle.unit_tree.specs.Unit.{unit_from, nothing, parsed_of, unit_at, units_at}
@@ -61,7 +60,7 @@ record IsOwn (number first k : ℕ) (e : RawEntry) : Type 0 where
 
 -- entries of the units before, and of the one that is read
 record Grows (units : List InUnit) (first : ℕ) (entries : List RawEntry) : Type 0 where
-  few : length entries ≤ MOST_ENTRIES
+  few : length entries ≤ 2 ^ 24
   behind : first ≤ length entries
   each : (k : ℕ) (e : RawEntry) → slice_get entries k ≡ Some e → LiesInUnit units k e ⊎ IsOwn (length units) first k e
 
@@ -69,7 +68,7 @@ record Grows (units : List InUnit) (first : ℕ) (entries : List RawEntry) : Typ
 abbrev AreOpen : ℕ → ℕ → List ℕ → Type 0
 AreOpen first count lists = (i p : ℕ) → slice_get lists i ≡ Some p → (first ≤ p) × (p < count)
 
-pushed_grows : (units : List InUnit) (first : ℕ) (entries : List RawEntry) (e : RawEntry) → Grows units first entries → length entries < MOST_ENTRIES → e.unit ≡ length units → ParentFrom first (length entries) e.parent → Grows units first (entries ++ e ∷ [])
+pushed_grows : (units : List InUnit) (first : ℕ) (entries : List RawEntry) (e : RawEntry) → Grows units first entries → length entries < 2 ^ 24 → e.unit ≡ length units → ParentFrom first (length entries) e.parent → Grows units first (entries ++ e ∷ [])
 pushed_grows units first entries e h room unit parent =
     let behind = h.behind in
     record {
@@ -82,7 +81,7 @@ pushed_grows units first entries e h room unit parent =
     }
 
 entry_grows : (sections : SectionBytes) (context : UnitContext) (parent : Option ℕ) (place : ℕ) (declared : Abbrev) (before : Parsed) (s : Spot) (y : Parsed × Spot) (units : List InUnit) (first : ℕ) → entry_at sections context parent place declared before s ≡ Ok y
-    → context.unit ≡ length units → length before.entries < MOST_ENTRIES → Grows units first before.entries → ParentFrom first (length before.entries) parent → Grows units first y.0.entries × (length y.0.entries ≡ length before.entries + 1)
+    → context.unit ≡ length units → length before.entries < 2 ^ 24 → Grows units first before.entries → ParentFrom first (length before.entries) parent → Grows units first y.0.entries × (length y.0.entries ≡ length before.entries + 1)
 entry_grows sections context parent place declared before s y units first e is room h from =
     let w = entry_steps sections context parent place declared before s y e in
     subst (λ (p : Parsed × Spot). Grows units first p.0.entries × (length p.0.entries ≡ length before.entries + 1)) w.is
@@ -158,7 +157,7 @@ units_pushed at [] u end h some last = (sym h, some, ap (λ (n : ℕ). n + u.cou
 units_pushed at (x ∷ units) u end h some last = (h.0, h.1, units_pushed (at + x.count) units u end h.2 some last)
 
 record Reads (units : List InUnit) (entries : List RawEntry) : Type 0 where
-  few : length entries ≤ MOST_ENTRIES
+  few : length entries ≤ 2 ^ 24
   follow : AreUnits 0 units (length entries)
   each : (k : ℕ) (e : RawEntry) → slice_get entries k ≡ Some e → LiesInUnit units k e
 

@@ -16,7 +16,6 @@ use Rattle.abbrev_read.specs.Reading.{table_at}
 use Rattle.index_tables.specs.declared.bases.Bases.{Bases}
 use Rattle.index_tables.specs.Bases.{bases_in}
 use Rattle.unit_tree.specs.declared.attribute.UnitContext.{UnitContext}
-use Rattle.unit_tree.specs.declared.entry.TheConstants.{MOST_OPEN}
 use Rattle.unit_tree.specs.declared.header.Header.{Header}
 use Rattle.ds_base.specs.declared.dwarf.TheConstants.{DWARF_4, DWARF_5, ADDRESS_SIZE}
 use Rattle.unit_tree.specs.Attribute.{Described, attrs_at}
@@ -122,7 +121,7 @@ bases_steps start sections context table before s y e =
 
 -- an entry of an open list, behind its code
 pub record ListedSteps (sections : SectionBytes) (context : UnitContext) (declared : Abbrev) (walk : Walk) (first s : Spot) (y : Walk × Spot) : Type 0 where
-  pub depth : (declared.children && not (nat_lt (length walk.1) MOST_OPEN)) ≡ false
+  pub depth : (declared.children && not (nat_lt (length walk.1) 1000)) ≡ false
   pub room : is_full walk.0 ≡ false
   pub read : Parsed × Spot
   pub entry : entry_at sections context (innermost walk.1) first.place declared walk.0 s ≡ Ok read
@@ -133,7 +132,7 @@ unfolding listed_at
 listed_steps sections context declared walk first s y e =
     let last : Parsed × Spot → Result (Walk × Spot) Fault = λ read. Ok ((read.0, opened declared.children (length walk.0.entries) walk.1), read.1) in
     let entry = entry_at sections context (innermost walk.1) first.place declared walk.0 s in
-    let a = passed (declared.children && not (nat_lt (length walk.1) MOST_OPEN)) (fault_at first kinds.LimitDepth) (refuse_if (is_full walk.0) (fault_at first kinds.LimitEntries) >>= λ u. entry >>= last) y e in
+    let a = passed (declared.children && not (nat_lt (length walk.1) 1000)) (fault_at first kinds.LimitDepth) (refuse_if (is_full walk.0) (fault_at first kinds.LimitEntries) >>= λ u. entry >>= last) y e in
     let b = passed (is_full walk.0) (fault_at first kinds.LimitEntries) (entry >>= last) y a.1 in
     let c = bind_ok entry last y b.1 in
     record { depth = a.0; room = b.0; read = c.0; entry = c.1; is = ok_is _ y c.2 }

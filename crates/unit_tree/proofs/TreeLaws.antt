@@ -1,5 +1,5 @@
 -- What is read of a unit's tree is spelled so, and what is spelled so is read.
-use Rattle.std.proofs.Common.{◌≡◌, ℕ, zero, suc, ◌+◌, ◌-◌, ◌<◌, ◌≤◌, ◌==◌, ◌&&◌, Bool, true, false, not, List, [], ◌∷◌, ◌++◌, length, take, Option, Some, Ok, refl, sym, ap, ap₂, subst, ◌∙◌, append_assoc, inl, inr, arith}
+use Rattle.std.proofs.Common.{◌≡◌, ℕ, zero, suc, ◌+◌, ◌-◌, ◌^◌, ◌<◌, ◌≤◌, ◌==◌, ◌&&◌, Bool, true, false, not, List, [], ◌∷◌, ◌++◌, length, take, Option, Some, Ok, refl, sym, ap, ap₂, subst, ◌∙◌, append_assoc, inl, inr, arith}
 use Rattle.std.specs.Prelude.{nat_lt, is_none, slice_get, if◌then◌else◌}
 use Rattle.std.proofs.lemmas.Bool.{ne_eqb, eqb-true, ltb-true, lt-ltb, not-false}
 use Rattle.std.proofs.lemmas.List.{append-nil, length-append, take_at}
@@ -13,8 +13,6 @@ use Rattle.dwarf_types.specs.declared.entry.RawEntry.{RawEntry}
 use Rattle.dwarf_types.specs.SectionBytes.{SectionBytes}
 use Rattle.dwarf_types.proofs.Readers.{Stands, length_rest}
 use Rattle.unit_tree.specs.declared.attribute.UnitContext.{UnitContext}
-use Rattle.dwarf_types.specs.declared.entry.TheConstants.{MOST_ENTRIES}
-use Rattle.unit_tree.specs.declared.entry.TheConstants.{MOST_OPEN}
 use Rattle.unit_tree.specs.declared.reference.Reference.{Reference}
 use Rattle.unit_tree.specs.Entry.{Parsed, is_full, entry_at, innermost, closed, opened, Walk, listed_at, child_at, children_at}
 use Rattle.unit_tree.specs.Entry.{declared_as}
@@ -26,11 +24,11 @@ use Rattle.ds_base.proofs.Onward.{uleb_onward}
 use Rattle.unit_tree.proofs.Rising.{entry_onward}
 use Rattle.unit_tree.proofs.Steps.{entry_steps, listed_steps, child_steps, ChildrenSteps, children_end, children_steps}
 
-pub has_room : (before : Parsed) → is_full before ≡ false → length before.entries < MOST_ENTRIES
-has_room before e = ltb-true (length before.entries) MOST_ENTRIES (not-false (nat_lt (length before.entries) MOST_ENTRIES) e)
+pub has_room : (before : Parsed) → is_full before ≡ false → length before.entries < 2 ^ 24
+has_room before e = ltb-true (length before.entries) (2 ^ 24) (not-false (nat_lt (length before.entries) (2 ^ 24)) e)
 
-pub room_for : (before : Parsed) → length before.entries < MOST_ENTRIES → is_full before ≡ false
-room_for before lt = rw (lt-ltb (length before.entries) MOST_ENTRIES lt) refl
+pub room_for : (before : Parsed) → length before.entries < 2 ^ 24 → is_full before ≡ false
+room_for before lt = rw (lt-ltb (length before.entries) (2 ^ 24) lt) refl
 
 -- ---- an entry
 
@@ -171,7 +169,7 @@ pub record ChildrenTaken (all : List RawEntry) (sections : SectionBytes) (contex
   pub references : List Reference
   pub grown : y.0.references ≡ before.references ++ references
   pub passed : Passed bytes s y.1
-  pub few : length before.entries ≤ MOST_ENTRIES → length y.0.entries ≤ MOST_ENTRIES
+  pub few : length before.entries ≤ 2 ^ 24 → length y.0.entries ≤ 2 ^ 24
 
 -- no list is open
 none_taken : (all : List RawEntry) (sections : SectionBytes) (context : UnitContext) (table : List Abbrev) (stack : List ℕ) (before : Parsed) (s : Spot) (y : Parsed × Spot) → Stands s → (length (back stack) == 0) ≡ true → (before, s) ≡ y
@@ -207,7 +205,7 @@ closing_taken all sections context table p stack before s code y stands coded ze
     }
 
 -- an entry with what is below it and behind it
-with_node : (all : List RawEntry) (sections : SectionBytes) (context : UnitContext) (table : List Abbrev) (lists : ℕ) (node : Node) (kids others : Forest) (place : ℕ) (a b c : List ℕ) → (node.declared.children ≡ true → lists < MOST_OPEN)
+with_node : (all : List RawEntry) (sections : SectionBytes) (context : UnitContext) (table : List Abbrev) (lists : ℕ) (node : Node) (kids others : Forest) (place : ℕ) (a b c : List ℕ) → (node.declared.children ≡ true → lists < 1000)
     → SpellsNode sections (origin_of context) table false node place a → NodeLeads all context.unit node → KidsThere all sections context table (suc lists) node.declared.children kids (place + length a) b
     → TreesThere all sections context table lists others (place + length a + length b) c → TreesThere all sections context table lists (tree node kids others) place ((a ++ b) ++ c)
 with_node all sections context table lists node kids others place a b c depth spells leads_on k o =
@@ -225,7 +223,7 @@ record OpenWith (all : List RawEntry) (sections : SectionBytes) (context : UnitC
   entries_are : entries ≡ open_entries context.unit number (p ∷ stack) forests
 
 -- the node has a list, which is open too
-with_list : (all : List RawEntry) (sections : SectionBytes) (context : UnitContext) (table : List Abbrev) (p : ℕ) (stack : List ℕ) (place : ℕ) (node : Node) (a r : List ℕ) (number : ℕ) → node.declared.children ≡ true → suc (length stack) < MOST_OPEN
+with_list : (all : List RawEntry) (sections : SectionBytes) (context : UnitContext) (table : List Abbrev) (p : ℕ) (stack : List ℕ) (place : ℕ) (node : Node) (a r : List ℕ) (number : ℕ) → node.declared.children ≡ true → suc (length stack) < 1000
     → SpellsNode sections (origin_of context) table false node place a → NodeLeads all context.unit node → (forests : List Forest) → OpenThere all sections context table (number ∷ p ∷ stack) forests (place + length a) r
     → OpenWith all sections context table p stack place (a ++ r) number (entry_of context.unit (Some p) node ∷ open_entries context.unit (number + 1) (number ∷ p ∷ stack) forests)
 with_list all sections context table p stack place node a r number has depth spells leads_on [] there = absurd there
@@ -283,14 +281,14 @@ with_none all sections context table p stack place node a r number has spells le
           ∙ ap (λ (n : ℕ). preorder context.unit (Some p) (number + 1 + size no_more) others ++ open_entries context.unit n stack forests) number_is);
     }
 
-depth_below : (n : ℕ) (c : Bool) → c ≡ true → (c && not (nat_lt n MOST_OPEN)) ≡ false → n < MOST_OPEN
-depth_below n true has e = ltb-true n MOST_OPEN (not-false (nat_lt n MOST_OPEN) e)
+depth_below : (n : ℕ) (c : Bool) → c ≡ true → (c && not (nat_lt n 1000)) ≡ false → n < 1000
+depth_below n true has e = ltb-true n 1000 (not-false (nat_lt n 1000) e)
 depth_below n false has e = absurd cc
 
 -- an entry of the innermost list
 opening_taken : (all : List RawEntry) → AreLow all → (sections : SectionBytes) (context : UnitContext) (table : List Abbrev) (left p : ℕ) (stack : List ℕ) (before : Parsed) (s : Spot) (code : ℕ × Spot) (declared : Abbrev) (read y : Parsed × Spot) → Stands s
     → uleb_at s ≡ Ok code → (code.0 == 0) ≡ false → declared_as code.0 table ≡ Some declared → entry_at sections context (innermost (back (p ∷ stack))) s.place declared before code.1 ≡ Ok read
-    → (declared.children && not (nat_lt (length (back (p ∷ stack))) MOST_OPEN)) ≡ false → is_full before ≡ false
+    → (declared.children && not (nat_lt (length (back (p ∷ stack))) 1000)) ≡ false → is_full before ≡ false
     → children_at sections context table left (read.0, opened declared.children (length before.entries) (back (p ∷ stack))) read.1 ≡ Ok y → Lead all y.0.references
     → ((more : List ℕ) (now : Parsed) (t : Spot) → Stands t → children_at sections context table left (now, back more) t ≡ Ok y → ChildrenTaken all sections context table more now t y)
     → ChildrenTaken all sections context table (p ∷ stack) before s y
@@ -333,7 +331,7 @@ opening_taken all low sections context table left p stack before s code declared
     still : (c : Bool) → declared.children ≡ c → children_at sections context table left (read.0, opened c number (back (p ∷ stack))) read.1 ≡ Ok y
     still c has = subst (λ (b : Bool). children_at sections context table left (read.0, opened b number (back (p ∷ stack))) read.1 ≡ Ok y) has others
 
-    shallow : declared.children ≡ true → suc (length stack) < MOST_OPEN
+    shallow : declared.children ≡ true → suc (length stack) < 1000
     shallow has = omega (arith, length_back (p ∷ stack), depth_below (length (back (p ∷ stack))) declared.children has depth)
 
     opened_taken : (c : Bool) → declared.children ≡ c → ChildrenTaken all sections context table (p ∷ stack) before s y
@@ -430,13 +428,13 @@ end_goes all sections context table p stack before s bytes more stands spells le
       left = c.left;
     }
 
-depth_sound : (n : ℕ) (c : Bool) → (c ≡ true → n < MOST_OPEN) → (c && not (nat_lt n MOST_OPEN)) ≡ false
-depth_sound n true lt = rw (lt-ltb n MOST_OPEN (lt refl)) refl
+depth_sound : (n : ℕ) (c : Bool) → (c ≡ true → n < 1000) → (c && not (nat_lt n 1000)) ≡ false
+depth_sound n true lt = rw (lt-ltb n 1000 (lt refl)) refl
 depth_sound n false lt = refl
 
 -- an entry of the innermost list
 entry_child : (sections : SectionBytes) (context : UnitContext) (table : List Abbrev) (p : ℕ) (stack : List ℕ) (declared : Abbrev) (before : Parsed) (s : Spot) (code : ℕ × Spot) (read : Parsed × Spot) → uleb_at s ≡ Ok code → (code.0 == 0) ≡ false
-    → declared_as code.0 table ≡ Some declared → (declared.children ≡ true → suc (length stack) < MOST_OPEN) → is_full before ≡ false → entry_at sections context (Some p) s.place declared before code.1 ≡ Ok read
+    → declared_as code.0 table ≡ Some declared → (declared.children ≡ true → suc (length stack) < 1000) → is_full before ≡ false → entry_at sections context (Some p) s.place declared before code.1 ≡ Ok read
     → child_at sections context table (before, back (p ∷ stack)) s ≡ Ok ((read.0, opened declared.children (length before.entries) (back (p ∷ stack))), read.1)
 unfolding child_at listed_at
 entry_child sections context table p stack declared before s code read coded some found shallow room entry =
@@ -446,7 +444,7 @@ entry_child sections context table p stack declared before s code read coded som
 -- trees that are spelled are read
 abbrev pub TreesAreRead : List RawEntry → SectionBytes → UnitContext → List Abbrev → Forest → Type 0
 TreesAreRead all sections context table trees =
-    (p : ℕ) (stack : List ℕ) (before : Parsed) (s : Spot) (bytes more : List ℕ) → Stands s → TreesThere all sections context table (suc (length stack)) trees s.place bytes → Lead all before.references → length before.entries + size trees ≤ MOST_ENTRIES
+    (p : ℕ) (stack : List ℕ) (before : Parsed) (s : Spot) (bytes more : List ℕ) → Stands s → TreesThere all sections context table (suc (length stack)) trees s.place bytes → Lead all before.references → length before.entries + size trees ≤ 2 ^ 24
     → rest s ≡ bytes ++ more → TreesGo all sections context table p stack trees before s bytes more
 
 pub below_list : (children : Bool) (Kids : ℕ → List ℕ → Type 0) (kids : Forest) (place : ℕ) (bytes : List ℕ) → children ≡ true → SpellsBelow children Kids kids place bytes → Kids place bytes
@@ -462,7 +460,7 @@ abbrev pub parsed : List RawEntry → List Reference → Parsed
 parsed entries references = record { entries = entries; references = references }
 
 tree_goes : (all : List RawEntry) → AreLow all → (sections : SectionBytes) (context : UnitContext) (table : List Abbrev) (node : Node) (kids others : Forest) (p : ℕ) (stack : List ℕ) (before : Parsed) (s : Spot) (bytes more : List ℕ) → Stands s
-    → TreesThere all sections context table (suc (length stack)) (tree node kids others) s.place bytes → Lead all before.references → length before.entries + size (tree node kids others) ≤ MOST_ENTRIES → rest s ≡ bytes ++ more
+    → TreesThere all sections context table (suc (length stack)) (tree node kids others) s.place bytes → Lead all before.references → length before.entries + size (tree node kids others) ≤ 2 ^ 24 → rest s ≡ bytes ++ more
     → TreesAreRead all sections context table kids → TreesAreRead all sections context table others → TreesGo all sections context table p stack (tree node kids others) before s bytes more
 tree_goes all low sections context table node kids others p stack before s bytes more stands there lead room parts read_kids read_others = go node.declared.children refl
   where

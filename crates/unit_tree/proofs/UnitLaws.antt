@@ -24,7 +24,6 @@ use Rattle.abbrev_read.proofs.TableLaws.{table_spelled}
 use Rattle.index_tables.specs.declared.bases.Bases.{Bases}
 use Rattle.index_tables.specs.Bases.{bases_in}
 use Rattle.unit_tree.specs.declared.attribute.UnitContext.{UnitContext}
-use Rattle.dwarf_types.specs.declared.entry.TheConstants.{MOST_ENTRIES}
 use Rattle.unit_tree.specs.declared.header.Header.{Header}
 use Rattle.ds_base.specs.declared.dwarf.TheConstants.{LENGTH_RESERVED}
 use Rattle.ds_base.specs.declared.dwarf.TheConstants.{ADDRESS_SIZE}
@@ -63,7 +62,7 @@ record TreeTaken (all : List RawEntry) (start : Spot) (sections : SectionBytes) 
   references : List Reference
   grown : y.0.references ≡ before.references ++ references
   passed : Passed bytes s y.1
-  few : length y.0.entries ≤ MOST_ENTRIES
+  few : length y.0.entries ≤ 2 ^ 24
 
 -- what is below a root
 record BelowRoot (all : List RawEntry) (sections : SectionBytes) (context : UnitContext) (table : List Abbrev) (children : Bool) (number place : ℕ) (bytes : List ℕ) (entries : List RawEntry) : Type 0 where
@@ -322,7 +321,7 @@ record UnitTaken (all : List RawEntry) (sections : SectionBytes) (number : ℕ) 
   entries : y.0.1.entries ≡ before.entries ++ unit_entries number (length before.entries) t
   references : List Reference
   grown : y.0.1.references ≡ before.references ++ references
-  few : length y.0.1.entries ≤ MOST_ENTRIES
+  few : length y.0.1.entries ≤ 2 ^ 24
 
 -- a body by its parts
 body_spells : (sections : SectionBytes) (o : Origin) (t : UnitTree) (place : ℕ) (header tree_bytes zeros : List ℕ) → SpellsHeader t.version t.offset header → SpellsTree sections o t (place + length header) tree_bytes → AreZeros zeros
@@ -402,7 +401,7 @@ record UnitsTaken (all : List RawEntry) (sections : SectionBytes) (units : List 
   sound : AreSoundUnits all (length units) trees
   references : List Reference
   grown : y.1.references ≡ before.references ++ references
-  few : length before.entries ≤ MOST_ENTRIES → length y.1.entries ≤ MOST_ENTRIES
+  few : length before.entries ≤ 2 ^ 24 → length y.1.entries ≤ 2 ^ 24
 
 section_taken : (all : List RawEntry) (sections : SectionBytes) (units : List InUnit) (before : Parsed) (place : ℕ) (y : List InUnit × Parsed) → length sections.info ≤ place → (units, before) ≡ y → UnitsTaken all sections units before place y
 section_taken all sections units before place y le is =
@@ -503,7 +502,7 @@ units_spelled sections units small info abbrev_bytes e =
       trees = t.trees;
       spells = record {
         spells = t.spells;
-        few = subst (λ (es : List RawEntry). length es ≤ MOST_ENTRIES) entries_are (t.few (omega arith));
+        few = subst (λ (es : List RawEntry). length es ≤ 2 ^ 24) entries_are (t.few (omega arith));
         sound = subst (λ (es : List RawEntry). AreSoundUnits es 0 t.trees) entries_are t.sound;
       };
       is = sym (ok_is _ units b.2) ∙ is;

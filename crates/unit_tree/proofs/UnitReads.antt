@@ -20,7 +20,6 @@ use Rattle.abbrev_read.proofs.TableLaws.{table_read}
 use Rattle.index_tables.specs.declared.bases.Bases.{Bases}
 use Rattle.index_tables.specs.Bases.{bases_in}
 use Rattle.unit_tree.specs.declared.attribute.UnitContext.{UnitContext}
-use Rattle.dwarf_types.specs.declared.entry.TheConstants.{MOST_ENTRIES}
 use Rattle.unit_tree.specs.declared.header.Header.{Header}
 use Rattle.ds_base.specs.declared.dwarf.TheConstants.{LENGTH_RESERVED}
 use Rattle.ds_base.specs.declared.dwarf.TheConstants.{DWARF_4, DWARF_5, ADDRESS_SIZE}
@@ -140,7 +139,7 @@ unfolding tree_at
 tree_reads start sections context table before s root first = rw first refl
 
 unit_tree_goes : (all : List RawEntry) → AreLow all → (start : Spot) (sections : SectionBytes) (context : UnitContext) (t : UnitTree) (before : Parsed) (s : Spot) (bytes more : List ℕ) → Stands s → SpellsTree sections (origin_of context) t s.place bytes → IsSoundUnit all context.unit t
-    → t.root.declared.tag ≡ DW_TAG_compile_unit → is_split t.root.declared ≡ false → Lead all before.references → length before.entries + 1 + size t.kids ≤ MOST_ENTRIES → rest s ≡ bytes ++ more → TreeGoes all start sections context t before s bytes more
+    → t.root.declared.tag ≡ DW_TAG_compile_unit → is_split t.root.declared ≡ false → Lead all before.references → length before.entries + 1 + size t.kids ≤ 2 ^ 24 → rest s ≡ bytes ++ more → TreeGoes all start sections context t before s bytes more
 unit_tree_goes all low start sections context t before s bytes more stands spells sound unit whole lead room parts = go t.root.declared.children refl
   where
     number : ℕ
@@ -341,7 +340,7 @@ unfolding unit_at
 unit_reads sections number before place header table bases read a b c d e = rw (a, b, c, d, e) refl
 
 unit_goes : (all : List RawEntry) → AreLow all → (sections : SectionBytes) (number : ℕ) (t : UnitTree) (before : Parsed) (place : ℕ) (bytes more : List ℕ) → AreBytes sections.info → AreBytes sections.abbrev_ → place ≤ length sections.info → SpellsUnit sections t place bytes
-    → drop place sections.info ≡ bytes ++ more → IsSoundUnit all number t → Lead all before.references → length before.entries + 1 + size t.kids ≤ MOST_ENTRIES → UnitGoes all sections number t before place bytes
+    → drop place sections.info ≡ bytes ++ more → IsSoundUnit all number t → Lead all before.references → length before.entries + 1 + size t.kids ≤ 2 ^ 24 → UnitGoes all sections number t before place bytes
 unit_goes all low sections number t before place bytes more info abbrev_bytes le w parts sound lead room =
     let v = w.spells in
     let b = v.second in
@@ -375,7 +374,7 @@ record UnitsGo (all : List RawEntry) (sections : SectionBytes) (trees : List Uni
 
 units_go : (all : List RawEntry) → AreLow all → (sections : SectionBytes) (trees : List UnitTree) (left : ℕ) (units : List InUnit) (before : Parsed) (place : ℕ) → AreBytes sections.info → AreBytes sections.abbrev_ → place ≤ length sections.info
     → length sections.info < left + place → SpellsUnits sections trees place (drop place sections.info) → AreSoundUnits all (length units) trees → Lead all before.references
-    → length before.entries + length (entries_of (length units) (length before.entries) trees) ≤ MOST_ENTRIES → UnitsGo all sections trees left units before place
+    → length before.entries + length (entries_of (length units) (length before.entries) trees) ≤ 2 ^ 24 → UnitsGo all sections trees left units before place
 units_go all low sections trees zero units before place info abbrev_bytes le enough w sound lead room = absurd (omega (arith, le, enough))
 units_go all low sections [] (suc left) units before place info abbrev_bytes le enough w sound lead room =
     let last : place ≡ length sections.info = omega (arith, le, ap length w, length-drop place sections.info) in
@@ -400,9 +399,9 @@ units_go all low sections (t ∷ ts) (suc left) units before place info abbrev_b
     let now_len : length now.entries ≡ number + 1 + size t.kids = omega (arith, length-append before.entries own, own_len) in
     let rest_is : drop next sections.info ≡ w.back = sym (drop-drop (length w.front) place sections.info) ∙ ap (drop (length w.front)) w.is ∙ drop_at w.front w.back (length w.front) refl in
     let spells = subst (SpellsUnits sections ts next) (sym rest_is) w.second in
-    let few : length now.entries + length (entries_of (length (units ++ unit ∷ [])) (length now.entries) ts) ≤ MOST_ENTRIES =
-    subst (λ (n : ℕ). length now.entries + length (entries_of n (length now.entries) ts) ≤ MOST_ENTRIES) (sym count)
-    (subst (λ (n : ℕ). length now.entries + length (entries_of (suc (length units)) n ts) ≤ MOST_ENTRIES) (sym now_len) (omega (arith, room, all_len, now_len, own_len))) in
+    let few : length now.entries + length (entries_of (length (units ++ unit ∷ [])) (length now.entries) ts) ≤ 2 ^ 24 =
+    subst (λ (n : ℕ). length now.entries + length (entries_of n (length now.entries) ts) ≤ 2 ^ 24) (sym count)
+    (subst (λ (n : ℕ). length now.entries + length (entries_of (suc (length units)) n ts) ≤ 2 ^ 24) (sym now_len) (omega (arith, room, all_len, now_len, own_len))) in
     let r = units_go all low sections ts left (units ++ unit ∷ []) now next info abbrev_bytes (omega (arith, len)) (omega (arith, enough, some)) spells (subst (λ (n : ℕ). AreSoundUnits all n ts) (sym count) sound.1) u.lead few in
     record {
       references = r.references;

@@ -1,5 +1,5 @@
 -- The entries of a unit (DWARF 4, sections 2.3 and 7.5.2; DWARF 5, sections 2.3 and 7.5.2), as they are read from the left: each with its parent, behind those before.
-use Rattle.std.specs.Prelude.{ℕ, zero, suc, ◌-◌, ◌==◌, ◌&&◌, ◌||◌, Bool, true, not, List, [], ◌∷◌, ◌++◌, length, take, slice_get, Option, None, is_none, Result, Ok, Err, nat_lt, if◌then◌else◌}
+use Rattle.std.specs.Prelude.{ℕ, zero, suc, ◌-◌, ◌^◌, ◌==◌, ◌&&◌, ◌||◌, Bool, true, not, List, [], ◌∷◌, ◌++◌, length, take, slice_get, Option, None, is_none, Result, Ok, Err, nat_lt, if◌then◌else◌}
 use Rattle.std.specs.List.{find, list_any}
 use Rattle.ds_base.specs.declared.dwarf.TheConstants.{DW_TAG_compile_unit, DW_AT_dwo_name, DW_AT_GNU_dwo_name}
 use Rattle.ds_base.specs.declared.fault.Fault.{Fault}
@@ -14,8 +14,6 @@ use Rattle.index_tables.specs.declared.bases.Bases.{Bases}
 use Rattle.index_tables.specs.Bases.{bases_in}
 use Rattle.unit_tree.specs.declared.attribute.UnitContext.{UnitContext}
 use Rattle.unit_tree.specs.declared.reference.Reference.{Reference}
-use Rattle.dwarf_types.specs.declared.entry.TheConstants.{MOST_ENTRIES}
-use Rattle.unit_tree.specs.declared.entry.TheConstants.{MOST_OPEN}
 use Rattle.unit_tree.specs.Attribute.{Described, attrs_at}
 
 -- what was read of an object: its entries, and the references of their values
@@ -29,7 +27,7 @@ declared_as code table = find (λ a. a.code == code) table
 
 -- no more entries may follow
 abbrev pub is_full : Parsed → Bool
-is_full parsed = not (nat_lt (length parsed.entries) MOST_ENTRIES)
+is_full parsed = not (nat_lt (length parsed.entries) (2 ^ 24))
 
 -- an entry behind those before, and the references of its values
 abbrev pub with_entry : UnitContext → Option ℕ → ℕ → Abbrev → Parsed → Described → Parsed
@@ -97,7 +95,7 @@ Walk = Parsed × List ℕ
 -- an entry of the innermost list that begins at first and has a declaration, behind its code
 unfoldable pub listed_at : SectionBytes → UnitContext → Abbrev → Walk → Spot → Spot → Result (Walk × Spot) Fault
 listed_at sections context declared walk first s = do
-  _ ← refuse_if (declared.children && not (nat_lt (length walk.1) MOST_OPEN)) (fault_at first kinds.LimitDepth)
+  _ ← refuse_if (declared.children && not (nat_lt (length walk.1) 1000)) (fault_at first kinds.LimitDepth)
   _ ← refuse_if (is_full walk.0) (fault_at first kinds.LimitEntries)
   read ← entry_at sections context (innermost walk.1) first.place declared walk.0 s
   Ok ((read.0, opened declared.children (length walk.0.entries) walk.1), read.1)

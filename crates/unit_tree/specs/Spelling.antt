@@ -1,6 +1,6 @@
 -- How the units of an object are spelled (DWARF 4, section 7.5; DWARF 5, section 7.5), whoever reads them: a unit is a header, a tree and zero bytes, a tree is
 -- an entry's code and values and, where its declaration has children, the trees of its children and the code 0.
-use Rattle.std.specs.Prelude.{◌≡◌, ◌<◌, ◌≤◌, ◌⊎◌, ◌+◌, ◌++◌, ◌==◌, ◌&&◌, ℕ, suc, Bool, true, false, List, [], ◌∷◌, length, Option, None, Some}
+use Rattle.std.specs.Prelude.{◌≡◌, ◌<◌, ◌≤◌, ◌⊎◌, ◌+◌, ◌++◌, ◌==◌, ◌&&◌, ◌^◌, ℕ, suc, Bool, true, false, List, [], ◌∷◌, length, Option, None, Some}
 use Rattle.std.specs.List.{list_all, list_any}
 use Rattle.ds_base.specs.declared.dwarf.TheConstants.{DW_TAG_compile_unit, DW_UT_compile}
 use Rattle.dwarf_types.specs.declared.abbrev.Abbrev.{Abbrev}
@@ -18,8 +18,6 @@ use Rattle.form_value.specs.Spelling.{SpellsValue}
 use Rattle.index_tables.specs.declared.bases.Bases.{Bases}
 use Rattle.index_tables.specs.Bases.{bases_in}
 use Rattle.index_tables.specs.Tables.{text_place, address_place, list_place}
-use Rattle.dwarf_types.specs.declared.entry.TheConstants.{MOST_ENTRIES}
-use Rattle.unit_tree.specs.declared.entry.TheConstants.{MOST_OPEN}
 use Rattle.ds_base.specs.declared.dwarf.TheConstants.{LENGTH_RESERVED}
 use Rattle.ds_base.specs.declared.dwarf.TheConstants.{DWARF_4, DWARF_5, ADDRESS_SIZE}
 use Rattle.ds_base.specs.Reading.{text_of}
@@ -247,7 +245,7 @@ SpellsUnits sections (t ∷ ts) place bytes = InTurnFrom (SpellsUnit sections t)
 -- inside of so many open lists no more are open at once than may be
 abbrev pub IsShallow : ℕ → Forest → Type 0
 IsShallow lists no_more = Unit {0}
-IsShallow lists (tree node kids others) = ((node.declared.children ≡ true → lists < MOST_OPEN) × IsShallow (suc lists) kids) × IsShallow lists others
+IsShallow lists (tree node kids others) = ((node.declared.children ≡ true → lists < 1000) × IsShallow (suc lists) kids) × IsShallow lists others
 
 -- one of the entries begins at a place, and is of a unit where that is said
 abbrev pub begins_at : List RawEntry → Option ℕ → ℕ → Bool
@@ -284,7 +282,7 @@ AreSoundUnits entries unit (t ∷ ts) = IsSoundUnit entries unit t × AreSoundUn
 -- the sections spell the trees: units fill the section, there are not too many entries, and each reference leads to one of them
 pub record SpellsObject (sections : SectionBytes) (trees : List UnitTree) : Type 0 where
   pub spells : SpellsUnits sections trees 0 sections.info
-  pub few : length (entries_of 0 0 trees) ≤ MOST_ENTRIES
+  pub few : length (entries_of 0 0 trees) ≤ 2 ^ 24
   pub sound : AreSoundUnits (entries_of 0 0 trees) 0 trees
 
 -- what was read is what the sections spell
