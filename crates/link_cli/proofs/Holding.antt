@@ -12,10 +12,9 @@ use Rattle.link_core.specs.declared.status.Status.{Status}
 use Rattle.link_core.specs.declared.status.Status.TheVariants as statuses
 use Rattle.link_cli.specs.declared.files.HeldFiles.{HeldFiles}
 use Rattle.link_cli.specs.declared.files.Stopped.{Stopped}
-use Rattle.link_cli.specs.Files.{World, world, Held, HeldFile, IsNew, IsUnwritten, MissesFile, content_in, is_missing, passes_over, with_file, with_warning, ReadsFiles, all_held, is_held, was_passed_over, is_read, is_passed_over, is_unread, ran_out}
+use Rattle.link_cli.specs.Files.{World, world, Held, HeldFile, IsNew, RunsOut, behind_read, behind_miss, MissesFile, content_in, is_missing, passes_over, with_file, with_warning, ReadsFiles, all_held, is_held, was_passed_over, is_read, is_passed_over, is_unread, ran_out_unasked, ran_out_behind}
 use Rattle.link_cli.specs.Holding.{Becomes, PassesOver, held_of}
 use Rattle.link_cli.specs.Seen.{missing_seen, held_seen}
-use Rattle.link_cli.proofs.Later.{unwritten_same}
 
 abbrev pub file_seen : Bor (List ℕ) × List ℕ → HeldFile
 file_seen e = record { name = e.0.now; bytes = e.1 }
@@ -69,16 +68,19 @@ module _ (keep_going : Bool) (number : ℕ) (object : MapObject) (old : Held) wh
         → ReadsFiles keep_going number (object ∷ objects) old before after answer
     Goes before middle (Err status) = (objects : List MapObject) → ReadsFiles keep_going number (object ∷ objects) old before middle (Err (record { status = status; warnings = new.warnings }))
 
-    pub out_of_memory : (status : Status) (before middle : World) → IsUnwritten before middle → status ≡ statuses.NoMemory → Goes before middle (Err status)
-    out_of_memory status before middle unwritten is objects =
+    -- memory ran out behind the call for its file
+    pub out_behind : (status : Status) (before middle : World) → IsNew old object → RunsOut object.file old.left before middle → status ≡ statuses.NoMemory → Goes before middle (Err status)
+    out_behind status before middle is_new out is objects =
         subst (λ (s : Status). ReadsFiles keep_going number (object ∷ objects) old before middle (Err (record { status = s; warnings = new.warnings }))) (sym is)
-        (ran_out number (object ∷ objects) old before middle new.warnings unwritten)
+        (ran_out_behind number object objects old before middle new.warnings is_new out)
 
     pub goes_missing : (now : World) → content_in old.files object.file ≡ None → is_missing old.missing object.file ≡ true → (result : Result (Unit {0}) Status) → Becomes (with_warning old object) new result
         → Goes now now result
     goes_missing now none missing (Ok ok) is = λ objects after answer rest.
         was_passed_over number object objects old now after answer none missing (subst (λ (h : Held). ReadsFiles keep_going (number + 1) objects h now after answer) is rest)
-    goes_missing now none missing (Err status) is = out_of_memory status now now (unwritten_same now) is
+    goes_missing now none missing (Err status) is = λ objects.
+        subst (λ (s : Status). ReadsFiles keep_going number (object ∷ objects) old now now (Err (record { status = s; warnings = new.warnings }))) (sym is)
+        (ran_out_unasked number (object ∷ objects) old now new.warnings)
 
     pub goes_read : (path name bytes : List ℕ) (o m : Option Contents) (before middle : Counts) → IsNew old object → path ≡ object.file → name ≡ object.file
         → (length bytes ≤ old.left) × Told o (λ files. fin.get files path ≡ Some bytes) → m ≡ o → IsOneCall before middle → IsLater before middle → (result : Result (Unit {0}) Status) → Becomes (with_file old name bytes) new result
@@ -88,7 +90,8 @@ module _ (keep_going : Bool) (number : ℕ) (object : MapObject) (old : Held) wh
         (record { few = found.0; told = subst (λ (n : List ℕ). Told o (λ files. fin.get files n ≡ Some bytes)) is_path found.1; same = same; once = once; later = later })
         (subst (λ (h : Held). ReadsFiles keep_going (number + 1) objects h (world m middle) after answer) (is ∙ ap (λ (n : List ℕ). with_file old n bytes) is_name) rest)
     goes_read path name bytes o m before middle is_new is_path is_name found same once later (Err status) is =
-        out_of_memory status (world o before) (world m middle) (record { same = same; later = later }) is
+        out_behind status (world o before) (world m middle) is_new
+        (behind_read bytes (record { few = found.0; told = subst (λ (n : List ℕ). Told o (λ files. fin.get files n ≡ Some bytes)) is_path found.1; same = same; once = once; later = later })) is
 
 module _ (keep_going : Bool) (number : ℕ) (object : MapObject) (was new : HeldFiles) where
   module _ (path : List ℕ) (error : FileError) (o m : Option Contents) (before middle : Counts) (is_new : IsNew (held_of was) object) (is_path : path ≡ object.file)
@@ -105,7 +108,7 @@ module _ (keep_going : Bool) (number : ℕ) (object : MapObject) (was new : Held
           subst (λ (s : Stopped). ReadsFiles keep_going number (object ∷ objects) (held_of was) (world o before) (world m middle) (Err s)) (sym (λ i. record { status = is.1 i; warnings = is.2 i }))
           (is_unread number object objects (held_of was) (world o before) (world m middle) error is_new misses is.0)
       goes_missed (Err status) (inr memory) =
-          out_of_memory keep_going number object (held_of was) new status (world o before) (world m middle) (record { same = same; later = later }) memory
+          out_behind keep_going number object (held_of was) new status (world o before) (world m middle) is_new (behind_miss error misses) memory
 
 -- ---- tables
 

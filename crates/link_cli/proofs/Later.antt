@@ -1,6 +1,6 @@
 -- No count falls.
 use Rattle.std.proofs.Common.{◌≡◌, ℕ, Bool, List, Result, refl, sym, subst, ◌∙◌, arith}
-use Rattle.ds_files.specs.Outside.{Counts, IsLater}
+use Rattle.ds_files.specs.Outside.{IsLater}
 use Rattle.ds_files.proofs.Later.{later_trans}
 use Rattle.stab_map.specs.declared.object.MapObject.{MapObject}
 use Rattle.link_core.specs.declared.bundle.Linked.{Linked}
@@ -8,16 +8,20 @@ use Rattle.link_cli.specs.declared.ending.Ending.{Ending}
 use Rattle.link_cli.specs.declared.files.Stopped.{Stopped}
 use Rattle.link_cli.specs.declared.plan.Mode.{Mode}
 use Rattle.link_cli.specs.declared.program.Program.{Program}
-use Rattle.link_cli.specs.Files.{World, Held, IsUnwritten, ReadsFiles, all_held, is_held, was_passed_over, is_read, is_passed_over, is_unread, ran_out}
+use Rattle.link_cli.specs.Files.{World, Held, RunsOut, behind_read, behind_miss, ReadsFiles, all_held, is_held, was_passed_over, is_read, is_passed_over, is_unread, ran_out_unasked, ran_out_behind}
 use Rattle.link_cli.specs.Plan.{Planned}
 use Rattle.link_cli.specs.Answer.{Writes, not_made, plist_unwritten, image_unwritten, written, LinksSources, refused, untold, bundled, LinksObjects, file_unread, files_untold, files_read, Does, links, tells_map, map_untold, RunsProgram, program_unread, program_untold, program_refused, program_found, Runs, generates, reads_exe, Ends, usage, no_plan, planned}
 
 pub later_same : (before after : World) → after ≡ before → IsLater before.counts after.counts
 later_same before after same = subst (λ (w : World). IsLater before.counts w.counts) (sym same) (omega arith, omega arith, omega arith, omega arith)
 
--- nothing was done
-pub unwritten_same : (now : World) → IsUnwritten now now
-unwritten_same now = record { same = refl; later = later_same now now refl }
+pub out_later : {name : List ℕ} {most : ℕ} {before after : World} → RunsOut name most before after → IsLater before.counts after.counts
+out_later (behind_read bytes reads) = reads.later
+out_later (behind_miss error misses) = misses.later
+
+pub out_same : {name : List ℕ} {most : ℕ} {before after : World} → RunsOut name most before after → after.files ≡ before.files
+out_same (behind_read bytes reads) = reads.same
+out_same (behind_miss error misses) = misses.same
 
 pub reads_later : {keep_going : Bool} {number : ℕ} {objects : List MapObject} {held : Held} {before after : World} {answer : Result Held Stopped}
     → ReadsFiles keep_going number objects held before after answer → IsLater before.counts after.counts
@@ -28,7 +32,8 @@ reads_later (is_read number object objects held before middle after bytes answer
 reads_later (is_passed_over number object objects held before middle after error answer new misses goes rest) =
     later_trans before.counts middle.counts after.counts misses.later (reads_later rest)
 reads_later (is_unread number object objects held before after error new misses stays) = misses.later
-reads_later (ran_out number objects held before after warnings unwritten) = unwritten.later
+reads_later (ran_out_unasked number objects held now warnings) = later_same now now refl
+reads_later (ran_out_behind number object objects held before after warnings new out) = out_later out
 
 -- no file is written where files are read
 pub reads_same : {keep_going : Bool} {number : ℕ} {objects : List MapObject} {held : Held} {before after : World} {answer : Result Held Stopped}
@@ -39,11 +44,8 @@ reads_same (was_passed_over number object objects held before after answer none 
 reads_same (is_read number object objects held before middle after bytes answer new reads rest) = reads_same rest ∙ reads.same
 reads_same (is_passed_over number object objects held before middle after error answer new misses goes rest) = reads_same rest ∙ misses.same
 reads_same (is_unread number object objects held before after error new misses stays) = misses.same
-reads_same (ran_out number objects held before after warnings unwritten) = unwritten.same
-
-pub reads_unwritten : {keep_going : Bool} {number : ℕ} {objects : List MapObject} {held : Held} {before after : World} {answer : Result Held Stopped}
-    → ReadsFiles keep_going number objects held before after answer → IsUnwritten before after
-reads_unwritten reads = record { same = reads_same reads; later = reads_later reads }
+reads_same (ran_out_unasked number objects held now warnings) = refl
+reads_same (ran_out_behind number object objects held before after warnings new out) = out_same out
 
 module _ {plan : Planned} where
   pub writes_later : (before after : World) {objects : List MapObject} {warnings : List ℕ} {linked : Linked} {ending : Ending} → Writes plan objects warnings linked before after ending
@@ -60,7 +62,7 @@ module _ {plan : Planned} where
 
   pub objects_later : (before after : World) {program : Program} {most : ℕ} {ending : Ending} → LinksObjects plan program most before after ending → IsLater before.counts after.counts
   objects_later before after (file_unread stopped reads) = reads_later reads
-  objects_later before after (files_untold unwritten) = unwritten.later
+  objects_later before after (files_untold stopped reads) = reads_later reads
   objects_later before after (files_read held middle ending reads sources) = later_trans before.counts middle.counts after.counts (reads_later reads) (sources_later middle after sources)
 
   pub does_later : (before after : World) {program : Program} {most : ℕ} {mode : Mode} {ending : Ending} → Does plan program most before after mode ending → IsLater before.counts after.counts
@@ -70,7 +72,7 @@ module _ {plan : Planned} where
 
   pub program_later : (before after : World) {ending : Ending} → RunsProgram plan before after ending → IsLater before.counts after.counts
   program_later before after (program_unread error misses) = misses.later
-  program_later before after (program_untold unwritten) = unwritten.later
+  program_later before after (program_untold out) = out_later out
   program_later before after (program_refused bytes refusal reads why) = reads.later
   program_later before after (program_found bytes middle program ending reads why does) =
       later_trans before.counts middle.counts after.counts reads.later (does_later middle after does)

@@ -21,11 +21,10 @@ use Rattle.link_cli.specs.declared.plan.Mode.{Mode}
 use Rattle.link_cli.specs.declared.plan.Mode.TheVariants as modes
 use Rattle.link_cli.specs.declared.program.Program.{Program}
 use Rattle.link_cli.specs.Endings.{Tells, done_message, map_ending, no_memory, refused_ending, refusal_message, unwritten_ending}
-use Rattle.link_cli.specs.Files.{World, world, most_input, Held, none_held, ReadsFile, ReadsFiles, ReadsProgram}
+use Rattle.link_cli.specs.Files.{World, world, most_input, Held, none_held, behind_read, behind_miss, ReadsFile, ReadsFiles, ReadsProgram}
 use Rattle.link_cli.specs.Plan.{Planned}
 use Rattle.link_cli.specs.Refusals.{Answers, program_of}
 use Rattle.link_cli.specs.Answer.{Replaces, NotReplaced, Writes, plist_unwritten, image_unwritten, written, sources_in, Makes, LinksSources, refused, untold, bundled, LinksObjects, file_unread, files_untold, files_read, Does, links, tells_map, map_untold, RunsProgram, program_unread, program_untold, program_refused, program_found}
-use Rattle.link_cli.proofs.Later.{reads_unwritten}
 
 -- this is told, or memory ran out
 pub told_or : (P : Ending → Type 0) (wanted ending : Ending) → Tells wanted ending → P wanted → P no_memory → P ending
@@ -115,7 +114,7 @@ module _ (plan : Planned) (program : Program) where
         told_or (λ (e : Ending). LinksObjects plan program most before after e) (refused_ending plan program.objects stopped.warnings stopped.status) ending
         (refused_so stopped.warnings stopped.status stopped.status ending refl told)
         (file_unread stopped (subst (λ (o : List MapObject). ReadsFiles plan.keep_going 1 o (none_held most) before after (Err stopped)) is_objects reads))
-        (files_untold (reads_unwritten reads))
+        (files_untold stopped (subst (λ (o : List MapObject). ReadsFiles plan.keep_going 1 o (none_held most) before after (Err stopped)) is_objects reads))
 
     pub objects_read : (most : ℕ) (before middle after : World) (held : Held) (ending : Ending) → ReadsFiles plan.keep_going 1 objects (none_held most) before middle (Ok held)
         → LinksSources plan program held middle after ending → LinksObjects plan program most before after ending
@@ -133,7 +132,7 @@ module _ (plan : Planned) where
       let misses = subst (λ (n : List ℕ). ReadsProgram n before after (Err status)) is_exe h in
       told_or (λ (e : Ending). RunsProgram plan before after e) (refused_ending plan [] [] status) ending none
       (subst (λ (s : Status). RunsProgram plan before after (refused_ending plan [] [] s)) (sym misses.1) (program_unread misses.0 misses.2))
-      (program_untold (record { same = misses.2.same; later = misses.2.later }))
+      (program_untold (behind_miss misses.0 misses.2))
 
   module _ (before middle : World) (exe bytes shown : List ℕ) (is_exe : exe ≡ plan.exe) (is_bytes : shown ≡ bytes) (reads : ReadsFile exe most_input bytes before middle) where
     read : ReadsFile plan.exe most_input bytes before middle
@@ -142,7 +141,7 @@ module _ (plan : Planned) where
     was_refused : (refusal : Refusal) → Answers (λ (p : Program). p) (Err refusal) (program_of shown) → RunsProgram plan before middle (refused_ending plan [] [] (refused_status refusal))
     was_refused (refusals.Faulty file fault) why = program_refused bytes (refusals.Faulty file fault) read (ap program_of (sym is_bytes) ∙ why)
     was_refused (refusals.Limit which number) why = program_refused bytes (refusals.Limit which number) read (ap program_of (sym is_bytes) ∙ why)
-    was_refused refusals.NoMemory why = program_untold (record { same = read.same; later = read.later })
+    was_refused refusals.NoMemory why = program_untold (behind_read bytes read)
 
     pub program_refused_as : (warnings : List ℕ) (objects : List MapObject) (refusal : Refusal) (status : Status) (ending : Ending) → objects ≡ [] → warnings ≡ [] → status ≡ refused_status refusal
         → Answers (λ (p : Program). p) (Err refusal) (program_of shown) → Tells (refused_ending plan objects warnings status) ending → RunsProgram plan before middle ending
@@ -151,7 +150,7 @@ module _ (plan : Planned) where
         (subst (λ (w : List ℕ). Tells (refused_ending plan [] w status) ending) no_warnings
         (subst (λ (o : List MapObject). Tells (refused_ending plan o warnings status) ending) no_objects told)) in
         told_or (λ (e : Ending). RunsProgram plan before middle e) (refused_ending plan [] [] (refused_status refusal)) ending none (was_refused refusal why)
-        (program_untold (record { same = read.same; later = read.later }))
+        (program_untold (behind_read bytes read))
 
     module _ (program : Program) (is_program : program_of shown ≡ Ok program) (mode : Mode) (is_mode : plan.mode ≡ mode) where
       does : (most : ℕ) (after : World) (ending : Ending) → most ≡ 2 ^ 29 - length bytes → Does plan program most middle after mode ending → RunsProgram plan before after ending

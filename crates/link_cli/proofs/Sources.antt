@@ -11,7 +11,7 @@ use Rattle.stab_map.specs.declared.object.MapObject.{MapObject}
 use Rattle.link_core.specs.Linked.{Source, sources_of}
 use Rattle.link_cli.specs.declared.files.Stopped.{Stopped}
 use Rattle.link_cli.specs.Answer.{sources_in}
-use Rattle.link_cli.specs.Files.{World, Held, HeldFile, none_held, content_in, ReadsFiles, all_held, is_held, was_passed_over, is_read, is_passed_over, is_unread, ran_out}
+use Rattle.link_cli.specs.Files.{World, Held, HeldFile, none_held, content_in, ReadsFiles, all_held, is_held, was_passed_over, is_read, is_passed_over, is_unread, ran_out_unasked, ran_out_behind}
 use Rattle.link_cli.specs.Seen.{AreSmall, held_seen, number_in}
 use Rattle.link_cli.proofs.Holding.{file_seen}
 
@@ -115,7 +115,8 @@ held_few (is_passed_over number object objects held before middle after error an
     one_more (Ok all) few = omega (arith, few)
     one_more (Err stopped) few = tt
 held_few (is_unread number object objects held before after error new misses stays) = tt
-held_few (ran_out number objects held before after warnings unwritten) = tt
+held_few (ran_out_unasked number objects held now warnings) = tt
+held_few (ran_out_behind number object objects held before after warnings new out) = tt
 
 pub few_files : {keep_going : Bool} {number : ℕ} {objects : List MapObject} {most : ℕ} {before after : World} {all : Held}
     → ReadsFiles keep_going number objects (none_held most) before after (Ok all) → length objects < 2 ^ 16 → length all.files < 2 ^ 16
@@ -145,4 +146,5 @@ held_small (is_read number object objects held before middle after bytes answer 
     held_small rest (omega arith) (All-push (λ (f : HeldFile). length f.bytes < 2 ^ 32) held.files (record { name = object.file; bytes = bytes }) small (omega arith))
 held_small (is_passed_over number object objects held before middle after error answer new misses goes rest) bound small = held_small rest bound small
 held_small (is_unread number object objects held before after error new misses stays) bound small = tt
-held_small (ran_out number objects held before after warnings unwritten) bound small = tt
+held_small (ran_out_unasked number objects held now warnings) bound small = tt
+held_small (ran_out_behind number object objects held before after warnings new out) bound small = tt

@@ -27,7 +27,7 @@ use Rattle.link_cli.specs.Endings as endings
 use Rattle.link_cli.specs.Plan.{Planned, is_generated}
 use Rattle.link_cli.specs.Refusals.{program_of}
 use Rattle.link_cli.specs.Told.{NoFault, file_refusal, unread_of, warnings_of, sources_at, with_plist, AnswersObjects, unread, refused, done, no_memory_before, no_memory_between, AnswersMode, linked, map_told, map_no_memory, AnswersProgram, program_unread, program_refused, program_found, program_no_memory, AnswersPlan, of_generated, of_program, AnswersWords, usage, words_no_memory, planned, Answers, AreLinkable, HasProgram, CanBeDone, clean_made, clean_program, IsAnswerable}
-use Rattle.link_cli.proofs.Later.{reads_later, sources_later}
+use Rattle.link_cli.proofs.Later.{out_same, reads_later, reads_same, sources_later}
 use Rattle.link_cli.proofs.ToldSteps.{all_read, misses_told, none_so, quiet_before, quiet_behind, reads_told, told_some}
 
 -- the files are told after it, and this is answered
@@ -84,7 +84,7 @@ module _ (plan : Planned) (files : Contents) where
         → NoFault before.counts after.counts → Tells after (AnswersObjects plan program most files ending)
     objects_told before after (answer.file_unread stopped reads) told quiet =
         let some = reads_told plan.keep_going files [] before after reads told quiet (none_so files most) in (files, some.same, stopped_told stopped some.why)
-    objects_told before after (answer.files_untold unwritten) told quiet = (files, unwritten.same ∙ told, no_memory_before)
+    objects_told before after (answer.files_untold stopped reads) told quiet = (files, reads_same reads ∙ told, no_memory_before)
     objects_told before after (answer.files_read held middle ending reads links) told quiet =
         let all = reads_told plan.keep_going files [] before middle reads told (quiet_before before.counts middle.counts after.counts (sources_later middle after links) quiet) (none_so files most) in
         sources_told program most all.unread held middle after all.sources all.warnings links all.same (quiet_behind before.counts middle.counts after.counts (reads_later reads) quiet)
@@ -118,7 +118,7 @@ module _ (plan : Planned) (files : Contents) where
       | inr memory ↦ subst (λ (s : Status). AnswersProgram plan files (refused_ending plan [] [] s) files) (sym memory) program_no_memory
     ],
   )
-  program_told before after (answer.program_untold unwritten) told quiet = (files, unwritten.same ∙ told, program_no_memory)
+  program_told before after (answer.program_untold out) told quiet = (files, out_same out ∙ told, program_no_memory)
   program_told before after (answer.program_refused bytes refusal reads why) told quiet =
       (files, reads.same ∙ told, program_refused bytes refusal (got before after bytes reads told) (fits before after bytes reads) why)
   program_told before after (answer.program_found bytes middle program ending reads why does) told quiet =

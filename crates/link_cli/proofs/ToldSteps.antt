@@ -15,9 +15,10 @@ use Rattle.link_core.specs.Linked.{Source}
 use Rattle.link_core.specs.declared.status.Status.{Status}
 use Rattle.link_core.specs.declared.status.Status.TheVariants as statuses
 use Rattle.link_cli.specs.declared.files.Stopped.{Stopped}
-use Rattle.link_cli.specs.Files.{World, Held, HeldFile, IsNew, MissesFile, ReadsFiles, all_held, is_held, was_passed_over, is_read, is_passed_over, is_unread, ran_out, content_in, is_missing, passes_over, none_held, unread_status, with_file, with_missing, with_warning}
+use Rattle.link_cli.specs.Files.{World, Held, HeldFile, IsNew, MissesFile, ReadsFiles, all_held, is_held, was_passed_over, is_read, is_passed_over, is_unread, ran_out_unasked, ran_out_behind, content_in, is_missing, passes_over, none_held, unread_status, with_file, with_missing, with_warning}
 use Rattle.link_cli.specs.Answer.{sources_in}
 use Rattle.link_cli.specs.Told.{NoFault, file_refusal, first_unread, input_size, is_known, size_of, sources_at, warned, warning_at}
+use Rattle.link_cli.proofs.Later.{out_same}
 
 -- ---- counts
 
@@ -310,7 +311,8 @@ reads_told keep_going files known before after (is_unread number o objects held 
     | inr memory ↦ inr memory
   ];
 }
-reads_told keep_going files known before after (ran_out number objects held b a warnings unwritten) told quiet so = record { same = unwritten.same ∙ told; why = inr refl }
+reads_told keep_going files known before after (ran_out_unasked number objects held now warnings) told quiet so = record { same = told; why = inr refl }
+reads_told keep_going files known before after (ran_out_behind number o objects held b a warnings new out) told quiet so = record { same = out_same out ∙ told; why = inr refl }
 
 -- ---- files that are there
 

@@ -21,7 +21,7 @@ use Rattle.link_cli.specs.declared.plan.Mode.{Mode}
 use Rattle.link_cli.specs.declared.plan.Mode.TheVariants as modes
 use Rattle.link_cli.specs.declared.program.Program.{Program}
 use Rattle.link_cli.specs.Endings.{Puts, Said, counts_ending, done_ending, map_ending, no_memory, refusal_message, refused_ending, unwritten_ending, usage_ending}
-use Rattle.link_cli.specs.Files.{World, IsUnwritten, most_input, ReadsFile, MissesFile, unread_status, Held, HeldFile, none_held, ReadsFiles, content_in}
+use Rattle.link_cli.specs.Files.{World, RunsOut, most_input, ReadsFile, MissesFile, unread_status, Held, HeldFile, none_held, ReadsFiles, content_in}
 use Rattle.link_cli.specs.Plan.{Planned, is_generated, plan_of}
 use Rattle.link_cli.specs.Refusals.{program_of}
 
@@ -74,7 +74,8 @@ pub data LinksSources (plan : Planned) (program : Program) (held : Held) (before
 pub data LinksObjects (plan : Planned) (program : Program) (most : ℕ) (before after : World) : Ending → Type 0 where
   file_unread : (stopped : Stopped) → ReadsFiles plan.keep_going 1 program.objects (none_held most) before after (Err stopped)
       → LinksObjects plan program most before after (refused_ending plan program.objects stopped.warnings stopped.status)
-  files_untold : IsUnwritten before after → LinksObjects plan program most before after no_memory
+  files_untold : (stopped : Stopped) → ReadsFiles plan.keep_going 1 program.objects (none_held most) before after (Err stopped)
+      → LinksObjects plan program most before after no_memory
   files_read : (held : Held) (middle : World) (ending : Ending) → ReadsFiles plan.keep_going 1 program.objects (none_held most) before middle (Ok held)
       → LinksSources plan program held middle after ending → LinksObjects plan program most before after ending
 
@@ -105,7 +106,7 @@ pub data Does (plan : Planned) (program : Program) (most : ℕ) (before after : 
 -- The program of a plan is read, and its mode is done.
 pub data RunsProgram (plan : Planned) (before after : World) : Ending → Type 0 where
   program_unread : (error : FileError) → MissesFile plan.exe most_input error before after → RunsProgram plan before after (refused_ending plan [] [] (unread_status 0 error))
-  program_untold : IsUnwritten before after → RunsProgram plan before after no_memory
+  program_untold : RunsOut plan.exe most_input before after → RunsProgram plan before after no_memory
   program_refused : (bytes : List ℕ) (refusal : Refusal) → ReadsFile plan.exe most_input bytes before after → program_of bytes ≡ Err refusal
       → RunsProgram plan before after (refused_ending plan [] [] (refused_status refusal))
   program_found : (bytes : List ℕ) (middle : World) (program : Program) (ending : Ending) → ReadsFile plan.exe most_input bytes before middle → program_of bytes ≡ Ok program

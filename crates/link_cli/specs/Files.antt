@@ -95,17 +95,17 @@ abbrev pub passes_over : Bool → FileError → Bool
 passes_over keep_going errors.Missing = keep_going
 passes_over keep_going _ = false
 
--- nothing was written, and no count fell
-pub record IsUnwritten (before after : World) : Type 0 where
-  pub same : after.files ≡ before.files
-  pub later : IsLater before.counts after.counts
+-- Memory ran out behind the one call for the file of a name, which read the file or missed it.
+pub data RunsOut (name : List ℕ) (most : ℕ) (before after : World) : Type 0 where
+  behind_read : (bytes : List ℕ) → ReadsFile name most bytes before after → RunsOut name most before after
+  behind_miss : (error : FileError) → MissesFile name most error before after → RunsOut name most before after
 
 -- the file of an object was neither read nor let go before
 pub record IsNew (held : Held) (object : MapObject) : Type 0 where
   pub unread : content_in held.files object.file ≡ None
   pub kept : is_missing held.missing object.file ≡ false
 
--- The files of objects are read in the order of the objects, which have numbers from one on, each file once and by one call. The answer is what is held then, or why reading ended, with the warnings so far: a file was not read and not let go, or memory ran out.
+-- The files of objects are read in the order of the objects, which have numbers from one on, each file once and by one call. The answer is what is held then, or why reading ended, with the warnings so far: a file was not read and not let go, or memory ran out, before the call for a file or behind it.
 pub data ReadsFiles (keep_going : Bool) : (number : ℕ) → List MapObject → Held → (before after : World) → Result Held Stopped → Type 0 where
   all_held : (number : ℕ) (held : Held) (now : World) → ReadsFiles keep_going number [] held now now (Ok held)
   is_held : (number : ℕ) (object : MapObject) (objects : List MapObject) (held : Held) (before after : World) (bytes : List ℕ) (answer : Result Held Stopped)
@@ -122,5 +122,8 @@ pub data ReadsFiles (keep_going : Bool) : (number : ℕ) → List MapObject → 
   is_unread : (number : ℕ) (object : MapObject) (objects : List MapObject) (held : Held) (before after : World) (error : FileError)
       → IsNew held object → MissesFile object.file held.left error before after → passes_over keep_going error ≡ false
       → ReadsFiles keep_going number (object ∷ objects) held before after (Err (record { status = unread_status number error; warnings = held.warnings }))
-  ran_out : (number : ℕ) (objects : List MapObject) (held : Held) (before after : World) (warnings : List ℕ) → IsUnwritten before after
-      → ReadsFiles keep_going number objects held before after (Err (record { status = statuses.NoMemory; warnings = warnings }))
+  ran_out_unasked : (number : ℕ) (objects : List MapObject) (held : Held) (now : World) (warnings : List ℕ)
+      → ReadsFiles keep_going number objects held now now (Err (record { status = statuses.NoMemory; warnings = warnings }))
+  ran_out_behind : (number : ℕ) (object : MapObject) (objects : List MapObject) (held : Held) (before after : World) (warnings : List ℕ)
+      → IsNew held object → RunsOut object.file held.left before after
+      → ReadsFiles keep_going number (object ∷ objects) held before after (Err (record { status = statuses.NoMemory; warnings = warnings }))
