@@ -2,9 +2,7 @@
 
 ghost use Rattle.std.specs.Prelude.{◌≡◌, ◌<◌, ◌^◌, ℕ, List as Listed, Ok, length};
 ghost use Rattle.std.specs.List.{All};
-ghost use Rattle.dwarf_types.specs.declared.abbrev.TheConstants.{MOST_FIELDS};
 ghost use Rattle.dwarf_types.specs.declared.analysis.Analysis.{Analysis};
-ghost use Rattle.dwarf_types.specs.declared.entry.TheConstants.{MOST_ENTRIES};
 ghost use Rattle.dwarf_types.specs.LinkedGraph.{linked};
 ghost use Rattle.dwarf_types.specs.LinkedUnits.{Object};
 ghost use Rattle.dwarf_types.specs.Spelled.{AreBytes};
@@ -23,10 +21,4 @@ pub fn analyses_are_spellable()
 /// What is linked of objects is well: of each the analysis of its bytes, with its live entries marked.
 pub fn what_is_linked_is_well()
     ensures { (objects : Listed Object) → All IsAnalysed objects → IsWell (linked objects) }
-{}
-
-/// The most entries of an object and attributes of a declaration, which definitions call by the names of constants.
-pub fn limits_of_objects()
-    ensures entries { MOST_ENTRIES ≡ 2 ^ 24 }
-    ensures attributes { MOST_FIELDS ≡ 256 }
 {}
