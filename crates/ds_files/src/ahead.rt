@@ -1,6 +1,6 @@
 //! Files that are read before they are asked for.
 
-ghost use Rattle.std.specs.Prelude.{◌≡◌, ◌≤◌};
+ghost use Rattle.std.specs.Prelude.{◌≤◌};
 
 use crate::files::Files;
 use ds_base::{Bytes, NoMemory};
@@ -31,7 +31,7 @@ struct Wanted<'a> {
 
 impl Ahead {
     /// No file.
-    pub(crate) fn new() -> Ahead {
+    pub fn new() -> Ahead {
         Ahead { files: None }
     }
 
@@ -44,29 +44,25 @@ impl Ahead {
     }
 }
 
-/// Lets files be read quickly that are to be asked for next, in the order of their names: it has the first of them, which
-/// have at most `most` bytes together, fetched by at most `workers` threads, and kept.
+/// Files that are to be asked for next, in the order of their names: the first of them, which have at most `most` bytes
+/// together, fetched by at most `workers` threads. Once they are kept ([`Files::keep`]) they are read quickly.
 ///
 /// This is a hint, and nothing else comes of it. Whatever can't be fetched is read when it is asked for. With fewer than
 /// two workers or two names nothing is fetched. Work for which no thread can be started is done in the caller's.
-pub fn read_ahead<R: Threads + Sync, F: Files + Sync>(
+pub fn fetch_ahead<R: Threads + Sync, F: Files + Sync>(
     rt: &R,
     alloc: Global,
     workers: u32,
     names: &[&str],
     most: u64,
-    files: &mut F,
-)
-    ensures same { F.files files.new ≡ F.files files.old }
-    ensures counted { F.counts files.new ≡ F.counts files.old }
-{
-    // What was kept before goes first, so that there are never more bytes than `most`.
-    files.keep(Ahead::new());
+    files: &F,
+) -> Ahead {
     if workers < 2 || names.len() < 2 {
-        return;
+        return Ahead::new();
     }
-    if let Ok(ahead) = fetched(rt, alloc, workers, names, most, files) {
-        files.keep(ahead);
+    match fetched(rt, alloc, workers, names, most, files) {
+        Ok(ahead) => ahead,
+        Err(NoMemory) => Ahead::new(),
     }
 }
 

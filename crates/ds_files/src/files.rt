@@ -34,7 +34,7 @@ impl From<NoMemory> for FileError {
 /// how many calls of [`Files::read`] and [`Files::replace`] there were, and how often one failed, missed its file, and
 /// found it too long. No count ever falls, and one that stands at 2^64 - 1, its last value, counts as risen.
 ///
-/// [`Files::size_ahead`], [`Files::fetch`] and [`Files::keep`] serve [`crate::read_ahead`]: by them files may be read
+/// [`Files::size_ahead`], [`Files::fetch`] and [`Files::keep`] serve [`crate::fetch_ahead`]: by them files may be read
 /// before they are asked for. Where that gains nothing, the first two answer `None`, and the third does nothing.
 pub trait Files {
     ghost use Rattle.std.specs.Prelude.{◌≡◌, ◌≤◌, length, Some, IfOk, IfSome, OnOk, IfErr, option_map};

@@ -8,7 +8,7 @@
 //! [`MemoryFiles`] and [`MemorySink`] keep all in memory, tell it, and fail where they are asked to: their contracts say
 //! exactly what each call answers (`specs/MemoryFiles.antt`, `specs/MemorySink.antt`). [`HostFiles`] and [`HostSink`] are
 //! the trusted edge, the system's files and standard output. What those hold is not told, so no clause says that a file
-//! has the bytes that were written. [`Gate`] has no meaning, nor has [`read_ahead`], by which several threads read files
+//! has the bytes that were written. [`Gate`] has no meaning, nor has [`fetch_ahead`], by which several threads read files
 //! before they are asked for: it changes neither files nor counts.
 #![tactic(auto)]
 
@@ -23,7 +23,7 @@ mod sink;
 mod streams;
 mod tally;
 
-pub use ahead::{Ahead, read_ahead};
+pub use ahead::{Ahead, fetch_ahead};
 pub use files::{FileError, Files};
 pub use gate::{Gate, OpenGate};
 pub use host_files::HostFiles;

@@ -1,4 +1,4 @@
-use crate::ahead::read_ahead;
+use crate::ahead::fetch_ahead;
 use crate::files::{FileError, Files};
 use crate::gate::{Gate, OpenGate};
 use crate::host_files::HostFiles;
@@ -196,7 +196,8 @@ fn files_that_were_read_ahead_are_answered_as_others(rt: HostRuntime) {
     ];
     puts(&rt, alloc, &mut files, &rows);
     let names = ["first", "none", "second", "third"];
-    read_ahead(&rt, alloc, 2, &names, 8, &mut files);
+    let ahead = fetch_ahead(&rt, alloc, 2, &names, 8, &files);
+    files.keep(ahead);
     removes(&rt, &["first", "second", "third"]);
     let rows = [
         ("first", 3, Ok(b"abc".as_slice())),

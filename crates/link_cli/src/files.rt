@@ -9,12 +9,11 @@ ghost use Rattle.link_cli.specs.Holding.{Becomes, PassesOver, held_answer, held_
 
 use crate::texts::warning;
 use ds_base::{Bytes, List, NoMemory};
-use ds_files::{FileError, Files, read_ahead};
-use indexmap::{IndexMap, IndexSet};
+use ds_files::{Ahead, FileError, Files};
+use indexmap::IndexMap;
 use link_core::{LimitKind, Status};
 use stab_map::MapObject;
 use std::alloc::Global;
-use std::thread::Threads;
 
 /// The most bytes that all files may have together.
 pub(crate) const MOST_INPUT: u64 = 1 << 29;
@@ -39,34 +38,11 @@ pub(crate) struct Stopped {
     pub warnings: Bytes,
 }
 
-/// Lets [`read_files`] be quick: files of objects, which have at most `most` bytes together, are read ahead by at most
-/// `workers` threads. Where memory runs out for the list of their names, none is; nothing comes of that.
-pub(crate) fn expect_files<R: Threads + Sync, F: Files + Sync>(
-    rt: &R,
-    alloc: Global,
-    workers: u32,
-    objects: &[MapObject],
-    most: u64,
-    files: &mut F,
-)
-    requires { HaveNames objects.now }
+/// Lets [`read_files`] be quick by what was read ahead; nothing else comes of that.
+pub(crate) fn expect_files<F: Files>(ahead: Ahead, files: &mut F)
     ensures { world (F.files files.new) (F.counts files.new) ≡ world (F.files files.old) (F.counts files.old) }
 {
-    let Ok(names) = file_names(alloc, objects) else {
-        return;
-    };
-    read_ahead(rt, alloc, workers, names.as_slice(), most, files);
-}
-
-/// The names of the objects' files, each once, in the order in which the files are read.
-fn file_names<'a>(alloc: Global, objects: &'a [MapObject]) -> Result<IndexSet<&'a str>, NoMemory>
-    requires { HaveNames objects.now }
-{
-    let mut names = IndexSet::new(alloc);
-    for object in objects {
-        names.insert(file_name(object))?;
-    }
-    Ok(names)
+    files.keep(ahead);
 }
 
 /// The files of objects, each read once in the order of the objects. They have at most `most` bytes together. A missing

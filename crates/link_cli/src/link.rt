@@ -24,7 +24,7 @@ use crate::plan::{Mode, Plan, PlanError, plan_of_words};
 use crate::program::{Program, read_program};
 use crate::texts::map_text;
 use ds_base::{Bytes, NoMemory};
-use ds_files::{Files, Gate, Sink};
+use ds_files::{Ahead, Files, Gate, Sink};
 use indexmap::IndexMap;
 use link_core::{Linked, Options, Refusal, Status, last_part, link_files};
 use std::alloc::Global;
@@ -105,19 +105,29 @@ fn run_program<R: Threads + Sync, F: Files + Sync, G: Gate + Sync>(
         Ok(bytes) => bytes,
         Err(status) => return Ending::refused(alloc, plan, &[], Bytes::new(alloc), status),
     };
-    let program = match read_program(alloc, bytes.as_slice()) {
+    let most = MOST_INPUT - bytes.len() as u64;
+    let workers = workers_ahead(plan);
+    let (read, ahead) = read_program(rt, alloc, bytes.as_slice(), workers, most, files);
+    drop(bytes);
+    let program = match read {
         Ok(program) => program,
         Err(refusal) => {
             let status = Status::from(refusal);
             return Ending::refused(alloc, plan, &[], Bytes::new(alloc), status);
         }
     };
-    let most = MOST_INPUT - bytes.len() as u64;
-    drop(bytes);
     match plan.mode {
-        Mode::Link => link_program(rt, alloc, plan, &program, most, files, gate),
+        Mode::Link => link_program(rt, alloc, plan, &program, most, ahead, files, gate),
         Mode::Map => tell_map(alloc, &program),
         Mode::Generate(_) => unreachable!(),
+    }
+}
+
+/// By how many workers the files of a program's objects may be read ahead: by one, which is none, where they aren't read.
+fn workers_ahead(plan: &Plan) -> u32 {
+    match plan.mode {
+        Mode::Link => plan.workers,
+        Mode::Map | Mode::Generate(_) => 1,
     }
 }
 
@@ -145,13 +155,15 @@ fn tell_map(alloc: Global, program: &Program) -> Ending
     }
 }
 
-/// Reads the files of a program's objects, which have at most `most` bytes together, links them and writes the bundle.
+/// Reads the files of a program's objects, which have at most `most` bytes together, some of them ahead, links them and writes
+/// the bundle.
 fn link_program<R: Threads + Sync, F: Files + Sync, G: Gate + Sync>(
     rt: &R,
     alloc: Global,
     plan: &Plan,
     program: &Program,
     most: u64,
+    ahead: Ahead,
     files: &mut F,
     gate: &G,
 ) -> Ending
@@ -164,7 +176,7 @@ fn link_program<R: Threads + Sync, F: Files + Sync, G: Gate + Sync>(
     ensures { LinksObjects (plan_seen plan.now) program.now most (world (F.files files.old) (F.counts files.old)) (world (F.files files.new) (F.counts files.new)) result }
 {
     let objects = program.objects.as_slice();
-    expect_files(rt, alloc, plan.workers, objects, most, files);
+    expect_files(ahead, files);
     match read_files(alloc, objects, plan.keep_going, most, files) {
         Ok(held) => link_held(rt, alloc, plan, program, held, files, gate),
         Err(stopped) => { Ending::refused(alloc, plan, objects, stopped.warnings, stopped.status) }

@@ -2,8 +2,8 @@
 //!
 //! Layer: files. Reads the stabs in the symbol table of a linked program (mach-o/stab.h). [`debug_map`] gives
 //! `map_of` the image (`specs/DebugMap.antt`): the objects with their entries, the first fault in the order of
-//! the symbols, or that there are too many objects; a law says of which kinds the faults are. No object's file is
-//! looked at, and the times in the stabs aren't read.
+//! the symbols, or that there are too many objects; a law says of which kinds the faults are. [`opened_file`] tells of a
+//! symbol alone which file its object lies in. No object's file is looked at, and the times in the stabs aren't read.
 #![tactic(auto)]
 
 mod addresses;
@@ -17,3 +17,4 @@ mod stab;
 pub use law::kinds_of_map_faults;
 pub use map::debug_map;
 pub use object::{MapEntry, MapError, MapObject};
+pub use origin::opened_file;

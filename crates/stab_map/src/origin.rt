@@ -1,8 +1,14 @@
 //! Where an object lies: in a file of its own, or as a member of an archive.
 
-ghost use Rattle.std.specs.Prelude.{◌≡◌, ◌-◌, ◌≤◌, not, length};
+ghost use Rattle.std.specs.Prelude.{◌≡◌, ◌-◌, ◌≤◌, not, length, IfSome};
 ghost use Rattle.std.specs.List.{suffix_len};
+ghost use Rattle.macho_read.specs.Seen.{symbol_seen};
+ghost use Rattle.stab_map.specs.declared.stab.Stab.TheVariants as stabs;
 ghost use Rattle.stab_map.specs.Origin.{origin_of, is_open, seen};
+ghost use Rattle.stab_map.specs.Stab.{stab_of};
+
+use crate::stab::{Stab, read_stab};
+use macho_read::SymbolRef;
 
 /// Where an object lies.
 #[derive(Clone, Copy)]
@@ -47,4 +53,15 @@ fn after_open(path: &[u8]) -> usize
         len -= 1;
     }
     len
+}
+
+/// The file in which the object lies that a symbol opens, where its name is text: [`crate::debug_map`] names these files, in
+/// this order, and a caller may look for them while it is made. `None` for any other symbol.
+pub fn opened_file(symbol: SymbolRef<'_>) -> Option<&str>
+    ensures { IfSome result (λ file. (stab_of (symbol_seen symbol.entry) ≡ stabs.Object) × (file.now ≡ (origin_of symbol.entry.name.now).file)) }
+{
+    if read_stab(symbol) != Stab::Object {
+        return None;
+    }
+    str::from_utf8(find_origin(symbol.name).file).ok()
 }
