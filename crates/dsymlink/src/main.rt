@@ -4,19 +4,22 @@
 //! the code of the status.
 #![tactic(auto)]
 
-ghost use Rattle.std.specs.Prelude.{◌≡◌, ◌≢◌, [], IfOk, IsErr, drop};
-ghost use Rattle.std.specs.Result.{IsOkAnd};
+ghost use Rattle.std.specs.Prelude.{◌≡◌, ◌≢◌, [], map, IfOk, drop};
 ghost use Rattle.std.specs.Process.{exit_status};
+ghost use Rattle.std.specs.String.{string_bytes};
 ghost use Rattle.std.specs.Vec.Iter.{into_iter_items};
-ghost use Rattle.dsymlink.specs.Runs.{Ends, Runs};
+ghost use Rattle.dsymlink.specs.Runs.{Answers, Ends, IsUnasked, Runs};
+ghost use Rattle.link_cli.specs.Answer.{Links};
+ghost use Rattle.link_cli.specs.Endings.{said};
+ghost use Rattle.link_cli.specs.Files.{world};
 
-use ds_files::{HostFiles, HostSink, OpenGate};
+use ds_files::{Files, HostFiles, HostSink, OpenGate, Sink};
 use link_cli::link_main;
 use link_core::{Status, code};
 use std::alloc::{AllocError, Global};
 use std::io::ErrorKind;
 use std::process::ExitCode;
-use std::rt::{Env, Files};
+use std::rt::Env;
 use std::thread::Threads;
 use std::{env, rt};
 
@@ -25,7 +28,7 @@ fn main(rt: HostRuntime) -> ExitCode {
 }
 
 /// Links the program that the words name, and gives the code of the status.
-fn exit_code<R: Env + Files + Print + AllocGlobal + Threads + Sync>(rt: &R) -> ExitCode
+fn exit_code<R: Env + rt::Files + Print + AllocGlobal + Threads + Sync>(rt: &R) -> ExitCode
 where
     R::File: Send,
     R::Dir: Send,
@@ -34,29 +37,61 @@ where
     ExitCode::from(code(&run(rt)))
 }
 
-/// Links the program that the words name. Where the arguments are not all UTF-8, there are no words, which name none.
-fn run<R: Env + Files + Print + AllocGlobal + Threads + Sync>(rt: &R) -> Status
+/// Links the program that the process's arguments name, by the system's files and standard output.
+fn run<R: Env + rt::Files + Print + AllocGlobal + Threads + Sync>(rt: &R) -> Status
 where
     R::File: Send,
     R::Dir: Send,
     ensures { Runs result }
 {
     let alloc = rt.alloc();
-    let words = match env::args(rt) {
-        Ok(args) => words_of(alloc, args),
-        Err(error) => no_words(alloc, error.kind()),
-    };
-    match words {
+    let mut files = HostFiles::new(rt);
+    let mut messages = HostSink::new(rt);
+    match env::args(rt) {
+        Ok(args) => link_args(rt, alloc, args, &mut files, &mut messages),
+        Err(error) => link_nothing(rt, alloc, error.kind(), &mut files, &mut messages),
+    }
+}
+
+/// What the linker answers of the arguments: of all but the first, which is the program's own name.
+fn link_args<R: Threads + Sync, F: Files + Sync, S: Sink>(
+    rt: &R,
+    alloc: Global,
+    args: env::Args,
+    files: &mut F,
+    messages: &mut S,
+) -> Status
+    ensures { Answers (map string_bytes (drop 1 (into_iter_items args))) (world (F.files files.old) (F.counts files.old)) (world (F.files files.new) (F.counts files.new)) (said (S.text messages.old) (S.faults messages.old) (S.calls messages.old)) (said (S.text messages.new) (S.faults messages.new) (S.calls messages.new)) result }
+{
+    match words_of(alloc, args) {
         Ok(words) => link_main(
             rt,
             alloc,
             words.as_slice(),
-            &mut HostFiles::new(rt),
-            &mut HostSink::new(rt),
+            files,
+            messages,
             &OpenGate::new(),
         ),
         Err(_) => Status::NoMemory,
     }
+}
+
+/// What is answered where the arguments are not read: there are no words, unless memory ran out.
+fn link_nothing<R: Threads + Sync, F: Files + Sync, S: Sink>(
+    rt: &R,
+    alloc: Global,
+    kind: ErrorKind,
+    files: &mut F,
+    messages: &mut S,
+) -> Status
+    ensures memory { kind ≡ ErrorKind.OutOfMemory → IsUnasked (world (F.files files.old) (F.counts files.old)) (world (F.files files.new) (F.counts files.new)) (said (S.text messages.old) (S.faults messages.old) (S.calls messages.old)) (said (S.text messages.new) (S.faults messages.new) (S.calls messages.new)) result }
+    ensures words { kind ≢ ErrorKind.OutOfMemory → Links [] (world (F.files files.old) (F.counts files.old)) (world (F.files files.new) (F.counts files.new)) (said (S.text messages.old) (S.faults messages.old) (S.calls messages.old)) (said (S.text messages.new) (S.faults messages.new) (S.calls messages.new)) result }
+    ensures either { Answers [] (world (F.files files.old) (F.counts files.old)) (world (F.files files.new) (F.counts files.new)) (said (S.text messages.old) (S.faults messages.old) (S.calls messages.old)) (said (S.text messages.new) (S.faults messages.new) (S.calls messages.new)) result }
+{
+    if kind == ErrorKind::OutOfMemory {
+        return Status::NoMemory;
+    }
+    link_main(rt, alloc, &[], files, messages, &OpenGate::new())
 }
 
 /// The words of the command: all arguments but the first, which is the program's own name.
@@ -70,16 +105,4 @@ fn words_of(alloc: Global, args: env::Args) -> Result<Vec<String>, AllocError>
         words.push(word)?;
     }
     Ok(words)
-}
-
-/// No words, where the arguments are not read for another cause than memory.
-fn no_words(alloc: Global, kind: ErrorKind) -> Result<Vec<String>, AllocError>
-    ensures memory { kind ≡ ErrorKind.OutOfMemory → IsErr result }
-    ensures none { kind ≢ ErrorKind.OutOfMemory → IsOkAnd result (λ words. words.items ≡ []) }
-{
-    if kind == ErrorKind::OutOfMemory {
-        Err(AllocError)
-    } else {
-        Ok(Vec::new(alloc))
-    }
 }

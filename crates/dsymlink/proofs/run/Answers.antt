@@ -1,8 +1,7 @@
-use Rattle.dsymlink.specs.Runs.{linked, no_memory}
 use Rattle.dsymlink.proofs.run.Goals as goal
 
-pub returns-in-Ok-words : goal.returns-in-Ok-words
-returns-in-Ok-words g c = linked _ _ _ _ _ (rw (c.new.ensures, c.new-in-Ok-words.ensures) at c.link_main.ensures.exact)
+pub returns-in-Ok : goal.returns-in-Ok
+returns-in-Ok g c = record { words = _; after = _; faults = _; calls = _; answers = rw (c.new-files.ensures, c.new-messages.ensures) at c.link_args.ensures }
 
-pub returns-in-Err-words : goal.returns-in-Err-words
-returns-in-Err-words g c = no_memory
+pub returns : goal.returns
+returns g c = record { words = _; after = _; faults = _; calls = _; answers = rw (c.new-files.ensures, c.new-messages.ensures) at c.link_nothing.ensures.either }
