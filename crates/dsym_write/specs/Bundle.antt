@@ -4,7 +4,7 @@ use Rattle.std.specs.List.{filter, flat_map}
 use Rattle.std.specs.Option.{option_map, option_map_or, option_to_list}
 use Rattle.ds_base.specs.declared.fault.Part.{Part}
 use Rattle.ds_base.specs.declared.fault.Part.TheVariants as parts
-use Rattle.ds_base.specs.declared.macho.TheConstants.{MACH_HEADER_64_SIZE, MH_DSYM, NLIST_64_SIZE, SECT_DEBUG_ABBREV, SECT_DEBUG_ARANGES, SECT_DEBUG_FRAME, SECT_DEBUG_INFO, SECT_DEBUG_LINE, SECT_DEBUG_LINE_STR, SECT_DEBUG_LOC, SECT_DEBUG_LOCLISTS, SECT_DEBUG_RANGES, SECT_DEBUG_RNGLISTS, SECT_DEBUG_STR, SECTION_64_SIZE, SEGMENT_COMMAND_64_SIZE, SEG_DWARF, SYMTAB_COMMAND_SIZE, S_ATTR_DEBUG, UUID_COMMAND_SIZE}
+use Rattle.ds_base.specs.declared.macho.TheConstants.{MACH_HEADER_64_SIZE, MH_DSYM, NLIST_64_SIZE, SECT_DEBUG_ABBREV, SECT_DEBUG_ARANGES, SECT_DEBUG_FRAME, SECT_DEBUG_INFO, SECT_DEBUG_LINE, SECT_DEBUG_LINE_STR, SECT_DEBUG_LOC, SECT_DEBUG_LOCLISTS, SECT_DEBUG_RANGES, SECT_DEBUG_RNGLISTS, SECT_DEBUG_STR, SECTION_64_SIZE, SEGMENT_COMMAND_64_SIZE, SEG_DWARF, SYMTAB_COMMAND_SIZE, S_ATTR_DEBUG, UUID_COMMAND_SIZE, VM_PROT_EXECUTE, VM_PROT_READ, VM_PROT_WRITE}
 use Rattle.ds_base.specs.Texts.{section_of}
 use Rattle.dwarf_types.specs.declared.graph.Graph.{Graph}
 use Rattle.dwarf_types.specs.declared.graph.Written.{Written}
@@ -17,7 +17,6 @@ use Rattle.macho_read.specs.Fields.{before_zero}
 use Rattle.macho_read.specs.ImageSpelling.{File, LoadCommand, SegmentCommand, SymtabCommand, UuidCommand, commands_bytes, header_fields, nlist_bytes}
 use Rattle.macho_read.specs.Spelling.{spelled}
 use Rattle.macho_read.specs.Standings.{is_stab}
-use Rattle.dsym_write.specs.declared.protection.TheConstants.{VM_PROT_ALL, VM_PROT_DEFAULT}
 use Rattle.dsym_write.specs.declared.error.WriteError.{WriteError}
 use Rattle.dsym_write.specs.declared.error.WriteError.TheVariants as errors
 
@@ -110,8 +109,8 @@ dwarf_command program offset sections =
       name = before_zero SEG_DWARF;
       vmaddr = page_end (end_of program.segments);
       vmsize = page_end (length (contents sections));
-      maxprot = VM_PROT_ALL;
-      initprot = VM_PROT_DEFAULT;
+      maxprot = VM_PROT_READ + VM_PROT_WRITE + VM_PROT_EXECUTE;
+      initprot = VM_PROT_READ + VM_PROT_WRITE;
       flags = 0;
       sections = length sections;
     })

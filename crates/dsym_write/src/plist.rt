@@ -8,7 +8,7 @@ use ds_base::{Bytes, NoMemory};
 use std::alloc::Global;
 
 /// The text before the name.
-pub const BEFORE_NAME: [u8; 310] = *b"<?xml version=\"1.0\" encoding=\"UTF-8\"?>\n\
+const BEFORE_NAME: [u8; 310] = *b"<?xml version=\"1.0\" encoding=\"UTF-8\"?>\n\
     <!DOCTYPE plist PUBLIC \"-//Apple Computer//DTD PLIST 1.0//EN\" \"http://www.apple.com/DTDs/PropertyList-1.0.dtd\">\n\
     <plist version=\"1.0\">\n\
     \t<dict>\n\
@@ -18,7 +18,7 @@ pub const BEFORE_NAME: [u8; 310] = *b"<?xml version=\"1.0\" encoding=\"UTF-8\"?>
     \t\t<string>com.apple.xcode.dsym.";
 
 /// The text behind the name.
-pub const BEHIND_NAME: [u8; 319] = *b"</string>\n\
+const BEHIND_NAME: [u8; 319] = *b"</string>\n\
     \t\t<key>CFBundleInfoDictionaryVersion</key>\n\
     \t\t<string>6.0</string>\n\
     \t\t<key>CFBundlePackageType</key>\n\
@@ -32,11 +32,11 @@ pub const BEHIND_NAME: [u8; 319] = *b"</string>\n\
     \t</dict>\n\
     </plist>\n";
 
-pub const AMPERSAND: [u8; 5] = *b"&amp;";
+const AMPERSAND: [u8; 5] = *b"&amp;";
 
-pub const LESS: [u8; 4] = *b"&lt;";
+const LESS: [u8; 4] = *b"&lt;";
 
-pub const GREATER: [u8; 4] = *b"&gt;";
+const GREATER: [u8; 4] = *b"&gt;";
 
 /// The text of the Info.plist of a program's bundle: `name` is the program's, without its folder.
 pub fn plist_text(alloc: Global, name: &str) -> Result<Bytes, NoMemory>
