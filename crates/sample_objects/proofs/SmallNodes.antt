@@ -1,13 +1,11 @@
 -- The nodes of a generated unit are small, and how many there are.
-use Rattle.std.proofs.Common.{◌≡◌, ◌≤◌, ◌<◌, ◌+◌, ◌*◌, ℕ, zero, suc, List, [], ◌∷◌, ◌++◌, length, map, arith, refl, length-append}
+use Rattle.std.proofs.Common.{◌≡◌, ◌≤◌, ◌<◌, ◌+◌, ◌*◌, ℕ, zero, suc, List, [], ◌∷◌, ◌++◌, codes, length, map, arith, refl, length-append}
 use Rattle.std.specs.Fmt.{decimal}
 use Rattle.std.specs.List.{flat_map, range_with_len}
 use Rattle.std.proofs.lemmas.List.FromFn.{length-map-range_with_len}
 use Rattle.std.proofs.lemmas.Nat.{mod_below}
 use Rattle.ds_base.specs.declared.dwarf.TheConstants.{DW_FORM_data1, DW_FORM_data2, DW_FORM_data4, DW_FORM_flag_present, DW_LANG_C_plus_plus_14}
 use Rattle.dwarf_types.specs.declared.graph.Node.{Node}
-use Rattle.sample_objects.specs.declared.unit.TheConstants.{DW_ATE_signed, FUNCTION_SIZE, INT_SIZE, STRUCTURE_SIZE}
-use Rattle.sample_objects.specs.declared.texts.TheConstants.{FIRST_VARIABLE, SECOND_VARIABLE, SEPARATOR, THIRD_VARIABLE, UNIT_ENDING}
 use Rattle.sample_objects.specs.GeneratedUnit.{all_numbers, f_declaration, f_node, function, function_name, function_tree, g_declaration, g_node, int_type, linkage_name, member, member_name, namespace, pointer, structure, structure_name, structure_tree, this_parameter, type_number, unit_name, unit_nodes, unit_root, variable}
 use Rattle.sample_objects.proofs.Modest.{AreModest, IsModest, short_number}
 use Rattle.sample_objects.proofs.ShortNames.{short_decimal}
@@ -25,7 +23,7 @@ module _ (i : ℕ) (object : i ≤ 1000) where
       record {
         attrs = omega arith;
         values = omega (arith, short_number DW_FORM_data2 DW_LANG_C_plus_plus_14);
-        texts = omega (arith, length-append (unit_name i) (0 ∷ []), length-append (decimal i) UNIT_ENDING, short_decimal i (omega (arith, object)));
+        texts = omega (arith, length-append (unit_name i) (0 ∷ []), length-append (decimal i) (codes ".cc"), short_decimal i (omega (arith, object)));
         ranges = λ version. refl;
         locations = λ version place. refl;
       }
@@ -34,7 +32,7 @@ module _ (i : ℕ) (object : i ≤ 1000) where
   structure_small j =
       record {
         attrs = omega arith;
-        values = omega (arith, short_number DW_FORM_data1 STRUCTURE_SIZE);
+        values = omega (arith, short_number DW_FORM_data1 32);
         texts = omega (arith, length-append (structure_name i j) (0 ∷ []), short_decimal (type_number i j) (small_number i j));
         ranges = λ version. refl;
         locations = λ version place. refl;
@@ -54,11 +52,11 @@ module _ (i : ℕ) (object : i ≤ 1000) where
   function_small j number =
       record {
         attrs = omega arith;
-        values = omega (arith, short_number DW_FORM_data4 FUNCTION_SIZE);
+        values = omega (arith, short_number DW_FORM_data4 16);
         texts = omega (
           arith,
           length-append (function_name i j) (0 ∷ []),
-          length-append (decimal i) (SEPARATOR ++ decimal j),
+          length-append (decimal i) (codes "_" ++ decimal j),
           short_decimal i (omega (arith, object)),
           short_decimal j (omega (arith, number)),
         );
@@ -67,7 +65,7 @@ module _ (i : ℕ) (object : i ≤ 1000) where
       }
 
 int_small : IsModest int_type
-int_small = record { attrs = omega arith; values = omega (arith, short_number DW_FORM_data1 INT_SIZE, short_number DW_FORM_data1 DW_ATE_signed); texts = omega arith; ranges = λ version. refl; locations = λ version place. refl }
+int_small = record { attrs = omega arith; values = omega (arith, short_number DW_FORM_data1 4, short_number DW_FORM_data1 5); texts = omega arith; ranges = λ version. refl; locations = λ version place. refl }
 
 namespace_small : IsModest namespace
 namespace_small = record { attrs = omega arith; values = omega arith; texts = omega arith; ranges = λ version. refl; locations = λ version place. refl }
@@ -76,7 +74,7 @@ member_small : (j k : ℕ) → k < 8 → IsModest (member j k)
 member_small j k number =
     record {
       attrs = omega arith;
-      values = omega (arith, short_number DW_FORM_data1 (INT_SIZE * k));
+      values = omega (arith, short_number DW_FORM_data1 (4 * k));
       texts = omega (arith, length-append (member_name k) (0 ∷ []), short_decimal k (omega (arith, number)));
       ranges = λ version. refl;
       locations = λ version place. refl;
@@ -149,7 +147,7 @@ module _ (i : ℕ) where
             (f_small j, (parameter_small (f_node j) j, (g_small i object j, (parameter_small (g_node j) j, tt)))),
       ) in
       let functions : (j : ℕ) → j < 100 → AreModest (function_tree i j) =
-      λ j number. (function_small i object j number, (variable_small j FIRST_VARIABLE 8 (omega arith), (variable_small j SECOND_VARIABLE 16 (omega arith), (variable_small j THIRD_VARIABLE 24 (omega arith), tt)))) in (
+      λ j number. (function_small i object j number, (variable_small j (codes "a") 8 (omega arith), (variable_small j (codes "b") 16 (omega arith), (variable_small j (codes "c") 24 (omega arith), tt)))) in (
         root_small i object,
         (
           int_small,

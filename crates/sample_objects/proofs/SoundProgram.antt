@@ -1,5 +1,5 @@
 -- The image of the generated program is sound.
-use Rattle.std.proofs.Common.{◌≡◌, ◌≤◌, ◌<◌, ◌^◌, ◌+◌, ◌*◌, ◌==◌, ◌||◌, ◌%◌, ℕ, zero, suc, Bool, true, false, List, [], ◌∷◌, ◌++◌, length, filter, if◌then◌else◌, Ok, arith, refl, length-append}
+use Rattle.std.proofs.Common.{◌≡◌, ◌≤◌, ◌<◌, ◌^◌, ◌+◌, ◌*◌, ◌==◌, ◌||◌, ◌%◌, ℕ, zero, suc, Bool, true, false, List, [], ◌∷◌, ◌++◌, codes, length, filter, if◌then◌else◌, Ok, arith, refl, length-append}
 use Rattle.std.specs.Fmt.{decimal}
 use Rattle.std.specs.List.{AllByRecursion, flat_map, list_any, range_with_len}
 use Rattle.std.proofs.lemmas.Bool.{ne_eqb}
@@ -9,7 +9,6 @@ use Rattle.macho_read.specs.declared.image.Symbol.{Symbol}
 use Rattle.macho_read.specs.declared.kind.Role.TheVariants as roles
 use Rattle.macho_read.specs.Kind.{kind_of}
 use Rattle.macho_read.specs.Sound.{IsSound, IsSoundSection, IsSoundSegment, IsSoundSymbol}
-use Rattle.sample_objects.specs.declared.texts.TheConstants.{OBJECT_ENDING, SEPARATOR}
 use Rattle.sample_objects.specs.GeneratedProgram.{code_section, function_stabs, is_linked, linked_numbers, object_stabs, path_of, program_of, symbol_name, text_segment}
 use Rattle.sample_objects.specs.GeneratedUnit.{all_numbers}
 
@@ -35,10 +34,10 @@ decimal_none n small =
 
 symbol_none : (i j : ℕ) → i ≤ 1000 → j < 100 → has_zero (symbol_name i j) ≡ false
 symbol_none i j object number =
-    none_in (decimal i) (SEPARATOR ++ decimal j) (decimal_none i (omega (arith, object))) (decimal_none j (omega (arith, number)))
+    none_in (decimal i) (codes "_" ++ decimal j) (decimal_none i (omega (arith, object))) (decimal_none j (omega (arith, number)))
 
 path_none : (i : ℕ) → i ≤ 1000 → has_zero (path_of i) ≡ false
-path_none i object = none_in (decimal i) OBJECT_ENDING (decimal_none i (omega (arith, object))) refl
+path_none i object = none_in (decimal i) (codes ".o") (decimal_none i (omega (arith, object))) refl
 
 -- ---- symbols
 

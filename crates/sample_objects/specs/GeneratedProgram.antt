@@ -1,5 +1,5 @@
 -- The generated program of some objects: the image of the program, its debug map, and the files of its objects, which are numbered from 1.
-use Rattle.std.specs.Prelude.{ℕ, ◌+◌, ◌*◌, ◌%◌, ◌==◌, not, Bool, List, [], ◌∷◌, ◌++◌, map, slice_get, None, Some}
+use Rattle.std.specs.Prelude.{ℕ, ◌+◌, ◌*◌, ◌%◌, ◌==◌, not, Bool, List, [], ◌∷◌, ◌++◌, codes, map, slice_get, None, Some}
 use Rattle.std.specs.Fmt.{decimal}
 use Rattle.std.specs.List.{filter, flat_map, range_with_len}
 use Rattle.std.specs.Option.{option_map_or}
@@ -15,12 +15,8 @@ use Rattle.macho_read.specs.Fields.{before_zero}
 use Rattle.reloc_table.specs.declared.relocation.Reloc.{Reloc}
 use Rattle.stab_map.specs.declared.object.MapEntry.{MapEntry}
 use Rattle.stab_map.specs.declared.object.MapObject.{MapObject}
-use Rattle.sample_objects.specs.declared.file.TheConstants.{TEXT_SECTION}
 use Rattle.sample_objects.specs.declared.program.Generated.{Generated}
-use Rattle.sample_objects.specs.declared.program.TheConstants.{CODE_START, OBJECT_STRIDE, SEGMENT_ADDRESS, SEGMENT_SIZE, UUID}
 use Rattle.sample_objects.specs.declared.spec.ObjectSpec.{ObjectSpec}
-use Rattle.sample_objects.specs.declared.texts.TheConstants.{FOLDER, OBJECT_ENDING, SYMBOL}
-use Rattle.sample_objects.specs.declared.unit.TheConstants.{FUNCTION_SIZE}
 use Rattle.sample_objects.specs.GeneratedUnit.{all_numbers, function_name, function_node, unit_of}
 use Rattle.sample_objects.specs.ObjectFile.{counts_from_text, object_bytes}
 
@@ -28,11 +24,11 @@ use Rattle.sample_objects.specs.ObjectFile.{counts_from_text, object_bytes}
 
 -- `_fi_j`
 abbrev pub symbol_name : ℕ → ℕ → List ℕ
-symbol_name i j = SYMBOL ++ function_name i j
+symbol_name i j = codes "_" ++ function_name i j
 
--- an external symbol of the first section, where function j begins
+-- an external symbol of section 1, where function j begins: a function has 16 bytes
 abbrev pub symbol_of : ℕ → ℕ → Symbol
-symbol_of i j = record { name = symbol_name i j; kind = N_SECT + N_EXT; sect = TEXT_SECTION; desc = 0; value = FUNCTION_SIZE * j }
+symbol_of i j = record { name = symbol_name i j; kind = N_SECT + N_EXT; sect = 1; desc = 0; value = 16 * j }
 
 -- how many bytes the code of node k has
 abbrev pub code_len : OutUnit → ℕ → ℕ
@@ -53,11 +49,11 @@ spec_of i = record { cpu = CPU_TYPE_ARM64; unit = unit_of i; symbols = map (symb
 
 -- `gen/i.o`
 abbrev pub path_of : ℕ → List ℕ
-path_of i = FOLDER ++ (decimal i ++ OBJECT_ENDING)
+path_of i = codes "gen/" ++ (decimal i ++ codes ".o")
 
--- where function j is linked
+-- where function j is linked: the code of an object begins 2048 bytes behind that of the one before it
 abbrev pub linked_at : ℕ → ℕ → ℕ
-linked_at i j = CODE_START + OBJECT_STRIDE * i + FUNCTION_SIZE * j
+linked_at i j = 0x100001000 + 2048 * i + 16 * j
 
 -- each fourth function is not linked
 abbrev pub is_linked : ℕ → Bool
@@ -67,7 +63,7 @@ abbrev pub linked_numbers : List ℕ
 linked_numbers = filter is_linked all_numbers
 
 abbrev pub map_entry : ℕ → ℕ → MapEntry
-map_entry i j = record { name = symbol_name i j; linked = linked_at i j; size = Some FUNCTION_SIZE }
+map_entry i j = record { name = symbol_name i j; linked = linked_at i j; size = Some 16 }
 
 abbrev pub map_object : ℕ → MapObject
 map_object i = record { path = path_of i; file = path_of i; member = None; entries = map (map_entry i) linked_numbers }
@@ -79,23 +75,23 @@ abbrev pub stab : List ℕ → ℕ → ℕ → Symbol
 stab name kind value = record { name = name; kind = kind; sect = 0; desc = 0; value = value }
 
 abbrev pub function_stabs : ℕ → ℕ → List Symbol
-function_stabs i j = stab (symbol_name i j) N_FUN (linked_at i j) ∷ stab [] N_FUN FUNCTION_SIZE ∷ []
+function_stabs i j = stab (symbol_name i j) N_FUN (linked_at i j) ∷ stab [] N_FUN 16 ∷ []
 
 -- those of an object: its path, and those of its functions
 abbrev pub object_stabs : ℕ → List Symbol
 object_stabs i = stab (path_of i) N_OSO 0 ∷ flat_map (function_stabs i) linked_numbers
 
 abbrev pub text_segment : Segment
-text_segment = record { name = before_zero SEG_TEXT; vmaddr = SEGMENT_ADDRESS; vmsize = SEGMENT_SIZE; maxprot = 0; initprot = 0; flags = 0; sections = 1 }
+text_segment = record { name = before_zero SEG_TEXT; vmaddr = 0x100000000; vmsize = 0x1000000; maxprot = 0; initprot = 0; flags = 0; sections = 1 }
 
--- its one section
+-- its one section, which is as large
 abbrev pub code_section : Section
 code_section =
     record {
       name = before_zero SECT_TEXT;
       segment = before_zero SEG_TEXT;
-      addr = SEGMENT_ADDRESS;
-      size = SEGMENT_SIZE;
+      addr = 0x100000000;
+      size = 0x1000000;
       offset = 0;
       align = 0;
       reloff = 0;
@@ -106,14 +102,14 @@ code_section =
       reserved3 = 0;
     }
 
--- the program of so many objects
+-- the program of so many objects, whose UUID is the bytes 0 to 15
 abbrev pub program_of : ℕ → Image
 program_of count =
     record {
       cpu = CPU_TYPE_ARM64;
       sub = 0;
       filetype = MH_EXECUTE;
-      uuid = Some UUID;
+      uuid = Some (range_with_len 0 16);
       segments = text_segment ∷ [];
       sections = code_section ∷ [];
       symbols = flat_map object_stabs (range_with_len 1 count);

@@ -19,7 +19,6 @@ use Rattle.macho_read.specs.Fields.{before_zero}
 use Rattle.macho_read.specs.ImageSpelling.{File, LoadCommand, SegmentCommand, SymtabCommand, commands_bytes, header_fields}
 use Rattle.macho_read.specs.Spelling.{spelled}
 use Rattle.reloc_table.specs.declared.relocation.Reloc.{Reloc}
-use Rattle.sample_objects.specs.declared.file.TheConstants.{TEXT_SECTION, TEXT_SIZE}
 use Rattle.sample_objects.specs.declared.places.Places.{Places}
 use Rattle.sample_objects.specs.declared.spec.ObjectSpec.{ObjectSpec}
 
@@ -62,9 +61,9 @@ operand_places at (s ∷ sequences) = (at + 3) ∷ operand_places (at + length (
 abbrev pub operands_of : ℕ → OutLines → List ℕ
 operands_of version lines = operand_places (8 + length (version_bytes version) + length (fields_bytes version (λ text. 0) lines)) lines.sequences
 
--- an address of the section of the code
+-- an address of the section of the code, which is section 1
 abbrev pub counts_from_text : ℕ → Reloc
-counts_from_text place = record { place = place; symbol = TEXT_SECTION; outer = false }
+counts_from_text place = record { place = place; symbol = 1; outer = false }
 
 -- the relocations of the line table of a unit, if it has one
 abbrev pub line_relocs : OutUnit → List Reloc
@@ -118,7 +117,7 @@ text_section =
       name = before_zero SECT_TEXT;
       segment = before_zero SEG_TEXT;
       addr = 0;
-      size = TEXT_SIZE;
+      size = 0x10000;
       offset = 0;
       align = 0;
       reloff = 0;

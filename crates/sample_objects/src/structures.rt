@@ -64,7 +64,7 @@ fn type_number(i: u32, j: u32) -> u32
 
 fn add_members(alloc: Global, nodes: &mut List<Node>, j: u32) -> Result<(), NoMemory>
     requires { j < 100 }
-    ensures { OnOk result (nodes.new ≡ nodes.old ++ map (member j) (range_with_len 0 MEMBERS)) }
+    ensures { OnOk result (nodes.new ≡ nodes.old ++ map (member j) (range_with_len 0 8)) }
 {
     for k in 0..MEMBERS {
         add_member(alloc, nodes, j, k)?;
