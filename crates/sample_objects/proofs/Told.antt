@@ -1,6 +1,7 @@
 -- Sections told by their sizes, and what can't be.
-use Rattle.std.proofs.Common.{◌≡◌, ℕ, Bool, true, false, List, [], ◌∷◌, length, filter, map, Option, Some, None, if◌then◌else◌, arith, refl, ap, ◌∙◌, length-append}
-use Rattle.std.specs.List.{sum_by}
+use Rattle.std.proofs.Common.{◌≡◌, ◌≤◌, ◌<◌, ◌-◌, ◌*◌, ◌^◌, ℕ, Bool, true, false, List, [], ◌∷◌, length, filter, map, Option, Some, None, if◌then◌else◌, nat_le, cond, arith, refl, sym, ap, ◌∙◌, length-append}
+use Rattle.std.specs.List.{AllByRecursion, find, sum_by}
+use Rattle.std.proofs.lemmas.Bool.{leb-false}
 use Rattle.std.proofs.lemmas.List.Sums.{sum_by-cons}
 use Rattle.ds_base.specs.declared.fault.Part.{Part}
 use Rattle.ds_base.specs.declared.fault.Part.TheVariants as parts
@@ -9,7 +10,7 @@ use Rattle.dwarf_types.specs.declared.graph.Graph.{Graph}
 use Rattle.dwarf_types.specs.declared.graph.Written.{Written}
 use Rattle.dwarf_types.specs.Encode.{abbrev_section, aranges_section, encode, frame_section, has_bytes, info_section, line_section, line_str_section, loc_section, loclists_section, ranges_section, rnglists_section, str_section}
 use Rattle.layout.specs.declared.sizes.Sizes.{Sizes}
-use Rattle.layout.specs.Laid.{sizes_of}
+use Rattle.layout.specs.Laid.{long_section, size_in, sizes_of}
 use Rattle.dsym_write.specs.declared.dwarf.TheConstants.{WRITTEN_PARTS}
 use Rattle.sample_objects.specs.ObjectFile.{sized_of}
 use Rattle.sample_objects.specs.Sized.{has_size, with_size}
@@ -49,6 +50,65 @@ parts_told graph sizes told =
     ∷ record { part = parts.Frame; bytes = frame_section graph } ∷ [] in
     let same : map (with_size (sizes_of graph)) WRITTEN_PARTS ≡ sized_of all = refl in
     ap (λ (it : Sizes). filter has_size (map (with_size it) WRITTEN_PARTS)) told ∙ ap (filter has_size) same ∙ kept_told all
+
+-- ---- sections that are not too long
+
+none_passes : {X : Type 0} (test : X → Bool) (xs : List X) → find test xs ≡ None → AllByRecursion (λ x. test x ≡ false) xs
+none_passes test [] none = tt
+none_passes {X = X} test (x ∷ xs) none = by (test x) (find test xs) none (none_passes test xs)
+  where
+    by : (b : Bool) (rest : Option X) → cond b (Some x) rest ≡ None → (rest ≡ None → AllByRecursion (λ y. test y ≡ false) xs) → (b ≡ false) × AllByRecursion (λ y. test y ≡ false) xs
+    by true rest none more = absurd cc
+    by false rest none more = (refl, more none)
+
+abbrev AreShort : List (Part × ℕ) → Type 0
+AreShort sized = AllByRecursion (λ s. s.1 < 2 ^ 32) sized
+
+all_short : (graph : Graph) → long_section graph ≡ None → AreShort (map (with_size (sizes_of graph)) WRITTEN_PARTS)
+all_short graph none =
+    let test : Part → Bool = λ part. nat_le (2 ^ 32 - 1) (size_in (sizes_of graph) part) in
+    let short : (part : Part) → test part ≡ false → size_in (sizes_of graph) part < 2 ^ 32 = λ part e. let few = leb-false (2 ^ 32 - 1) (size_in (sizes_of graph) part) e in omega (arith, few) in
+    let q =
+    none_passes test (parts.Str ∷ parts.Abbrev ∷ parts.Info ∷ parts.Line ∷ parts.LineStr ∷ parts.Ranges ∷ parts.Rnglists ∷ parts.Loc ∷ parts.Loclists ∷ parts.Aranges ∷ parts.Frame ∷ []) none in
+    let behind = q.1.1.1.1 in (
+      short parts.Abbrev q.1.0,
+      (
+        short parts.Info q.1.1.0,
+        (
+          short parts.Str q.0,
+          (
+            short parts.Line q.1.1.1.0,
+            (
+              short parts.LineStr behind.0,
+              (
+                short parts.Ranges behind.1.0,
+                (
+                  short parts.Rnglists behind.1.1.0,
+                  (short parts.Loc behind.1.1.1.0, (short parts.Loclists behind.1.1.1.1.0, (short parts.Aranges behind.1.1.1.1.1.0, (short parts.Frame behind.1.1.1.1.1.1.0, tt)))),
+                ),
+              ),
+            ),
+          ),
+        ),
+      ),
+    )
+
+kept_few : (sized : List (Part × ℕ)) → AreShort sized → sum_by (λ s. s.1) (filter has_size sized) ≤ length sized * 2 ^ 32
+kept_few [] short = omega arith
+kept_few (s ∷ sized) short = by (has_size s) short.0 (kept_few sized short.1)
+  where
+    by : (b : Bool) → s.1 < 2 ^ 32 → sum_by (λ t. t.1) (filter has_size sized) ≤ length sized * 2 ^ 32
+        → sum_by (λ t. t.1) (if b then s ∷ filter has_size sized else filter has_size sized) ≤ length (s ∷ sized) * 2 ^ 32
+    by true few h = omega (arith, few, h, sum_by-cons (λ (t : Part × ℕ). t.1) s (filter has_size sized))
+    by false few h = omega (arith, h)
+
+pub sizes_small : (graph : Graph) (sized : List (Part × ℕ)) → sized ≡ sized_of (encode graph) → long_section graph ≡ None → sum_by (λ s. s.1) sized < 2 ^ 64
+sizes_small graph sized is none =
+    let kept : sized ≡ filter has_size (map (with_size (sizes_of graph)) WRITTEN_PARTS) = is ∙ sym (parts_told graph (sizes_of graph) refl) in
+    let few : sum_by (λ s. s.1) (filter has_size (map (with_size (sizes_of graph)) WRITTEN_PARTS)) ≤ 11 * 2 ^ 32 = kept_few (map (with_size (sizes_of graph)) WRITTEN_PARTS) (all_short graph none) in
+    omega (arith, ap (sum_by (λ (s : Part × ℕ). s.1)) kept, few)
+
+-- ---- answers that differ
 
 pub not_both : {A : Type 0} (o : Option A) (x : A) → o ≡ None → o ≡ Some x → ⊥
 not_both None x none some = cc

@@ -1,6 +1,6 @@
 //! The segment of an object file (mach-o/loader.h).
 
-ghost use Rattle.std.specs.Prelude.{◌≡◌, ◌++◌, OnOk, length};
+ghost use Rattle.std.specs.Prelude.{◌≡◌, ◌<◌, ◌^◌, ◌++◌, OnOk, length};
 ghost use Rattle.std.specs.List.{flat_map};
 ghost use Rattle.macho_read.specs.ImageSpelling.{command_of};
 ghost use Rattle.macho_read.specs.Spelling.{command_bytes, section_bytes};
@@ -17,7 +17,7 @@ use ds_base::macho::{
     LC_SEGMENT_64, S_ATTR_DEBUG, SECT_TEXT, SEG_DWARF, SEG_TEXT, SYMTAB_COMMAND_SIZE,
     VM_PROT_EXECUTE, VM_PROT_READ, VM_PROT_WRITE,
 };
-use ds_base::{Bytes, NoMemory, Part, plus};
+use ds_base::{Bytes, NoMemory, Part};
 use dsym_write::section_name;
 
 /// Reading, writing and running (mach/vm_prot.h).
@@ -29,10 +29,11 @@ pub(crate) fn append_segment(
     places: Places,
     sized: &[(Part, u64)],
 ) -> Result<(), NoMemory>
+    requires few { length sized.now < 2 ^ 32 }
     requires commands { places.commands ≡ commands_len (length sized.now) }
     ensures { OnOk result (out.new ≡ out.old ++ command_bytes (command_of (segment_command places sized.now))) }
 {
-    let size = places.commands - u64::from(SYMTAB_COMMAND_SIZE);
+    let size = places.commands - u128::from(SYMTAB_COMMAND_SIZE);
     let numbers = SegmentNumbers {
         vmaddr: 0,
         vmsize: places.contents,
@@ -40,10 +41,10 @@ pub(crate) fn append_segment(
         filesize: places.contents,
         maxprot: ALL_PROTECTIONS,
         initprot: ALL_PROTECTIONS,
-        sections: plus(1, places.sections)?,
+        sections: 1 + u128::from(places.sections),
         flags: 0,
     };
-    append_words(out, &[u64::from(LC_SEGMENT_64), size])?;
+    append_words(out, &[u128::from(LC_SEGMENT_64), size])?;
     out.extend(&[0; 16])?;
     append_segment_numbers(out, numbers)?;
     append_code_section(out)?;
@@ -79,12 +80,13 @@ fn append_debug_sections(
     places: Places,
     sized: &[(Part, u64)],
 ) -> Result<(), NoMemory>
+    requires { length sized.now < 2 ^ 32 }
     ensures { OnOk result (out.new ≡ out.old ++ flat_map section_bytes (debug_sections places places.offset sized.now)) }
 {
-    let mut offset = places.offset;
+    let mut offset = u128::from(places.offset);
     for (part, size) in sized {
         append_debug_section(out, places, offset, *part, *size)?;
-        offset = plus(offset, *size)?;
+        offset += u128::from(*size);
     }
     Ok(())
 }
@@ -93,7 +95,7 @@ fn append_debug_sections(
 fn append_debug_section(
     out: &mut Bytes,
     places: Places,
-    offset: u64,
+    offset: u128,
     part: Part,
     size: u64,
 ) -> Result<(), NoMemory>
@@ -118,7 +120,7 @@ fn append_debug_section(
 }
 
 /// Where the relocations of a section stand; 0 where it has none.
-fn reloff_in(places: Places, part: Part) -> u64
+fn reloff_in(places: Places, part: Part) -> u128
     ensures { result ≡ ObjectFile.reloff_in places part }
 {
     match part {
@@ -129,7 +131,7 @@ fn reloff_in(places: Places, part: Part) -> u64
 }
 
 /// How many relocations a section has.
-fn nreloc_in(places: Places, part: Part) -> u64
+fn nreloc_in(places: Places, part: Part) -> u128
     ensures { result ≡ ObjectFile.nreloc_in places part }
 {
     match part {

@@ -25,7 +25,7 @@ pub(crate) fn append_name(out: &mut Bytes, name: &[u8]) -> Result<(), NoMemory>
 }
 
 /// Puts numbers of four bytes last; of a greater number than they hold, the lowest four.
-pub(crate) fn append_words(out: &mut Bytes, words: &[u64]) -> Result<(), NoMemory>
+pub(crate) fn append_words(out: &mut Bytes, words: &[u128]) -> Result<(), NoMemory>
     ensures { OnOk result (out.new ≡ out.old ++ flat_map (little_bytes 4) words.now) }
 {
     for word in words {
@@ -34,7 +34,7 @@ pub(crate) fn append_words(out: &mut Bytes, words: &[u64]) -> Result<(), NoMemor
     Ok(())
 }
 
-fn append_word(out: &mut Bytes, word: u64) -> Result<(), NoMemory>
+fn append_word(out: &mut Bytes, word: u128) -> Result<(), NoMemory>
     ensures { OnOk result (out.new ≡ out.old ++ little_bytes 4 word) }
 {
     let bytes = word.to_le_bytes();

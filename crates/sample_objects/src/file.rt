@@ -1,6 +1,6 @@
 //! The file of an object.
 
-ghost use Rattle.std.specs.Prelude.{◌≡◌, ◌<◌, ◌^◌, IfOk, None};
+ghost use Rattle.std.specs.Prelude.{◌≡◌, ◌<◌, ◌^◌, IfOk, None, length};
 ghost use Rattle.std.specs.List.{All};
 ghost use Rattle.dsym_write.specs.Bundle;
 ghost use Rattle.layout.specs.Laid.{long_section, long_unit};
@@ -59,6 +59,7 @@ fn object_of(
     contents: &[u8],
     moved: &[Reloc],
 ) -> Result<Bytes, NoMemory>
+    requires few { length sized.now < 2 ^ 32 }
     requires sized { sized.now ≡ sized_of (sections_of spec.now) }
     requires contents { contents.now ≡ Bundle.contents (sections_of spec.now) }
     requires moved { moved.now ≡ ObjectFile.line_relocs spec.now.unit }
@@ -72,7 +73,7 @@ fn object_of(
         contents.len(),
         moved.len(),
         strings.len(),
-    )?;
+    );
     let mut out = Bytes::new(alloc);
     append_header(&mut out, spec.cpu, 0, MH_OBJECT, 2, places.commands)?;
     append_segment(&mut out, places, sized)?;

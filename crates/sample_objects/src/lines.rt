@@ -11,7 +11,7 @@ ghost use Rattle.sample_objects.specs.ObjectFile.{counts_from_text, operands_of}
 ghost use Rattle.unit_draft.specs.Drafted.{lines_len};
 
 use crate::file::TEXT_SECTION;
-use ds_base::{List, NoMemory, plus};
+use ds_base::{List, NoMemory};
 use dwarf_types::{
     FileNames, OutLines, OutUnit, Paths, Rows, SequenceBuilder, SequenceRef, Sequences,
 };
@@ -53,7 +53,7 @@ fn relocs_of_table(
     ensures { IfOk result (λ relocs. relocs ≡ map counts_from_text (operands_of version lines.now)) }
 {
     let sizes = sizes_of(alloc, &lines.sequences)?;
-    let program = total(sizes.as_slice())?;
+    let program = total(sizes.as_slice());
     let relocs = relocs_from(alloc, sizes.as_slice(), size - program)?;
     Ok(relocs)
 }
@@ -106,14 +106,16 @@ fn add_rows(sequences: &mut SequenceBuilder, rows: Rows<'_>) -> Result<(), NoMem
     Ok(())
 }
 
-fn total(sizes: &[u64]) -> Result<u64, NoMemory>
-    ensures { IfOk result (λ size. size ≡ sum_by (λ n. n) sizes.now) }
+/// The sum of sizes.
+fn total(sizes: &[u64]) -> u64
+    requires { sum_by (λ n. n) sizes.now < 2 ^ 32 }
+    ensures { result ≡ sum_by (λ n. n) sizes.now }
 {
     let mut total = 0;
     for size in sizes {
-        total = plus(total, *size)?;
+        total += *size;
     }
-    Ok(total)
+    total
 }
 
 /// The relocations of sequences of these sizes, the first at a place.

@@ -1,6 +1,6 @@
 //! The file of a linked program.
 
-ghost use Rattle.std.specs.Prelude.{◌≡◌, ◌++◌, IfOk, OnOk, length};
+ghost use Rattle.std.specs.Prelude.{◌≡◌, ◌≤◌, ◌++◌, IfOk, OnOk, length};
 ghost use Rattle.dsym_write.specs.Bundle.{uuid_command};
 ghost use Rattle.dsym_write.specs.Pieces.{commands_text};
 ghost use Rattle.sample_objects.specs.ProgramFile;
@@ -10,7 +10,7 @@ use crate::records::{append_command, append_header, append_symtab};
 use crate::segments::append_segments;
 use crate::symbols::{append_symbols, strings_of};
 use ds_base::macho::{LC_UUID, MACH_HEADER_64_SIZE, SYMTAB_COMMAND_SIZE};
-use ds_base::{Bytes, NoMemory, plus};
+use ds_base::{Bytes, NoMemory};
 use macho_read::Image;
 use std::alloc::Global;
 
@@ -26,9 +26,9 @@ pub fn program_file(alloc: Global, image: &Image) -> Result<Bytes, NoMemory>
 {
     let first = first_commands(alloc, image)?;
     let strings = strings_of(alloc, &image.symbols)?;
-    let count = count_commands(image)?;
-    let size = plus(first.len() as u64, u64::from(SYMTAB_COMMAND_SIZE))?;
-    let place = plus(u64::from(MACH_HEADER_64_SIZE), size)?;
+    let count = count_commands(image);
+    let size = first.len() as u128 + u128::from(SYMTAB_COMMAND_SIZE);
+    let place = u128::from(MACH_HEADER_64_SIZE) + size;
     let mut out = Bytes::new(alloc);
     append_header(&mut out, image.cpu, image.sub, image.filetype, count, size)?;
     out.extend(first.as_slice())?;
@@ -44,17 +44,16 @@ pub fn program_file(alloc: Global, image: &Image) -> Result<Bytes, NoMemory>
 }
 
 /// How many commands there are.
-fn count_commands(image: &Image) -> Result<u64, NoMemory>
-    ensures { IfOk result (λ count. count ≡ length (commands_of image.now)) }
+fn count_commands(image: &Image) -> u128
+    ensures { result ≡ length (commands_of image.now) }
 {
-    let first = plus(count_uuid(&image.uuid), image.segments.len() as u64)?;
-    let count = plus(first, 1)?;
-    Ok(count)
+    count_uuid(&image.uuid) + image.segments.len() as u128 + 1
 }
 
 /// How many commands a UUID has: one, if there is a UUID.
-fn count_uuid(uuid: &Option<[u8; 16]>) -> u64
-    ensures { result ≡ length (uuid_command uuid.now) }
+fn count_uuid(uuid: &Option<[u8; 16]>) -> u128
+    ensures count { result ≡ length (uuid_command uuid.now) }
+    ensures one { result ≤ 1 }
 {
     match uuid {
         Some(_) => 1,

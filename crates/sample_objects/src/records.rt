@@ -1,7 +1,7 @@
 //! The records that object files and programs share (mach-o/loader.h). Numbers wider than their fields keep the lowest
 //! bits.
 
-ghost use Rattle.std.specs.Prelude.{◌≡◌, ◌++◌, OnOk};
+ghost use Rattle.std.specs.Prelude.{◌≡◌, ◌<◌, ◌^◌, ◌++◌, OnOk};
 ghost use Rattle.macho_read.specs.ImageSpelling.{command_of};
 ghost use Rattle.macho_read.specs.Spelling.{command_bytes, section_fields, segment_fields, spelled};
 ghost use Rattle.sample_objects.specs.ObjectFile.{symbol_table};
@@ -9,10 +9,10 @@ ghost use Rattle.sample_objects.specs.Records.{header_bytes, section_with, segme
 
 use crate::fields::{append_longs, append_words};
 use ds_base::macho::{LC_SYMTAB, MH_MAGIC_64, NLIST_64_SIZE, SYMTAB_COMMAND_SIZE};
-use ds_base::{Bytes, NoMemory, plus, times};
+use ds_base::{Bytes, NoMemory};
 
 /// The size of what all load commands begin with (`load_command`): the command's number, and its size.
-const LOAD_COMMAND_SIZE: u64 = 8;
+const LOAD_COMMAND_SIZE: u128 = 8;
 
 /// The numbers of a segment command behind its name (`segment_command_64`).
 #[derive(Clone, Copy)]
@@ -23,7 +23,7 @@ pub(crate) struct SegmentNumbers {
     pub(crate) filesize: u64,
     pub(crate) maxprot: u32,
     pub(crate) initprot: u32,
-    pub(crate) sections: u64,
+    pub(crate) sections: u128,
     pub(crate) flags: u32,
 }
 
@@ -32,10 +32,10 @@ pub(crate) struct SegmentNumbers {
 pub(crate) struct SectionNumbers {
     pub(crate) addr: u64,
     pub(crate) size: u64,
-    pub(crate) offset: u64,
+    pub(crate) offset: u128,
     pub(crate) align: u32,
-    pub(crate) reloff: u64,
-    pub(crate) nreloc: u64,
+    pub(crate) reloff: u128,
+    pub(crate) nreloc: u128,
     pub(crate) flags: u32,
     pub(crate) reserved1: u32,
     pub(crate) reserved2: u32,
@@ -48,18 +48,18 @@ pub(crate) fn append_header(
     cpu: u32,
     sub: u32,
     filetype: u32,
-    count: u64,
-    size: u64,
+    count: u128,
+    size: u128,
 ) -> Result<(), NoMemory>
     ensures { OnOk result (out.new ≡ out.old ++ header_bytes cpu sub filetype count size) }
 {
     append_words(
         out,
         &[
-            u64::from(MH_MAGIC_64),
-            u64::from(cpu),
-            u64::from(sub),
-            u64::from(filetype),
+            u128::from(MH_MAGIC_64),
+            u128::from(cpu),
+            u128::from(sub),
+            u128::from(filetype),
             count,
             size,
             0,
@@ -72,8 +72,8 @@ pub(crate) fn append_header(
 pub(crate) fn append_command(out: &mut Bytes, number: u32, body: &[u8]) -> Result<(), NoMemory>
     ensures { OnOk result (out.new ≡ out.old ++ command_bytes (record { cmd = number; body = body.now })) }
 {
-    let size = plus(LOAD_COMMAND_SIZE, body.len() as u64)?;
-    append_words(out, &[u64::from(number), size])?;
+    let size = LOAD_COMMAND_SIZE + body.len() as u128;
+    append_words(out, &[u128::from(number), size])?;
     out.extend(body)?;
     Ok(())
 }
@@ -97,10 +97,10 @@ pub(crate) fn append_segment_numbers(
     append_words(
         out,
         &[
-            u64::from(numbers.maxprot),
-            u64::from(numbers.initprot),
+            u128::from(numbers.maxprot),
+            u128::from(numbers.initprot),
             numbers.sections,
-            u64::from(numbers.flags),
+            u128::from(numbers.flags),
         ],
     )?;
     Ok(())
@@ -118,13 +118,13 @@ pub(crate) fn append_section_numbers(
         out,
         &[
             numbers.offset,
-            u64::from(numbers.align),
+            u128::from(numbers.align),
             numbers.reloff,
             numbers.nreloc,
-            u64::from(numbers.flags),
-            u64::from(numbers.reserved1),
-            u64::from(numbers.reserved2),
-            u64::from(numbers.reserved3),
+            u128::from(numbers.flags),
+            u128::from(numbers.reserved1),
+            u128::from(numbers.reserved2),
+            u128::from(numbers.reserved3),
         ],
     )?;
     Ok(())
@@ -134,22 +134,24 @@ pub(crate) fn append_section_numbers(
 /// behind them (`symtab_command`).
 pub(crate) fn append_symtab(
     out: &mut Bytes,
-    place: u64,
+    place: u128,
     count: u64,
     size: u64,
 ) -> Result<(), NoMemory>
+    requires { place < 2 ^ 96 }
     ensures { OnOk result (out.new ≡ out.old ++ command_bytes (command_of (symbol_table place count size))) }
 {
-    let strings = plus(place, times(u64::from(NLIST_64_SIZE), count)?)?;
+    let count = u128::from(count);
+    let strings = place + u128::from(NLIST_64_SIZE) * count;
     append_words(
         out,
         &[
-            u64::from(LC_SYMTAB),
-            u64::from(SYMTAB_COMMAND_SIZE),
+            u128::from(LC_SYMTAB),
+            u128::from(SYMTAB_COMMAND_SIZE),
             place,
             count,
             strings,
-            size,
+            u128::from(size),
         ],
     )?;
     Ok(())

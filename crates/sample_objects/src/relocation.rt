@@ -28,7 +28,7 @@ fn append_reloc(out: &mut Bytes, reloc: Reloc) -> Result<(), NoMemory>
     ensures { OnOk result (out.new ≡ out.old ++ spelled (reloc_fields reloc)) }
 {
     let info = u64::from(reloc.symbol) + (u64::from(RELOC_LENGTH_8) << 25) + extern_bit(reloc);
-    append_words(out, &[u64::from(reloc.place), info])
+    append_words(out, &[u128::from(reloc.place), u128::from(info)])
 }
 
 /// The bit that says that a symbol is named, and not a section.

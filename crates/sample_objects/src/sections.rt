@@ -1,6 +1,6 @@
 //! The debug sections of a unit: their sizes, and their bytes.
 
-ghost use Rattle.std.specs.Prelude.{◌≡◌, ◌↔◌, true, None, Ok, map, IfOk, length};
+ghost use Rattle.std.specs.Prelude.{◌≡◌, ◌↔◌, ◌<◌, ◌≤◌, ◌^◌, true, None, Ok, map, IfOk, length};
 ghost use Rattle.std.specs.List.{filter, sum_by};
 ghost use Rattle.dsym_write.specs.Bundle.{contents};
 ghost use Rattle.dwarf_types.specs.declared.graph.Graph.{Graph};
@@ -9,7 +9,7 @@ ghost use Rattle.sample_objects.specs.ObjectFile.{graph_of, sections_in, sized_o
 ghost use Rattle.sample_objects.specs.Sized.{has_size, with_size};
 ghost use Rattle.unit_draft.specs.Drafted.{IsDraft};
 
-use ds_base::{Bytes, List, NoMemory, Part, plus};
+use ds_base::{Bytes, List, NoMemory, Part};
 use dsym_write::WRITTEN_PARTS;
 use dwarf_types::{OutFrames, OutUnit};
 use layout::{Layout, LayoutError, place_drafts, section_size};
@@ -72,7 +72,8 @@ fn drafts_of(alloc: Global, unit: &OutUnit, draft: Draft) -> Result<List<Draft>,
 /// The sections that have bytes, each with its size.
 #[tactic(auto, unfolding(crate::specs::ObjectFile::sections_in))]
 pub(crate) fn sized_sections(alloc: Global, layout: &Layout) -> Result<List<(Part, u64)>, NoMemory>
-    ensures { IfOk result (λ sized. (graph : Graph) → Measures graph (Ok layout.now) → sized ≡ sized_of (sections_in graph)) }
+    ensures sized { IfOk result (λ sized. (graph : Graph) → Measures graph (Ok layout.now) → sized ≡ sized_of (sections_in graph)) }
+    ensures few { IfOk result (λ sized. length sized < 2 ^ 32) }
 {
     let sized = with_bytes(alloc, layout, &WRITTEN_PARTS)?;
     Ok(sized)
@@ -80,7 +81,8 @@ pub(crate) fn sized_sections(alloc: Global, layout: &Layout) -> Result<List<(Par
 
 /// Those of some parts that have bytes, each with its size.
 fn with_bytes(alloc: Global, layout: &Layout, parts: &[Part]) -> Result<List<(Part, u64)>, NoMemory>
-    ensures { IfOk result (λ sized. sized ≡ filter has_size (map (with_size layout.now.sizes) parts.now)) }
+    ensures sized { IfOk result (λ sized. sized ≡ filter has_size (map (with_size layout.now.sizes) parts.now)) }
+    ensures few { IfOk result (λ sized. length sized ≤ length parts.now) }
 {
     let mut sized = List::new(alloc);
     for part in parts {
@@ -103,19 +105,20 @@ pub(crate) fn contents_of(
     requires sized { (graph : Graph) → Measures graph (Ok layout.now) → sized.now ≡ sized_of (sections_in graph) }
     ensures { IfOk result (λ bytes. (graph : Graph) → Measures graph (Ok layout.now) → bytes ≡ contents (sections_in graph)) }
 {
-    let size = total_size(sized)?;
+    let size = total_size(sized);
     let mut bytes = Bytes::zeros(alloc, size as usize)?;
     emit_sections(layout, bytes.as_mut_slice());
     Ok(bytes)
 }
 
 /// The size of all sections.
-fn total_size(sized: &[(Part, u64)]) -> Result<u64, NoMemory>
-    ensures { IfOk result (λ size. size ≡ sum_by (λ s. s.1) sized.now) }
+fn total_size(sized: &[(Part, u64)]) -> u64
+    requires { sum_by (λ s. s.1) sized.now < 2 ^ 64 }
+    ensures { result ≡ sum_by (λ s. s.1) sized.now }
 {
     let mut total = 0;
     for (_, size) in sized {
-        total = plus(total, *size)?;
+        total += *size;
     }
-    Ok(total)
+    total
 }

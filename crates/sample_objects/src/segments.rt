@@ -51,7 +51,7 @@ fn append_linked_segment(
         filesize: 0,
         maxprot: segment.maxprot,
         initprot: segment.initprot,
-        sections: u64::from(segment.sections),
+        sections: u128::from(segment.sections),
         flags: segment.flags,
     };
     let mut body = Bytes::new(alloc);
@@ -79,10 +79,10 @@ fn append_section(out: &mut Bytes, section: &Section) -> Result<(), NoMemory>
     let numbers = SectionNumbers {
         addr: section.addr,
         size: section.size,
-        offset: u64::from(section.offset),
+        offset: u128::from(section.offset),
         align: section.align,
-        reloff: u64::from(section.reloff),
-        nreloc: u64::from(section.nreloc),
+        reloff: u128::from(section.reloff),
+        nreloc: u128::from(section.nreloc),
         flags: section.flags,
         reserved1: section.reserved1,
         reserved2: section.reserved2,

@@ -1,6 +1,7 @@
 //! Symbols (mach-o/nlist.h, `nlist_64`) and the strings that their names are in.
 
-ghost use Rattle.std.specs.Prelude.{◌≡◌, ◌++◌, ◌+◌, IfOk, OnOk};
+ghost use Rattle.std.specs.Prelude.{◌≡◌, ◌<◌, ◌^◌, ◌++◌, ◌+◌, IfOk, OnOk, length};
+ghost use Rattle.std.specs.List.{flat_map};
 ghost use Rattle.dsym_write.specs.Bundle.{strings_bytes, symbols_bytes};
 ghost use Rattle.macho_read.specs.ImageSpelling.{nlist_bytes};
 ghost use Rattle.macho_read.specs.Seen.{symbol_seen};
@@ -8,20 +9,21 @@ ghost use Rattle.sample_objects.specs.Symbols.{behind_name, name_place, text_of}
 
 use crate::fields::{append_byte, append_longs, append_words};
 use appending::append_u16;
-use ds_base::{Bytes, NoMemory, plus};
+use ds_base::{Bytes, NoMemory};
 use macho_read::{SymbolRef, Symbols};
 use std::alloc::Global;
 
 /// Puts symbols last, each with the place of its name in the strings.
 pub(crate) fn append_symbols(out: &mut Bytes, symbols: &Symbols) -> Result<(), NoMemory>
+    // The strings are in memory.
+    requires { 1 + length (flat_map text_of symbols.now) < 2 ^ 64 }
     ensures { OnOk result (out.new ≡ out.old ++ symbols_bytes symbols.now) }
 {
     let mut place = 1;
     for i in 0..symbols.len() {
         let symbol = symbols.symbol(i);
         append_symbol(out, symbol, place)?;
-        let next = place_behind(symbol, place)?;
-        place = next;
+        place = place_behind(symbol, place);
     }
     Ok(())
 }
@@ -30,7 +32,7 @@ pub(crate) fn append_symbols(out: &mut Bytes, symbols: &Symbols) -> Result<(), N
 fn append_symbol(out: &mut Bytes, symbol: SymbolRef<'_>, place: u64) -> Result<(), NoMemory>
     ensures { OnOk result (out.new ≡ out.old ++ nlist_bytes (name_place (symbol_seen symbol.entry) place, symbol_seen symbol.entry)) }
 {
-    append_words(out, &[place_of(symbol, place)])?;
+    append_words(out, &[u128::from(place_of(symbol, place))])?;
     append_byte(out, symbol.kind)?;
     append_byte(out, symbol.sect)?;
     append_u16(out, symbol.desc)?;
@@ -46,13 +48,14 @@ fn place_of(symbol: SymbolRef<'_>, place: u64) -> u64
 }
 
 /// The place behind a symbol's name, if it is in the strings.
-fn place_behind(symbol: SymbolRef<'_>, place: u64) -> Result<u64, NoMemory>
-    ensures { IfOk result (λ next. next ≡ behind_name (symbol_seen symbol.entry) place) }
+fn place_behind(symbol: SymbolRef<'_>, place: u64) -> u64
+    requires { place + length (text_of (symbol_seen symbol)) < 2 ^ 64 }
+    ensures { result ≡ behind_name (symbol_seen symbol.entry) place }
 {
     if symbol.name.is_empty() {
-        return Ok(place);
+        return place;
     }
-    plus(plus(place, symbol.name.len() as u64)?, 1)
+    place + symbol.name.len() as u64 + 1
 }
 
 /// The strings: a zero byte, and the names that are not empty, each ended by one.

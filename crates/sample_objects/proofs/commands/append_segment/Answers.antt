@@ -14,9 +14,9 @@ returns c =
       c.in_ok-append_debug_sections.ensures,
       c.in_ok-append_code_section.ensures,
       c.in_ok-append_segment_numbers.ensures,
-      c.in_ok-plus.ensures.sum,
       c.in_ok-extend.ensures.ok,
       c.in_ok-append_words.ensures,
+      c.from-3.ensures,
       c.from-2.ensures,
       c.from.ensures,
     )

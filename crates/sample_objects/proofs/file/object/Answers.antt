@@ -1,4 +1,4 @@
-use Rattle.std.proofs.Common.{◌∙◌, ap}
+use Rattle.std.proofs.Common.{length, ◌∙◌, ap, arith}
 use Rattle.layout.specs.Laid.{Laid}
 use Rattle.layout.proofs.Limits.{line_short}
 use Rattle.sample_objects.proofs.LineSizes.{below_limit, one_table}
@@ -15,7 +15,7 @@ pub contents_of-requires-clause-measured : goal.contents_of-requires-clause-meas
 contents_of-requires-clause-measured c = record { graph = graph_of c.args.spec.now.unit; measured = c.in_ok-layout.ensures }
 
 pub contents_of-requires-clause-sized : goal.contents_of-requires-clause-sized
-contents_of-requires-clause-sized c = λ graph measured. c.as_slice.ensures ∙ c.in_ok-sized.ensures graph measured
+contents_of-requires-clause-sized c = λ graph measured. c.as_slice.ensures ∙ c.in_ok-sized.ensures.sized graph measured
 
 pub line_relocs-requires-clause-size : goal.line_relocs-requires-clause-size
 line_relocs-requires-clause-size c = c.section_size.ensures ∙ ap (λ (l : Laid). l.sizes.line) c.in_ok-layout.ensures.0 ∙ one_table c.args.spec.now.unit
@@ -23,8 +23,11 @@ line_relocs-requires-clause-size c = c.section_size.ensures ∙ ap (λ (l : Laid
 pub line_relocs-requires-clause-small : goal.line_relocs-requires-clause-small
 line_relocs-requires-clause-small c = below_limit _ _ (c.section_size.ensures ∙ ap (λ (l : Laid). l.sizes.line) c.in_ok-layout.ensures.0) (line_short (graph_of c.args.spec.now.unit) c.requires.sections)
 
+pub object_of-requires-clause-few : goal.object_of-requires-clause-few
+object_of-requires-clause-few c = omega (arith, ap length c.as_slice-2.ensures, c.in_ok-sized.ensures.few)
+
 pub object_of-requires-clause-sized : goal.object_of-requires-clause-sized
-object_of-requires-clause-sized c = c.as_slice-2.ensures ∙ c.in_ok-sized.ensures (graph_of c.args.spec.now.unit) c.in_ok-layout.ensures
+object_of-requires-clause-sized c = c.as_slice-2.ensures ∙ c.in_ok-sized.ensures.sized (graph_of c.args.spec.now.unit) c.in_ok-layout.ensures
 
 pub object_of-requires-clause-contents : goal.object_of-requires-clause-contents
 object_of-requires-clause-contents c = c.as_slice-3.ensures ∙ c.in_ok-contents.ensures (graph_of c.args.spec.now.unit) c.in_ok-layout.ensures
