@@ -3,8 +3,8 @@
 use ds_base::{Bytes, Fault, Kind, List, NoMemory, Part};
 use ds_files::{Gate, MemoryFiles, MemorySink, OpenGate};
 use link_cli::link_main;
-use link_core::{Options, Refusal, Status, link_objects};
-use sample_objects::generated;
+use link_core::{Options, Refusal, Status, link_files, link_objects};
+use sample_objects::{Generated, generated};
 use std::alloc::Global;
 use std::hint::spin_loop;
 use std::process::Abort;
@@ -87,6 +87,51 @@ fn shares_phase<R: Threads + Abort + Sync>(rt: &R, alloc: Global, phase: u32) {
     );
 }
 
+/// Whether a generated program of two objects is linked by two threads behind a gate, so that files go once they are read.
+fn links_files<R: Threads + Sync, G: Gate + Sync>(
+    rt: &R,
+    alloc: Global,
+    odr: bool,
+    gate: &G,
+) -> bool {
+    let Ok(made) = generated(alloc, 2) else {
+        return false;
+    };
+    let Generated {
+        program,
+        objects,
+        files,
+    } = made;
+    if objects.len() != 2 || files.len() != 2 {
+        return false;
+    }
+    let source = [Some(0), Some(1)];
+    let options = Options { odr, workers: 2 };
+    link_files(
+        rt,
+        alloc,
+        &program,
+        "a.out",
+        objects.as_slice(),
+        files,
+        &source,
+        &options,
+        gate,
+    )
+    .is_ok()
+}
+
+/// In a phase of a link whose files go two workers have the first two items beside each other.
+fn shares_files_phase<R: Threads + Abort + Sync>(rt: &R, alloc: Global, odr: bool, phase: u32) {
+    let gate = Holds::new(phase, 0, 1);
+    assert!(rt; links_files(rt, alloc, odr, &gate));
+    assert!(rt; gate.other_passed.load(SeqCst));
+    assert!(rt;
+        !gate.gave_up.load(SeqCst),
+        "item 0 of phase {phase} waited for all turns"
+    );
+}
+
 // Objects 2 and 4 are empty files. The second is read once the fourth is.
 #[test]
 fn the_first_object_with_a_fault_is_told_whoever_met_it(rt: HostRuntime) {
@@ -138,4 +183,16 @@ fn two_workers_share_each_phase(rt: HostRuntime) {
     shares_phase(&rt, alloc, 1);
     shares_phase(&rt, alloc, 2);
     shares_phase(&rt, alloc, 3);
+}
+
+#[test]
+fn two_workers_share_each_phase_where_files_go(rt: HostRuntime) {
+    let alloc = rt.alloc();
+    shares_files_phase(&rt, alloc, true, 0);
+    shares_files_phase(&rt, alloc, true, 1);
+    shares_files_phase(&rt, alloc, true, 2);
+    shares_files_phase(&rt, alloc, true, 3);
+    shares_files_phase(&rt, alloc, false, 0);
+    shares_files_phase(&rt, alloc, false, 2);
+    shares_files_phase(&rt, alloc, false, 3);
 }
