@@ -76,15 +76,21 @@ fn told<R: Threads + Abort + Sync, G: Gate + Sync>(
     Ok(messages)
 }
 
+/// Expects that the other item passed while the one was held.
+fn expect_shared<R: Abort>(rt: &R, gate: &Holds) {
+    let phase = gate.phase;
+    assert!(rt; gate.other_passed.load(SeqCst));
+    assert!(rt;
+        !gate.gave_up.load(SeqCst),
+        "the item held in phase {phase} waited for all turns"
+    );
+}
+
 /// In a phase two workers have the first two items beside each other.
 fn shares_phase<R: Threads + Abort + Sync>(rt: &R, alloc: Global, phase: u32) {
     let gate = Holds::new(phase, 0, 1);
     assert!(rt; told(rt, alloc, "2", "2", &gate).is_ok());
-    assert!(rt; gate.other_passed.load(SeqCst));
-    assert!(rt;
-        !gate.gave_up.load(SeqCst),
-        "item 0 of phase {phase} waited for all turns"
-    );
+    expect_shared(rt, &gate);
 }
 
 /// Whether a generated program of two objects is linked by two threads behind a gate, so that files go once they are read.
@@ -125,11 +131,7 @@ fn links_files<R: Threads + Sync, G: Gate + Sync>(
 fn shares_files_phase<R: Threads + Abort + Sync>(rt: &R, alloc: Global, odr: bool, phase: u32) {
     let gate = Holds::new(phase, 0, 1);
     assert!(rt; links_files(rt, alloc, odr, &gate));
-    assert!(rt; gate.other_passed.load(SeqCst));
-    assert!(rt;
-        !gate.gave_up.load(SeqCst),
-        "item 0 of phase {phase} waited for all turns"
-    );
+    expect_shared(rt, &gate);
 }
 
 // Objects 2 and 4 are empty files. The second is read once the fourth is.
