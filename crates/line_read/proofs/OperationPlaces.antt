@@ -11,7 +11,6 @@ use Rattle.ds_base.proofs.Passing.{bind_ok, passed, guard_ok, ok_is}
 use Rattle.macho_read.specs.declared.image.Image.{Image}
 use Rattle.reloc_table.specs.declared.relocation.Relocs.{Relocs}
 use Rattle.line_read.specs.declared.header.LineHeader.{LineHeader}
-use Rattle.line_read.specs.declared.header.TheConstants.{FIRST_VERSION, FORMATS_SINCE}
 use Rattle.line_read.specs.declared.codes.StandardOp.{StandardOp}
 use Rattle.line_read.specs.declared.codes.StandardOp.TheVariants as standard
 use Rattle.line_read.specs.declared.operation.LineOp.{LineOp}
@@ -115,7 +114,7 @@ pub version_onward : (unit : ℕ) (s : Spot) (y : ℕ × Spot) → version_at un
 unfolding version_at
 version_onward unit s y e =
     let b = bind_ok (number_at 2 s) _ y e in
-    let p = passed (nat_lt b.0.0 FIRST_VERSION || nat_lt (last_version unit) b.0.0) (fault_at s kinds.LineVersion) (Ok b.0) y b.2 in
+    let p = passed (nat_lt b.0.0 2 || nat_lt (last_version unit) b.0.0) (fault_at s kinds.LineVersion) (Ok b.0) y b.2 in
     there b.0.0 s b.0.1 y (number_onward 2 s b.0 b.1) p.1
 
 two_onward : (first s : Spot) (y : Unit {0} × Spot)
@@ -133,7 +132,7 @@ if_onward false s one y known e = here tt s y e
 
 pub sizes_onward : (first : Spot) (version : ℕ) (s : Spot) (y : Unit {0} × Spot) → sizes_at first version s ≡ Ok y → Onward s y.1
 unfolding sizes_at
-sizes_onward first version s y e = if_onward (nat_le FORMATS_SINCE version) s _ y (two_onward first s) e
+sizes_onward first version s y e = if_onward (nat_le 5 version) s _ y (two_onward first s) e
 
 fits_after : (s : Spot) (n : ℕ) → n ≤ s.end - s.place → Onward s (after s n)
 fits_after s n le = record { by = n; is = refl; fits = le }

@@ -27,7 +27,6 @@ use Rattle.line_read.specs.declared.formats.NumberForm.TheVariants as numbers
 use Rattle.line_read.specs.declared.formats.TextForm.{TextForm}
 use Rattle.line_read.specs.declared.formats.TextForm.TheVariants as texts
 use Rattle.line_read.specs.declared.header.LineHeader.{LineHeader}
-use Rattle.line_read.specs.declared.header.TheConstants.{FIRST_VERSION, OPERATIONS_SINCE, FORMATS_SINCE, MOST_OPERATIONS}
 use Rattle.line_read.specs.declared.names.HeaderEnd.{HeaderEnd}
 use Rattle.line_read.specs.declared.operation.LineOp.{LineOp}
 use Rattle.line_read.specs.declared.operation.LineOp.TheVariants as ops
@@ -84,12 +83,12 @@ version_kinds : (unit : ℕ) (s : Spot) → FaultsAre IsOne (version_at unit s)
 unfolding version_at
 version_kinds unit s =
     bind_kinds IsOne (number_at 2 s) _ (number_kinds IsOne 2 s cut)
-    (λ version. bind_kinds IsOne _ _ (refuse_kinds IsOne (nat_lt version.0 FIRST_VERSION || nat_lt (last_version unit) version.0) (fault_at s kinds.LineVersion) version_is) (λ u. ok_kinds IsOne version))
+    (λ version. bind_kinds IsOne _ _ (refuse_kinds IsOne (nat_lt version.0 2 || nat_lt (last_version unit) version.0) (fault_at s kinds.LineVersion) version_is) (λ u. ok_kinds IsOne version))
 
 sizes_kinds : (first : Spot) (version : ℕ) (s : Spot) → FaultsAre IsOne (sizes_at first version s)
 unfolding sizes_at
 sizes_kinds first version s =
-    either_kinds IsOne (nat_le FORMATS_SINCE version) _ _
+    either_kinds IsOne (nat_le 5 version) _ _
     (bind_kinds IsOne (number_at 1 s) _ (number_kinds IsOne 1 s cut)
     (λ size. bind_kinds IsOne _ _ (refuse_kinds IsOne (not (size.0 == ADDRESS_SIZE)) (bad first) header_is)
     (λ u. bind_kinds IsOne (number_at 1 size.1) _ (number_kinds IsOne 1 size.1 cut)
@@ -105,9 +104,9 @@ program_kinds first s =
 operations_kinds : (first : Spot) (version : ℕ) (s : Spot) → FaultsAre IsOne (operations_at first version s)
 unfolding operations_at
 operations_kinds first version s =
-    either_kinds IsOne (nat_le OPERATIONS_SINCE version) _ _
+    either_kinds IsOne (nat_le 4 version) _ _
     (bind_kinds IsOne (number_at 1 s) _ (number_kinds IsOne 1 s cut)
-    (λ most. bind_kinds IsOne _ _ (refuse_kinds IsOne (nat_lt MOST_OPERATIONS most.0) (fault_at first kinds.VliwLine) vliw_is) (λ u. ok_kinds IsOne _)))
+    (λ most. bind_kinds IsOne _ _ (refuse_kinds IsOne (nat_lt 1 most.0) (fault_at first kinds.VliwLine) vliw_is) (λ u. ok_kinds IsOne _)))
     (ok_kinds IsOne (tt, s))
 
 fields_kinds : (first : Spot) (version : ℕ) (s : Spot) → FaultsAre IsOne (fields_at first version s)
@@ -256,7 +255,7 @@ dirs_kinds : (first program : Spot) (sections : SectionBytes) (version : ℕ) (s
 unfolding dirs_at
 dirs_kinds first program sections version s =
     let h = header_end first program in
-    either_kinds IsOne (nat_le FORMATS_SINCE version) _ _
+    either_kinds IsOne (nat_le 5 version) _ _
     (entries_kinds h header_is sections format_is (dir_entry_at h sections) (dir_entry_kinds h header_is sections format_is) s)
     (listed_kinds (dir_at h) (dir_kinds h header_is) (s.end - s.place) [] s)
 
@@ -264,7 +263,7 @@ files_kinds : (first program : Spot) (sections : SectionBytes) (version : ℕ) (
 unfolding files_at
 files_kinds first program sections version s =
     let h = header_end first program in
-    either_kinds IsOne (nat_le FORMATS_SINCE version) _ _
+    either_kinds IsOne (nat_le 5 version) _ _
     (entries_kinds h header_is sections format_is (file_entry_at h sections) (file_entry_kinds h header_is sections format_is) s)
     (listed_kinds (file_at h) (file_kinds h header_is) (s.end - s.place) [] s)
 

@@ -3,7 +3,6 @@ use Rattle.std.specs.Prelude.{ℕ, ◌==◌, nat_lt, Option, Some, None, if◌th
 use Rattle.ds_base.specs.declared.dwarf.TheConstants.{DW_LNS_copy, DW_LNS_advance_pc, DW_LNS_advance_line, DW_LNS_set_file, DW_LNS_set_column, DW_LNS_negate_stmt, DW_LNS_set_basic_block, DW_LNS_const_add_pc, DW_LNS_fixed_advance_pc, DW_LNS_set_prologue_end, DW_LNS_set_epilogue_begin, DW_LNS_set_isa, DW_LNE_end_sequence, DW_LNE_set_address, DW_LNE_define_file, DW_LNE_set_discriminator}
 use Rattle.line_read.specs.declared.codes.StandardOp.{StandardOp}
 use Rattle.line_read.specs.declared.codes.StandardOp.TheVariants as standard
-use Rattle.line_read.specs.declared.header.TheConstants.{FORMATS_SINCE}
 use Rattle.line_read.specs.declared.codes.ExtendedOp.{ExtendedOp}
 use Rattle.line_read.specs.declared.codes.ExtendedOp.TheVariants as extended
 
@@ -26,7 +25,7 @@ standard_of code =
 
 -- the operation that defines a file, which version 5 does not have
 abbrev pub file_definition_of : ℕ → Option ExtendedOp
-file_definition_of version = if nat_lt version FORMATS_SINCE then Some extended.DefineFile else None
+file_definition_of version = if nat_lt version 5 then Some extended.DefineFile else None
 
 -- the extended operation of a code in tables of a version
 unfoldable pub extended_of : ℕ → ℕ → Option ExtendedOp

@@ -9,7 +9,6 @@ use Rattle.ds_base.specs.Reading.{◌>>=◌, refuse_if, number_at, items_at}
 use Rattle.dwarf_types.specs.SectionBytes.{SectionBytes}
 use Rattle.line_read.specs.declared.header.LineHeader.{LineHeader}
 use Rattle.ds_base.specs.declared.dwarf.TheConstants.{ADDRESS_SIZE, LENGTH_RESERVED}
-use Rattle.line_read.specs.declared.header.TheConstants.{FIRST_VERSION, LAST_VERSION, LAST_WITHOUT_FORMATS, OPERATIONS_SINCE, FORMATS_SINCE, MOST_OPERATIONS}
 
 -- a place of the section
 abbrev pub line_at : List ℕ → ℕ → Spot
@@ -26,21 +25,21 @@ table_at first = do
   _ ← refuse_if (nat_le LENGTH_RESERVED len.0 || nat_lt (len.1.end - len.1.place) len.0) (bad first)
   Ok (record len.1 { end = len.1.place + len.0 })
 
--- the last version of tables that units of a version have
+-- the last version of tables that units of a version have: 5 in units of version 5, and 4 in those before
 abbrev pub last_version : ℕ → ℕ
-last_version unit = if nat_lt unit FORMATS_SINCE then LAST_WITHOUT_FORMATS else LAST_VERSION
+last_version unit = if nat_lt unit 5 then 4 else 5
 
--- the table's own version, where it stands in a unit of a version
+-- the table's own version, where it stands in a unit of a version: 2, that of DWARF 2, is the first
 unfoldable pub version_at : ℕ → Spot → Result (ℕ × Spot) Fault
 version_at unit s = do
   version ← number_at 2 s
-  _ ← refuse_if (nat_lt version.0 FIRST_VERSION || nat_lt (last_version unit) version.0) (fault_at s kinds.LineVersion)
+  _ ← refuse_if (nat_lt version.0 2 || nat_lt (last_version unit) version.0) (fault_at s kinds.LineVersion)
   Ok version
 
 -- address_size and segment_selector_size, which version 5 is the first to have
 unfoldable pub sizes_at : Spot → ℕ → Spot → Result (Unit {0} × Spot) Fault
 sizes_at first version s =
-    if nat_le FORMATS_SINCE version then
+    if nat_le 5 version then
     (number_at 1 s >>= λ address_size. refuse_if (not (address_size.0 == ADDRESS_SIZE)) (bad first) >>= λ _.
     number_at 1 address_size.1 >>= λ selector_size. refuse_if (not (selector_size.0 == 0)) (bad first) >>= λ _. Ok (tt, selector_size.1))
     else Ok (tt, s)
@@ -52,11 +51,11 @@ program_at first s = do
   _ ← refuse_if (nat_lt (len.1.end - len.1.place) len.0) (bad first)
   Ok (after len.1 len.0, len.1)
 
--- maximum_operations_per_instruction, which version 4 is the first to have
+-- maximum_operations_per_instruction, which version 4 is the first to have; more than one, as machines with long instruction words have it, is not read
 unfoldable pub operations_at : Spot → ℕ → Spot → Result (Unit {0} × Spot) Fault
 operations_at first version s =
-    if nat_le OPERATIONS_SINCE version then
-    (number_at 1 s >>= λ most. refuse_if (nat_lt MOST_OPERATIONS most.0) (fault_at first kinds.VliwLine) >>= λ _. Ok (tt, most.1))
+    if nat_le 4 version then
+    (number_at 1 s >>= λ most. refuse_if (nat_lt 1 most.0) (fault_at first kinds.VliwLine) >>= λ _. Ok (tt, most.1))
     else Ok (tt, s)
 
 -- the fields from minimum_instruction_length to standard_opcode_lengths
