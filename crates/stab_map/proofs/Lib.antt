@@ -4,3 +4,4 @@ pub mod Names
 pub mod Origins
 pub mod Refused
 pub mod StabPass
+pub mod Utf8

@@ -1,11 +1,10 @@
 //! Where an object lies: in a file of its own, or as a member of an archive.
 
-ghost use Rattle.std.specs.Prelude.{◌≡◌, ◌-◌, ◌≤◌, not, length, IfSome};
+ghost use Rattle.std.specs.Prelude.{◌≡◌, ◌-◌, ◌≤◌, not, length};
 ghost use Rattle.std.specs.List.{suffix_len};
+ghost use Rattle.std.specs.Option.{option_copied};
 ghost use Rattle.macho_read.specs.Seen.{symbol_seen};
-ghost use Rattle.stab_map.specs.declared.stab.Stab.TheVariants as stabs;
-ghost use Rattle.stab_map.specs.Origin.{origin_of, is_open, seen};
-ghost use Rattle.stab_map.specs.Stab.{stab_of};
+ghost use Rattle.stab_map.specs.Origin.{is_open, opened_file, origin_of, seen, text_in};
 
 use crate::stab::{Stab, read_stab};
 use macho_read::SymbolRef;
@@ -55,13 +54,22 @@ fn after_open(path: &[u8]) -> usize
     len
 }
 
-/// The file in which the object lies that a symbol opens, where its name is text: [`crate::debug_map`] names these files, in
-/// this order, and a caller may look for them while it is made. `None` for any other symbol.
+/// The file in which the object lies that a symbol opens, where the file's name is text; `None` for any other symbol.
+///
+/// [`crate::debug_map`] names these files, in this order, and a caller may look for them while it is made.
+#[tactic(auto, unfolding(crate::specs::Origin::opened_file))]
 pub fn opened_file(symbol: SymbolRef<'_>) -> Option<&str>
-    ensures { IfSome result (λ file. (stab_of (symbol_seen symbol.entry) ≡ stabs.Object) × (file.now ≡ (origin_of symbol.entry.name.now).file)) }
+    ensures { option_copied result ≡ opened_file (symbol_seen symbol.entry) }
 {
-    if read_stab(symbol) != Stab::Object {
-        return None;
+    match read_stab(symbol) {
+        Stab::Object => as_text(find_origin(symbol.name).file),
+        _ => None,
     }
-    str::from_utf8(find_origin(symbol.name).file).ok()
+}
+
+/// Bytes as text, where they are UTF-8.
+fn as_text(bytes: &[u8]) -> Option<&str>
+    ensures { option_copied result ≡ text_in bytes.now }
+{
+    str::from_utf8(bytes).ok()
 }
