@@ -1,4 +1,4 @@
-//! The map of a program: the one pass over its symbols.
+//! The debug map of a program.
 
 ghost use Rattle.std.specs.Prelude.{◌≡◌, true, IfOk};
 ghost use Rattle.std.specs.List.{All};
@@ -10,12 +10,10 @@ ghost use Rattle.stab_map.specs.DebugMap.{Answers, map_of};
 use crate::addresses::addresses_by_name;
 use crate::object::{MapError, MapObject};
 use crate::pass::{State, finish, step};
+use ds_base::limits::OBJECTS;
 use ds_base::{List, ReadError};
 use macho_read::Image;
 use std::alloc::Global;
-
-/// How many objects are too many.
-const MAX_OBJECTS: usize = 65_536;
 
 /// The debug map of a program: the objects that it was linked from, in the order of its symbols.
 ///
@@ -37,7 +35,7 @@ pub fn debug_map(alloc: Global, image: &Image) -> Result<List<MapObject>, MapErr
     ensures names { IfOk result (All (λ object. is_utf8 object.file ≡ true)) }
 {
     let objects = read_objects(alloc, image)?;
-    if objects.len() < MAX_OBJECTS {
+    if (objects.len() as u64) < OBJECTS {
         Ok(objects)
     } else {
         Err(MapError::Objects)
