@@ -7,7 +7,7 @@ ghost use Rattle.ar_read.specs.Table.{Walks, PutsBehind};
 
 use crate::header::{archive_fault, read_member};
 use ds_base::macho::{AR_HDR_SIZE, ARMAG};
-use ds_base::{Fault, Kind, NoMemory, bytes_from};
+use ds_base::{Fault, Kind, NoMemory, TextKey, bytes_from};
 use indexmap::IndexMap;
 use std::alloc::Global;
 use std::marker::Model;
@@ -19,7 +19,7 @@ use std::marker::Model;
 pub struct Members<'a> {
     bytes: &'a [u8],
     // the content of the first member of each name, up to the first fault
-    contents: IndexMap<&'a [u8], &'a [u8]>,
+    contents: IndexMap<TextKey<'a>, &'a [u8]>,
     // why any other name isn't found
     missing: Fault,
 }
@@ -60,7 +60,7 @@ impl<'a> Members<'a> {
     pub fn find(&self, name: &[u8]) -> Result<&'a [u8], Fault>
         ensures { Finds (λ content. content.now) result (member_of self.now name.now) }
     {
-        match self.contents.get(name) {
+        match self.contents.get(&TextKey { text: name }) {
             Some(content) => Ok(*content),
             None => Err(self.missing),
         }
@@ -98,7 +98,7 @@ fn find_member<'a>(bytes: &'a [u8], name: &[u8]) -> Result<&'a [u8], Fault>
 /// Puts the members of an archive into a table, behind those that it has. The fault is for all names that it then hasn't.
 #[tactic(auto, unfolding(crate::specs::Archive::member_of))]
 fn put_members<'a>(
-    contents: &mut IndexMap<&'a [u8], &'a [u8]>,
+    contents: &mut IndexMap<TextKey<'a>, &'a [u8]>,
     bytes: &'a [u8],
 ) -> Result<Fault, NoMemory>
     ensures { IfOk result (λ fault. Walks contents.old contents.new fault (member_of bytes.now)) }
@@ -110,7 +110,10 @@ fn put_members<'a>(
 }
 
 /// The same, for bytes that begin as an archive.
-fn walk<'a>(contents: &mut IndexMap<&'a [u8], &'a [u8]>, bytes: &'a [u8]) -> Result<Fault, NoMemory>
+fn walk<'a>(
+    contents: &mut IndexMap<TextKey<'a>, &'a [u8]>,
+    bytes: &'a [u8],
+) -> Result<Fault, NoMemory>
     ensures { IfOk result (λ fault. Walks contents.old contents.new fault (λ name. found_in name (members_of bytes.now))) }
 {
     let mut place = ARMAG.len();
@@ -127,16 +130,17 @@ fn walk<'a>(contents: &mut IndexMap<&'a [u8], &'a [u8]>, bytes: &'a [u8]) -> Res
 
 /// Puts a member's content into a table, unless that has one of its name.
 fn put_behind<'a>(
-    contents: &mut IndexMap<&'a [u8], &'a [u8]>,
+    contents: &mut IndexMap<TextKey<'a>, &'a [u8]>,
     name: &'a [u8],
     content: &'a [u8],
 ) -> Result<(), NoMemory>
     ensures { OnOk result (PutsBehind contents.old contents.new name.now content.now) }
 {
-    if contents.contains_key(name) {
+    let key = TextKey { text: name };
+    if contents.contains_key(&key) {
         return Ok(());
     }
-    contents.insert(name, content)?;
+    contents.insert(key, content)?;
     Ok(())
 }
 

@@ -1,5 +1,6 @@
 use Rattle.std.proofs.Common.{◌∙◌, sym}
 use Rattle.indexmap.proofs.CallerLemmas.{insert_entry-new}
+use Rattle.ds_base.specs.declared.text_key.TextKey.{TextKey}
 use Rattle.ds_base.proofs.Lookups.{none_from}
 use Rattle.ar_read.proofs.Table.{puts_last, puts_none}
 use Rattle.ar_read.proofs.archive.put_behind.Goals as goal
@@ -9,5 +10,6 @@ returns-then-contains_key c = puts_none c.args.contents.now c.args.name.now c.ar
 
 pub returns : goal.returns
 returns c =
-    puts_last c.args.contents.now c.insert.new.self c.args.name c.args.content
-    (c.in_ok-insert.ensures.entries ∙ insert_entry-new _ c.args.contents.now c.args.name c.args.content (none_from _ (sym c.contains_key.ensures ∙ c.if-contains_key.false)))
+    let key : TextKey = record { text = c.args.name } in
+    puts_last c.args.contents.now c.insert.new.self key c.args.content
+    (c.in_ok-insert.ensures.entries ∙ insert_entry-new _ c.args.contents.now key c.args.content (none_from _ (sym c.contains_key.ensures ∙ c.if-contains_key.false)))
