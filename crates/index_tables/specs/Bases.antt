@@ -8,7 +8,6 @@ use Rattle.dwarf_types.specs.declared.value.Value.{Value}
 use Rattle.dwarf_types.specs.declared.value.Value.TheVariants as values
 use Rattle.dwarf_types.specs.Forms.{is_flag}
 use Rattle.index_tables.specs.declared.bases.Bases.{Bases}
-use Rattle.index_tables.specs.declared.bases.TheConstants.{TABLE_BASE, LISTS_BASE}
 
 -- A base is a section offset, or a constant of at most 64 bits; a flag is no constant. Any other value of a form names none.
 abbrev pub base_in : ℕ → ℕ → Value → ℕ
@@ -20,11 +19,11 @@ base_in none form _ = none
 abbrev pub base_said : ℕ → ℕ → List RawAttr → ℕ
 base_said name none attrs = option_map_or (λ a. base_in none a.form a.value) (find (λ a. a.name == name) attrs) none
 
--- the bases of a unit whose root has the attributes
+-- The bases of a unit whose root has the attributes. One that isn't said is behind the first header of its section, which in the 32-bit format takes 8 bytes, and 12 before lists (DWARF 5, sections 7.26 to 7.29).
 abbrev pub bases_in : List RawAttr → Bases
 bases_in attrs = record {
-  texts = base_said DW_AT_str_offsets_base TABLE_BASE attrs;
-  addresses = base_said DW_AT_addr_base TABLE_BASE attrs;
-  ranges = base_said DW_AT_rnglists_base LISTS_BASE attrs;
-  locations = base_said DW_AT_loclists_base LISTS_BASE attrs;
+  texts = base_said DW_AT_str_offsets_base 8 attrs;
+  addresses = base_said DW_AT_addr_base 8 attrs;
+  ranges = base_said DW_AT_rnglists_base 12 attrs;
+  locations = base_said DW_AT_loclists_base 12 attrs;
 }
