@@ -1,5 +1,5 @@
 -- Texts written one behind the other.
-use Rattle.std.proofs.Common.{◌≡◌, ◌<◌, inl, inr, ℕ, Bool, true, List, ◌++◌, length, Option, Some, None, refl, sym, ap, ◌∙◌, arith, append_assoc, length-append}
+use Rattle.std.proofs.Common.{◌≡◌, ◌<◌, inl, inr, ℕ, Bool, true, false, List, ◌++◌, length, Option, Some, None, refl, sym, ap, ◌∙◌, arith, append_assoc, length-append}
 use Rattle.std.specs.Prelude.{nat_le, if◌then◌else◌}
 use Rattle.std.specs.Option.{option_and_then}
 use Rattle.std.proofs.lemmas.Bool.{cases_lt, le-leb, lt-leb}
@@ -37,6 +37,12 @@ joined {A} out mid new a b r is rest = subst (Writes r new) (sym (onto_joined ou
 pub stopped : (out mid new : List ℕ) (a b : Option Text) (e : SpellError) → Writes {A = Unit {0}} (Err e) mid (onto out a) → Writes {A = Unit {0}} (Err e) new (onto out (a & b))
 stopped out mid new a b errors.Cannot is = onto_joined out a b ∙ ap (option_and_then (λ more. onto more b)) is
 stopped out mid new a b errors.NoMemory is = tt
+
+-- what is longer than a spelling may be is not written
+pub not_written : (out text : List ℕ) (left_out : Bool) → 4096 < length text → onto out (if left_out then None else Some text) ≡ None
+unfolding onto
+not_written out text true long = refl
+not_written out text false long = rw (lt-leb (length (out ++ text)) 4096 (omega (arith, length-append out text, long))) refl
 
 pub opened : (levels : ℕ) (may_open : ℕ → Bool) (entries : List Entry) (k : ℕ) (e : Entry) → may_open k ≡ true → slice_get entries k ≡ Some e
     → spelled_within (suc levels) may_open entries k ≡ spelled_by (spelled_within levels may_open entries) entries k e

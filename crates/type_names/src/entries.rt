@@ -6,7 +6,7 @@ ghost use Rattle.std.specs.Option.{option_and_then, option_map, option_map_or};
 ghost use Rattle.dwarf_types.specs.declared.entry.Attr.{Attr as AnAttr};
 ghost use Rattle.dwarf_types.specs.Moves.{value_of};
 ghost use Rattle.dwarf_types.specs.Seen.{inner_seen, op_seen, value_seen};
-ghost use Rattle.type_names.specs.Entries.{is_declaration, is_set, has_field, holds, inner_is_tied, is_field, is_made_up, is_named_type, is_template_parameter, is_tied, is_type, linkage_of, name_of, op_is_tied, own_name, text_in};
+ghost use Rattle.type_names.specs.Entries.{is_declaration, is_set, has_field, holds, inner_is_tied, is_field, is_made_up, is_named_type, is_template_parameter, is_tied, is_type, linkage_of, name_of, op_is_tied, text_in};
 
 use ds_base::dwarf::{
     DW_AT_declaration, DW_AT_linkage_name, DW_AT_name, DW_TAG_GNU_template_parameter_pack,
@@ -96,23 +96,6 @@ pub(crate) fn is_template_parameter(tag: u16) -> bool
             | DW_TAG_GNU_template_template_param
             | DW_TAG_GNU_template_parameter_pack
     )
-}
-
-/// Its name, where types can be told apart by it.
-pub(crate) fn own_name<'a>(entry: &EntryRef<'a>) -> Option<&'a [u8]>
-    ensures { option_map (λ text. text.now) result ≡ own_name entry.now }
-{
-    match name_of(entry) {
-        Some(name) => real_name(name),
-        None => None,
-    }
-}
-
-/// The name, where it does not stand for something without a name.
-fn real_name(name: &[u8]) -> Option<&[u8]>
-    ensures { option_map (λ text. text.now) result ≡ if is_made_up name.now then None else Some name.now }
-{
-    if is_made_up(name) { None } else { Some(name) }
 }
 
 /// Whether a name stands for something without a name.

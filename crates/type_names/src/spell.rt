@@ -7,13 +7,13 @@ ghost use Rattle.std.specs.Option.{option_map};
 ghost use Rattle.dwarf_types.specs.Moves.{value_of};
 ghost use Rattle.dwarf_types.specs.Seen.{value_seen};
 ghost use Rattle.type_names.specs.Children.{has_tag, next_listed};
-ghost use Rattle.type_names.specs.Entries.{own_name};
+ghost use Rattle.type_names.specs.Entries.{is_made_up, own_name};
 ghost use Rattle.type_names.specs.Onto.{AreTypes, Writes, onto, spelled_in};
 ghost use Rattle.type_names.specs.Spell.{◌&◌, all_of, bound_in, count_in, made_by, named_by, number_in, parameter_in, parameters_in, qualified_name, scope_name, spelled_by, spelled_target, subrange_in, subranges_in, type_in};
 ghost use Rattle.type_names.specs.Tree.{ParentsStandBefore, above, numbers_above};
 
 use crate::children::{Children, first_listed, next_listed};
-use crate::entries::{is_type, own_name, value_of};
+use crate::entries::{is_made_up, is_type, name_of, value_of};
 use crate::tree::parent_of;
 use ds_base::dwarf::{
     DW_AT_containing_type, DW_AT_count, DW_AT_type, DW_AT_upper_bound, DW_TAG_array_type,
@@ -146,10 +146,32 @@ fn write_named(begins: &[u8], entry: &EntryRef, out: &mut Vec<u8>) -> Result<(),
 fn write_own_name(entry: &EntryRef, out: &mut Vec<u8>) -> Result<(), SpellError>
     ensures { Writes result out.new.items (onto out.old.items (own_name entry.now)) }
 {
-    match own_name(entry) {
-        Some(name) => write(out, name),
+    match name_of(entry) {
+        Some(name) => write_name(name, out),
         None => Err(SpellError::Cannot),
     }
+}
+
+/// Writes a name, where it does not stand for something without a name. A longer one than a spelling may be is not
+/// searched.
+fn write_name(name: &[u8], out: &mut Vec<u8>) -> Result<(), SpellError>
+    ensures { Writes result out.new.items (onto out.old.items (if is_made_up name.now then None else Some name.now)) }
+{
+    if name.len() > 4096 {
+        return Err(SpellError::Cannot);
+    }
+    write_real_name(name, out)
+}
+
+/// The same for a name that may fit.
+#[tactic(auto, unfolding(crate::specs::Onto::onto))]
+fn write_real_name(name: &[u8], out: &mut Vec<u8>) -> Result<(), SpellError>
+    ensures { Writes result out.new.items (onto out.old.items (if is_made_up name.now then None else Some name.now)) }
+{
+    if is_made_up(name) {
+        return Err(SpellError::Cannot);
+    }
+    write(out, name)
 }
 
 /// Writes a type that has a name of its own: how it begins, and its qualified name.
