@@ -79,7 +79,7 @@ pub fn is_type(tag: u16) -> bool
 }
 
 /// Whether an entry is a type with a name.
-pub fn is_named_type(entry: &EntryRef) -> bool
+pub(crate) fn is_named_type(entry: &EntryRef) -> bool
     ensures { result ≡ is_named_type entry.now }
 {
     is_type(entry.tag()) && name_of(entry).is_some()

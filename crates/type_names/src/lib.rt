@@ -18,7 +18,7 @@ mod spell;
 mod text_table;
 mod tree;
 
-pub use entries::{is_declaration, is_named_type, is_type, linkage_of, name_of};
-pub use pooled::{TypeNames, is_overloaded, type_names};
+pub use entries::{is_declaration, is_type, linkage_of, name_of};
+pub use pooled::{TypeNames, type_names};
 pub use text_table::TextTable;
-pub use tree::{in_marked, marked_below};
+pub use tree::marked_below;

@@ -395,7 +395,7 @@ fn spell_piece(
 }
 
 /// Whether only its parameters tell a subprogram apart: it has no linkage name.
-pub fn is_overloaded(entry: &EntryRef) -> bool
+fn is_overloaded(entry: &EntryRef) -> bool
     ensures { result ≡ is_overloaded entry.now }
 {
     entry.tag() == DW_TAG_subprogram && linkage_of(entry).is_none()

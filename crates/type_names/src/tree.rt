@@ -10,7 +10,11 @@ use dwarf_types::Entries;
 use std::alloc::Global;
 
 /// Of each entry, whether it or an entry above it is marked.
-pub fn in_marked(alloc: Global, entries: &Entries, marks: &BitRow) -> Result<BitRow, NoMemory>
+pub(crate) fn in_marked(
+    alloc: Global,
+    entries: &Entries,
+    marks: &BitRow,
+) -> Result<BitRow, NoMemory>
     requires few { length entries.now ≤ 2 ^ 24 }
     requires parents { ParentsStandBefore entries.now }
     requires len { length marks.now ≡ length entries.now }
