@@ -28,7 +28,7 @@ use dwarf_types::{Entries, EntryRef, ValueRef, is_flag};
 use std::alloc::{AllocError, AllocFailed, Global};
 
 /// Why a type was not spelled.
-#[derive(Clone, Copy, Debug, PartialEq, Eq)]
+#[derive(Clone, Copy)]
 pub(crate) enum SpellError {
     /// It has no spelling, or its spelling is too long.
     Cannot,
