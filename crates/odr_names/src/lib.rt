@@ -29,9 +29,8 @@ pub use book_error::BookError;
 pub use entry_place::Occurrence;
 pub use one_object::{ObjectNames, object_names};
 pub use path_book::{
-    Objects, PathBook, Row, above, bids_are_some, book, count, first_of, joined_book, number,
-    object_count, occurrence, path_equal, path_start,
+    PathBook, above, bids_are_some, book, count, first_of, joined_book, number, object_count,
+    occurrence, path_equal, path_start,
 };
-pub use piece::{PartsRef, PieceRef, Private};
 pub use together::{MOST_POOLED, names_together};
-pub use winners::{Ranked, put_winners, winners_plain};
+pub use winners::{put_winners, winners_plain};

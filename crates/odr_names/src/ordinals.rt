@@ -50,8 +50,8 @@ pub(crate) fn twins_of(
 
 /// The entries below those in subtrees of heads, with the hashes of their parents and parts.
 ///
-/// Those with a [`crate::Private`] have no twins, and are left out. It goes into no hash, so all members of a class that
-/// differ in it alone would stand together, each to be compared with all before.
+/// Those with a [`crate::piece::Private`] have no twins, and are left out. It goes into no hash, so all members of a class
+/// that differ in it alone would stand together, each to be compared with all before.
 fn siblings_of(
     alloc: Global,
     seen: &Analysis,

@@ -32,7 +32,7 @@ use type_names::TypeNames;
 
 /// The objects of a link.
 #[derive(Drop)]
-pub struct Objects<'a> {
+pub(crate) struct Objects<'a> {
     pub(crate) seen: &'a [Analysis],
     pub(crate) live: &'a [BitRow],
     pub(crate) names: Vec<TypeNames>,
@@ -40,7 +40,7 @@ pub struct Objects<'a> {
 
 /// A pooled entry, in 24 bytes.
 #[derive(Clone, Copy)]
-pub struct Row {
+pub(crate) struct Row {
     /// The hash of the whole path.
     pub(crate) hash: u64,
     pub(crate) entry: u32,

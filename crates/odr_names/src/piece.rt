@@ -16,27 +16,27 @@ use type_names::{TypeNames, linkage_of, name_of};
 
 /// The object and the entry of a piece that nothing else tells apart.
 #[derive(Clone, Copy, Debug, PartialEq, Eq)]
-pub struct Private {
-    pub object: u32,
-    pub entry: u32,
+pub(crate) struct Private {
+    pub(crate) object: u32,
+    pub(crate) entry: u32,
 }
 
 /// What tells an entry apart from most of its siblings.
 #[derive(Clone, Copy)]
-pub struct PartsRef<'a> {
-    pub tag: u16,
-    pub name: Option<&'a [u8]>,
-    pub linkage: Option<&'a [u8]>,
-    pub spelled: Option<&'a [u8]>,
-    pub private: Option<Private>,
+pub(crate) struct PartsRef<'a> {
+    pub(crate) tag: u16,
+    pub(crate) name: Option<&'a [u8]>,
+    pub(crate) linkage: Option<&'a [u8]>,
+    pub(crate) spelled: Option<&'a [u8]>,
+    pub(crate) private: Option<Private>,
 }
 
 /// A piece of a path.
 #[derive(Clone, Copy)]
-pub struct PieceRef<'a> {
-    pub parts: PartsRef<'a>,
+pub(crate) struct PieceRef<'a> {
+    pub(crate) parts: PartsRef<'a>,
     /// Which one it is of the siblings with the same parts, counted from 0.
-    pub ordinal: u32,
+    pub(crate) ordinal: u32,
 }
 
 /// The parts of an entry of an object, which is counted from 1.

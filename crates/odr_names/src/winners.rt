@@ -14,17 +14,17 @@ use std::alloc::Global;
 
 /// A name by a hash of its path and its bid.
 #[derive(Clone, Copy, Debug, PartialEq, Eq)]
-pub struct Ranked {
-    pub hash: u64,
-    pub bid: u64,
-    pub name: u32,
+pub(crate) struct Ranked {
+    pub(crate) hash: u64,
+    pub(crate) bid: u64,
+    pub(crate) name: u32,
 }
 
 /// Of each name, the one that wins its path.
 ///
 /// Names of one path have one hash, so in the order by hash and bid they stand among a run of one hash, the winner
 /// before all others. The hash is a finer one than that by which a table is searched ([`crate::path_start`]): it takes in
-/// the object and the entry of a [`crate::Private`] (`specs/Innermost.antt`), so runs that hold two paths are rare.
+/// the object and the entry of a [`crate::piece::Private`] (`specs/Innermost.antt`), so runs that hold two paths are rare.
 pub fn winners_plain(alloc: Global, names: &PathBook) -> Result<Vec<u32>, NoMemory>
     ensures { IfOk result (λ winners. AreWinners names.now winners.items) }
 {
