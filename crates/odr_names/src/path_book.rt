@@ -210,7 +210,8 @@ pub fn bids_are_some(names: &PathBook)
     let _count = names.rows.len();
 }
 
-/// The name whose path is that of name `x` without its last piece, if that has more pieces than one.
+/// The name of the entry above that of name `x`, whose path is that of `x` without its last piece; none where that has one
+/// piece.
 pub fn above(names: &PathBook, x: u32) -> Option<u32>
     requires { x < length names.now }
     ensures before { ForSome result (λ p. p < x) }

@@ -8,7 +8,7 @@ ghost use Rattle.type_names.specs.Names.{names};
 
 use crate::one_object::ObjectNames;
 
-/// The number of names from which on no book is made.
+/// So many names or more of a link have no book ([`BookError::Pooled`](crate::BookError::Pooled)).
 pub const MOST_POOLED: usize = 1 << 25;
 
 /// How many names objects have together, where the names of each are made ([`crate::object_names`]); `None` where there

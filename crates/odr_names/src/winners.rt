@@ -12,7 +12,8 @@ use crate::path_book::{PathBook, count, number, path_equal, rank_hash_at};
 use ds_base::NoMemory;
 use std::alloc::Global;
 
-/// A name by a hash of its path and its bid.
+/// A name by a hash of its path and its bid; or an entry, in place of a name, by a hash of its parent and its parts and by
+/// its number (`ordinals`).
 #[derive(Clone, Copy, Debug, PartialEq, Eq)]
 pub(crate) struct Ranked {
     pub(crate) hash: u64,
