@@ -3,7 +3,7 @@
 use ds_base::NoMemory;
 
 /// Why a book was not made.
-#[derive(Clone, Copy, Debug, PartialEq, Eq)]
+#[derive(Clone, Copy, Debug)]
 pub enum BookError {
     /// 2^25 entries or more are pooled.
     Pooled,

@@ -15,7 +15,7 @@ use dwarf_types::{Analysis, EntryRef};
 use type_names::{TypeNames, linkage_of, name_of};
 
 /// The object and the entry of a piece that nothing else tells apart.
-#[derive(Clone, Copy, Debug, PartialEq, Eq)]
+#[derive(Clone, Copy)]
 pub(crate) struct Private {
     pub(crate) object: u32,
     pub(crate) entry: u32,

@@ -14,7 +14,7 @@ use std::alloc::Global;
 
 /// A name by a hash of its path and its bid; or an entry, in place of a name, by a hash of its parent and its parts and by
 /// its number (`ordinals`).
-#[derive(Clone, Copy, Debug, PartialEq, Eq)]
+#[derive(Clone, Copy)]
 pub(crate) struct Ranked {
     pub(crate) hash: u64,
     pub(crate) bid: u64,
