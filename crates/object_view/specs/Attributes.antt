@@ -1,5 +1,5 @@
 -- The attributes of an object's entries with what their values mean, step by step: each step goes over all attributes in document order.
-use Rattle.std.specs.Prelude.{ℕ, ◌-◌, ◌==◌, ◌&&◌, Bool, false, not, List, [], ◌∷◌, ◌++◌, length, map, slice_get, take, Option, Some, None, is_none, is_some, Result, Ok, nat_lt, if◌then◌else◌}
+use Rattle.std.specs.Prelude.{ℕ, ◌-◌, ◌^◌, ◌==◌, ◌&&◌, Bool, false, not, List, [], ◌∷◌, ◌++◌, length, map, slice_get, take, Option, Some, None, is_none, is_some, Result, Ok, nat_lt, if◌then◌else◌}
 use Rattle.std.specs.List.{filter_map, find, flat_map}
 use Rattle.std.specs.Option.{option_and_then, option_map, option_map_or, unwrap_or}
 use Rattle.ds_base.specs.declared.dwarf.TheConstants.{DW_AT_comp_dir, DW_AT_low_pc, DW_AT_stmt_list, DW_FORM_exprloc, DW_FORM_sec_offset}
@@ -48,7 +48,6 @@ pub use Rattle.unit_tree.specs.Targets.{number_at}
 use Rattle.moved_parts.specs.Lines.{lines_moved}
 use Rattle.moved_parts.specs.Places.{place_of}
 use Rattle.moved_parts.specs.Spans.{span_moved, spans_moved}
-use Rattle.object_view.specs.declared.locations.TheConstants.{EXPRESSION_LIMIT}
 use Rattle.object_view.specs.declared.open.DebugRelocs.{DebugRelocs}
 use Rattle.ds_base.specs.declared.dwarf.TheConstants.{DWARF_5}
 use Rattle.object_view.specs.declared.units.UnitContext.{UnitContext}
@@ -272,7 +271,7 @@ locations_context o map types unit u = context_at o map types (location_part u.v
 
 -- the expression of an item is too long for the two bytes of its length in the output, which items have before version 5
 abbrev pub is_too_long : ℕ → List Op → Bool
-is_too_long version ops = not (version == DWARF_5) && not (nat_lt (ops_len ops) EXPRESSION_LIMIT)
+is_too_long version ops = not (version == DWARF_5) && not (nat_lt (ops_len ops) (2 ^ 16))
 
 -- the operations of an item
 abbrev pub item_meant : Context → RawLocation → Result (RawLocation × List Op) Fault
