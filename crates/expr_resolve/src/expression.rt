@@ -1,6 +1,6 @@
 //! An expression: its operations, understood.
 
-ghost use Rattle.std.specs.Prelude.{◌≡◌, ◌+◌, ◌*◌, ◌^◌, ◌≤◌, ◌<◌, length, OnOk};
+ghost use Rattle.std.specs.Prelude.{◌≡◌, ◌+◌, ◌*◌, ◌^◌, ◌≤◌, ◌<◌, [], length, OnOk};
 ghost use Rattle.std.specs.List.{All, sum_by};
 ghost use Rattle.ds_base.specs.Reading.{Gives};
 ghost use Rattle.macho_read.specs.Sound.{IsSound as IsSoundImage};
@@ -49,6 +49,7 @@ pub fn read_expression(
     requires small { length context.now.sections.now.addr.now < 2 ^ 32 }
     requires inside { first + length bytes.now < 2 ^ 32 }
     ensures exact { Gives (λ _. ops.new.ops) result (expression_of (context_in context.now) bytes.now first) }
+    ensures none { OnOk result (ops.new.inner ≡ []) }
 
     // Each base type that the operations name is one of the expression's unit.
     ensures known { OnOk result (NameKnown (context_in context.now) ops.new.ops) }

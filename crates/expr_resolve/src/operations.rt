@@ -24,7 +24,8 @@ pub(crate) fn resolve_ops(
     requires none { ops.old ≡ record { ops = []; inner = [] } }
     requires cut { All IsCut stored.now }
     requires inside { first + sum_by op_size stored.now < 2 ^ 32 }
-    ensures { Gives (λ _. ops.new.ops) result (each_from op_size (op_meant (context_in context.now)) first stored.now) }
+    ensures exact { Gives (λ _. ops.new.ops) result (each_from op_size (op_meant (context_in context.now)) first stored.now) }
+    ensures none { OnOk result (ops.new.inner ≡ []) }
 {
     let mut place = first;
     for k in 0..stored.len() {

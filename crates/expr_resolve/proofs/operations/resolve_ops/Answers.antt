@@ -16,8 +16,8 @@ resolve_op-requires-clause-inside c =
     let end = told_ends op_size (op_meant (context_in c.args.context.now)) c.args.first c.args.stored.now c.loop-k.ops.ops c.loop-k.k c.loop-k.place (op_seen c.op-op.result) c.loop-k.invariant.0 (omega arith) c.op-op.ensures in
     omega (arith, end, c.requires.inside)
 
-pub returns-in_err-resolve_op : goal.returns-in_err-resolve_op
-returns-in_err-resolve_op c =
+pub returns-in_err-resolve_op-clause-exact : goal.returns-in_err-resolve_op-clause-exact
+returns-in_err-resolve_op-clause-exact c =
     let p = err_from_is_err_and c.from_residual.result c.from_residual.ensures.1 in
     let op = op_seen c.op-op.result in
     let err = c.in_err-resolve_op.field-0.0 in
