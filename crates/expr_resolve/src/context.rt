@@ -7,7 +7,7 @@ use macho_read::Image;
 use reloc_table::Relocs;
 
 /// A base type among an object's entries.
-#[derive(Clone, Copy, Debug, PartialEq, Eq)]
+#[derive(Clone, Copy, Debug)]
 pub struct BaseType {
     /// The number of its entry in the object, counted from 0.
     pub entry: u32,

@@ -4,7 +4,7 @@ use ds_base::NoMemory;
 use std::alloc::{AllocError, AllocFailed};
 
 /// Why texts were not joined.
-#[derive(Clone, Copy, Debug, PartialEq, Eq)]
+#[derive(Clone, Copy, Debug)]
 pub enum TextError {
     /// The section would have 2^32 - 1 bytes or more, and offsets have four bytes (DWARF 4, section 7.4).
     Long,
