@@ -3,7 +3,7 @@
 use ds_base::NoMemory;
 
 /// Why an image is not written.
-#[derive(Clone, Copy, Debug, PartialEq, Eq)]
+#[derive(Clone, Copy, Debug)]
 pub enum WriteError {
     /// The file would have so many bytes, 2^32 or more, which its offsets don't tell. They may be 2^64 or more: names of
     /// symbols share their bytes in the program, and have their own in the file.

@@ -3,7 +3,7 @@
 use ds_base::{NoMemory, Part};
 
 /// Why a graph has no layout.
-#[derive(Clone, Copy, Debug, PartialEq, Eq)]
+#[derive(Clone, Copy, Debug)]
 pub enum LayoutError {
     /// The unit of this number, counted from 0, has 2^28 bytes or more.
     Unit { unit: u32 },

@@ -12,7 +12,7 @@ use text_pool::{Joined, Names, TextError, join_texts, join_texts_by};
 use unit_draft::Draft;
 
 /// Whose texts they are. Each have a section.
-#[derive(Clone, Copy, Debug, PartialEq, Eq)]
+#[derive(Clone, Copy)]
 pub(crate) enum TextsOf {
     /// Those of the entries: `__debug_str`.
     Entries,

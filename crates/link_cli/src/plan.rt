@@ -33,7 +33,7 @@ pub struct Plan {
 }
 
 /// What is done with the program.
-#[derive(Clone, Copy, Debug, PartialEq, Eq)]
+#[derive(Clone, Copy, Debug)]
 pub enum Mode {
     /// It is linked, and its bundle is written.
     Link,
@@ -44,7 +44,7 @@ pub enum Mode {
 }
 
 /// Why words give no plan.
-#[derive(Clone, Copy, Debug, PartialEq, Eq, Error)]
+#[derive(Clone, Copy, Debug, Error)]
 pub enum PlanError {
     /// They are not those of the command.
     #[error("the words are not those of the command")]

@@ -4,7 +4,7 @@ use ds_base::Bytes;
 use type_pool::ClosedPool;
 
 /// How a link is to be made.
-#[derive(Clone, Copy, Debug, PartialEq, Eq)]
+#[derive(Clone, Copy, Debug)]
 pub struct Options {
     /// Whether types of one name are merged, in C++ and Objective-C++.
     pub odr: bool,
@@ -13,7 +13,7 @@ pub struct Options {
 }
 
 /// What a link counted.
-#[derive(Clone, Copy, Debug, PartialEq, Eq)]
+#[derive(Clone, Copy, Debug)]
 pub struct Counts {
     /// The objects of the debug map.
     pub objects: u64,
@@ -32,7 +32,7 @@ pub struct Counts {
 }
 
 /// What is counted of the objects of a link.
-#[derive(Clone, Copy, Debug, PartialEq, Eq)]
+#[derive(Clone, Copy)]
 pub(crate) struct Counted {
     pub objects: u64,
     pub entries: u64,

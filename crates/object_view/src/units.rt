@@ -12,7 +12,7 @@ use std::alloc::Global;
 use unit_tree::header_size;
 
 /// What the values of a unit are understood by.
-#[derive(Clone, Copy, Debug, PartialEq, Eq)]
+#[derive(Clone, Copy)]
 pub(crate) struct UnitContext {
     pub(crate) version: u16,
     /// The place of its first byte in `__debug_info`.

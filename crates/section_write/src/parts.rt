@@ -11,7 +11,7 @@ use ds_base::emit_bytes;
 use unit_draft::Draft;
 
 /// A part of a draft, which has a section.
-#[derive(Clone, Copy, Debug, PartialEq, Eq)]
+#[derive(Clone, Copy)]
 pub(crate) enum DraftPart {
     /// Abbreviations: `__debug_abbrev`.
     Table,

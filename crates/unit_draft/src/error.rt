@@ -3,7 +3,7 @@
 use ds_base::NoMemory;
 
 /// Why a unit has no draft.
-#[derive(Clone, Copy, Debug, PartialEq, Eq)]
+#[derive(Clone, Copy, Debug)]
 pub enum DraftError {
     /// The unit has 2^28 bytes or more, and a base operand has four LEB digits for a place.
     Unit,
