@@ -19,7 +19,6 @@ mod list;
 pub mod macho;
 mod pieces;
 mod put;
-mod sums;
 mod text_key;
 
 pub use bit_row::BitRow;
@@ -34,5 +33,4 @@ pub use leb::{
 pub use list::List;
 pub use pieces::{bytes_from, cut, text_in};
 pub use put::{put_bytes, put_sleb, put_u8, put_u16, put_u32, put_u64, put_uleb, put_uleb4};
-pub use sums::{plus, times};
 pub use text_key::TextKey;
