@@ -1,7 +1,8 @@
 -- Bytes behind bytes, bytes at the front of a room, and a field in the midst of bytes that is filled in.
-use Rattle.std.proofs.Common.{◌<◌, get_or, suc, add-one, drop-cons, ◌≡◌, ◌+◌, ◌≤◌, ◌++◌, ◌∙◌, ℕ, ◌∷◌, [], List, length, take, drop, ap, sym, append_assoc, length-append, arith}
+use Rattle.std.proofs.Common.{◌<◌, get_or, suc, add-one, drop-cons, ◌≡◌, ◌+◌, ◌-◌, ◌≤◌, ◌++◌, ◌∙◌, ℕ, ◌∷◌, [], List, length, take, drop, ap, sym, append_assoc, length-append, arith}
 use Rattle.std.proofs.lemmas.List.{drop_at, take_at}
 use Rattle.std.specs.List.{flat_map}
+use Rattle.byteorder.specs.Endian.{little_bytes}
 use Rattle.ds_base.specs.Room.{put}
 
 -- what stands at the front of a room
@@ -21,13 +22,13 @@ put_instead before field behind bytes at place same =
     ap (drop (at + length bytes)) (sym (append_assoc before field behind)) ∙ drop_at (before ++ field) behind (at + length bytes) seam in
     ap (λ (xs : List ℕ). xs ++ (bytes ++ drop (at + length bytes) (before ++ (field ++ behind)))) front ∙ ap (λ (xs : List ℕ). before ++ (bytes ++ xs)) rest
 
-pub field_filled : (before field behind bytes out room : List ℕ) (at : ℕ) → at ≡ length before → out ≡ before ++ (field ++ behind) → length field ≡ length bytes → room ≡ put out at bytes
-    → take (length out) (room ++ drop (length room) out) ≡ before ++ (bytes ++ behind)
-field_filled before field behind bytes out room at place was same is =
-    let room_is : room ≡ before ++ (bytes ++ behind) = is ∙ ap (λ (xs : List ℕ). put xs at bytes) was ∙ put_instead before field behind bytes at (sym place) same in
-    let len : length room ≡ length out =
-    omega (arith, ap length room_is, ap length was, same, length-append before (field ++ behind), length-append field behind, length-append before (bytes ++ behind), length-append bytes behind) in
-    lent out room len ∙ room_is
+-- a field of four bytes that is filled in with the length of what stands behind it
+pub length_filled : (before field behind out new : List ℕ) (at : ℕ) → at ≡ length before → out ≡ before ++ (field ++ behind) → length field ≡ 4 → new ≡ put out at (little_bytes 4 (length out - at - 4))
+    → new ≡ before ++ (little_bytes 4 (length behind) ++ behind)
+length_filled before field behind out new at place was four is =
+    let count : length out - at - 4 ≡ length behind = omega (arith, place, four, ap length was, length-append before (field ++ behind), length-append field behind) in
+    is ∙ ap (λ (n : ℕ). put out at (little_bytes 4 n)) count ∙ ap (λ (xs : List ℕ). put xs at (little_bytes 4 (length behind))) was
+    ∙ put_instead before field behind (little_bytes 4 (length behind)) at (sym place) four
 
 -- one piece is appended behind the other
 pub append_more : (old mid new xs ys : List ℕ) → mid ≡ old ++ xs → new ≡ mid ++ ys → new ≡ old ++ (xs ++ ys)

@@ -1,6 +1,6 @@
 //! Lengths and offsets of the 32-bit format (DWARF 4, section 7.4), which have four bytes.
 
-ghost use Rattle.std.specs.Prelude.{◌≡◌, ◌+◌, ◌-◌, ◌≤◌, ◌++◌, ℕ, List as Listed, length, replicate, IfOk, OnOk};
+ghost use Rattle.std.specs.Prelude.{◌≡◌, ◌+◌, ◌-◌, ◌≤◌, ◌++◌, length, replicate, IfOk, OnOk, OnErr};
 ghost use Rattle.byteorder.specs.Endian.{little_bytes};
 ghost use Rattle.ds_base.specs.Room.{put};
 
@@ -11,7 +11,8 @@ const LENGTH_SIZE: usize = 4;
 
 /// Puts a length or an offset last; of a greater number than four bytes hold, the lowest four.
 pub fn append_offset(out: &mut Bytes, n: usize) -> Result<(), NoMemory>
-    ensures { OnOk result (out.new ≡ out.old ++ little_bytes 4 n) }
+    ensures ok { OnOk result (out.new ≡ out.old ++ little_bytes 4 n) }
+    ensures unchanged { OnErr result (out.new ≡ out.old) }
 {
     let bytes = (n as u64).to_le_bytes();
     out.extend(&bytes[..LENGTH_SIZE])?;
@@ -22,6 +23,7 @@ pub fn append_offset(out: &mut Bytes, n: usize) -> Result<(), NoMemory>
 pub fn open_length(out: &mut Bytes) -> Result<usize, NoMemory>
     ensures opened { OnOk result (out.new ≡ out.old ++ replicate 4 0) }
     ensures place { IfOk result (λ at. at ≡ length out.old) }
+    ensures unchanged { OnErr result (out.new ≡ out.old) }
 {
     let at = out.len();
     out.extend(&[0; LENGTH_SIZE])?;
@@ -32,7 +34,7 @@ pub fn open_length(out: &mut Bytes) -> Result<usize, NoMemory>
 /// count.
 pub fn close_length(out: &mut Bytes, at: usize)
     requires fits { at + 4 ≤ length out.old }
-    ensures { (before behind : Listed ℕ) → at ≡ length before → out.old ≡ before ++ (replicate 4 0 ++ behind) → out.new ≡ before ++ (little_bytes 4 (length behind) ++ behind) }
+    ensures { out.new ≡ put out.old at (little_bytes 4 (length out.old - at - 4)) }
 {
     let behind = out.len() - at - LENGTH_SIZE;
     put_lowest(out.as_mut_slice(), at, behind as u64);

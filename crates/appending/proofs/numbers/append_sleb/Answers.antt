@@ -4,8 +4,8 @@ use Rattle.ds_base.proofs.LebLengths.{length-sleb}
 use Rattle.appending.proofs.Places.{take_front}
 use Rattle.appending.proofs.numbers.append_sleb.Goals as goal
 
-pub returns : goal.returns
-returns c =
+pub returns-clause-ok : goal.returns-clause-ok
+returns-clause-ok c =
     let len : c.sleb_len.result ≡ sleb_len_of c.args.n = simp (to_z-of_z, c.ranges.n) at c.sleb_len.ensures.is in
     let written = simp (to_z-of_z, c.ranges.n) at c.put_sleb.ensures in
     c.in_ok-extend.ensures.ok ∙ ap (λ bytes. c.args.out.now ++ bytes) (take_front _ _ _ _ written (length-sleb c.args.n ∙ sym len))
