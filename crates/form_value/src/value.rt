@@ -17,8 +17,9 @@ use dwarf_types::{Field, RawValue, Sections};
 ///
 /// An address is the stored number. An expression is a `Block`. References, offsets into sections and
 /// indices into tables are `Offset` of the stored number; whether it leads anywhere is not tried. A flag
-/// that is only present is 1. Texts of `DW_FORM_strp` and `DW_FORM_line_strp` are those of their section,
-/// and their places are told. Faults are placed in the cursor's part; on a refusal the cursor stays.
+/// that is only present is 1. Texts of `DW_FORM_strp` and `DW_FORM_line_strp` are those of their section. The
+/// place that comes with a text is a hint, of which the clause says nothing. Faults are placed in the cursor's
+/// part; on a refusal the cursor stays.
 #[tactic(auto, unfolding(crate::specs::Reading::value_at))]
 pub fn read_value<'a>(
     cursor: &mut Cursor<'a>,
