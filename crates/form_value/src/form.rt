@@ -15,7 +15,7 @@ use ds_base::dwarf::{
 };
 
 /// How a number without a sign is spelled.
-#[derive(Clone, Copy, Debug, PartialEq, Eq)]
+#[derive(Clone, Copy)]
 pub enum Coding {
     /// In one byte.
     One,
@@ -29,7 +29,7 @@ pub enum Coding {
 }
 
 /// How the values of a form are spelled, and what they are.
-#[derive(Clone, Copy, Debug, PartialEq, Eq)]
+#[derive(Clone, Copy)]
 pub enum FormClass {
     /// An address of eight bytes.
     Address,
@@ -58,7 +58,7 @@ pub enum FormClass {
 }
 
 /// What the standard says of a form.
-#[derive(Clone, Copy, Debug, PartialEq, Eq)]
+#[derive(Clone, Copy)]
 pub struct FormRow {
     /// The least version of a unit that may use the form; 4 stands for it and all before.
     pub since: u16,
@@ -71,7 +71,7 @@ pub struct FormRow {
 /// section 7.5.6 and table 7.6, for all. The forms of type units, of supplementary files and the
 /// indirect form are outside of this project's profile.
 #[tactic(auto, unfolding(crate::specs::Forms::form_row))]
-pub fn form_class(form: u16) -> Option<FormRow>
+pub(crate) fn form_class(form: u16) -> Option<FormRow>
     ensures { result ≡ form_row form }
 {
     match form {

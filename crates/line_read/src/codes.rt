@@ -13,7 +13,7 @@ use ds_base::dwarf::{
 };
 
 /// The standard operations (DWARF 4, section 6.2.5.2).
-#[derive(Clone, Copy, Debug, PartialEq, Eq)]
+#[derive(Clone, Copy)]
 pub(crate) enum StandardOp {
     Copy,
     AdvancePc,
@@ -30,7 +30,7 @@ pub(crate) enum StandardOp {
 }
 
 /// The extended operations (DWARF 4, section 6.2.5.3).
-#[derive(Clone, Copy, Debug, PartialEq, Eq)]
+#[derive(Clone, Copy)]
 pub(crate) enum ExtendedOp {
     EndSequence,
     SetAddress,

@@ -12,7 +12,7 @@ use ds_base::dwarf::{
 };
 
 /// Where a text stands.
-#[derive(Clone, Copy, Debug, PartialEq, Eq)]
+#[derive(Clone, Copy)]
 pub(crate) enum TextForm {
     /// In the entry, ended by a zero byte.
     Inline,
@@ -23,7 +23,7 @@ pub(crate) enum TextForm {
 }
 
 /// How a number is spelled.
-#[derive(Clone, Copy, Debug, PartialEq, Eq)]
+#[derive(Clone, Copy)]
 pub(crate) enum NumberForm {
     /// In one byte.
     One,
@@ -36,7 +36,7 @@ pub(crate) enum NumberForm {
 }
 
 /// The forms that an entry's values may have.
-#[derive(Clone, Copy, Debug, PartialEq, Eq)]
+#[derive(Clone, Copy)]
 pub(crate) enum EntryForm {
     Text(TextForm),
     Number(NumberForm),
@@ -47,7 +47,7 @@ pub(crate) enum EntryForm {
 }
 
 /// A value of an entry: what it tells, and its form.
-#[derive(Clone, Copy, Debug, PartialEq, Eq)]
+#[derive(Clone, Copy)]
 pub(crate) enum EntryItem {
     Path(TextForm),
     Directory(NumberForm),

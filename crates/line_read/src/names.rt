@@ -10,7 +10,7 @@ use dwarf_types::{FileNameRef, FileNames, Paths};
 use std::alloc::Global;
 
 /// Where a header ends, which its tables do not pass.
-#[derive(Clone, Copy, Debug, PartialEq, Eq)]
+#[derive(Clone, Copy)]
 pub(crate) struct HeaderEnd {
     /// In bytes from the start of `__debug_line`.
     pub(crate) place: u64,

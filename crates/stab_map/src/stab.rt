@@ -8,7 +8,7 @@ use ds_base::macho::{N_FUN, N_GSYM, N_LCSYM, N_OSO, N_SO, N_STSYM};
 use macho_read::SymbolRef;
 
 /// What a symbol says to the debug map.
-#[derive(Clone, Copy, Debug, PartialEq, Eq)]
+#[derive(Clone, Copy)]
 pub(crate) enum Stab {
     /// The object of this path begins: N_OSO with a name.
     Object,
