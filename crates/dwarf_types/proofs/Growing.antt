@@ -15,9 +15,6 @@ begins_not xs = ([], sym (append-nil xs))
 pub begins_more : {A : Type 0} (xs ys : List A) (x : A) → ys ≡ xs ++ x ∷ [] → Begins xs ys
 begins_more xs ys x is = (x ∷ [], is)
 
-pub begins_same : {A : Type 0} (xs ys : List A) → ys ≡ xs → Begins xs ys
-begins_same xs ys is = ([], is ∙ sym (append-nil xs))
-
 pub begins_on : {A : Type 0} (xs ys zs : List A) → Begins xs ys → Begins ys zs → Begins xs zs
 begins_on xs ys zs b c = (b.0 ++ c.0, c.1 ∙ (ap (λ ws. ws ++ c.0) b.1 ∙ append_assoc xs b.0 c.0))
 

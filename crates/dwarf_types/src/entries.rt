@@ -1,6 +1,6 @@
 //! Entries in document order, as they are read and as they are understood.
 
-ghost use Rattle.std.specs.Prelude.{◌≡◌, ◌<◌, [], length, map, take, slice_get, slice_index_or, slice_set, Some, IfOk, OnOk, OnErr};
+ghost use Rattle.std.specs.Prelude.{◌≡◌, ◌<◌, [], length, map, take, slice_get, slice_index_or, slice_set, Some, OnOk, OnErr};
 ghost use Rattle.dwarf_types.specs.declared.entry.Attr.{Attr as AnAttr};
 ghost use Rattle.dwarf_types.specs.declared.entry.Entry.{Entry as AnEntry};
 ghost use Rattle.dwarf_types.specs.declared.entry.RawAttr.{RawAttr as ARawAttr};
@@ -13,7 +13,7 @@ ghost use Rattle.dwarf_types.specs.Raw.{attr_of, entry_of};
 use crate::columns::{Cell, Head, cells_in};
 use crate::entry_ref::{EntryRef, RawEntryRef};
 use crate::put::NewValue;
-use crate::sides::{Held, Sides, copied};
+use crate::sides::{Held, Sides};
 use ds_base::NoMemory;
 use std::alloc::Global;
 use std::marker::Model;
@@ -123,17 +123,6 @@ impl Entries {
         let cell = self.cells[k];
         self.cells[k] = with_value(cell, held);
         Ok(())
-    }
-
-    /// A copy.
-    pub fn copy(&self, alloc: Global) -> Result<Entries, NoMemory>
-        ensures { IfOk result (λ made. made ≡ self.now) }
-    {
-        Ok(Entries {
-            heads: copied(alloc, &self.heads)?,
-            cells: copied(alloc, &self.cells)?,
-            sides: self.sides.copy(alloc)?,
-        })
     }
 }
 

@@ -192,7 +192,7 @@ impl SequenceBuilder {
         Ok(())
     }
 
-    /// The sequences that have ended. They hold the memory that they need.
+    /// The sequences that have ended. The memory behind the last row is given back.
     pub fn finish(self) -> Sequences
         ensures { result ≡ self.ended }
     {

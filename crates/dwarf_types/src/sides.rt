@@ -148,23 +148,6 @@ impl Sides {
         Ok(sides)
     }
 
-    /// Columns with the same items.
-    pub(crate) fn copy(&self, alloc: Global) -> Result<Sides, NoMemory>
-        ensures { IfOk result (λ made. Grows self.now made) }
-    {
-        Ok(Sides {
-            large: copied(alloc, &self.large)?,
-            bytes: copied(alloc, &self.bytes)?,
-            stretches: copied(alloc, &self.stretches)?,
-            places: copied(alloc, &self.places)?,
-            addresses: copied(alloc, &self.addresses)?,
-            spans: copied(alloc, &self.spans)?,
-            ops: copied(alloc, &self.ops)?,
-            inner: copied(alloc, &self.inner)?,
-            items: copied(alloc, &self.items)?,
-        })
-    }
-
     /// Puts what a cell cannot hold of a value behind the columns. The value was read in a form.
     pub(crate) fn store_read(&mut self, form: u16, value: RawValue<'_>) -> Result<Held, NoMemory>
         ensures value { IfOk result (λ h. held_value self.new h.kind form h.payload ≡ value_read form value.entry) }
@@ -561,11 +544,4 @@ fn append<T: Copy>(column: &mut Vec<T>, items: &[T]) -> Result<Stretch, NoMemory
     column.extend_from_slice(items)?;
     let to = column.len();
     Ok(Stretch { from, to })
-}
-
-/// A copy of a column.
-pub(crate) fn copied<T: Copy>(alloc: Global, column: &Vec<T>) -> Result<Vec<T>, NoMemory>
-    ensures { IfOk result (λ made. made.items ≡ column.now.items) }
-{
-    Ok(Vec::from_slice(alloc, column.as_slice())?)
 }

@@ -1,4 +1,4 @@
-//! Items with their results, and no result yet for each item.
+//! Items with their results.
 
 /// An item with its result.
 #[derive(Drop)]
