@@ -9,6 +9,7 @@ ghost use Rattle.dwarf_types.specs.Put.{value_read};
 
 use crate::columns::{Cell, Head, NO_PARENT, cells_from, cells_in, has_name};
 use crate::entries::RawEntries;
+use crate::entry::MOST_ENTRIES;
 use crate::entry_ref::RawEntryRef;
 use crate::put::RawValue;
 use crate::sides::Sides;
@@ -48,7 +49,7 @@ impl Model for Builder {
 impl Builder {
     /// No entries. Places of texts are in `strings` and, behind it, in `line_strings`: `__debug_str` and
     /// `__debug_line_str`. `size` is that of the section of the entries in bytes, and memory is set aside for as many as
-    /// such a section mostly has.
+    /// such a section mostly has, where there is so much.
     pub fn new(
         alloc: Global,
         strings: &[u8],
@@ -57,10 +58,11 @@ impl Builder {
     ) -> Result<Builder, NoMemory>
         ensures { IfOk result (λ built. built ≡ record { entries = []; attrs = [] }) }
     {
+        let size = size.min(MOST_ENTRIES * BYTES_AN_ENTRY);
         Ok(Builder {
-            heads: Vec::with_capacity(alloc, size / BYTES_AN_ENTRY)?,
-            cells: Vec::with_capacity(alloc, size / BYTES_AN_ATTRIBUTE)?,
-            ends: Vec::with_capacity(alloc, size / BYTES_AN_ATTRIBUTE)?,
+            heads: room_for(alloc, size / BYTES_AN_ENTRY),
+            cells: room_for(alloc, size / BYTES_AN_ATTRIBUTE),
+            ends: room_for(alloc, size / BYTES_AN_ATTRIBUTE),
             sides: Sides::with_texts(alloc, strings, line_strings)?,
             open_from: 0,
         })
@@ -159,6 +161,16 @@ impl Builder {
             ..
         } = self;
         RawEntries::from_columns(heads, cells, ends, sides)
+    }
+}
+
+/// No items, and room for `count` of them if the allocator has it.
+fn room_for<T: Copy>(alloc: Global, count: usize) -> Vec<T>
+    ensures { result.items ≡ [] }
+{
+    match Vec::with_capacity(alloc, count) {
+        Ok(items) => items,
+        Err(_) => Vec::new(alloc),
     }
 }
 
