@@ -11,7 +11,7 @@ use crate::sides::Kind;
 pub(crate) const NO_PARENT: u32 = 0xffff_ffff;
 
 /// An entry but for its attributes, and where its cells stand among all.
-#[derive(Clone, Copy, Debug, PartialEq, Eq)]
+#[derive(Clone, Copy)]
 pub(crate) struct Head {
     pub(crate) parent: u32,
     pub(crate) unit: u32,
@@ -22,7 +22,7 @@ pub(crate) struct Head {
 }
 
 /// An attribute.
-#[derive(Clone, Copy, Debug, PartialEq, Eq)]
+#[derive(Clone, Copy)]
 pub(crate) struct Cell {
     pub(crate) name: u16,
     pub(crate) form: u8,

@@ -23,7 +23,7 @@ pub struct FileNames {
 }
 
 /// A file whose texts are runs of bytes.
-#[derive(Clone, Copy, Debug, PartialEq, Eq)]
+#[derive(Clone, Copy)]
 pub(crate) struct FileRow {
     pub(crate) name: TextRun,
     pub(crate) dir: u64,

@@ -9,7 +9,7 @@ use ds_base::NoMemory;
 use std::alloc::Global;
 
 /// A frame but for its address.
-#[derive(Clone, Copy, Debug, PartialEq, Eq)]
+#[derive(Clone, Copy)]
 pub(crate) struct FrameParts {
     /// The number of its common information entry, counted from 0.
     pub(crate) cie: usize,
@@ -18,7 +18,7 @@ pub(crate) struct FrameParts {
 }
 
 /// How many common information entries and bytes stand before others.
-#[derive(Clone, Copy, Debug, PartialEq, Eq)]
+#[derive(Clone, Copy)]
 pub(crate) struct Before {
     pub(crate) cies: usize,
     pub(crate) bytes: usize,

@@ -64,14 +64,14 @@ pub struct FrameRef<'a> {
 }
 
 /// A frame as it is read, in its row.
-#[derive(Clone, Copy, Debug, PartialEq, Eq)]
+#[derive(Clone, Copy)]
 pub(crate) struct RawRow {
     pub(crate) at: Addr,
     pub(crate) parts: FrameParts,
 }
 
 /// A frame of the linked program in its row.
-#[derive(Clone, Copy, Debug, PartialEq, Eq)]
+#[derive(Clone, Copy)]
 pub(crate) struct OutRow {
     pub(crate) address: u64,
     pub(crate) parts: FrameParts,

@@ -6,7 +6,7 @@ ghost use Rattle.dwarf_types.specs.Packed.{IsNarrow, RowWithin, narrow, row_of, 
 use crate::lines::Row;
 
 /// A row in 24 bytes: its numbers, or where they do not fit its place among the wide rows, which are kept whole.
-#[derive(Clone, Copy, Debug, PartialEq, Eq)]
+#[derive(Clone, Copy)]
 pub(crate) struct PackedRow {
     /// Of a wide row its place among them, counted from 0.
     address: u64,

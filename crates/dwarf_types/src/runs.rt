@@ -7,14 +7,14 @@ ghost use Rattle.dwarf_types.specs.Runs.{InRun, InTexts, run_of, text_of};
 use ds_base::NoMemory;
 
 /// From one place of a column up to another.
-#[derive(Clone, Copy, Debug, PartialEq, Eq)]
+#[derive(Clone, Copy)]
 pub(crate) struct Run {
     pub(crate) from: usize,
     pub(crate) to: usize,
 }
 
 /// A text: a run of a table's own bytes, or of a section of texts that tables share.
-#[derive(Clone, Copy, Debug, PartialEq, Eq)]
+#[derive(Clone, Copy)]
 pub(crate) enum TextRun {
     Own(Run),
     Shared(Run),

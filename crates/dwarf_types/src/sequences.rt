@@ -33,7 +33,7 @@ impl Model for Sequences {
 }
 
 /// A sequence, whose rows are a run of all rows.
-#[derive(Clone, Copy, Debug, PartialEq, Eq)]
+#[derive(Clone, Copy)]
 pub(crate) struct SequenceRow {
     pub(crate) rows: Run,
     pub(crate) end: u64,
@@ -90,7 +90,7 @@ impl Model for RawSequences {
 }
 
 /// The same as it is read.
-#[derive(Clone, Copy, Debug, PartialEq, Eq)]
+#[derive(Clone, Copy)]
 pub(crate) struct RawSequenceRow {
     pub(crate) rows: Run,
     pub(crate) end: Option<Addr>,

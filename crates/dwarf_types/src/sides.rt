@@ -20,7 +20,7 @@ use memchr::memchr;
 use std::alloc::Global;
 
 /// What the payload of a cell is.
-#[derive(Clone, Copy, Debug, PartialEq, Eq)]
+#[derive(Clone, Copy)]
 pub(crate) enum Kind {
     /// A constant or flag below 2^32.
     Small,
@@ -55,14 +55,14 @@ pub(crate) enum Kind {
 }
 
 /// From one place of a column up to another.
-#[derive(Clone, Copy, Debug, PartialEq, Eq)]
+#[derive(Clone, Copy)]
 pub(crate) struct Stretch {
     pub(crate) from: usize,
     pub(crate) to: usize,
 }
 
 /// An operation inside another, in its column.
-#[derive(Clone, Copy, Debug, PartialEq, Eq)]
+#[derive(Clone, Copy)]
 pub(crate) struct InnerRow {
     pub(crate) code: u8,
     pub(crate) bytes: Stretch,
@@ -72,7 +72,7 @@ pub(crate) struct InnerRow {
 }
 
 /// An operation in its column.
-#[derive(Clone, Copy, Debug, PartialEq, Eq)]
+#[derive(Clone, Copy)]
 pub(crate) struct OpRow {
     pub(crate) code: u8,
     pub(crate) bytes: Stretch,
@@ -84,14 +84,14 @@ pub(crate) struct OpRow {
 }
 
 /// An item of a location list in its column.
-#[derive(Clone, Copy, Debug, PartialEq, Eq)]
+#[derive(Clone, Copy)]
 pub(crate) struct ItemRow {
     pub(crate) span: Span,
     pub(crate) ops: Stretch,
 }
 
 /// A value, as it stands in a cell.
-#[derive(Clone, Copy, Debug, PartialEq, Eq)]
+#[derive(Clone, Copy)]
 pub(crate) struct Held {
     pub(crate) kind: Kind,
     pub(crate) payload: u32,
