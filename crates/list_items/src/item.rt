@@ -15,7 +15,7 @@ use ds_base::{Cursor, Fault, Kind};
 use dwarf_types::{Addr, RawSpan};
 
 /// An item of a list (DWARF 4 and 5, section 2.6.2).
-#[derive(Clone, Copy, Debug, PartialEq, Eq)]
+#[derive(Clone, Copy)]
 pub enum Item {
     /// The list ends.
     End,
@@ -36,7 +36,11 @@ pub enum Item {
 /// Each number is an item of its own for `Truncated` and `LebTooWide`. `UnknownListEntry`, `BadIndex` and `BadList`
 /// are placed at the item's first byte, and come as soon as what decides them is read.
 #[tactic(auto, unfolding(crate::specs::Reading::item_at))]
-pub fn read_item(cursor: &mut Cursor, context: &ListContext<'_>, base: &Addr) -> Result<Item, Fault>
+pub(crate) fn read_item(
+    cursor: &mut Cursor,
+    context: &ListContext<'_>,
+    base: &Addr,
+) -> Result<Item, Fault>
     requires sound { IsSoundContext (context_in context.now) }
     requires small { IsSmall cursor.old }
     ensures read { Reads (λ item. item) result cursor.new (item_at (context_in context.now) base.now cursor.old) }

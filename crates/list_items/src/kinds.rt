@@ -12,7 +12,7 @@ use ds_base::dwarf::{
 };
 
 /// What stands behind the kind of an entry (DWARF 5, sections 2.17.3 and 2.6.2).
-#[derive(Clone, Copy, Debug, PartialEq, Eq)]
+#[derive(Clone, Copy)]
 pub enum EntryKind {
     /// Nothing: the list ends.
     EndOfList,

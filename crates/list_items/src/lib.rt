@@ -2,7 +2,7 @@
 //!
 //! Layer: object readers. Reads with what each item begins, up to an expression: in version 4 the two words of
 //! `__debug_ranges` and `__debug_loc` (`specs/Words.antt`), in version 5 the entries of `__debug_rnglists` and
-//! `__debug_loclists` (DWARF 5, sections 2.17.3 and 2.6.2; `specs/Entries.antt`). [`read_item`] gives `item_at` where a
+//! `__debug_loclists` (DWARF 5, sections 2.17.3 and 2.6.2; `specs/Entries.antt`). An item is `item_at` where a
 //! cursor stands (`specs/Reading.antt`): the end of the list, a new base, or a span with the base applied
 //! (`specs/Ends.antt`). [`read_list`] gives the whole list, `list_in` its section (`specs/Lists.antt`): a listing of the
 //! items, with what follows a span as its argument ([`Behind`]: nothing in a range list, an expression in a location
@@ -20,5 +20,4 @@ mod words;
 
 pub use context::{ListContext, ListForm, ListSection};
 pub use ends::is_empty;
-pub use item::{Item, read_item};
 pub use list::{Behind, read_list};
