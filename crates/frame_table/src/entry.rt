@@ -11,7 +11,7 @@ use ds_base::{Cursor, Fault, Kind, NoMemory, Part};
 use std::alloc::Global;
 
 /// An entry of the section, by where it stands and what it begins with. Places count bytes from the section's start.
-#[derive(Clone, Copy, Debug, PartialEq, Eq)]
+#[derive(Clone, Copy)]
 pub(crate) struct FrameEntry {
     /// The place of its first byte, where its length stands.
     pub(crate) place: u64,

@@ -10,7 +10,7 @@ ghost use Rattle.frame_table.specs.Order.{StandApart, IsFirst, IsFirstMissed, ea
 use crate::entry::FrameEntry;
 
 /// An FDE that does not name the start of a CIE, and the entry at which that shows. Both are indices from 0.
-#[derive(Clone, Copy, Debug, PartialEq, Eq)]
+#[derive(Clone, Copy)]
 pub(crate) struct Missed {
     /// The entry at which it shows.
     pub(crate) at: usize,
