@@ -4,7 +4,7 @@ use ds_base::NoMemory;
 use std::alloc::{AllocError, AllocFailed};
 
 /// Why a shape was not made.
-#[derive(Clone, Copy, Debug, PartialEq, Eq)]
+#[derive(Clone, Copy, Debug)]
 pub enum ShapeError {
     /// It has 2^32 units or more, and references tell units by 32 bits.
     Units,
