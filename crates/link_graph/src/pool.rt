@@ -29,7 +29,7 @@ use std::thread::{Threads, for_each_chunk_mut};
 pub struct PathNodes {
     /// The names that win the paths, in the order of the nodes. The root of their unit stands before these.
     pub order: Vec<u32>,
-    /// Of each name that wins a path, the node; none of the others.
+    /// Of each name that wins a path, the node; `None` at each other name.
     pub nodes: Vec<Option<u32>>,
 }
 
