@@ -139,6 +139,11 @@ pub pools_counted : (version : ℕ) (names : List Named) → length (pool_units 
 pools_counted version [] = refl
 pools_counted version (n ∷ names) = refl
 
+-- the pool has one unit at most
+pub pool_count_few : (names : List Named) → pool_count names < 2
+pool_count_few [] = omega arith
+pool_count_few (n ∷ ns) = omega arith
+
 -- the row of object k leads where the shape tells, once it is placed
 abbrev pub IsRowOf : Bool → List Analysis → List (List Bool) → List Named → ℕ → Place → List (Option Target) → Type 0
 IsRowOf odr seen live names k place row = (o : heads.Object) → slice_get (objects_of seen live) k ≡ Some o → placed names place row ≡ images_in odr seen live (k, o)

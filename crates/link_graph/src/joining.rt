@@ -44,6 +44,7 @@ pub fn joined_shape<R: Threads + Sync>(
     requires merged { ArePathNodes names.now winners.now merged }
     ensures exact { IfOk result (λ shape. (odr : Bool) (seen : Listed Seen) (live : Listed (Listed Bool)) → AreOwnShapes odr seen live names.now own.items → shape ≡ shape_of odr seen live) }
     ensures is { IfOk result (λ shape. (odr : Bool) (seen : Listed Seen) (live : Listed (Listed Bool)) → AreOwnShapes odr seen live names.now own.items → IsShape seen shape) }
+    ensures few { IfOk result (λ shape. length shape.units < 2 ^ 32) }
     ensures units { result ≡ Err errors.Units → (odr : Bool) (seen : Listed Seen) (live : Listed (Listed Bool)) → AreOwnShapes odr seen live names.now own.items → 2 ^ 32 ≤ length (shape_of odr seen live).units }
 {
     let units = units_of(rt, alloc, workers, names, winners, &merged)?;
@@ -75,6 +76,7 @@ fn gathered(
     requires own { (odr : Bool) × (seen : Listed Seen) × (live : Listed (Listed Bool)) × AreOwnShapes odr seen live names.now own.items }
     requires pool { pool.items ≡ pool_units 4 names.now }
     ensures places { IfOk result (λ all. HavePlaces names.now all.places.items all.shape.images) }
+    ensures few { IfOk result (λ all. length all.shape.units < 2 ^ 32) }
     ensures exact { IfOk result (λ all. (odr : Bool) (seen : Listed Seen) (live : Listed (Listed Bool)) → AreOwnShapes odr seen live names.now own.items → IsUnplaced odr seen live names.now all.shape all.places.items) }
     ensures units { result ≡ Err errors.Units → (odr : Bool) (seen : Listed Seen) (live : Listed (Listed Bool)) → AreOwnShapes odr seen live names.now own.items → 2 ^ 32 ≤ length (shape_of odr seen live).units }
 {

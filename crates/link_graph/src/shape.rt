@@ -43,6 +43,7 @@ pub fn build<R: Threads + Sync>(
     requires winners { AreWinners names.now winners.now }
     ensures exact { IfOk result (λ shape. (odr : Bool) → names.now ≡ linked_names odr seen.now live.now → shape ≡ shape_of odr seen.now live.now) }
     ensures is { IfOk result (λ shape. IsShape seen.now shape) }
+    ensures few { IfOk result (λ shape. length shape.units < 2 ^ 32) }
     ensures units { result ≡ Err errors.Units → (odr : Bool) → names.now ≡ linked_names odr seen.now live.now → 2 ^ 32 ≤ length (shape_of odr seen.now live.now).units }
 {
     let mut own = Vec::with_capacity(alloc, seen.len())?;

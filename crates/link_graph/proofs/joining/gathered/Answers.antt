@@ -5,7 +5,7 @@ use Rattle.link_graph.specs.declared.placing.Place.{Place}
 use Rattle.link_graph.specs.Graph.{pool_version}
 use Rattle.link_graph.specs.Joining.{MayPlace}
 use Rattle.link_graph.specs.Merged.{object_units, pool_units}
-use Rattle.link_graph.proofs.Joined.{part_at, part_few, part_may, shape_whole, shaped_begin, shaped_more, units_by, units_long}
+use Rattle.link_graph.proofs.Joined.{pool_count_few, pools_counted, part_at, part_few, part_may, shape_whole, shaped_begin, shaped_more, units_by, units_long}
 use Rattle.link_graph.proofs.Pairs.{no_pairs, pairs_more}
 use Rattle.link_graph.proofs.joining.gathered.Goals as goal
 
@@ -16,6 +16,7 @@ loop-one-init c =
       number = refl;
       rows = ap length c.in_ok-images.ensures;
       wide = ap length c.in_ok-places.ensures.items;
+      few = omega (arith, ap length c.requires.pool, pools_counted 4 c.args.names.now, pool_count_few c.args.names.now);
       may = rw c.in_ok-places.ensures.items (no_pairs (λ _ place row. MayPlace c.args.names.now place row) c.in_ok-images.images);
       shaped = λ odr seen live are. rw (c.in_ok-plain.ensures, c.in_ok-images.ensures, c.in_ok-places.ensures.items) (shaped_begin odr seen live c.args.names.now c.args.pool.items are.named c.requires.pool);
     }
@@ -74,6 +75,7 @@ loop-one-preserved c =
       number = omega (arith, c.loop-one.invariant.number, length-append yielded (one ∷ []));
       rows = ap length c.in_ok-push-3.ensures.ok ∙ length-append images (one.images ∷ []) ∙ ap (λ (n : ℕ). n + 1) c.loop-one.invariant.rows;
       wide = ap length c.in_ok-push.ensures.items ∙ length-append places (place ∷ []) ∙ ap (λ (n : ℕ). n + 1) c.loop-one.invariant.wide;
+      few = omega (arith, ap length c.in_ok-append.ensures.items, length-append units one.units.items, c.in_ok-before.ensures.number.1, before, its);
       may = rw (c.in_ok-push.ensures.items, c.in_ok-push-3.ensures.ok) (pairs_more (λ _ place row. MayPlace names place row) places images i place one.images c.loop-one.invariant.wide c.loop-one.invariant.rows c.loop-one.invariant.may may);
       shaped = λ odr seen live are.
           rw (c.in_ok-push.ensures.items, c.in_ok-push-2.ensures.ok, c.in_ok-push-3.ensures.ok)
@@ -96,6 +98,29 @@ settle_version-requires c =
 
 pub returns-clause-places : goal.returns-clause-places
 returns-clause-places c = record { len = c.loop-one.invariant.wide ∙ sym c.loop-one.invariant.rows; each = c.loop-one.invariant.may }
+
+pub returns-clause-few : goal.returns-clause-few
+returns-clause-few c =
+    let odr = c.requires.own.0 in
+    let seen = c.requires.own.1 in
+    let live = c.requires.own.2 in
+    let are = c.requires.own.3 in
+    let names = c.args.names.now in
+    let own = object_units odr seen live in
+    let none : length c.loop-one.one-iterator.rest.items ≡ 0 = search rules in
+    let all : length seen ≡ c.loop-one.object = omega (arith, none, are.len, c.loop-one.invariant.number, ap length c.loop-one.invariant.whole, length-append c.loop-one.yielded c.loop-one.one-iterator.rest.items) in
+    let before = units_by odr seen live names c.loop-one.object c.loop-one.units.items c.loop-one.plain c.loop-one.images c.loop-one.places.items are.named are.marked.each (omega (arith, all)) (c.loop-one.invariant.shaped odr seen live are) in
+    let settled = c.settle_version.ensures own (c.from_vec-units.ensures ∙ before) in
+    omega (
+      arith,
+      c.loop-one.invariant.few,
+      ap length before,
+      ap length settled,
+      length-append (pool_units 4 names) own,
+      length-append (pool_units (pool_version own) names) own,
+      pools_counted 4 names,
+      pools_counted (pool_version own) names,
+    )
 
 pub returns-clause-exact : goal.returns-clause-exact
 returns-clause-exact c = λ odr seen live are. (
