@@ -6,7 +6,7 @@ use dwarf_types::{OutLines, Span};
 use std::alloc::Global;
 
 /// A node but for its attributes.
-#[derive(Clone, Copy, Debug, PartialEq, Eq)]
+#[derive(Clone, Copy, Debug)]
 pub struct NodeHead {
     /// The number of the parent among the unit's nodes, counted from 0; none at the root.
     pub parent: Option<u32>,
