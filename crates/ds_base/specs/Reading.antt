@@ -71,13 +71,7 @@ abbrev pub Reads : {X Y : Type 0} → (X → Y) → Result X Fault → Spot → 
 Reads view (Ok x) new read = read ≡ Ok (view x, new)
 Reads view (Err f) new read = read ≡ Err f
 
--- What a call answered is what reading gives, and the cursor stands behind it, unless memory ran out. Where it refuses, the cursor stands where it stood.
-abbrev pub MovesUnlessFull : {X Y : Type 0} → (X → Y) → Result X ReadError → Spot → Spot → Result (Y × Spot) Fault → Type 0
-MovesUnlessFull view (Ok x) old new read = read ≡ Ok (view x, new)
-MovesUnlessFull view (Err (errors.Faulty f)) old new read = (read ≡ Err f) × (new ≡ old)
-MovesUnlessFull view (Err errors.NoMemory) old new read = new ≡ old
-
--- the same, and nothing is said of the cursor where it refuses
+-- What a call answered is what reading gives, and the cursor stands behind it, unless memory ran out. Nothing is said of the cursor where it refuses.
 abbrev pub ReadsUnlessFull : {X Y : Type 0} → (X → Y) → Result X ReadError → Spot → Result (Y × Spot) Fault → Type 0
 ReadsUnlessFull view (Ok x) new read = read ≡ Ok (view x, new)
 ReadsUnlessFull view (Err (errors.Faulty f)) new read = read ≡ Err f

@@ -998,8 +998,7 @@ pub const LENGTH_RESERVED: u32 = 0xffff_fff0;
 pub const DW_CIE_ID: u32 = 0xffff_ffff;
 
 // DWARF 4, section 7.4, the 32-bit format: the bytes of an address of the targets, of an offset, and of the header of a
-// unit of version 4 (section 7.5.1.1). DWARF 5: of the header of a compile unit (section 7.5.1.1), and of that of lists
-// (sections 7.28 and 7.29).
+// unit of version 4 (section 7.5.1.1). DWARF 5: of the header of a compile unit (section 7.5.1.1).
 pub const ADDRESS_SIZE: u8 = 8;
 
 pub const OFFSET_SIZE: u8 = 4;
@@ -1007,8 +1006,6 @@ pub const OFFSET_SIZE: u8 = 4;
 pub const UNIT_HEADER_SIZE: u8 = 11;
 
 pub const UNIT_5_HEADER_SIZE: u8 = 12;
-
-pub const LISTS_HEADER_SIZE: u8 = 12;
 
 // The line programs that are written (DWARF 4, section 6.2.4): line_base, which is -5, line_range and opcode_base.
 pub const LINE_BASE: u8 = 0xfb;
