@@ -91,8 +91,7 @@ fn make_room(buffer: &mut Vec<u8>, filled: usize) -> Result<(), NoMemory>
     } else {
         reserved.min(CHUNK)
     };
-    let end = filled.checked_add(count).ok_or(NoMemory)?;
-    buffer.resize(end, 0)?;
+    buffer.resize(filled + count, 0)?;
     Ok(())
 }
 
