@@ -57,7 +57,6 @@ fn after_open(path: &[u8]) -> usize
 /// The file in which the object lies that a symbol opens, where the file's name is text; `None` for any other symbol.
 ///
 /// [`crate::debug_map`] names these files, in this order, and a caller may look for them while it is made.
-#[tactic(auto, unfolding(crate::specs::Origin::opened_file))]
 pub fn opened_file(symbol: SymbolRef<'_>) -> Option<&str>
     ensures { option_copied result ≡ opened_file (symbol_seen symbol.entry) }
 {
