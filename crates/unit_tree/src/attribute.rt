@@ -23,7 +23,7 @@ use form_value::read_value;
 use index_tables::{Bases, has_address, list_at, text_at};
 
 /// The unit whose entries are read.
-#[derive(Clone, Copy, Debug, PartialEq, Eq)]
+#[derive(Clone, Copy)]
 pub(crate) struct UnitContext {
     /// The unit's number in the object, counted from 0.
     pub(crate) unit: u32,

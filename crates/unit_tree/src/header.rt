@@ -13,7 +13,7 @@ use ds_base::{Cursor, Fault, Kind, Part};
 use dwarf_types::Sections;
 
 /// What a unit's header says (DWARF 4, section 7.5.1.1; DWARF 5, section 7.5.1).
-#[derive(Clone, Copy, Debug, PartialEq, Eq)]
+#[derive(Clone, Copy)]
 pub(crate) struct Header {
     /// The unit's version.
     pub(crate) version: u16,

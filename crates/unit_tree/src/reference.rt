@@ -12,7 +12,7 @@ use dwarf_types::{PlaceTable, RawEntries};
 use std::alloc::Global;
 
 /// A reference to an entry, which is tried once all entries are known.
-#[derive(Clone, Copy, Debug, PartialEq, Eq)]
+#[derive(Clone, Copy)]
 pub(crate) struct Reference {
     /// The place of the value in `__debug_info`.
     pub(crate) place: u32,
