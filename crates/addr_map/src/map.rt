@@ -3,7 +3,7 @@
 use ds_base::List;
 
 /// The object's addresses from `start` up to `end`, which is not one of them; `start` went to `linked`.
-#[derive(Clone, Copy, Debug, PartialEq, Eq)]
+#[derive(Clone, Copy, Debug)]
 pub struct MapRange {
     pub start: u64,
     pub end: u64,
@@ -11,7 +11,7 @@ pub struct MapRange {
 }
 
 /// Where a symbol went that the object doesn't define, or that is common.
-#[derive(Clone, Copy, Debug, PartialEq, Eq)]
+#[derive(Clone, Copy, Debug)]
 pub struct MapName {
     /// Its index among the object's symbols, from 0.
     pub symbol: u32,
