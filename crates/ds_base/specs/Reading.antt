@@ -22,6 +22,11 @@ abbrev pub or_fault : {A : Type 0} → Option A → Fault → Result A Fault
 or_fault (Some x) f = Ok x
 or_fault None f = Err f
 
+-- all was read, unless a fault stopped it
+abbrev pub unless_stopped : Option Fault → Result (Unit {0}) Fault
+unless_stopped None = Ok tt
+unless_stopped (Some f) = Err f
+
 -- the place of the first byte below a limit
 abbrev pub index_below : ℕ → List ℕ → Option ℕ
 index_below limit [] = None

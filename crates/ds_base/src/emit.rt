@@ -1,14 +1,13 @@
-//! Numbers, bytes and LEB numbers written into a room, one behind the other.
+//! Numbers and bytes written into a room, one behind the other.
 //!
 //! Each call writes the item's bytes from `at` on, an index from 0, leaves every other byte, and answers the place
 //! behind the item. A writer of several items joins what is added.
 
-ghost use Rattle.std.specs.Prelude.{◌≡◌, ◌+◌, ◌<◌, ◌≤◌, ◌^◌, ◌∷◌, [], length, false};
+ghost use Rattle.std.specs.Prelude.{◌≡◌, ◌+◌, ◌≤◌, ◌∷◌, [], length};
 ghost use Rattle.byteorder.specs.Endian.{little_bytes};
-ghost use Rattle.ds_base.specs.Leb.{leb_digits};
 ghost use Rattle.ds_base.specs.Room.{Adds, put};
 
-use crate::put::{put_bytes, put_u8, put_u16, put_u32, put_u64, put_uleb4};
+use crate::put::{put_bytes, put_u8, put_u16, put_u32, put_u64};
 
 /// Writes bytes.
 pub fn emit_bytes(room: &mut [u8], at: usize, bytes: &[u8]) -> usize
@@ -58,15 +57,4 @@ pub fn emit_u64(room: &mut [u8], at: usize, n: u64) -> usize
 {
     put_u64(room, at, n);
     at + 8
-}
-
-/// Writes a LEB number without a sign in exactly four bytes, padded where fewer would do.
-pub fn emit_uleb4(room: &mut [u8], at: usize, n: u32) -> usize
-    requires small { n < 2 ^ 28 }
-    requires fits { at + 4 ≤ length room.old }
-    ensures put { room.new ≡ put room.old at (leb_digits false 4 n) }
-    ensures adds { Adds room.old at (leb_digits false 4 n) room.new result }
-{
-    put_uleb4(room, at, n);
-    at + 4
 }

@@ -24,7 +24,7 @@ mod text_key;
 pub use bit_row::BitRow;
 pub use bytes::Bytes;
 pub use cursor::Cursor;
-pub use emit::{emit_bytes, emit_u8, emit_u16, emit_u32, emit_u64, emit_uleb4};
+pub use emit::{emit_bytes, emit_u8, emit_u16, emit_u32, emit_u64};
 pub use fault::{Fault, Kind, NoMemory, Part, ReadError};
 pub use leb::{
     sleb_is_shortest, sleb_len, sleb_reads_back, uleb_is_shortest, uleb_len, uleb_reads_back,

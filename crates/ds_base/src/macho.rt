@@ -78,9 +78,7 @@ pub const SECT_DEBUG_FRAME: [u8; 16] = *b"__debug_frame\0\0\0";
 /// What the name of each compressed debug section begins with.
 pub const SECT_ZDEBUG: [u8; 8] = *b"__zdebug";
 
-// mach-o/loader.h: the type and the attributes in a section's flags.
-pub const SECTION_TYPE: u32 = 0xff;
-
+// mach-o/loader.h: a type, which is the lowest byte of a section's flags, and attributes there.
 pub const S_ZEROFILL: u32 = 0x01;
 
 pub const S_ATTR_DEBUG: u32 = 0x0200_0000;

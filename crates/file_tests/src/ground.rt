@@ -3,7 +3,7 @@
 use crate::parts::{fault, same, same_bytes};
 use ds_base::{
     BitRow, Bytes, Cursor, Kind, List, Part, emit_bytes, emit_u8, emit_u16, emit_u32, emit_u64,
-    emit_uleb4, put_bytes, put_u8, put_u16, put_u32, put_u64,
+    put_bytes, put_u8, put_u16, put_u32, put_u64,
 };
 use std::alloc::Global;
 use std::process::Abort;
@@ -87,15 +87,14 @@ fn items_are_written_with_the_lowest_byte_first(rt: HostRuntime) {
 
 #[test]
 fn items_are_emitted_one_behind_the_other(rt: HostRuntime) {
-    let mut room = [0xee; 21];
+    let mut room = [0xee; 17];
     let at = emit_u8(&mut room, 0, 0x2a);
     let at = emit_u16(&mut room, at, 0x1234);
     let at = emit_u32(&mut room, at, 0x1234_5678);
     let at = emit_u64(&mut room, at, 0x0807_0605_0403_0201);
-    let at = emit_uleb4(&mut room, at, 0x35);
     let at = emit_bytes(&mut room, at, b"k");
-    same(&rt, "the place behind the last", at, 20);
-    let want = b"\x2a\x34\x12\x78\x56\x34\x12\x01\x02\x03\x04\x05\x06\x07\x08\xb5\x80\x80\x00k\xee";
+    same(&rt, "the place behind the last", at, 16);
+    let want = b"\x2a\x34\x12\x78\x56\x34\x12\x01\x02\x03\x04\x05\x06\x07\x08k\xee";
     same(&rt, "the room", room.as_slice(), want.as_slice());
 }
 

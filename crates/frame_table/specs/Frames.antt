@@ -5,6 +5,7 @@ use Rattle.ds_base.specs.declared.fault.Fault.{Fault}
 use Rattle.ds_base.specs.declared.fault.Kind.TheVariants as kinds
 use Rattle.ds_base.specs.Spot.{fault_at}
 use Rattle.ds_base.specs.Reading.{◌>>=◌}
+pub use Rattle.ds_base.specs.Reading.{unless_stopped}
 use Rattle.dwarf_types.specs.declared.frames.RawFrame.{RawFrame}
 use Rattle.macho_read.specs.declared.image.Image.{Image}
 use Rattle.reloc_table.specs.declared.relocation.Relocs.{Relocs}
@@ -57,11 +58,6 @@ tried bytes entries entry = do
 abbrev pub in_turn : {A : Type 0} → (A → Result (Unit {0}) Fault) → List A → Result (Unit {0}) Fault
 in_turn try [] = Ok tt
 in_turn try (x ∷ more) = try x >>= λ _. in_turn try more
-
--- the entries were all found
-abbrev pub unless_stopped : Option Fault → Result (Unit {0}) Fault
-unless_stopped None = Ok tt
-unless_stopped (Some f) = Err f
 
 -- ---- the frames
 

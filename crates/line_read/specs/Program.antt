@@ -5,6 +5,7 @@ use Rattle.ds_base.specs.declared.fault.Kind.TheVariants as kinds
 use Rattle.ds_base.specs.declared.fault.Part.TheVariants as parts
 use Rattle.ds_base.specs.Spot.{Spot, fault_at}
 use Rattle.ds_base.specs.Reading.{◌>>=◌, refuse_if}
+pub use Rattle.ds_base.specs.Reading.{unless_stopped}
 use Rattle.dwarf_types.specs.declared.address.Addr.{Addr}
 use Rattle.dwarf_types.specs.declared.address.Addr.TheVariants as addrs
 use Rattle.dwarf_types.specs.declared.lines.FileName.{FileName}
@@ -101,11 +102,6 @@ sequences [] = []
 sequences (row ∷ more) = if row.ends then record { rows = []; end = Some row.registers.at } ∷ sequences more else before row.registers (sequences more)
 
 -- ---- the whole
-
--- the operations were all read
-abbrev pub unless_stopped : Option Fault → Result (Unit {0}) Fault
-unless_stopped None = Ok tt
-unless_stopped (Some f) = Err f
 
 -- What a listing means. A faulty operation stands behind all that are listed, so addresses are tried first.
 unfoldable pub program_of : LineHeader → List (List ℕ) → List FileName → Listing → Result RawLines Fault

@@ -6,6 +6,7 @@ use Rattle.ds_base.specs.declared.fault.Kind.TheVariants as kinds
 use Rattle.ds_base.specs.declared.fault.Part.{Part}
 use Rattle.ds_base.specs.Spot.{Spot, fault_at}
 use Rattle.ds_base.specs.Reading.{◌>>=◌}
+pub use Rattle.ds_base.specs.Reading.{unless_stopped}
 use Rattle.dwarf_types.specs.declared.address.Addr.{Addr}
 use Rattle.dwarf_types.specs.declared.lists.RawSpan.{RawSpan}
 use Rattle.list_items.specs.declared.item.Item.{Item}
@@ -81,11 +82,6 @@ abbrev pub given : {A : Type 0} → Says A → Option A
 given ends = None
 given (selects selected) = None
 given (spans span x) = if is_empty span then None else Some x
-
--- the list came to its end
-abbrev pub unless_stopped : Option Fault → Result (Unit {0}) Fault
-unless_stopped None = Ok tt
-unless_stopped (Some f) = Err f
 
 -- what a listing means
 abbrev pub list_of : {A : Type 0} → Listing A → Result (List A) Fault
