@@ -7,7 +7,7 @@ ghost use Rattle.dwarf_types.specs.LinkedExpressions.{base_node};
 use dwarf_types::{Base, Target};
 
 /// Where entry `k` went, by the images of the object's entries.
-pub fn image_at(images: &[Option<Target>], k: u32) -> Option<Target>
+pub(crate) fn image_at(images: &[Option<Target>], k: u32) -> Option<Target>
     ensures { result ≡ image_at images.now k }
 {
     *images.get(k as usize)?

@@ -22,4 +22,3 @@ mod value;
 
 pub use attributes::add_attrs;
 pub use files::Files;
-pub use images::image_at;
