@@ -2,8 +2,8 @@
 # Builds the program of this folder for arm64 macOS and links its debugging information. Wants clang, lld and llvm (Debian),
 # and a built dsymlink, which is named by the first word or is that of the checkout.
 set -eu
+dsymlink=$(realpath "${1:-$(dirname "$0")/../../crates/dsymlink/out/dsymlink}")
 cd "$(dirname "$0")"
-dsymlink=$(realpath "${1:-../../crates/dsymlink/out/dsymlink}")
 out=$(mktemp -d)
 for source in main area; do
     clang -target arm64-apple-macos11 -g -gdwarf-4 -ffreestanding -c "$source.c" -o "$out/$source.o"
