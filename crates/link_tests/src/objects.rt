@@ -1,3 +1,5 @@
+//! Links whose objects were let go.
+
 use ds_files::OpenGate;
 use link_core::{Options, link_objects};
 use sample_objects::generated;

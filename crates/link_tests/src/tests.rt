@@ -1,3 +1,5 @@
+//! Links by the command: the bundle, statuses and messages.
+
 use crate::bytes::{PLIST_TEXT, image};
 use crate::main_object::main_object;
 use crate::program::{program, program_of_two};
@@ -95,9 +97,9 @@ fn ends<R: Threads + Abort + Sync>(
     assert!(rt; keeps(files, IMAGE, image));
 }
 
-/// The command with these words, over this program and object, of whose calls the one of this number fails, is refused so,
-/// tells this, and writes nothing.
-fn refuses<R: Threads + Abort + Sync>(
+/// The command with these words, over this program and object, of whose calls the one of this number fails, ends so, tells
+/// this, and writes nothing.
+fn ends_unwritten<R: Threads + Abort + Sync>(
     rt: &R,
     alloc: Global,
     words: &[&str],
@@ -117,7 +119,7 @@ fn refuses<R: Threads + Abort + Sync>(
 
 /// Words that are none of the command's.
 fn is_usage<R: Threads + Abort + Sync>(rt: &R, alloc: Global, words: &[&str]) {
-    refuses(rt, alloc, words, b"", b"", 0, Status::Usage, USAGE);
+    ends_unwritten(rt, alloc, words, b"", b"", 0, Status::Usage, USAGE);
 }
 
 /// All bytes but the last.
@@ -236,7 +238,7 @@ fn words_that_generate_no_program_are_refused(rt: HostRuntime) {
 #[test]
 fn a_generated_program_is_linked_whatever_the_files_are(rt: HostRuntime) {
     let alloc = rt.alloc();
-    refuses(
+    ends_unwritten(
         &rt,
         alloc,
         &["--generate", "2", "a.out"],
@@ -246,7 +248,7 @@ fn a_generated_program_is_linked_whatever_the_files_are(rt: HostRuntime) {
         Status::Done,
         "objects 2\nentries 3606\nlive 2706\npooled 2102\nnames 2101\nnodes 2706\nbytes 38857\n",
     );
-    refuses(
+    ends_unwritten(
         &rt,
         alloc,
         &["--generate", "2", "--no-odr", "a.out"],
@@ -262,7 +264,7 @@ fn a_generated_program_is_linked_whatever_the_files_are(rt: HostRuntime) {
 fn a_debug_map_is_told(rt: HostRuntime) -> Result<(), NoMemory> {
     let alloc = rt.alloc();
     let program = program(alloc)?;
-    refuses(
+    ends_unwritten(
         &rt,
         alloc,
         &["--dump-map", "a.out"],
@@ -281,7 +283,7 @@ fn a_missing_object_is_told_or_let_go(rt: HostRuntime) -> Result<(), NoMemory> {
     let program = program_of_two(alloc)?;
     let (p, o) = (program.as_slice(), b"");
     let missing = Status::Missing { file: 2 };
-    refuses(
+    ends_unwritten(
         &rt,
         alloc,
         &["a.out"],
@@ -291,7 +293,7 @@ fn a_missing_object_is_told_or_let_go(rt: HostRuntime) -> Result<(), NoMemory> {
         missing,
         "dsymlink: missing: /tmp/n.o\n",
     );
-    refuses(
+    ends_unwritten(
         &rt,
         alloc,
         &["--keep-going", "a.out"],
@@ -312,7 +314,7 @@ fn a_link_that_is_refused_writes_nothing(rt: HostRuntime) -> Result<(), NoMemory
     let (a, o) = (program.as_slice(), object.as_slice());
     let words = &["a.out"];
     let unread = Status::ReadFault { file: 0 };
-    refuses(
+    ends_unwritten(
         &rt,
         alloc,
         words,
@@ -323,7 +325,7 @@ fn a_link_that_is_refused_writes_nothing(rt: HostRuntime) -> Result<(), NoMemory
         "dsymlink: read fault: a.out\n",
     );
     let unread = Status::ReadFault { file: 1 };
-    refuses(
+    ends_unwritten(
         &rt,
         alloc,
         words,
@@ -333,7 +335,7 @@ fn a_link_that_is_refused_writes_nothing(rt: HostRuntime) -> Result<(), NoMemory
         unread,
         "dsymlink: read fault: /tmp/m.o\n",
     );
-    refuses(
+    ends_unwritten(
         &rt,
         alloc,
         words,
@@ -343,7 +345,7 @@ fn a_link_that_is_refused_writes_nothing(rt: HostRuntime) -> Result<(), NoMemory
         Status::WriteFault { file: 0 },
         "dsymlink: write fault: a.out.dSYM/Contents/Info.plist\n",
     );
-    refuses(
+    ends_unwritten(
         &rt,
         alloc,
         words,
@@ -353,7 +355,7 @@ fn a_link_that_is_refused_writes_nothing(rt: HostRuntime) -> Result<(), NoMemory
         faulty(0, Kind::Truncated, Part::Header, 0),
         "dsymlink: faulty: a.out: Truncated in header at 0\n",
     );
-    refuses(
+    ends_unwritten(
         &rt,
         alloc,
         words,

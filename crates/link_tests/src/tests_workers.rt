@@ -144,6 +144,7 @@ fn the_first_object_with_a_fault_is_told_whoever_met_it(rt: HostRuntime) {
         odr: true,
         workers: 8,
     };
+    let gate = Holds::new(0, 1, 3);
     let linked = link_objects(
         &rt,
         alloc,
@@ -153,8 +154,9 @@ fn the_first_object_with_a_fault_is_told_whoever_met_it(rt: HostRuntime) {
         &[Bytes::new(alloc)],
         &[None, Some(0), None, Some(0)],
         &options,
-        &Holds::new(0, 1, 3),
+        &gate,
     );
+    expect_shared(&rt, &gate);
     let fault = Fault {
         kind: Kind::Truncated,
         section: Part::Header,

@@ -1,6 +1,6 @@
 //! Tables over the calls that make drafts of units, measure and write a graph (`patches`, `text_pool`,
-//! `unit_draft`, `layout`, `emit_info`, `dsym_write`, and below them the writers of each section), and over
-//! the samples of `sample_objects`.
+//! `unit_draft`, `layout`, `dsym_write`, and below them the writers of each section), and over the samples of
+//! `sample_objects`.
 //!
 //! Layer: samples. There is nothing here but tests.
 #![tactic(auto)]
