@@ -3,15 +3,13 @@
 ghost use Rattle.std.specs.Prelude.{◌<◌, length};
 ghost use Rattle.addr_map.specs.Sound.{IsSound, IsSoundRange};
 
+use crate::lines::compiled;
 use crate::parts::{
     ADDRESSES, assert_refused, few, lists_5, no_relocs, no_symbols, same, two_relocs,
 };
 use addr_map::{AddrMap, MapRange};
 use ds_base::{Kind, List, Part, ReadError};
-use dwarf_types::{
-    Addr, Base, FileNames, OpRef, Ops, OutFrames, Paths, RawFrames, RawLines, RawSequences,
-    RawSpan, Span,
-};
+use dwarf_types::{Addr, Base, OpRef, Ops, OutFrames, OutLines, RawFrames, RawSpan, Span};
 use expr_resolve::{BaseType, ExprContext, read_expression};
 use expr_walk::{new_length, walk};
 use moved_parts::{move_frames, move_lines, move_spans, place, span_pieces};
@@ -304,18 +302,28 @@ fn assert_frame(rt: &impl Abort, frames: &OutFrames, want: (u64, u64)) {
     );
 }
 
-/// A line table without sequences.
+/// A compiled table, of whose first function the range holds the last five rows.
 fn assert_lines(rt: &impl Abort, alloc: Global, map: &AddrMap)
     requires { IsSound map.now }
 {
-    let lines = RawLines {
-        dirs: Paths::new(alloc),
-        files: FileNames::new(alloc),
-        sequences: RawSequences::new(alloc),
-    };
-    let moved = move_lines(alloc, map, lines).expect(rt, "memory");
-    same(rt, "sequences", moved.sequences.len(), 0);
+    let moved = move_lines(alloc, map, compiled(rt, alloc)).expect(rt, "memory");
+    assert_moved(rt, &moved);
     drop(moved);
+}
+
+/// One sequence of five rows, which ends with the range.
+fn assert_moved(rt: &impl Abort, lines: &OutLines) {
+    assert!(rt; lines.sequences.len() == 1);
+    let sequence = lines.sequences.sequence(0);
+    same(rt, "rows", sequence.rows.len(), 5);
+    same(rt, "end", sequence.end, 0x1_0000_2020);
+    let first = sequence.rows.first().expect(rt, "a row");
+    same(
+        rt,
+        "address, line and column",
+        (first.address, first.line, first.column),
+        (0x1_0000_2000, 7, 25),
+    );
 }
 
 #[test]

@@ -1,5 +1,9 @@
 //! Line tables, and the rows that they mean or their first fault.
 
+ghost use Rattle.std.specs.Prelude.{IfOk};
+ghost use Rattle.std.specs.List.{All};
+ghost use Rattle.line_read.specs.Rising.{DoesNotFall};
+
 use crate::parts::{
     assert_dir, assert_file, assert_refused, changed, few, lines_5, no_symbols, same, sections,
     two_relocs,
@@ -11,7 +15,9 @@ use std::alloc::Global;
 use std::process::Abort;
 
 /// The line table at the start of a section in which the numbers at 0x28 and 0x57 are relocated.
-fn read(rt: &impl Abort, alloc: Global, line: &[u8]) -> Result<RawLines, ReadError> {
+fn read(rt: &impl Abort, alloc: Global, line: &[u8]) -> Result<RawLines, ReadError>
+    ensures { IfOk result (λ lines. All DoesNotFall lines.sequences) }
+{
     let sections = sections(few(rt, line), b"", b"", b"");
     let image = no_symbols(alloc);
     let relocs = two_relocs(rt, alloc, &image, 0x28, 0x57);
@@ -103,6 +109,13 @@ fn assert_sequence(rt: &impl Abort, lines: &RawLines, index: usize, want: &[RawR
 }
 
 /// The table of two functions.
+pub(crate) fn compiled(rt: &impl Abort, alloc: Global) -> RawLines
+    ensures { All DoesNotFall result.sequences }
+{
+    read(rt, alloc, COMPILED).expect(rt, "a table")
+}
+
+/// What it says.
 fn assert_compiled(rt: &impl Abort, lines: &RawLines) {
     assert_counts(rt, lines, (0, 1, 2));
     assert_sequence(rt, lines, 0, &first_rows(), 0x4e);
@@ -111,7 +124,7 @@ fn assert_compiled(rt: &impl Abort, lines: &RawLines) {
 
 #[test]
 fn a_compiled_table_has_the_rows_that_llvm_dwarfdump_prints(rt: HostRuntime) {
-    let lines = read(&rt, rt.alloc(), COMPILED).expect(&rt, "a table");
+    let lines = compiled(&rt, rt.alloc());
     assert_compiled(&rt, &lines);
     drop(lines);
 }
