@@ -19,6 +19,7 @@ ghost use Rattle.unit_tree.specs.Unit.{short_in, language_of, unit_from, is_zero
 use crate::attribute::UnitContext;
 use crate::entry::{Parsed, find_bases, read_tree};
 use crate::header::{info_cursor, read_header};
+use crate::packed::PackedReference;
 use crate::reference::resolve;
 use crate::table::{Tables, add_table, kept_table};
 use ds_base::dwarf::DW_AT_language;
@@ -86,13 +87,23 @@ pub fn read_resolved_units(
             sections.line_str,
             sections.info.len(),
         )?,
-        references: List::with_capacity(alloc, sections.info.len() / BYTES_A_REFERENCE)?,
+        references: room_for(alloc, sections.info.len() / BYTES_A_REFERENCE),
     };
     let units = read_each(alloc, sections, &mut parsed)?;
     let Parsed { built, references } = parsed;
     let entries = built.finish();
     let numbers = resolve(alloc, &entries, references.as_slice())?;
     Ok((RawUnits { units, entries }, numbers))
+}
+
+/// No references, and room for `count` of them if the allocator has it.
+fn room_for(alloc: Global, count: usize) -> List<PackedReference>
+    ensures { result ≡ [] }
+{
+    match List::with_capacity(alloc, count) {
+        Ok(references) => references,
+        Err(_) => List::new(alloc),
+    }
 }
 
 /// Reads the units one after the other, and puts their entries behind those before.
