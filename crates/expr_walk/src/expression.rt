@@ -1,6 +1,6 @@
 //! All operations of an expression.
 
-ghost use Rattle.std.specs.Prelude.{◌≡◌, ◌+◌, ◌-◌, ◌*◌, ◌^◌, ◌≤◌, [], length, OnOk};
+ghost use Rattle.std.specs.Prelude.{◌≡◌, ◌+◌, ◌-◌, ◌*◌, ◌^◌, ◌≤◌, [], length, OnOk, OnErr};
 ghost use Rattle.std.specs.List.{flat_map};
 ghost use Rattle.ds_base.specs.Reading.{Gives};
 ghost use Rattle.expr_walk.specs.Length.{ops_len};
@@ -18,7 +18,7 @@ use dwarf_types::Ops;
 /// where it isn't 5. An operation holds all its bytes, those of the expression inside an entry value with it. The operand
 /// of `DW_OP_addr` is `Fixed` of the stored number, that of `DW_OP_addrx` and `DW_OP_constx` is `Fixed` of the index, and
 /// each has gone nowhere yet. A base type is told by its place in the unit; a number past 32 bits is told as 2^32 - 1,
-/// where no entry can stand.
+/// where no entry can stand. A refusal leaves no operations.
 #[tactic(auto, unfolding(crate::specs::Reading::walk_of))]
 pub fn walk(
     bytes: &[u8],
@@ -38,11 +38,16 @@ pub fn walk(
 
     // The length in the output has a bound, so that `new_length` may be called.
     ensures short { OnOk result (ops_len ops.new.ops ≤ 16 * length bytes.now) }
+
+    ensures cleared { OnErr result (ops.new ≡ record { ops = []; inner = [] }) }
 {
     ops.clear();
     match read_ops(bytes, part, version, ops) {
         Ok(()) => Ok(()),
-        Err(error) => Err(placed_from(first, error)),
+        Err(error) => {
+            ops.clear();
+            Err(placed_from(first, error))
+        }
     }
 }
 
