@@ -42,8 +42,11 @@ pub trait Behind {
 /// The items of the list at `offset` of a section whose spans are not empty, in their order (DWARF 4 and 5, sections
 /// 2.17.3 and 2.6.2).
 ///
-/// `base` is what offsets count from until the list selects another one. The faults are those of [`read_item`] and of what
-/// follows a span, and `Truncated` where no item is left.
+/// `base` is what offsets count from until the list selects another one. A number that the section cuts off is
+/// `Truncated`, and a ULEB of more than 64 bits is `LebTooWide`, both at the number's first byte; a list that no mark ends
+/// is `Truncated` at the section's end. `UnknownListEntry`, of a kind that the form doesn't have, `BadIndex`, of an address
+/// that the unit's table doesn't have, and `BadList`, of ends that don't belong together, are placed at the item's first
+/// byte. What follows a span is read after its ends were tried, and has faults of its own.
 pub fn read_list<B: Behind>(
     alloc: Global,
     part: Part,
