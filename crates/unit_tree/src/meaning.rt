@@ -52,9 +52,7 @@ pub(crate) fn meaning_of_value(form: u16, name: u16) -> Meaning
         DW_FORM_strx | DW_FORM_strx1 | DW_FORM_strx2 | DW_FORM_strx3 | DW_FORM_strx4 => {
             Meaning::TextIndex
         }
-        DW_FORM_addrx | DW_FORM_addrx1 | DW_FORM_addrx2 | DW_FORM_addrx3 | DW_FORM_addrx4 => {
-            Meaning::AddressIndex
-        }
+        form if is_address_index(form) => Meaning::AddressIndex,
         DW_FORM_rnglistx | DW_FORM_loclistx => meaning_of_index(name),
         _ => Meaning::Other,
     }

@@ -43,7 +43,7 @@ impl Model for Table {
 }
 
 impl Table {
-    /// A table of declarations, none of which has the code 0.
+    /// The table of these declarations.
     pub(crate) fn new(alloc: Global, declarations: List<Abbrev>) -> Result<Table, NoMemory>
         requires { All HasFewFields declarations }
         ensures { IfOk result (λ table. table ≡ declarations) }
