@@ -1,6 +1,6 @@
 //! An expression: its operations, understood.
 
-ghost use Rattle.std.specs.Prelude.{◌≡◌, ◌+◌, ◌*◌, ◌^◌, ◌≤◌, ◌<◌, [], length, OnOk};
+ghost use Rattle.std.specs.Prelude.{◌≡◌, ◌+◌, ◌*◌, ◌^◌, ◌≤◌, ◌<◌, [], length, OnOk, OnErr};
 ghost use Rattle.std.specs.List.{All, sum_by};
 ghost use Rattle.ds_base.specs.Reading.{Gives};
 ghost use Rattle.macho_read.specs.Sound.{IsSound as IsSoundImage};
@@ -9,7 +9,7 @@ ghost use Rattle.addr_map.specs.Sound.{IsSound as IsSoundMap};
 ghost use Rattle.expr_walk.specs.Length.{ops_len};
 ghost use Rattle.expr_walk.specs.Reading.{walk_of};
 ghost use Rattle.expr_resolve.specs.Context.{context_in, AreInOrder};
-ghost use Rattle.expr_resolve.specs.Steps.{IsCut};
+ghost use Rattle.expr_resolve.specs.Steps.{IsCut, IsSoundContext};
 ghost use Rattle.expr_resolve.specs.Expressions.{expression_of, op_size};
 ghost use Rattle.expr_resolve.specs.Sound.{NameKnown};
 
@@ -33,7 +33,7 @@ use expr_walk::walk;
 /// the generic type, spelled 0, may be named in conversions alone. Then each, in the same order, is `BadIndex` at its
 /// first byte where it names no entry of the table. Last comes `BranchOverRewrite` at the first byte of an expression that
 /// branches while one of its operations has another length in the output, the outermost expression before those inside.
-#[tactic(auto, unfolding(crate::specs::Expressions::expression_of))]
+/// A refusal leaves no operations, in `stored` neither.
 pub fn read_expression(
     context: &ExprContext,
     bytes: &[u8],
@@ -55,6 +55,35 @@ pub fn read_expression(
     ensures known { OnOk result (NameKnown (context_in context.now) ops.new.ops) }
 
     // The length in the output has a bound, so that `new_length` may be called.
+    ensures short { OnOk result (ops_len ops.new.ops ≤ 16 * length bytes.now) }
+
+    ensures cleared { OnErr result (ops.new ≡ record { ops = []; inner = [] }) }
+    ensures none_stored { OnErr result (stored.new ≡ record { ops = []; inner = [] }) }
+{
+    match understand(context, bytes, first, stored, ops) {
+        Ok(()) => Ok(()),
+        Err(error) => {
+            stored.clear();
+            ops.clear();
+            Err(error)
+        }
+    }
+}
+
+/// The same, but a refusal may leave operations.
+#[tactic(auto, unfolding(crate::specs::Expressions::expression_of))]
+fn understand(
+    context: &ExprContext,
+    bytes: &[u8],
+    first: u64,
+    stored: &mut Ops,
+    ops: &mut Ops,
+) -> Result<(), ReadError>
+    requires sound { IsSoundContext (context_in context.now) }
+    requires inside { first + length bytes.now < 2 ^ 32 }
+    ensures exact { Gives (λ _. ops.new.ops) result (expression_of (context_in context.now) bytes.now first) }
+    ensures none { OnOk result (ops.new.inner ≡ []) }
+    ensures known { OnOk result (NameKnown (context_in context.now) ops.new.ops) }
     ensures short { OnOk result (ops_len ops.new.ops ≤ 16 * length bytes.now) }
 {
     cut(context, bytes, first, stored)?;

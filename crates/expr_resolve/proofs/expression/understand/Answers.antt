@@ -2,7 +2,7 @@ use Rattle.std.proofs.Common.{ap, arith}
 use Rattle.expr_walk.specs.Length.{ops_len}
 use Rattle.expr_resolve.specs.Context.{context_in}
 use Rattle.expr_resolve.proofs.Meant.{ops_known, ops_same_length}
-use Rattle.expr_resolve.proofs.expression.read_expression.Goals as goal
+use Rattle.expr_resolve.proofs.expression.understand.Goals as goal
 
 pub returns-clause-known : goal.returns-clause-known
 returns-clause-known c = ops_known (context_in c.args.context.now) c.args.first c.as_ref-stored.result c.resolve_ops.new.ops.ops c.in_ok-resolve_ops.ensures.exact
