@@ -1,9 +1,10 @@
 -- The nodes of paths: each has the place of its winner in preorder.
-use Rattle.std.proofs.Common.{◌≡◌, ◌⊎◌, inl, inr, ℕ, zero, suc, ◌+◌, ◌-◌, ◌<◌, ◌≤◌, ◌==◌, not, nat_lt, Bool, true, false, cond, List, [], ◌∷◌, ◌++◌, length, map, Option, Some, None, get_or, refl, sym, ap, ◌∙◌, arith, All, position, option_and_then, option_map}
+use Rattle.std.proofs.Common.{◌≡◌, ◌⊎◌, inl, inr, ℕ, zero, suc, ◌+◌, ◌-◌, ◌<◌, ◌≤◌, ◌==◌, not, nat_lt, Bool, true, false, cond, List, [], ◌∷◌, ◌++◌, length, map, Option, Some, None, get_or, slice_get, refl, sym, ap, ◌∙◌, arith, All, position, option_and_then, option_map}
 use Rattle.std.specs.List.{position_from, position_or_len}
 use Rattle.std.proofs.lemmas.Bool.{both_ways, cases_eq, eq-eqb, le-ltb, lt-ltb, ltb-true, ne_eqb, cases_lt, false_from_ne_true}
 use Rattle.std.proofs.lemmas.List.{get_or-map, length-map, same_lists}
 use Rattle.std.proofs.lemmas.List.Elements.{All-head, All-tail}
+use Rattle.std.proofs.lemmas.Option.{slice_get-get_or}
 use Rattle.odr_names.specs.Book.{path_at}
 use Rattle.odr_names.specs.Winners.{AreWinners}
 use Rattle.type_names.specs.Names.{Named}
@@ -13,7 +14,7 @@ use Rattle.dwarf_types.specs.declared.shape.ShapeUnit.{ShapeUnit}
 use Rattle.link_graph.specs.Joining.{AreOriginsFrom, origin_at}
 use Rattle.link_graph.specs.Merged.{pool_origin, pool_root, pool_units}
 use Rattle.link_graph.specs.Pool.{node_above, node_of_path, path_above, pool_names, same_path}
-use Rattle.link_graph.specs.PoolOrder.{AreApart, AreNodes, AreNodesFrom, IsLinkedUp, IsPreorder, Wins, name_at, node_in_order}
+use Rattle.link_graph.specs.PoolOrder.{AreApart, AreNodes, AreNodesFrom, IsLinkedUp, IsPreorder, Wins, name_at, node_in_order, own_node}
 use Rattle.link_graph.proofs.Families.{names_differ, path_is, same_winner, some_path, winner_wins}
 use Rattle.link_graph.proofs.PoolPaths.{above_push, path_same, same_path_from}
 use Rattle.link_graph.proofs.PoolTrees.{preorder_few}
@@ -69,6 +70,10 @@ position_same {A} p q i (x ∷ xs) same =
     let rest = position_same p q (i + 1) xs (All-tail (λ y. p y ≡ q y) x xs same) in
     (λ j. cond (here j) (Some i) (rest j))
 
+position_none : {A : Type 0} (i : ℕ) (xs : List A) → position_from (λ (x : A). false) i xs ≡ None
+position_none i [] = refl
+position_none i (x ∷ xs) = position_none (i + 1) xs
+
 -- ---- nodes of paths
 
 pub few_in_order : (names : List Named) (winners order : List ℕ) → AreApart names → IsPreorder names winners order → length order ≤ length names
@@ -107,6 +112,20 @@ nodes_are names winners order nodes apart are is linked from = record {
   within = λ x within. omega (arith, (are.each x within).within, from.len);
   each = λ x within. from.each (get_or winners x 0) (are.each x within).within ∙ node_is names winners order x apart are is (linked x within) within;
 }
+
+pub own_nodes_are : (names : List Named) (winners order : List ℕ) (nodes : List (Option ℕ)) → AreApart names → AreWinners names winners → IsPreorder names winners order → ((x : ℕ) → x < length names → IsLinkedUp names x)
+    → AreNodesFrom order nodes (length names) 0 → (x : ℕ) → x < length names → slice_get nodes x ≡ Some (own_node names winners x)
+own_nodes_are names winners order nodes apart are is linked from x within =
+    slice_get-get_or nodes x None (omega (arith, within, from.len)) ∙ ap (λ (node : Option ℕ). Some node) (from.each x within ∙ own (cases_eq (get_or winners x 0) x))
+  where
+    own : (get_or winners x 0 ≡ x) ⊎ (get_or winners x 0 ≡ x → ⊥) → node_in_order order x ≡ own_node names winners x
+    own (inl wins) =
+        ap (node_in_order order) (sym wins) ∙ node_is names winners order x apart are is (linked x within) within
+        ∙ sym (ap (λ (b : Bool). cond b (node_of_path names (path_at names x)) None) (eq-eqb (get_or winners x 0) x wins))
+    own (inr lost) =
+        position_same (λ (v : ℕ). v == x) (λ (v : ℕ). false) 1 order (λ k d lt. ne_eqb (get_or order k d) x (λ e. lost (ap (λ (v : ℕ). get_or winners v 0) (sym e) ∙ (is.wins k d lt).itself ∙ e)))
+        ∙ position_none 1 order
+        ∙ sym (ap (λ (b : Bool). cond b (node_of_path names (path_at names x)) None) (ne_eqb (get_or winners x 0) x lost))
 
 -- ---- the node above
 

@@ -12,15 +12,17 @@ use Rattle.link_graph.specs.declared.pool.PathNodes.{PathNodes}
 use Rattle.link_graph.specs.Merged.{pool_origin, pool_root, shape_of}
 use Rattle.link_graph.specs.OwnShapes.{target_behind}
 use Rattle.link_graph.specs.Passes.{names_between, path_target, put_each}
-use Rattle.link_graph.specs.PoolOrder.{AreNodes, IsPreorder, name_at}
+use Rattle.link_graph.specs.PoolOrder.{AreNodes, IsPreorder, name_at, own_node}
 
 -- ---- merged entries
 
--- the winners of a link in preorder, and their nodes
+-- the winners of a link in preorder, and of each name its own node
 pub record ArePathNodes (names : List Named) (winners : List ℕ) (made : PathNodes) : Type 0 where
   pub order : IsPreorder names winners made.order.items
   pub few : length made.order.items < 2 ^ 32
   pub nodes : AreNodes names winners made.nodes.items
+  pub len : length made.nodes.items ≡ length names
+  pub each : (x : ℕ) → x < length names → slice_get made.nodes.items x ≡ Some (own_node names winners x)
 
 -- the node at a place of the pool's unit: its root, and behind it those of the winners
 abbrev pub origin_at : List Named → List ℕ → ℕ → Origin

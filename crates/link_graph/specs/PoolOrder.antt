@@ -134,3 +134,7 @@ pub record AreNodes (names : List Named) (winners : List ℕ) (nodes : List (Opt
   pub len : length winners ≡ length names
   pub within : (x : ℕ) → x < length names → slice_index_or winners x 0 < length nodes
   pub each : (x : ℕ) → x < length names → slice_index_or nodes (slice_index_or winners x 0) None ≡ node_of_path names (path_at names x)
+
+-- the node of a name that wins its path, and none of each other name
+abbrev pub own_node : List Named → List ℕ → ℕ → Option ℕ
+own_node names winners x = if slice_index_or winners x 0 == x then node_of_path names (path_at names x) else None

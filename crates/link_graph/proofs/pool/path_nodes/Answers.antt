@@ -1,7 +1,7 @@
 use Rattle.std.proofs.Common.{ℕ, List, length, ap, arith, subst}
 use Rattle.link_graph.specs.PoolOrder.{AreNodesFrom}
 use Rattle.link_graph.proofs.Families.{ranked_apart}
-use Rattle.link_graph.proofs.PoolNodes.{few_in_order, nodes_are}
+use Rattle.link_graph.proofs.PoolNodes.{few_in_order, nodes_are, own_nodes_are}
 use Rattle.link_graph.proofs.pool.path_nodes.Goals as goal
 
 pub nodes_of-requires-clause-few : goal.nodes_of-requires-clause-few
@@ -23,4 +23,6 @@ returns c =
       order = c.in_ok-order.ensures;
       few = omega (arith, few_in_order names winners order apart c.in_ok-order.ensures, c.count.ensures);
       nodes = nodes_are names winners order nodes apart c.requires.winners c.in_ok-order.ensures c.in_ok-chains.ensures.linked from;
+      len = from.len;
+      each = own_nodes_are names winners order nodes apart c.requires.winners c.in_ok-order.ensures c.in_ok-chains.ensures.linked from;
     }
