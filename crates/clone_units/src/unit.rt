@@ -19,10 +19,11 @@ use std::alloc::Global;
 
 /// A unit of the linked graph, by its number in a shape of the objects.
 ///
-/// The nodes of an object's unit say what their entries say, moved to the linked program; its line table is its object's;
-/// its ranges are the pieces of its subprograms' code, in order and each once. The unit of merged entries has a root of
-/// its own, nodes that say what the entries say for which they stand, and a line table with the source files that those
-/// name. Versions are those of the shape. Of the analyses only those need be there whose entries the unit's nodes stand for.
+/// The nodes of an object's unit say what their entries say, moved to the linked program; its line table is that of
+/// this unit in the object, if there is one; its ranges are the pieces of its subprograms' code, in order and each once.
+/// The unit of merged entries has a root of its own, nodes that say what the entries say for which they stand, and a line
+/// table with the source files that those name. Versions are those of the shape. Of the analyses only those need be there
+/// whose entries the unit's nodes stand for.
 pub fn clone_unit<'a>(
     alloc: Global,
     seen: &'a [Analysis],

@@ -27,9 +27,10 @@ use unit_source::{OutAttrRef, OutValueRef};
 /// program, or dropped.
 ///
 /// `images` tells where references to each entry of the object lead, and `files` how the output unit numbers source
-/// files. A dropped attribute speaks of how the input was laid out, has an address that did not move, a list with
-/// nothing left, a reference to an entry that is not written or a file that the output unit lacks, or is the length of
-/// code whose low_pc did not move. A root's own addresses are dropped, since its unit's ranges stand for them.
+/// files. A dropped attribute speaks of how the input was laid out, has an address that did not move, a section offset
+/// that leads to no table or list, a list with nothing left, a reference to an entry that is not written or a file that
+/// the output unit lacks, or is the length of code whose low_pc did not move. A root's own addresses are dropped, since
+/// its unit's ranges stand for them.
 pub fn add_attrs<'a>(
     alloc: Global,
     images: &[Option<Target>],
