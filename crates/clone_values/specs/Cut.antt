@@ -1,6 +1,6 @@
 -- An expression cut from its front: the parts so far, and a stretch of bytes that may go on.
-use Rattle.std.specs.Prelude.{ℕ, Bool, true, false, List, [], ◌∷◌, ◌++◌, Option, Some, None, if◌then◌else◌}
-use Rattle.std.specs.Option.{option_map_or, unwrap_or}
+use Rattle.std.specs.Prelude.{ℕ, Bool, true, false, List, [], ◌∷◌, ◌++◌, Option, Some, None, if◌then◌else◌, IsSome}
+use Rattle.std.specs.Option.{ForSome, option_map_or, unwrap_or}
 use Rattle.byteorder.specs.Endian.{little_bytes}
 use Rattle.clone_values.specs.declared.cutting.Cutting.{Cutting}
 use Rattle.dwarf_types.specs.declared.address.Place.{Place}
@@ -18,6 +18,10 @@ use Rattle.dwarf_types.specs.LinkedExpressions.{as_part, outside, plain_part, pl
 abbrev pub is_nested : Option Operands → Bool
 is_nested (Some operands.Expression) = true
 is_nested row = false
+
+-- an address field moved, where it is one
+abbrev pub HasMoved : Option Place → Type 0
+HasMoved address = ForSome address (λ place. IsSome place.linked)
 
 -- an operation byte for byte, but for an address
 abbrev pub bytes_moved : ℕ → List ℕ → Option Place → List ℕ

@@ -1,7 +1,7 @@
 //! Expressions that are cut from their front.
 
 ghost use Rattle.std.specs.Prelude.{◌≡◌, ◌++◌, IfOk, OnOk, None};
-ghost use Rattle.clone_values.specs.Cut.{ended, with_part, with_plain};
+ghost use Rattle.clone_values.specs.Cut.{HasMoved, ended, with_part, with_plain};
 ghost use Rattle.clone_values.specs.Images.{image_at};
 ghost use Rattle.dwarf_types.specs.LinkedExpressions.{plain_part};
 ghost use Rattle.dwarf_types.specs.Seen.{inner_seen};
@@ -39,6 +39,7 @@ impl<P: Part> Cutting<P> {
         images: &[Option<Target>],
         op: &InnerOpRef,
     ) -> Result<(), NoMemory>
+        requires moved { HasMoved (inner_seen op.now).address }
         ensures { OnOk result (self.new ≡ with_plain P.of_plain (plain_part (image_at images.now) (inner_seen op.now)) self.old) }
     {
         let Some(base) = op.base else {

@@ -1,9 +1,12 @@
 //! Expressions, part by part.
 
-ghost use Rattle.std.specs.Prelude.{◌≡◌, IfOk, OnOk};
+ghost use Rattle.std.specs.Prelude.{◌≡◌, true, is_some, IfOk, OnOk};
+ghost use Rattle.std.specs.List.{list_all};
 ghost use Rattle.clone_values.specs.Cut.{is_nested, with_op};
 ghost use Rattle.clone_values.specs.Images.{image_at};
 ghost use Rattle.dwarf_types.specs.LinkedExpressions.{outside, parts_of};
+ghost use Rattle.dwarf_types.specs.LinkedValues.{all_move};
+ghost use Rattle.dwarf_types.specs.Moves.{op_fields};
 ghost use Rattle.dwarf_types.specs.Operations.{operands_of};
 ghost use Rattle.dwarf_types.specs.Seen.{inner_seen, op_seen};
 
@@ -19,6 +22,7 @@ pub(crate) fn parts_of(
     images: &[Option<Target>],
     ops: &OpsRef,
 ) -> Result<List<ExprPart>, NoMemory>
+    requires moved { all_move ops.now ≡ true }
     ensures { IfOk result (λ parts. parts ≡ parts_of (image_at images.now) ops.now) }
 {
     let mut cutting = Cutting::behind(List::with_capacity(alloc, 1)?);
@@ -35,6 +39,7 @@ fn add_op(
     op: &OpRef,
     cutting: &mut Cutting<ExprPart>,
 ) -> Result<(), NoMemory>
+    requires moved { list_all (λ place. is_some place.linked) (op_fields (op_seen op.now)) ≡ true }
     ensures { OnOk result (cutting.new ≡ with_op (image_at images.now) (operands_of op.now.code) (op_seen op.now) cutting.old) }
 {
     if is_nested(op.code) {

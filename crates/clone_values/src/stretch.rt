@@ -3,7 +3,7 @@
 ghost use Rattle.std.specs.Prelude.{◌≡◌, [], ◌++◌, IfOk, OnOk};
 ghost use Rattle.std.specs.Option.{unwrap_or};
 ghost use Rattle.byteorder.specs.Endian.{little_bytes};
-ghost use Rattle.clone_values.specs.Cut.{bytes_moved};
+ghost use Rattle.clone_values.specs.Cut.{HasMoved, bytes_moved};
 
 use byteorder::{ByteOrder, LittleEndian};
 use ds_base::{Bytes, NoMemory};
@@ -18,6 +18,7 @@ pub(crate) fn longer_stretch(
     bytes: &[u8],
     address: Option<Place>,
 ) -> Result<Bytes, NoMemory>
+    requires moved { HasMoved address }
     ensures { IfOk result (λ it. it ≡ unwrap_or stretch [] ++ bytes_moved code bytes.now address) }
 {
     let mut longer = match stretch {
@@ -35,14 +36,18 @@ fn add_moved(
     bytes: &[u8],
     address: Option<Place>,
 ) -> Result<(), NoMemory>
+    requires moved { HasMoved address }
     ensures { OnOk result (stretch.new ≡ stretch.old ++ bytes_moved code bytes.now address) }
 {
     let Some(place) = address else {
         stretch.extend(bytes)?;
         return Ok(());
     };
+    let Some(linked) = place.linked else {
+        unreachable!()
+    };
     stretch.push(code)?;
-    add_address(stretch, place.linked.unwrap_or(0))?;
+    add_address(stretch, linked)?;
     Ok(())
 }
 
