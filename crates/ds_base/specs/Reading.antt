@@ -3,7 +3,7 @@ use Rattle.std.specs.Prelude.{◌≡◌, ℕ, zero, suc, ◌+◌, ◌-◌, ◌^�
 use Rattle.std.specs.Option.{option_map}
 use Rattle.byteorder.specs.Endian.{little_number}
 use Rattle.ds_base.specs.declared.fault.Fault.{Fault}
-use Rattle.ds_base.specs.declared.fault.Kind.TheVariants.{Truncated, LebTooWide}
+use Rattle.ds_base.specs.declared.fault.Kind.TheVariants.{BadOffset, LebTooWide, Truncated}
 use Rattle.ds_base.specs.declared.fault.ReadError.{ReadError}
 use Rattle.ds_base.specs.declared.fault.ReadError.TheVariants as errors
 use Rattle.ds_base.specs.Spot.{Spot, rest, after, fault_at}
@@ -49,6 +49,13 @@ text_at s = do
 -- the text that begins at a place of a section, if it ends there
 unfoldable pub text_of : List ℕ → ℕ → Option (List ℕ)
 text_of section place = let tail = drop place section in option_map (λ n. take n tail) (index_below 1 tail)
+
+-- the text whose place in a section stands next
+unfoldable pub placed_text_at : List ℕ → Spot → Result (List ℕ × Spot) Fault
+placed_text_at section s = do
+  place ← number_at 4 s
+  text ← or_fault (text_of section place.0) (fault_at s BadOffset)
+  Ok (text, place.1)
 
 -- the bytes of the next LEB number: up to the first below 128 and with it
 unfoldable pub leb_at : Spot → Result (List ℕ) Fault

@@ -2,10 +2,11 @@
 
 ghost use Rattle.std.specs.Prelude.{◌≡◌, ◌≤◌, ◌-◌, ◌<◌, length, IfSome, IfOk};
 ghost use Rattle.ds_base.specs.Spot.{Spot, fault_at};
-ghost use Rattle.ds_base.specs.Reading.{Moves, bytes_at, number_at, text_at, uleb_at, sleb_at, index_below};
+ghost use Rattle.ds_base.specs.Reading.{Moves, bytes_at, number_at, placed_text_at, text_at, uleb_at, sleb_at, index_below};
 
 use crate::fault::{Fault, Kind, Part};
 use crate::leb::{signed_value_of, value_of};
+use crate::pieces::text_in;
 use byteorder::{ByteOrder, LittleEndian};
 use memchr::memchr;
 use std::marker::Model;
@@ -224,5 +225,20 @@ impl<'a> Cursor<'a> {
         let text = &rest[..len];
         self.place += len as u64 + 1;
         Ok(text)
+    }
+
+    /// The text of `section` whose place stands next, in four bytes; that place comes first. Where no text begins and
+    /// ends there, the place is at fault.
+    #[tactic(auto, unfolding(crate::specs::Reading::placed_text_at))]
+    pub fn placed_text<'s>(&mut self, section: &'s [u8]) -> Result<(u32, &'s [u8]), Fault>
+        ensures { Moves (λ text. text.1.now) result self.old self.new (placed_text_at section.now self.old) }
+    {
+        let mut next = self.fork();
+        let place = next.u32()?;
+        let Some(text) = text_in(section, place) else {
+            return Err(self.fault(Kind::BadOffset));
+        };
+        *self = next;
+        Ok((place, text))
     }
 }

@@ -11,3 +11,9 @@ pub const IMAGE_BYTES: u64 = 1 << 32;
 
 /// Objects of a debug map.
 pub const OBJECTS: u64 = 1 << 16;
+
+/// Bytes that all files have together, of which so many may be read.
+pub const INPUT_BYTES: u64 = 1 << 29;
+
+/// Entries of a link that have a name by which they are merged.
+pub const POOLED_ENTRIES: usize = 1 << 25;

@@ -90,6 +90,12 @@ pub const VM_PROT_WRITE: u32 = 0x02;
 
 pub const VM_PROT_EXECUTE: u32 = 0x04;
 
+/// Reading, writing and running.
+pub const VM_PROT_ALL: u32 = 0x07;
+
+/// Reading and writing.
+pub const VM_PROT_DEFAULT: u32 = 0x03;
+
 // mach-o/nlist.h: the fields and the values of a symbol's n_type.
 pub const N_STAB: u8 = 0xe0;
 

@@ -1,4 +1,5 @@
 pub mod Abbreviations
+pub mod Addresses
 pub mod Aranges
 pub mod Built
 pub mod Cells

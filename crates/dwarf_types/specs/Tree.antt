@@ -1,11 +1,15 @@
 -- The trees of an object's entries: which entries stand above one.
-use Rattle.std.specs.Prelude.{ℕ, zero, suc, ◌==◌, Bool, List, [], ◌∷◌, ◌++◌, slice_get, Option}
+use Rattle.std.specs.Prelude.{◌≡◌, ℕ, zero, suc, ◌<◌, ◌==◌, Bool, List, [], ◌∷◌, ◌++◌, slice_get, Option, Some}
 use Rattle.std.specs.List.{list_any}
 use Rattle.std.specs.Option.{option_and_then, option_map_or}
 use Rattle.dwarf_types.specs.declared.entry.Entry.{Entry}
 
 abbrev pub parent_of : List Entry → ℕ → Option ℕ
 parent_of entries k = option_and_then (λ e. e.parent) (slice_get entries k)
+
+-- each entry stands behind its parent
+abbrev pub ParentsStandBefore : List Entry → Type 0
+ParentsStandBefore entries = (k p : ℕ) (e : Entry) → slice_get entries k ≡ Some e → e.parent ≡ Some p → p < k
 
 -- entry k and up to n entries above it, from the top down
 abbrev pub lineage_of : ℕ → List Entry → ℕ → List ℕ

@@ -1,5 +1,8 @@
 //! Addresses of an object, and ranges of them.
 
+ghost use Rattle.std.specs.Prelude.{◌≡◌};
+ghost use Rattle.dwarf_types.specs.Addresses;
+
 /// What an address of an object means, before it moves to the linked program.
 #[derive(Clone, Copy, Debug, PartialEq, Eq)]
 pub enum Addr {
@@ -9,6 +12,33 @@ pub enum Addr {
     Named { symbol: u32, addend: u64 },
     /// A number that no relocation changes.
     Fixed(u64),
+}
+
+impl Addr {
+    /// The address so many bytes behind it, modulo 2^64: what it counts from stays.
+    pub fn plus(self, offset: u64) -> Addr
+        ensures { result ≡ Addresses.plus self offset }
+    {
+        match self {
+            Addr::Placed(at) => Addr::Placed(at.wrapping_add(offset)),
+            Addr::Named { symbol, addend } => Addr::Named {
+                symbol,
+                addend: addend.wrapping_add(offset),
+            },
+            Addr::Fixed(number) => Addr::Fixed(number.wrapping_add(offset)),
+        }
+    }
+
+    /// The address, the bytes behind the symbol, or the number.
+    pub fn number(self) -> u64
+        ensures { result ≡ Addresses.number_of self }
+    {
+        match self {
+            Addr::Placed(at) => at,
+            Addr::Named { addend, .. } => addend,
+            Addr::Fixed(number) => number,
+        }
+    }
 }
 
 /// An address of an object, and where it went.
