@@ -8,15 +8,13 @@ ghost use Rattle.link_cli.specs.Seen.{HaveNames, missing_seen, held_seen, number
 ghost use Rattle.link_cli.specs.Holding.{Becomes, PassesOver, held_answer, held_of, Holds};
 
 use crate::texts::warning;
+use ds_base::limits::INPUT_BYTES;
 use ds_base::{Bytes, List, NoMemory};
 use ds_files::{Ahead, FileError, Files};
 use indexmap::IndexMap;
 use link_core::{LimitKind, Status};
 use stab_map::MapObject;
 use std::alloc::Global;
-
-/// The most bytes that all files may have together.
-pub(crate) const MOST_INPUT: u64 = 1 << 29;
 
 /// What is held of the files of objects.
 #[derive(Drop)]
@@ -219,7 +217,7 @@ pub(crate) fn unread(file: u32, error: FileError) -> Status
         FileError::Failed => Status::ReadFault { file },
         FileError::TooLong => Status::Limit {
             which: LimitKind::Input,
-            number: MOST_INPUT,
+            number: INPUT_BYTES,
         },
         FileError::NoMemory => Status::NoMemory,
     }

@@ -16,13 +16,14 @@ ghost use Rattle.link_cli.specs.Seen.{AreSmall, HaveNames, held_seen};
 
 use crate::ending::Ending;
 use crate::files::{
-    HeldFiles, MOST_INPUT, contents_of, expect_files, numbers_of, read_files, unread,
+    HeldFiles, contents_of, expect_files, numbers_of, read_files, unread,
 };
 use crate::generate::link_generated;
 use crate::output::write_bundle;
 use crate::plan::{Mode, Plan, PlanError, plan_of_words};
 use crate::program::{Program, read_program};
 use crate::texts::map_text;
+use ds_base::limits::INPUT_BYTES;
 use ds_base::{Bytes, NoMemory};
 use ds_files::{Ahead, Files, Gate, Sink};
 use indexmap::IndexMap;
@@ -105,7 +106,7 @@ fn run_program<R: Threads + Sync, F: Files + Sync, G: Gate + Sync>(
         Ok(bytes) => bytes,
         Err(status) => return Ending::refused(alloc, plan, &[], Bytes::new(alloc), status),
     };
-    let most = MOST_INPUT - bytes.len() as u64;
+    let most = INPUT_BYTES - bytes.len() as u64;
     let workers = workers_ahead(plan);
     let (read, ahead) = read_program(rt, alloc, bytes.as_slice(), workers, most, files);
     drop(bytes);
@@ -135,7 +136,7 @@ fn workers_ahead(plan: &Plan) -> u32 {
 fn read_exe<F: Files>(alloc: Global, exe: &str, files: &mut F) -> Result<Bytes, Status>
     ensures { ReadsProgram exe.now (world (F.files files.old) (F.counts files.old)) (world (F.files files.new) (F.counts files.new)) result }
 {
-    match files.read(alloc, exe, MOST_INPUT) {
+    match files.read(alloc, exe, INPUT_BYTES) {
         Ok(bytes) => Ok(bytes),
         Err(error) => Err(unread(0, error)),
     }
