@@ -19,7 +19,7 @@ pub enum LimitKind {
     File,
 }
 
-/// Why a link is refused for the content of its files.
+/// Why a link is refused.
 #[derive(Clone, Copy, Debug, PartialEq, Eq)]
 pub enum Refusal {
     /// The file's first fault; 0 is the program, and its objects follow from 1.

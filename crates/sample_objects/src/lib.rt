@@ -5,7 +5,7 @@
 //! what the call asks of the unit. [`program_file`] is the file of a linked program: `program_bytes` of its image
 //! (`specs/ProgramFile.antt`), and a law says that it is read back. [`generated`] is `generated_program` of a number of objects
 //! (`specs/GeneratedProgram.antt`): a program of C++ units with structures of shared names, its debug map, and the files
-//! of its objects; what stands in a unit is said in `specs/GeneratedUnit.antt`. Units have version 4.
+//! of its objects; what stands in a unit is said in `specs/GeneratedUnit.antt`. Its units have version 4.
 #![tactic(auto)]
 
 mod attributes;

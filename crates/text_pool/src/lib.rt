@@ -1,4 +1,5 @@
-//! The string section: `__debug_str`, texts by first use and each once.
+//! The sections of texts: `__debug_str`, and `__debug_line_str` for line tables of version 5, texts by first use and each
+//! once.
 //!
 //! Layer: writers. Texts stand one after the other, each as "a sequence of contiguous non-null bytes followed
 //! by one null byte" (DWARF 4, section 7.5.4, class string), and a value of form `DW_FORM_strp` names one by its

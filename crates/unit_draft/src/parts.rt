@@ -1,4 +1,4 @@
-//! The parts of a unit that name nothing outside of it, each in the bytes of its section.
+//! The parts of a unit besides its entries, each in the bytes of its section.
 
 ghost use Rattle.std.specs.Prelude.{ℕ, ◌≡◌, ◌+◌, length, IfOk, OnOk};
 ghost use Rattle.dwarf_types.specs.Abbreviations.{declarations_bytes};
