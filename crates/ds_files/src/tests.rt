@@ -1,17 +1,9 @@
-use crate::ahead::fetch_ahead;
-use crate::files::{FileError, Files};
-use crate::gate::{Gate, OpenGate};
-use crate::host_files::HostFiles;
-use crate::memory_files::MemoryFiles;
-use crate::memory_sink::MemorySink;
-use crate::sink::{Sink, SinkFailed};
+use crate::files::FileError;
 use crate::streams::{read_whole, write_whole};
-use ds_base::{Bytes, List};
-use std::alloc::Global;
-use std::fs::remove_file;
+use ds_base::Bytes;
+use std::io;
 use std::io::{ErrorKind, Read, Write};
 use std::process::Abort;
-use std::{io, rt};
 
 /// A read answers these bytes, or this error.
 fn reads(rt: &impl Abort, answer: Result<Bytes, FileError>, want: Result<&[u8], FileError>) {
@@ -23,72 +15,6 @@ fn is_answer(answer: &Result<Bytes, FileError>, want: Result<&[u8], FileError>) 
         Ok(bytes) => want == Ok(bytes.as_slice()),
         Err(error) => want == Err(*error),
     }
-}
-
-/// Files are replaced.
-fn puts<F: Files>(rt: &impl Abort, alloc: Global, files: &mut F, rows: &[(&str, &[u8])]) {
-    for (name, bytes) in rows {
-        assert!(rt; files.replace(alloc, name, bytes).is_ok());
-    }
-}
-
-/// Reads of at most so many bytes answer these, one after the other.
-fn answers<F: Files>(
-    rt: &impl Abort,
-    alloc: Global,
-    files: &mut F,
-    rows: &[(&str, u64, Result<&[u8], FileError>)],
-) {
-    for (name, most, want) in rows {
-        reads(rt, files.read(alloc, name, *most), *want);
-    }
-}
-
-/// The named file is there and has these bytes.
-fn keeps(rt: &impl Abort, files: &MemoryFiles, name: &str, want: &[u8]) {
-    assert!(rt; files.file(name) == Some(want));
-}
-
-// The second and the third call fail.
-#[test]
-fn memory_files_keep_what_was_put_and_fail_at_their_numbers(rt: HostRuntime) {
-    let alloc = rt.alloc();
-    let mut failing = List::new(alloc);
-    assert_eq!(rt; failing.push(2), Ok(()));
-    assert_eq!(rt; failing.push(3), Ok(()));
-    let mut files = MemoryFiles::new(alloc, failing);
-    assert!(rt; files.set(alloc, "a", b"abc").is_ok());
-    let rows = [
-        ("a", 3, Ok(b"abc".as_slice())),
-        ("a", 3, Err(FileError::Failed)),
-    ];
-    answers(&rt, alloc, &mut files, &rows);
-    assert!(rt; files.replace(alloc, "a", b"new") == Err(FileError::Failed));
-    let rows = [
-        ("a", 2, Err(FileError::TooLong)),
-        ("b", 3, Err(FileError::Missing)),
-    ];
-    answers(&rt, alloc, &mut files, &rows);
-    puts(&rt, alloc, &mut files, &[("b", b"new")]);
-    keeps(&rt, &files, "a", b"abc");
-    keeps(&rt, &files, "b", b"new");
-}
-
-// The second call fails, and the sink takes four bytes.
-#[test]
-fn memory_sink_keeps_what_it_has_room_for(rt: HostRuntime) {
-    let alloc = rt.alloc();
-    let mut failing = List::new(alloc);
-    assert_eq!(rt; failing.push(2), Ok(()));
-    let Ok(mut sink) = MemorySink::new(alloc, 4, failing) else {
-        panic!(rt; "no room");
-    };
-    assert_eq!(rt; sink.put(b"ab"), Ok(()));
-    assert_eq!(rt; sink.put(b"c"), Err(SinkFailed));
-    assert_eq!(rt; sink.put(b"def"), Err(SinkFailed));
-    assert_eq!(rt; sink.put(b"gh"), Ok(()));
-    assert_eq!(rt; sink.text(), b"abgh".as_slice());
-    OpenGate::new().pass(0, 7);
 }
 
 /// Gives a byte at a time, and then ends or fails. Each second read is interrupted.
@@ -173,38 +99,4 @@ fn fills(rt: &impl Abort, room: usize, want: bool) {
 fn bytes_are_written_to_the_last(rt: HostRuntime) {
     fills(&rt, 6, true);
     fills(&rt, 4, false);
-}
-
-/// Files of the system are removed.
-fn removes<R: Abort + rt::Files>(rt: &R, names: &[&str]) {
-    for name in names {
-        assert!(rt; remove_file(rt, *name).is_ok());
-    }
-}
-
-// The files are gone when they are asked for, so that only what was read ahead can be answered: the first two, whose eight
-// bytes are as many as may be kept. Each is given out once. The first was written over a longer one.
-#[test]
-fn files_that_were_read_ahead_are_answered_as_others(rt: HostRuntime) {
-    let alloc = rt.alloc();
-    let mut files = HostFiles::new(&rt);
-    let rows = [
-        ("first", b"longer".as_slice()),
-        ("first", b"abc"),
-        ("second", b"defgh"),
-        ("third", b"i"),
-    ];
-    puts(&rt, alloc, &mut files, &rows);
-    let names = ["first", "none", "second", "third"];
-    let ahead = fetch_ahead(&rt, alloc, 2, &names, 8, &files);
-    files.keep(ahead);
-    removes(&rt, &["first", "second", "third"]);
-    let rows = [
-        ("first", 3, Ok(b"abc".as_slice())),
-        ("first", 3, Err(FileError::Missing)),
-        ("none", 3, Err(FileError::Missing)),
-        ("second", 4, Err(FileError::TooLong)),
-        ("third", 9, Err(FileError::Missing)),
-    ];
-    answers(&rt, alloc, &mut files, &rows);
 }
