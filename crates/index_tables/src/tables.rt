@@ -38,6 +38,14 @@ pub fn address_at(sections: &Sections, base: u64, index: u64) -> Result<u32, Kin
     Ok((base + 8 * index) as u32)
 }
 
+/// The address that stands at a place of `__debug_addr`, as it is stored: its number, before a relocation changes it.
+pub fn stored_address(section: &[u8], place: u32) -> u64
+    requires { place + ADDRESS_SIZE ≤ length section.now }
+    ensures { result ≡ Tables.stored 8 section.now place }
+{
+    LittleEndian::read_u64(bytes_from(section, place as usize))
+}
+
 /// Whether a unit's table of addresses has an address at an index.
 #[tactic(auto, unfolding(crate::specs::Tables::address_place))]
 pub fn has_address(sections: &Sections, base: u64, index: u64) -> bool
