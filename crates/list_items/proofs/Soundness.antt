@@ -12,7 +12,8 @@ use Rattle.dwarf_types.specs.declared.lists.RawSpan.{RawSpan}
 use Rattle.list_items.specs.declared.item.Item.{Item}
 use Rattle.list_items.specs.declared.item.Item.TheVariants as items
 use Rattle.list_items.specs.Context.{Context}
-use Rattle.list_items.specs.Ends.{are_of_one_class, number_of, belong_together, is_empty}
+use Rattle.dwarf_types.specs.Addresses.{number_of}
+use Rattle.list_items.specs.Ends.{are_of_one_class, belong_together, is_empty}
 use Rattle.list_items.specs.Reading.{item_at}
 use Rattle.list_items.specs.Lists.{Behind, Says, ends, selects, spans, said_at, whole_at, items_from, given, list_of}
 use Rattle.list_items.proofs.Given.{all_given}

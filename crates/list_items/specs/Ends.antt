@@ -1,15 +1,9 @@
 -- The ends of the spans of a list (DWARF 4, sections 2.17.3 and 2.6.2).
-use Rattle.std.specs.Prelude.{ℕ, ◌==◌, ◌&&◌, Bool, true, false, nat_le}
+use Rattle.std.specs.Prelude.{◌==◌, ◌&&◌, Bool, true, false, nat_le}
 use Rattle.dwarf_types.specs.declared.address.Addr.{Addr}
 use Rattle.dwarf_types.specs.declared.address.Addr.TheVariants as addrs
 use Rattle.dwarf_types.specs.declared.lists.RawSpan.{RawSpan}
-use Rattle.reloc_table.specs.Address.{sum64}
-
--- an address and so many bytes more
-abbrev pub plus : Addr → ℕ → Addr
-plus (addrs.Placed at) n = addrs.Placed (sum64 at n)
-plus (addrs.Named symbol addend) n = addrs.Named symbol (sum64 addend n)
-plus (addrs.Fixed number) n = addrs.Fixed (sum64 number n)
+use Rattle.dwarf_types.specs.Addresses.{plus, number_of}
 
 -- an end that is a number alone counts from the base; all others stand as they are
 unfoldable pub from_base : Addr → Addr → Addr
@@ -22,12 +16,6 @@ are_of_one_class (addrs.Placed low) (addrs.Placed high) = true
 are_of_one_class (addrs.Named symbol low) (addrs.Named other high) = symbol == other
 are_of_one_class (addrs.Fixed low) (addrs.Fixed high) = true
 are_of_one_class low high = false
-
--- the address, the bytes behind the symbol, or the number
-abbrev pub number_of : Addr → ℕ
-number_of (addrs.Placed at) = at
-number_of (addrs.Named symbol addend) = addend
-number_of (addrs.Fixed number) = number
 
 -- the ends are of one class, and the low one is not above the high one
 unfoldable pub belong_together : RawSpan → Bool

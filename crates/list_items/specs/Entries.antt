@@ -8,6 +8,7 @@ use Rattle.ds_base.specs.Reading.{◌>>=◌, or_fault, number_at, uleb_at}
 use Rattle.dwarf_types.specs.declared.address.Addr.{Addr}
 use Rattle.dwarf_types.specs.declared.address.Addr.TheVariants as addrs
 use Rattle.dwarf_types.specs.declared.lists.RawSpan.{RawSpan}
+use Rattle.dwarf_types.specs.Addresses.{plus}
 use Rattle.index_tables.specs.Tables.{stored, address_place}
 use Rattle.reloc_table.specs.Address.{address_of}
 use Rattle.list_items.specs.declared.item.Item.{Item}
@@ -15,7 +16,6 @@ use Rattle.list_items.specs.declared.item.Item.TheVariants as items
 use Rattle.list_items.specs.declared.kinds.EntryKind.{EntryKind}
 use Rattle.list_items.specs.declared.kinds.EntryKind.TheVariants as entries
 use Rattle.list_items.specs.Context.{Context}
-use Rattle.list_items.specs.Ends.{plus}
 use Rattle.list_items.specs.EntryKinds.{kind_in}
 use Rattle.list_items.specs.Items.{span_at}
 use Rattle.list_items.specs.Words.{word_at, largest_offset}

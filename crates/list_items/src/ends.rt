@@ -14,21 +14,7 @@ pub(crate) fn from_base(base: &Addr, end: Addr) -> Addr
     let Addr::Fixed(offset) = end else {
         return end;
     };
-    plus(base, offset)
-}
-
-/// So many bytes behind an address, modulo 2^64: what it counts from stays.
-pub(crate) fn plus(at: &Addr, offset: u64) -> Addr
-    ensures { result ≡ Ends.plus at.now offset }
-{
-    match *at {
-        Addr::Placed(place) => Addr::Placed(place.wrapping_add(offset)),
-        Addr::Named { symbol, addend } => Addr::Named {
-            symbol,
-            addend: addend.wrapping_add(offset),
-        },
-        Addr::Fixed(number) => Addr::Fixed(number.wrapping_add(offset)),
-    }
+    base.plus(offset)
 }
 
 /// Whether two ends belong together: both are of one class, of one symbol where they are named, and the high end's
@@ -37,16 +23,16 @@ pub(crate) fn plus(at: &Addr, offset: u64) -> Addr
 pub(crate) fn belong_together(span: &RawSpan) -> bool
     ensures { result ≡ Ends.belong_together span.now }
 {
-    are_of_one_class(span) && number_of(&span.low) <= number_of(&span.high)
+    are_of_one_class(span) && span.low.number() <= span.high.number()
 }
 
 /// Whether a span has no address: its ends are equal. "A range list entry [..] whose beginning and ending addresses are
 /// equal has no effect" (DWARF 4, section 2.17.3).
 #[tactic(auto, unfolding(crate::specs::Ends::is_empty))]
-pub fn is_empty(span: &RawSpan) -> bool
+pub(crate) fn is_empty(span: &RawSpan) -> bool
     ensures { result ≡ Ends.is_empty span.now }
 {
-    are_of_one_class(span) && number_of(&span.low) == number_of(&span.high)
+    are_of_one_class(span) && span.low.number() == span.high.number()
 }
 
 /// Whether both ends are addresses of the object, both count from one symbol, or both are numbers alone.
@@ -58,16 +44,5 @@ fn are_of_one_class(span: &RawSpan) -> bool
         (Addr::Named { symbol, .. }, Addr::Named { symbol: other, .. }) => symbol == other,
         (Addr::Fixed(_), Addr::Fixed(_)) => true,
         _ => false,
-    }
-}
-
-/// The address, the bytes behind the symbol, or the number.
-fn number_of(end: &Addr) -> u64
-    ensures { result ≡ Ends.number_of end.now }
-{
-    match *end {
-        Addr::Placed(at) => at,
-        Addr::Named { addend, .. } => addend,
-        Addr::Fixed(number) => number,
     }
 }

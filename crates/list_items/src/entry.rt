@@ -1,23 +1,19 @@
 //! Items of version 5, spelled by the entries of a list.
 
-ghost use Rattle.std.specs.Prelude.{◌≡◌, ◌+◌, ◌≤◌, ◌<◌, ◌^◌, length, OnOk};
+ghost use Rattle.std.specs.Prelude.{◌≡◌, ◌<◌, ◌^◌, length, OnOk};
 ghost use Rattle.ds_base.specs.Reading.{Moves, Reads, uleb_at};
 ghost use Rattle.ds_base.specs.Spot.{IsSmall};
-ghost use Rattle.index_tables.specs.Tables.{stored};
 ghost use Rattle.list_items.specs.Context.{context_in, IsSoundContext};
 ghost use Rattle.list_items.specs.EntryKinds.{kind_in};
-ghost use Rattle.list_items.specs.Ends;
 ghost use Rattle.list_items.specs.Entries.{address_at as address_field, entry_at, entry_from, index_at, indexed, offset_at};
 
 use crate::context::{ListContext, ListForm};
-use crate::ends::plus;
 use crate::item::{Item, item_between};
 use crate::kinds::{EntryKind, location_kind, range_kind};
 use crate::words::read_word;
-use byteorder::{ByteOrder, LittleEndian};
-use ds_base::{Cursor, Fault, Kind, bytes_from};
+use ds_base::{Cursor, Fault, Kind};
 use dwarf_types::{Addr, RawSpan};
-use index_tables::address_at;
+use index_tables::{address_at, stored_address};
 use reloc_table::resolve;
 
 /// The low and the high end of the span of all numbers.
@@ -130,7 +126,7 @@ fn read_offset(cursor: &mut Cursor, from: &Addr) -> Result<Addr, Fault>
     ensures small { OnOk result (IsSmall cursor.new) }
 {
     let offset = read_uleb(cursor)?;
-    Ok(plus(from, offset))
+    Ok(from.plus(offset))
 }
 
 /// A ULEB, and the address whose index it is, in an item that begins at `first`.
@@ -165,17 +161,9 @@ fn find_address(context: &ListContext<'_>, index: u64) -> Option<Addr>
 {
     match address_at(context.sections, context.addr_base, index) {
         Ok(place) => {
-            let stored = stored_at(context.sections.addr, place);
+            let stored = stored_address(context.sections.addr, place);
             Some(resolve(context.addresses, context.image, place, stored))
         }
         Err(_) => None,
     }
-}
-
-/// The number in eight bytes from a place on.
-fn stored_at(section: &[u8], place: u32) -> u64
-    requires { place + 8 ≤ length section.now }
-    ensures { result ≡ stored 8 section.now place }
-{
-    LittleEndian::read_u64(bytes_from(section, place as usize))
 }

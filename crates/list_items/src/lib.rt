@@ -19,5 +19,4 @@ mod list;
 mod words;
 
 pub use context::{ListContext, ListForm, ListSection};
-pub use ends::is_empty;
 pub use list::{Behind, read_list};

@@ -5,7 +5,6 @@ use crate::parts::{
 };
 use ds_base::{Kind, List, Part, ReadError};
 use dwarf_types::{Addr, RawLocation, RawSpan};
-use list_items::is_empty;
 use loc_lists::read_locations;
 use range_lists::read_ranges;
 use std::alloc::Global;
@@ -70,21 +69,11 @@ fn locations_5(
     items
 }
 
-/// A range list gives these spans, of which none is empty.
+/// A range list gives these spans.
 fn assert_ranges(rt: &impl Abort, alloc: Global, label: &str, bytes: &[u8], want: &[RawSpan]) {
     let spans = ranges(rt, alloc, bytes).expect(rt, label);
     same(rt, label, spans.as_slice(), want);
-    same(rt, label, count_of_empty(spans.as_slice()), 0);
     drop(spans);
-}
-
-/// How many spans are empty.
-fn count_of_empty(spans: &[RawSpan]) -> usize {
-    let mut count: usize = 0;
-    for span in spans {
-        count = count.wrapping_add(usize::from(is_empty(span)));
-    }
-    count
 }
 
 /// A range list of version 5 gives these spans.
