@@ -18,9 +18,8 @@ pub enum ListForm {
 
 /// A section in which lists stand.
 #[derive(Clone, Copy)]
-pub struct ListSection<'a> {
+pub struct ListSection {
     pub part: Part,
-    pub bytes: &'a [u8],
     /// How the items of its lists are spelled.
     pub form: ListForm,
 }

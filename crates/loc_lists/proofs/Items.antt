@@ -10,11 +10,11 @@ use Rattle.ds_base.specs.Reading.{Gives, bytes_at}
 use Rattle.ds_base.proofs.Passing.{bind_ok, guard_ok, ok_is}
 use Rattle.dwarf_types.specs.declared.address.Addr.{Addr}
 use Rattle.dwarf_types.specs.declared.lists.RawLocation.{RawLocation}
-use Rattle.dwarf_types.specs.SectionBytes.{SectionBytes}
+use Rattle.dwarf_types.specs.SectionBytes.{SectionBytes, location_bytes}
 use Rattle.macho_read.specs.declared.image.Image.{Image}
 use Rattle.reloc_table.specs.declared.relocation.Relocs.{Relocs}
 use Rattle.list_items.proofs.Soundness.{KeepsEnd, Keeps, list_sound}
-use Rattle.loc_lists.specs.Reading.{len_at, expression_at, location_at, location_bytes, location_context, locations_of}
+use Rattle.loc_lists.specs.Reading.{len_at, expression_at, location_at, location_context, locations_of}
 use Rattle.loc_lists.specs.Sound.{IsSoundLocation}
 use Rattle.loc_lists.proofs.Expressions.{location, len_further}
 

@@ -11,7 +11,7 @@ use Rattle.ds_base.proofs.Passing.{bind_ok, ok_is}
 use Rattle.dwarf_types.specs.declared.address.Addr.{Addr}
 use Rattle.dwarf_types.specs.declared.lists.RawLocation.{RawLocation}
 use Rattle.dwarf_types.specs.declared.lists.RawSpan.{RawSpan}
-use Rattle.dwarf_types.specs.SectionBytes.{SectionBytes}
+use Rattle.dwarf_types.specs.SectionBytes.{SectionBytes, location_bytes}
 use Rattle.macho_read.specs.declared.image.Image.{Image}
 use Rattle.reloc_table.specs.declared.relocation.Relocs.{Relocs}
 use Rattle.list_items.specs.declared.context.ListForm.TheVariants as forms
@@ -21,7 +21,7 @@ use Rattle.list_items.specs.Whole.{IsWhole}
 use Rattle.ds_base.proofs.FaultKinds.{FaultsAre, ok_kinds, bind_kinds, bytes_kinds, number_kinds, uleb_kinds}
 use Rattle.list_items.proofs.Refused.{words_kinds, entry_kinds, list_kinds}
 use Rattle.list_items.proofs.Wholes.{GoesOn, list_whole}
-use Rattle.loc_lists.specs.Reading.{len_at, expression_at, location_part, location_bytes, location_faults, location_at, location_context, location_items, locations_of}
+use Rattle.loc_lists.specs.Reading.{len_at, expression_at, location_part, location_faults, location_at, location_context, location_items, locations_of}
 use Rattle.loc_lists.proofs.Expressions.{len_further}
 
 expression_onward : (version : ℕ) (s : Spot) (y : (ℕ × List ℕ) × Spot) → expression_at version s ≡ Ok y → Onward s y.1

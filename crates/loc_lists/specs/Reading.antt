@@ -10,7 +10,7 @@ use Rattle.ds_base.specs.Reading.{◌>>=◌, number_at, bytes_at, uleb_at}
 use Rattle.dwarf_types.specs.declared.address.Addr.{Addr}
 use Rattle.dwarf_types.specs.declared.lists.RawLocation.{RawLocation}
 use Rattle.dwarf_types.specs.declared.lists.RawSpan.{RawSpan}
-use Rattle.dwarf_types.specs.SectionBytes.{SectionBytes}
+use Rattle.dwarf_types.specs.SectionBytes.{SectionBytes, location_bytes}
 use Rattle.macho_read.specs.declared.image.Image.{Image}
 use Rattle.reloc_table.specs.declared.relocation.Relocs.{Relocs}
 use Rattle.list_items.specs.declared.context.ListForm.{ListForm}
@@ -22,9 +22,6 @@ use Rattle.list_items.specs.Lists.{Listing, items_in, list_of}
 
 abbrev pub location_part : ℕ → Part
 location_part version = if version == 5 then parts.Loclists else parts.Loc
-
-abbrev pub location_bytes : SectionBytes → ℕ → List ℕ
-location_bytes sections version = if version == 5 then sections.loclists else sections.loc
 
 abbrev pub location_form : ℕ → ListForm
 location_form version = if version == 5 then forms.LocationEntries else forms.Words

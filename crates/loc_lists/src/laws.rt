@@ -5,11 +5,11 @@ ghost use Rattle.std.specs.List.{Contains};
 ghost use Rattle.ds_base.specs.declared.fault.Fault.{Fault};
 ghost use Rattle.dwarf_types.specs.declared.address.Addr.{Addr};
 ghost use Rattle.dwarf_types.specs.declared.lists.RawLocation.{RawLocation};
-ghost use Rattle.dwarf_types.specs.SectionBytes.{SectionBytes};
+ghost use Rattle.dwarf_types.specs.SectionBytes.{SectionBytes, location_bytes};
 ghost use Rattle.list_items.specs.Whole.{IsWhole};
 ghost use Rattle.macho_read.specs.declared.image.Image.{Image};
 ghost use Rattle.reloc_table.specs.declared.relocation.Relocs.{Relocs};
-ghost use Rattle.loc_lists.specs.Reading.{location_bytes, location_faults, location_items, locations_of};
+ghost use Rattle.loc_lists.specs.Reading.{location_faults, location_items, locations_of};
 
 /// A location list that is read is read whole: its items follow each other without a gap from its offset to where the mark
 /// ends that ends it, and only the last one is that mark.

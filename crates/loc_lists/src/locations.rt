@@ -4,10 +4,10 @@ ghost use Rattle.std.specs.Prelude.{◌≡◌, ◌<◌, ◌^◌, ◌==◌, lengt
 ghost use Rattle.std.specs.List.{All};
 ghost use Rattle.ds_base.specs.Reading.{Gives, Moves, Reads};
 ghost use Rattle.ds_base.specs.Spot.{IsSmall};
-ghost use Rattle.dwarf_types.specs.SectionBytes.{bytes_in};
+ghost use Rattle.dwarf_types.specs.SectionBytes.{bytes_in, location_bytes};
 ghost use Rattle.macho_read.specs.Sound.{IsSound as IsSoundImage};
 ghost use Rattle.reloc_table.specs.Sound.{IsSound};
-ghost use Rattle.loc_lists.specs.Reading.{expression_at, len_at, location_at, location_bytes, location_form, location_part, locations_of};
+ghost use Rattle.loc_lists.specs.Reading.{expression_at, len_at, location_at, location_form, location_part, locations_of};
 ghost use Rattle.loc_lists.specs.Sound.{IsSoundLocation};
 
 use ds_base::dwarf::DWARF_5;
@@ -79,7 +79,7 @@ pub fn read_locations(
     // The ends of each span are of one class, the low one is below the high one, and each expression ends in the section.
     ensures sound { IfOk result (All (IsSoundLocation (length (location_bytes (bytes_in sections.now) version)))) }
 {
-    let section = section_of(sections, version);
+    let section = section_of(version);
     let context = ListContext {
         form: section.form,
         image,
@@ -91,7 +91,7 @@ pub fn read_locations(
     read_list(
         alloc,
         section.part,
-        section.bytes,
+        sections.location_lists(version),
         offset,
         &context,
         base,
@@ -126,21 +126,18 @@ fn read_len(cursor: &mut Cursor, version: u16) -> Result<u64, Fault>
 }
 
 /// The section in which a unit of this version has its location lists.
-fn section_of<'a>(sections: &Sections<'a>, version: u16) -> ListSection<'a>
+fn section_of(version: u16) -> ListSection
     ensures part { result.part ≡ location_part version }
-    ensures bytes { result.bytes.now ≡ location_bytes (bytes_in sections.now) version }
     ensures form { result.form ≡ location_form version }
 {
     if version == DWARF_5 {
         ListSection {
             part: Part::Loclists,
-            bytes: sections.loclists,
             form: ListForm::LocationEntries,
         }
     } else {
         ListSection {
             part: Part::Loc,
-            bytes: sections.loc,
             form: ListForm::Words,
         }
     }

@@ -11,7 +11,7 @@ use Rattle.ds_base.proofs.Onward.{Onward, stays}
 use Rattle.ds_base.proofs.Passing.{ok_is}
 use Rattle.dwarf_types.specs.declared.address.Addr.{Addr}
 use Rattle.dwarf_types.specs.declared.lists.RawSpan.{RawSpan}
-use Rattle.dwarf_types.specs.SectionBytes.{SectionBytes}
+use Rattle.dwarf_types.specs.SectionBytes.{SectionBytes, range_bytes}
 use Rattle.macho_read.specs.declared.image.Image.{Image}
 use Rattle.reloc_table.specs.declared.relocation.Relocs.{Relocs}
 use Rattle.list_items.specs.declared.context.ListForm.TheVariants as forms
@@ -23,7 +23,7 @@ use Rattle.ds_base.proofs.FaultKinds.{FaultsAre, ok_kinds}
 use Rattle.list_items.proofs.Refused.{words_kinds, entry_kinds, list_kinds}
 use Rattle.list_items.proofs.Soundness.{KeepsEnd, Keeps, list_sound}
 use Rattle.list_items.proofs.Wholes.{GoesOn, list_whole}
-use Rattle.range_lists.specs.Reading.{range_part, range_bytes, range_faults, range_at, range_context, range_items, ranges_of}
+use Rattle.range_lists.specs.Reading.{range_part, range_faults, range_at, range_context, range_items, ranges_of}
 
 end_kept : KeepsEnd range_at
 end_kept place span s x t e = sym (ap (λ (r : RawSpan × Spot). r.1.end) (ok_is (span, s) (x, t) e))

@@ -8,7 +8,7 @@ use Rattle.ds_base.specs.declared.fault.Part.TheVariants as parts
 use Rattle.ds_base.specs.Spot.{Spot}
 use Rattle.dwarf_types.specs.declared.address.Addr.{Addr}
 use Rattle.dwarf_types.specs.declared.lists.RawSpan.{RawSpan}
-use Rattle.dwarf_types.specs.SectionBytes.{SectionBytes}
+use Rattle.dwarf_types.specs.SectionBytes.{SectionBytes, range_bytes}
 use Rattle.macho_read.specs.declared.image.Image.{Image}
 use Rattle.reloc_table.specs.declared.relocation.Relocs.{Relocs}
 use Rattle.list_items.specs.declared.context.ListForm.{ListForm}
@@ -20,9 +20,6 @@ use Rattle.list_items.specs.Lists.{Listing, items_in, list_of}
 
 abbrev pub range_part : ℕ → Part
 range_part version = if version == 5 then parts.Rnglists else parts.Ranges
-
-abbrev pub range_bytes : SectionBytes → ℕ → List ℕ
-range_bytes sections version = if version == 5 then sections.rnglists else sections.ranges
 
 abbrev pub range_form : ℕ → ListForm
 range_form version = if version == 5 then forms.RangeEntries else forms.Words

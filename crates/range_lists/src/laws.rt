@@ -5,11 +5,11 @@ ghost use Rattle.std.specs.List.{Contains};
 ghost use Rattle.ds_base.specs.declared.fault.Fault.{Fault};
 ghost use Rattle.dwarf_types.specs.declared.address.Addr.{Addr};
 ghost use Rattle.dwarf_types.specs.declared.lists.RawSpan.{RawSpan};
-ghost use Rattle.dwarf_types.specs.SectionBytes.{SectionBytes};
+ghost use Rattle.dwarf_types.specs.SectionBytes.{SectionBytes, range_bytes};
 ghost use Rattle.list_items.specs.Whole.{IsWhole};
 ghost use Rattle.macho_read.specs.declared.image.Image.{Image};
 ghost use Rattle.reloc_table.specs.declared.relocation.Relocs.{Relocs};
-ghost use Rattle.range_lists.specs.Reading.{range_bytes, range_faults, range_items, ranges_of};
+ghost use Rattle.range_lists.specs.Reading.{range_faults, range_items, ranges_of};
 
 /// A range list that is read is read whole: its items follow each other without a gap from its offset to where the mark
 /// ends that ends it, and only the last one is that mark.

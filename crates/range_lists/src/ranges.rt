@@ -3,11 +3,11 @@
 ghost use Rattle.std.specs.Prelude.{◌≡◌, ◌<◌, ◌^◌, length, IfOk};
 ghost use Rattle.std.specs.List.{All};
 ghost use Rattle.ds_base.specs.Reading.{Gives};
-ghost use Rattle.dwarf_types.specs.SectionBytes.{bytes_in};
+ghost use Rattle.dwarf_types.specs.SectionBytes.{bytes_in, range_bytes};
 ghost use Rattle.list_items.specs.Sound.{IsSoundSpan};
 ghost use Rattle.macho_read.specs.Sound.{IsSound as IsSoundImage};
 ghost use Rattle.reloc_table.specs.Sound.{IsSound};
-ghost use Rattle.range_lists.specs.Reading.{range_at, range_bytes, range_form, range_part, ranges_of};
+ghost use Rattle.range_lists.specs.Reading.{range_at, range_form, range_part, ranges_of};
 
 use ds_base::dwarf::DWARF_5;
 use ds_base::{Cursor, List, Part, ReadError};
@@ -66,7 +66,7 @@ pub fn read_ranges(
     // The ends of each span are of one class, and the low one is below the high one.
     ensures sound { IfOk result (All IsSoundSpan) }
 {
-    let section = section_of(sections, version);
+    let section = section_of(version);
     let context = ListContext {
         form: section.form,
         image,
@@ -78,7 +78,7 @@ pub fn read_ranges(
     read_list(
         alloc,
         section.part,
-        section.bytes,
+        sections.range_lists(version),
         offset,
         &context,
         base,
@@ -87,21 +87,18 @@ pub fn read_ranges(
 }
 
 /// The section in which a unit of this version has its range lists.
-fn section_of<'a>(sections: &Sections<'a>, version: u16) -> ListSection<'a>
+fn section_of(version: u16) -> ListSection
     ensures part { result.part ≡ range_part version }
-    ensures bytes { result.bytes.now ≡ range_bytes (bytes_in sections.now) version }
     ensures form { result.form ≡ range_form version }
 {
     if version == DWARF_5 {
         ListSection {
             part: Part::Rnglists,
-            bytes: sections.rnglists,
             form: ListForm::RangeEntries,
         }
     } else {
         ListSection {
             part: Part::Ranges,
-            bytes: sections.ranges,
             form: ListForm::Words,
         }
     }
