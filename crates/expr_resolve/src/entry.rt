@@ -1,18 +1,15 @@
 //! Entries of a unit's table of addresses, which operations name by their indices.
 
 ghost use Rattle.std.specs.Prelude.{◌≡◌, ◌+◌, ◌≤◌, length, IfSome};
-ghost use Rattle.index_tables.specs.Tables.{stored};
 ghost use Rattle.expr_resolve.specs.Context.{context_in};
 ghost use Rattle.expr_resolve.specs.Steps.{IsSoundContext};
 ghost use Rattle.expr_resolve.specs.Expressions.{entry_address, entry_meant, entry_of, holding, index_in, is_lost, named_by, names_entry};
 
 use crate::context::ExprContext;
 use crate::lookup::is_relocated;
-use byteorder::{ByteOrder, LittleEndian};
-use ds_base::bytes_from;
 use ds_base::dwarf::{DW_OP_addr, DW_OP_addrx, DW_OP_const8u, DW_OP_constx};
 use dwarf_types::{Addr, Place};
-use index_tables::address_at;
+use index_tables::{address_at, stored_address};
 use moved_parts::place as place_of;
 use reloc_table::resolve;
 
@@ -104,17 +101,9 @@ fn entry_place(context: &ExprContext, at: u32) -> Place
     requires inside { at + 8 ≤ length context.now.sections.now.addr.now }
     ensures { result ≡ entry_meant (context_in context.now) at }
 {
-    let stored = stored_at(context.sections.addr, at);
+    let stored = stored_address(context.sections.addr, at);
     place_of(
         context.map,
         resolve(context.addresses, context.image, at, stored),
     )
-}
-
-/// The number in eight bytes from a place on.
-fn stored_at(section: &[u8], place: u32) -> u64
-    requires { place + 8 ≤ length section.now }
-    ensures { result ≡ stored 8 section.now place }
-{
-    LittleEndian::read_u64(bytes_from(section, place as usize))
 }
