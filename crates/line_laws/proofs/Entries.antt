@@ -10,13 +10,13 @@ use Rattle.byteorder.specs.Endian.{little_bytes}
 use Rattle.ds_base.specs.declared.dwarf.TheConstants.{DW_FORM_data16, DW_FORM_line_strp, DW_FORM_udata, DW_LNCT_MD5, DW_LNCT_directory_index, DW_LNCT_path, DW_LNCT_size, DW_LNCT_timestamp}
 use Rattle.ds_base.specs.declared.fault.Fault.{Fault}
 use Rattle.ds_base.specs.Leb.{uleb}
-use Rattle.ds_base.specs.Reading.{◌>>=◌, index_below, items_at, bytes_at, uleb_at, text_of}
+use Rattle.ds_base.specs.Reading.{◌>>=◌, index_below, items_at, bytes_at, placed_text_at, uleb_at, text_of}
 use Rattle.ds_base.specs.Spot.{Spot, after}
 use Rattle.dwarf_types.specs.LineTable.{directory_entry, format}
 use Rattle.dwarf_types.specs.SectionBytes.{SectionBytes}
 use Rattle.dwarf_types.specs.Spelled.{AreTextBytes}
 use Rattle.dwarf_types.proofs.Readers.{zero_behind}
-use Rattle.line_read.specs.Entries.{dir_entry_at, file_entry_at, first, form_number_at, form_text_at, format_at, item_at, no_parts, pair_at, placed_text_at}
+use Rattle.line_read.specs.Entries.{dir_entry_at, file_entry_at, first, form_number_at, form_text_at, format_at, item_at, no_parts, pair_at}
 use Rattle.line_read.specs.Formats.{content_of, form_of, is_path, item_of}
 use Rattle.line_read.specs.Names.{within}
 use Rattle.line_read.specs.Program.{header_end}

@@ -7,7 +7,7 @@ use Rattle.std.proofs.lemmas.List.Elements.{All-append, All-cons, All-nil}
 use Rattle.ds_base.specs.declared.fault.Fault.{Fault}
 use Rattle.ds_base.specs.declared.fault.Kind.TheVariants as kinds
 use Rattle.ds_base.specs.Spot.{Spot, fault_at}
-use Rattle.ds_base.specs.Reading.{◌>>=◌, refuse_if, or_fault, index_below, bytes_at, number_at, uleb_at, items_at, text_of}
+use Rattle.ds_base.specs.Reading.{◌>>=◌, refuse_if, or_fault, index_below, bytes_at, number_at, placed_text_at, uleb_at, items_at, text_of}
 use Rattle.ds_base.proofs.Passing.{bind_ok, found_ok, ok_is, passed}
 use Rattle.dwarf_types.specs.declared.lines.FileName.{FileName}
 use Rattle.dwarf_types.specs.SectionBytes.{SectionBytes}
@@ -24,7 +24,7 @@ use Rattle.line_read.specs.declared.formats.NumberForm.TheVariants as numbers
 use Rattle.line_read.specs.declared.formats.TextForm.{TextForm}
 use Rattle.line_read.specs.declared.formats.TextForm.TheVariants as texts
 use Rattle.line_read.specs.declared.names.HeaderEnd.{HeaderEnd}
-use Rattle.line_read.specs.Entries.{EntryParts, block_at, dir_entry_at, dropped, entries_of, file_entry_at, first, form_number_at, form_text_at, format_at, item_at, no_parts, pair_at, parts_at, passed_at, placed_text_at}
+use Rattle.line_read.specs.Entries.{EntryParts, block_at, dir_entry_at, dropped, entries_of, file_entry_at, first, form_number_at, form_text_at, format_at, item_at, no_parts, pair_at, parts_at, passed_at}
 use Rattle.line_read.specs.Formats.{is_path, item_of}
 use Rattle.line_read.specs.Names.{within}
 

@@ -7,7 +7,7 @@ use Rattle.ds_base.specs.declared.dwarf.TheConstants.{ADDRESS_SIZE, DW_LNS_exten
 use Rattle.ds_base.specs.declared.fault.Fault.{Fault}
 use Rattle.ds_base.specs.declared.fault.Kind.{Kind}
 use Rattle.ds_base.specs.declared.fault.Kind.TheVariants as kinds
-use Rattle.ds_base.specs.Reading.{refuse_if, or_fault, bytes_at, number_at, text_at, uleb_at, sleb_at, items_at, text_of}
+use Rattle.ds_base.specs.Reading.{refuse_if, or_fault, bytes_at, number_at, placed_text_at, text_at, uleb_at, sleb_at, items_at, text_of}
 use Rattle.ds_base.specs.Spot.{Spot, fault_at}
 use Rattle.dwarf_types.specs.declared.lines.FileName.{FileName}
 use Rattle.dwarf_types.specs.SectionBytes.{SectionBytes}
@@ -33,7 +33,7 @@ use Rattle.line_read.specs.declared.operation.LineOp.TheVariants as ops
 use Rattle.line_read.specs.Codes.{standard_of, extended_of}
 use Rattle.line_read.specs.Header.{bad, table_at, last_version, version_at, sizes_at, program_at, operations_at, fields_at}
 use Rattle.line_read.specs.Formats.{item_of, is_path}
-use Rattle.line_read.specs.Entries.{EntryParts, pair_at, format_at, placed_text_at, form_text_at, form_number_at, block_at, passed_at, item_at, parts_at, no_parts, dir_entry_at, file_entry_at, entries_of}
+use Rattle.line_read.specs.Entries.{EntryParts, pair_at, format_at, form_text_at, form_number_at, block_at, passed_at, item_at, parts_at, no_parts, dir_entry_at, file_entry_at, entries_of}
 use Rattle.line_read.specs.Names.{within, dir_at, file_of, file_at, listed_at}
 use Rattle.line_read.specs.Tables.{dirs_at, files_at}
 use Rattle.line_read.specs.Operation.{made, standard_at, ulebs_at, operand_count, low_at, bad_op, defined_at, operands_at, filled_at, body_at, fault_inside, inside, part_at, extended_at, op_at}

@@ -6,12 +6,13 @@ use Rattle.std.proofs.Math.Nat.{add-mod-mod}
 use Rattle.std.proofs.lemmas.Int.{ints, int_rem_euclid_is}
 use Rattle.dwarf_types.specs.declared.address.Addr.{Addr}
 use Rattle.dwarf_types.specs.declared.address.Addr.TheVariants as addrs
-use Rattle.line_read.specs.Registers.{bytes_on, lines_on}
+use Rattle.dwarf_types.specs.Addresses.{plus}
+use Rattle.line_read.specs.Registers.{lines_on}
 
-pub bytes_on_product : (n : ℕ) (at : Addr) → bytes_on (n % 2 ^ 64) at ≡ bytes_on n at
-bytes_on_product n (addrs.Placed a) = ap (λ (x : ℕ). addrs.Placed x) (add-mod-mod a n (2 ^ 64))
-bytes_on_product n (addrs.Named symbol a) = ap (λ (x : ℕ). addrs.Named symbol x) (add-mod-mod a n (2 ^ 64))
-bytes_on_product n (addrs.Fixed a) = ap (λ (x : ℕ). addrs.Fixed x) (add-mod-mod a n (2 ^ 64))
+pub plus_product : (at : Addr) (n : ℕ) → plus at (n % 2 ^ 64) ≡ plus at n
+plus_product (addrs.Placed a) n = ap (λ (x : ℕ). addrs.Placed x) (add-mod-mod a n (2 ^ 64))
+plus_product (addrs.Named symbol a) n = ap (λ (x : ℕ). addrs.Named symbol x) (add-mod-mod a n (2 ^ 64))
+plus_product (addrs.Fixed a) n = ap (λ (x : ℕ). addrs.Fixed x) (add-mod-mod a n (2 ^ 64))
 
 back : (line n w : ℕ) → suc n ≤ w → (pos line +ℤ negsuc n) +ℤ pos w ≡ pos (line + (w - suc n))
 back line n w le = omega (arith, ints)

@@ -3,9 +3,8 @@ use Rattle.std.specs.Prelude.{ℕ, ◌==◌, not, List, [], ◌∷◌, Option, S
 use Rattle.std.specs.List.{list_any}
 use Rattle.std.specs.Option.{unwrap_or}
 use Rattle.ds_base.specs.declared.fault.Fault.{Fault}
-use Rattle.ds_base.specs.declared.fault.Kind.TheVariants as kinds
-use Rattle.ds_base.specs.Spot.{Spot, fault_at}
-use Rattle.ds_base.specs.Reading.{◌>>=◌, refuse_if, or_fault, bytes_at, number_at, text_at, uleb_at, items_at, text_of}
+use Rattle.ds_base.specs.Spot.{Spot}
+use Rattle.ds_base.specs.Reading.{◌>>=◌, refuse_if, or_fault, bytes_at, number_at, text_at, uleb_at, items_at, placed_text_at}
 use Rattle.dwarf_types.specs.declared.lines.FileName.{FileName}
 use Rattle.dwarf_types.specs.SectionBytes.{SectionBytes}
 use Rattle.line_read.specs.declared.entries.EntryFormat.{EntryFormat}
@@ -41,13 +40,6 @@ format_at header s = do
   Ok (record { items = format.0; count = count.0 }, count.1)
 
 -- ---- values
-
--- the text whose place in a section stands here
-unfoldable pub placed_text_at : List ℕ → Spot → Result (List ℕ × Spot) Fault
-placed_text_at section s = do
-  place ← number_at 4 s
-  text ← or_fault (text_of section place.0) (fault_at s kinds.BadOffset)
-  Ok (text, place.1)
 
 unfoldable pub form_text_at : SectionBytes → TextForm → Spot → Result (List ℕ × Spot) Fault
 form_text_at sections texts.Inline s = text_at s

@@ -1,10 +1,11 @@
 -- The registers of the line state machine (DWARF 4, section 6.2.2), and what each operation does to them (section 6.2.5).
-use Rattle.std.specs.Prelude.{unsigned_abs, ℕ, ◌+◌, ◌-◌, ◌*◌, ◌/◌, ◌%◌, ◌^◌, ℤ, pos, ◌+ℤ◌, true, false, not}
+use Rattle.std.specs.Prelude.{unsigned_abs, ℕ, ◌-◌, ◌*◌, ◌/◌, ◌%◌, ◌^◌, ℤ, pos, ◌+ℤ◌, true, false, not}
 use Rattle.std.specs.Int.{int_rem_euclid}
 use Rattle.dwarf_types.specs.declared.address.Addr.{Addr}
 use Rattle.dwarf_types.specs.declared.address.Addr.TheVariants as addrs
 use Rattle.dwarf_types.specs.declared.lines.RawRow.{RawRow}
 use Rattle.dwarf_types.specs.declared.lines.Row.{Row}
+use Rattle.dwarf_types.specs.Addresses.{plus}
 use Rattle.line_read.specs.declared.header.LineHeader.{LineHeader}
 use Rattle.line_read.specs.declared.operation.LineOp.{LineOp}
 use Rattle.line_read.specs.declared.operation.LineOp.TheVariants as ops
@@ -17,15 +18,9 @@ initial header =
       row = record { address = 0; file = 1; line = 1; column = 0; discriminator = 0; isa = 0; is_stmt = header.default_is_stmt; basic_block = false; prologue_end = false; epilogue_begin = false };
     }
 
--- so many bytes on, modulo 2^64
-abbrev pub bytes_on : ℕ → Addr → Addr
-bytes_on n (addrs.Placed a) = addrs.Placed ((a + n) % 2 ^ 64)
-bytes_on n (addrs.Named symbol a) = addrs.Named symbol ((a + n) % 2 ^ 64)
-bytes_on n (addrs.Fixed a) = addrs.Fixed ((a + n) % 2 ^ 64)
-
 -- so many instructions on, each of the shortest length
 abbrev pub instructions_on : LineHeader → ℕ → Addr → Addr
-instructions_on header n at = bytes_on (header.minimum_instruction_length * n) at
+instructions_on header n at = plus at (header.minimum_instruction_length * n)
 
 -- so many lines on, modulo 2^32
 abbrev pub lines_on : ℤ → ℕ → ℕ
@@ -53,7 +48,7 @@ changed header (ops.SetColumn n) r = with_row r (record r.row { column = n })
 changed header ops.NegateStmt r = with_row r (record r.row { is_stmt = not r.row.is_stmt })
 changed header ops.SetBasicBlock r = with_row r (record r.row { basic_block = true })
 changed header ops.ConstAddPc r = record r { at = instructions_on header ((255 - header.opcode_base) / header.line_range) r.at }
-changed header (ops.FixedAdvancePc n) r = record r { at = bytes_on n r.at }
+changed header (ops.FixedAdvancePc n) r = record r { at = plus r.at n }
 changed header ops.SetPrologueEnd r = with_row r (record r.row { prologue_end = true })
 changed header ops.SetEpilogueBegin r = with_row r (record r.row { epilogue_begin = true })
 changed header (ops.SetIsa n) r = with_row r (record r.row { isa = n })

@@ -3,16 +3,16 @@
 ghost use Rattle.std.specs.Prelude.{◌≡◌, [], Some};
 ghost use Rattle.std.specs.List.{list_any};
 ghost use Rattle.std.specs.Option.{option_copied, option_map};
-ghost use Rattle.ds_base.specs.Reading.{Reads, ReadsUnlessFull, bytes_at, items_at, number_at, text_of};
+ghost use Rattle.ds_base.specs.Reading.{Reads, ReadsUnlessFull, bytes_at, items_at, number_at};
 ghost use Rattle.dwarf_types.specs.SectionBytes.{bytes_in};
 ghost use Rattle.dwarf_types.specs.SeenLines.{file_seen};
-ghost use Rattle.line_read.specs.Entries.{pair_at, format_at, placed_text_at, form_text_at, form_number_at, block_at, passed_at, first, item_at, parts_at, no_parts, dir_entry_at, file_entry_at, entries_of};
+ghost use Rattle.line_read.specs.Entries.{pair_at, format_at, form_text_at, form_number_at, block_at, passed_at, first, item_at, parts_at, no_parts, dir_entry_at, file_entry_at, entries_of};
 ghost use Rattle.line_read.specs.Formats;
 ghost use Rattle.line_read.specs.Names.{within};
 
 use crate::formats::{EntryForm, EntryItem, NumberForm, TextForm, is_path, item_of};
 use crate::names::{HeaderEnd, read_number};
-use ds_base::{Cursor, Fault, Kind, List, ReadError, text_in};
+use ds_base::{Cursor, Fault, List, ReadError};
 use dwarf_types::{FileNameRef, FileNames, Paths, Sections, SharedTexts};
 use std::alloc::Global;
 use std::marker::Model;
@@ -454,29 +454,16 @@ fn read_any_text<'a>(
             place: None,
         }),
         TextForm::Str => {
-            let text = read_placed_text(cursor, sections.strings)?;
+            let (_, bytes) = cursor.placed_text(sections.strings)?;
+            Ok(PlacedText { bytes, place: None })
+        }
+        TextForm::LineStr => {
+            let (place, bytes) = cursor.placed_text(sections.line_str)?;
             Ok(PlacedText {
-                bytes: text.bytes,
-                place: None,
+                bytes,
+                place: Some(place),
             })
         }
-        TextForm::LineStr => read_placed_text(cursor, sections.line_str),
-    }
-}
-
-/// The text of a section whose place stands next, with that place.
-#[tactic(auto, unfolding(crate::specs::Entries::placed_text_at))]
-fn read_placed_text<'a>(cursor: &mut Cursor, section: &'a [u8]) -> Result<PlacedText<'a>, Fault>
-    ensures { Reads (λ text. text.bytes.now) result cursor.new (placed_text_at section.now cursor.old) }
-{
-    let first = cursor.fork();
-    let place = cursor.u32()?;
-    match text_in(section, place) {
-        Some(bytes) => Ok(PlacedText {
-            bytes,
-            place: Some(place),
-        }),
-        None => Err(first.fault(Kind::BadOffset)),
     }
 }
 

@@ -73,7 +73,7 @@ pub(crate) fn changed(header: &LineHeader, op: &LineOp, registers: RawRow) -> Ra
             }
         }
         LineOp::FixedAdvancePc(n) => RawRow {
-            at: bytes_on(u64::from(*n), at),
+            at: at.plus(u64::from(*n)),
             row,
         },
         LineOp::SetPrologueEnd => RawRow {
@@ -139,28 +139,11 @@ fn special(header: &LineHeader, adjusted: u8, registers: RawRow) -> RawRow
 }
 
 /// An address so many instructions on, each of the shortest length.
-#[tactic(auto, using(crate::proofs::Steps::bytes_on_product))]
+#[tactic(auto, using(crate::proofs::Steps::plus_product))]
 fn instructions_on(header: &LineHeader, n: u64, at: Addr) -> Addr
     ensures { result ≡ Registers.instructions_on header.now n at }
 {
-    bytes_on(
-        u64::from(header.minimum_instruction_length).wrapping_mul(n),
-        at,
-    )
-}
-
-/// An address so many bytes on, modulo 2^64.
-fn bytes_on(n: u64, at: Addr) -> Addr
-    ensures { result ≡ Registers.bytes_on n at }
-{
-    match at {
-        Addr::Placed(a) => Addr::Placed(a.wrapping_add(n)),
-        Addr::Named { symbol, addend } => Addr::Named {
-            symbol,
-            addend: addend.wrapping_add(n),
-        },
-        Addr::Fixed(a) => Addr::Fixed(a.wrapping_add(n)),
-    }
+    at.plus(u64::from(header.minimum_instruction_length).wrapping_mul(n))
 }
 
 /// A line so many lines on, modulo 2^32.
