@@ -1,6 +1,5 @@
 -- One operation of a line program (DWARF 4 and DWARF 5, section 6.2.5): what its bytes say, or the first fault.
-use Rattle.std.specs.Prelude.{ℕ, zero, suc, ◌-◌, ◌==◌, not, length, nat_le, slice_get, Option, Some, None, Result, Ok, Err, if◌then◌else◌}
-use Rattle.std.specs.Option.{option_map_or}
+use Rattle.std.specs.Prelude.{ℕ, zero, suc, ◌-◌, ◌==◌, not, length, nat_le, slice_index, Option, Some, None, Result, Ok, Err, if◌then◌else◌}
 use Rattle.ds_base.specs.declared.dwarf.TheConstants.{DW_LNS_extended_op}
 use Rattle.ds_base.specs.declared.fault.Fault.{Fault}
 use Rattle.ds_base.specs.declared.fault.Kind.{Kind}
@@ -44,9 +43,9 @@ unfoldable pub ulebs_at : ℕ → Spot → Result (Unit {0} × Spot) Fault
 ulebs_at zero s = Ok (tt, s)
 ulebs_at (suc count) s = uleb_at s >>= λ n. ulebs_at count n.1
 
--- how many operands an operation has that is not known, by its code, which counts from 1
+-- how many operands an operation has that is not known, by its code, which counts from 1: a header that was read tells it of each code below opcode_base
 abbrev pub operand_count : LineHeader → ℕ → ℕ
-operand_count header code = option_map_or (λ count. count) (slice_get header.standard_opcode_lengths (code - 1)) 0
+operand_count header code = slice_index header.standard_opcode_lengths (code - 1)
 
 -- behind the code of an operation below opcode_base: one that is not known is passed over
 unfoldable pub low_at : LineHeader → ℕ → Option StandardOp → Spot → Result (LineOp × Spot) Fault

@@ -2,7 +2,7 @@
 
 ghost use Rattle.std.specs.Prelude.{◌≡◌, ◌<◌, ◌≤◌, [], length, IfOk};
 ghost use Rattle.ds_base.specs.Reading.{Finds, Reads, ReadsUnlessFull, items_at, number_at};
-ghost use Rattle.line_read.specs.Bounds.{IsInside};
+ghost use Rattle.line_read.specs.Bounds.{HasLengths, IsInside};
 ghost use Rattle.line_read.specs.Header;
 ghost use Rattle.line_read.specs.Header.{line_at, table_at, version_at, sizes_at, program_at, operations_at, fields_at};
 
@@ -134,6 +134,7 @@ pub(crate) fn read_fields(
 ) -> Result<LineHeader, ReadError>
     ensures read { ReadsUnlessFull (λ header. header) result cursor.new (fields_at first.now version cursor.old) }
     ensures range { IfOk result (λ header. 0 < header.line_range) }
+    ensures lengths { IfOk result HasLengths }
 {
     let minimum_instruction_length = cursor.u8()?;
     check_operations(cursor, first, version)?;
@@ -172,7 +173,8 @@ fn check_operations(cursor: &mut Cursor, first: &Cursor, version: u16) -> Result
 
 /// So many operand counts, of a byte each.
 fn read_lengths(alloc: Global, cursor: &mut Cursor, count: u8) -> Result<List<u8>, ReadError>
-    ensures { ReadsUnlessFull (λ lengths. lengths) result cursor.new (items_at (number_at 1) count [] cursor.old) }
+    ensures read { ReadsUnlessFull (λ lengths. lengths) result cursor.new (items_at (number_at 1) count [] cursor.old) }
+    ensures all { IfOk result (λ lengths. length lengths ≡ count) }
 {
     let mut lengths = List::new(alloc);
     for _ in 0..count {

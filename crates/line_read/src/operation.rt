@@ -5,7 +5,7 @@ ghost use Rattle.ds_base.specs.Reading.{Finds, Reads};
 ghost use Rattle.ds_base.specs.Spot.{IsSmall};
 ghost use Rattle.macho_read.specs.Sound.{IsSound as IsSoundImage};
 ghost use Rattle.reloc_table.specs.Sound.{IsSound};
-ghost use Rattle.line_read.specs.Bounds.{IsInside};
+ghost use Rattle.line_read.specs.Bounds.{HasLengths, IsInside};
 ghost use Rattle.line_read.specs.Codes.{standard_of};
 ghost use Rattle.line_read.specs.Operation.{standard_at, ulebs_at, operand_count, low_at, defined_at, operands_at, filled_at, body_at, fault_inside, part_at, extended_at, op_at};
 
@@ -71,6 +71,7 @@ pub(crate) fn read_op<'a>(
     requires small { length bytes.now < 2 ^ 32 }
     requires sound { IsSound image.now relocs.now }
     requires sound_image { IsSoundImage image.now }
+    requires lengths { HasLengths header.now }
     ensures { Reads (λ op. op) result cursor.new (op_at header.now image.now relocs.now cursor.old) }
 {
     let first = cursor.fork();
@@ -87,6 +88,8 @@ pub(crate) fn read_op<'a>(
 /// The operation of a code below opcode_base, behind the code. One that is not known is passed over.
 #[tactic(auto, unfolding(crate::specs::Operation::low_at))]
 fn read_low<'a>(cursor: &mut Cursor<'a>, header: &LineHeader, code: u8) -> Result<LineOp<'a>, Fault>
+    requires lengths { HasLengths header.now }
+    requires code { (0 < code) × (code < header.now.opcode_base) }
     ensures { Reads (λ op. op) result cursor.new (low_at header.now code (standard_of code) cursor.old) }
 {
     match standard_op(code) {
@@ -100,14 +103,11 @@ fn read_low<'a>(cursor: &mut Cursor<'a>, header: &LineHeader, code: u8) -> Resul
 
 /// How many operands an operation has that is not known.
 fn operands_of(header: &LineHeader, code: u8) -> u8
+    requires lengths { HasLengths header.now }
+    requires code { (0 < code) × (code < header.now.opcode_base) }
     ensures { result ≡ operand_count header.now code }
 {
-    let index = usize::from(code).saturating_sub(1);
-    header
-        .standard_opcode_lengths
-        .get(index)
-        .copied()
-        .unwrap_or(0)
+    header.standard_opcode_lengths.as_slice()[usize::from(code) - 1]
 }
 
 /// Passes over so many LEB numbers.

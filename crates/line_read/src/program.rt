@@ -5,7 +5,7 @@ ghost use Rattle.std.specs.List.{All};
 ghost use Rattle.ds_base.specs.Reading.{Gives};
 ghost use Rattle.macho_read.specs.Sound.{IsSound as IsSoundImage};
 ghost use Rattle.reloc_table.specs.Sound.{IsSound};
-ghost use Rattle.line_read.specs.Bounds.{IsInside};
+ghost use Rattle.line_read.specs.Bounds.{HasLengths, IsInside};
 ghost use Rattle.line_read.specs.Operation.{op_at};
 ghost use Rattle.line_read.specs.Program;
 ghost use Rattle.line_read.specs.Program.{ops_at, program_of};
@@ -46,6 +46,7 @@ pub(crate) fn read_sequences<'a>(
     requires inside { IsInside bytes.now program }
     requires small { length bytes.now < 2 ^ 32 }
     requires range { 0 < header.now.line_range }
+    requires lengths { HasLengths header.now }
     requires sound { IsSound image.now relocs.now }
     requires sound_image { IsSoundImage image.now }
     ensures exact { Gives (λ lines. lines) result (program_of header.now dirs files (ops_at (op_at header.now image.now relocs.now) (program.entry.end - program.entry.place) program.entry)) }
@@ -68,6 +69,7 @@ fn run<'a>(
     requires inside { IsInside bytes.now program }
     requires small { length bytes.now < 2 ^ 32 }
     requires range { 0 < header.now.line_range }
+    requires lengths { HasLengths header.now }
     requires sound { IsSound image.now relocs.now }
     requires sound_image { IsSoundImage image.now }
     ensures { Gives (λ matrix. matrix) result (run_at (op_at header.now image.now relocs.now) header.now (program.entry.end - program.entry.place) (empty_matrix header.now files) program.entry) }
