@@ -1,5 +1,5 @@
 -- What is read behind a span, by its expression.
-use Rattle.std.proofs.Common.{◌≡◌, ℕ, Bool, true, false, List, Ok, Err, refl, arith}
+use Rattle.std.proofs.Common.{◌≡◌, ℕ, Bool, true, false, List, Ok, arith}
 use Rattle.ds_base.specs.Spot.{Spot}
 use Rattle.ds_base.proofs.Onward.{Further, uleb_further}
 use Rattle.dwarf_types.specs.declared.lists.RawLocation.{RawLocation}
