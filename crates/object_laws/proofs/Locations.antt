@@ -10,7 +10,7 @@ use Rattle.ds_base.proofs.Passing.{bind_ok, ok_is}
 use Rattle.dwarf_types.specs.declared.address.Addr.{Addr}
 use Rattle.dwarf_types.specs.declared.lists.RawLocation.{RawLocation}
 use Rattle.dwarf_types.specs.declared.lists.RawSpan.{RawSpan}
-use Rattle.dwarf_types.specs.SectionBytes.{SectionBytes}
+use Rattle.dwarf_types.specs.SectionBytes.{SectionBytes, location_bytes}
 use Rattle.dwarf_types.specs.Spelled.{AreBytes}
 use Rattle.dwarf_types.proofs.Readers.{IsBytes-from}
 use Rattle.macho_read.specs.declared.image.Image.{Image}
@@ -30,7 +30,7 @@ use Rattle.list_items.specs.Lists.{Says, ends, selects, spans, said_at, whole_at
 use Rattle.list_items.proofs.Given.{all_given}
 use Rattle.list_items.specs.Reading.{formed_at, item_at}
 use Rattle.list_items.specs.Words.{item_of, word_at, words_at}
-use Rattle.loc_lists.specs.Reading.{expression_at, len_at, location_at, location_bytes, location_context, locations_of}
+use Rattle.loc_lists.specs.Reading.{expression_at, len_at, location_at, location_context, locations_of}
 use Rattle.object_laws.proofs.LinesReads.{Holds, bytes_are, bytes_hold, number_holds, uleb_holds}
 
 abbrev IsItem : RawLocation → Type 0

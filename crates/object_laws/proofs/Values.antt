@@ -31,7 +31,7 @@ use Rattle.reloc_table.specs.Address.{address_of}
 use Rattle.expr_walk.specs.Length.{ops_len}
 use Rattle.expr_resolve.specs.Context.{Context}
 use Rattle.expr_resolve.specs.Expressions.{expression_of}
-use Rattle.loc_lists.specs.Reading.{location_bytes}
+use Rattle.dwarf_types.specs.SectionBytes.{location_bytes}
 use Rattle.moved_parts.specs.Places.{place_of}
 use Rattle.moved_parts.specs.Spans.{spans_moved}
 use Rattle.unit_tree.specs.declared.meaning.Meaning.{Meaning}

@@ -18,7 +18,7 @@ use Rattle.dwarf_types.specs.declared.entry.RawUnits.{RawUnits}
 use Rattle.dwarf_types.specs.declared.value.Value.{Value}
 use Rattle.dwarf_types.specs.PlaceSteps.{places_of}
 use Rattle.dwarf_types.specs.Raw.{entry_of}
-use Rattle.dwarf_types.specs.SectionBytes.{SectionBytes}
+use Rattle.dwarf_types.specs.SectionBytes.{SectionBytes, location_bytes}
 use Rattle.dwarf_types.specs.Spelled.{AreBytes, AreTextBytes}
 use Rattle.dwarf_types.proofs.Readers.{AreBytes-from, IsBytes-drop, IsBytes-from, IsBytes-take}
 use Rattle.macho_read.specs.declared.image.Section.{Section}
@@ -31,7 +31,6 @@ use Rattle.moved_parts.specs.Frames.{frames_moved}
 use Rattle.unit_tree.specs.Unit.{units_of}
 use Rattle.unit_tree.proofs.UnitLaws.{units_spelled}
 use Rattle.line_read.proofs.EntryTables.{AreTexts}
-use Rattle.loc_lists.specs.Reading.{location_bytes}
 use Rattle.linked_laws.specs.Spellable.{ArePreorder, IsSpellable, IsSpellableEntry, IsSpellableUnit, IsSpellableValue, has_lines, version_of}
 use Rattle.object_view.specs.Analysis.{analysis_of, units_analysed}
 use Rattle.object_view.specs.Attributes.{all_marked, entries_by, entries_meant, entry_marked, info_context, info_step, line_place, lines_marked, locations_context, locations_step, ranges_step, unit_base, units_meant}

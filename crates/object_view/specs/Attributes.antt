@@ -33,7 +33,7 @@ use Rattle.reloc_table.specs.Address.{address_of}
 use Rattle.addr_map.specs.declared.map.AddrMap.{AddrMap}
 use Rattle.index_tables.specs.Tables.{address_place, stored}
 use Rattle.expr_walk.specs.Length.{ops_len}
-use Rattle.list_items.specs.Ends.{number_of}
+use Rattle.dwarf_types.specs.Addresses.{number_of}
 use Rattle.line_read.specs.Header.{version_of}
 use Rattle.line_read.specs.Program.{lines_of}
 use Rattle.loc_lists.specs.Reading.{location_part, locations_of}

@@ -1,11 +1,10 @@
 //! Addresses, references and expressions of `__debug_info`.
 
-ghost use Rattle.std.specs.Prelude.{◌≡◌, ◌<◌, ◌≤◌, ◌+◌, ◌∷◌, ℕ, List, length, Some, IsSome, OnOk};
+ghost use Rattle.std.specs.Prelude.{◌≡◌, ◌<◌, ◌≤◌, ◌∷◌, ℕ, List, length, Some, IsSome, OnOk};
 ghost use Rattle.std.specs.Slice.Iter.{iter_rest};
 ghost use Rattle.ds_base.specs.Reading.{Gives};
 ghost use Rattle.dwarf_types.specs.Seen.{raw_attr_seen};
-ghost use Rattle.index_tables.specs.Tables.{address_place, stored};
-ghost use Rattle.list_items.specs.Ends;
+ghost use Rattle.index_tables.specs.Tables.{address_place};
 ghost use Rattle.expr_resolve.specs.Context.{context_in};
 ghost use Rattle.unit_tree.specs.Targets.{target_in};
 ghost use Rattle.object_view.specs.Attributes;
@@ -15,12 +14,11 @@ ghost use Rattle.object_view.specs.Numbers.{LeadTo, behind};
 ghost use Rattle.object_view.specs.Ready.{IsReady};
 
 use crate::expressions::{ExprRoom, Expressions, info_context};
-use byteorder::{ByteOrder, LittleEndian};
 use ds_base::dwarf::{ADDRESS_SIZE, DW_FORM_exprloc};
-use ds_base::{ReadError, bytes_from};
+use ds_base::ReadError;
 use dwarf_types::{Addr, Place, RawAttrRef, ValueRef};
 use expr_resolve::{ExprContext, read_expression};
-use index_tables::address_at;
+use index_tables::{address_at, stored_address};
 use moved_parts::place;
 use reloc_table::resolve;
 use std::slice::Iter;
@@ -82,7 +80,7 @@ fn field_address(context: &ExprContext, end: u32, stored: &Addr) -> Addr
     ensures { result ≡ Attributes.field_address (context_in context.now) end stored.now }
 {
     let first = end - u32::from(ADDRESS_SIZE);
-    resolve(context.relocs, context.image, first, number_of(stored))
+    resolve(context.relocs, context.image, first, stored.number())
 }
 
 /// The address at an index of the unit's table of addresses.
@@ -93,32 +91,13 @@ fn address_named(context: &ExprContext, index: u64) -> Place
 {
     match address_at(context.sections, context.addr_base, index) {
         Ok(at) => {
-            let stored = stored_at(context.sections.addr, at);
+            let stored = stored_address(context.sections.addr, at);
             place(
                 context.map,
                 resolve(context.addresses, context.image, at, stored),
             )
         }
         Err(_) => unreachable!(),
-    }
-}
-
-/// The number in the eight bytes from a place on.
-fn stored_at(section: &[u8], at: u32) -> u64
-    requires { at + ADDRESS_SIZE ≤ length section.now }
-    ensures { result ≡ stored 8 section.now at }
-{
-    LittleEndian::read_u64(bytes_from(section, at as usize))
-}
-
-/// The number as it is stored.
-fn number_of(stored: &Addr) -> u64
-    ensures { result ≡ Ends.number_of stored.now }
-{
-    match *stored {
-        Addr::Placed(at) => at,
-        Addr::Named { addend, .. } => addend,
-        Addr::Fixed(number) => number,
     }
 }
 

@@ -7,7 +7,7 @@ ghost use Rattle.dwarf_types.specs.declared.value.Value.TheVariants as values;
 ghost use Rattle.expr_resolve.specs.Context.{context_in};
 ghost use Rattle.object_view.specs.Attributes;
 ghost use Rattle.object_view.specs.Ready.{IsReady, IsItem, item_given, items_given};
-ghost use Rattle.loc_lists.specs.Reading.{location_bytes};
+ghost use Rattle.dwarf_types.specs.SectionBytes.{location_bytes};
 
 use crate::expressions::{ExprRoom, Expressions, locations_context};
 use crate::ranges::base_of_unit;

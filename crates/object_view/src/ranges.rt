@@ -4,14 +4,13 @@ ghost use Rattle.std.specs.Prelude.{◌≡◌, ◌<◌, map, length, slice_get, 
 ghost use Rattle.std.specs.List.{filter_map};
 ghost use Rattle.std.specs.Option.{option_map_or};
 ghost use Rattle.ds_base.specs.Reading.{Gives};
-ghost use Rattle.dwarf_types.specs.SectionBytes.{bytes_in};
+ghost use Rattle.dwarf_types.specs.SectionBytes.{bytes_in, range_bytes};
 ghost use Rattle.dwarf_types.specs.Seen.{attr_seen};
 ghost use Rattle.dwarf_types.specs.declared.address.Addr.TheVariants as addrs;
 ghost use Rattle.dwarf_types.specs.declared.value.Value.TheVariants as values;
 ghost use Rattle.object_view.specs.Attributes;
 ghost use Rattle.object_view.specs.Opened.{opened_seen};
 ghost use Rattle.object_view.specs.Ready.{IsOpen, base_at};
-ghost use Rattle.range_lists.specs.Reading.{range_bytes};
 
 use crate::expressions::{ExprRoom, unit_at};
 use crate::open::{DebugRelocs, OpenObject};

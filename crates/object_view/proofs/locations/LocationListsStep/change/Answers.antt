@@ -1,8 +1,7 @@
 use Rattle.std.proofs.Common.{◌<◌, length, ap, subst, sym, ◌∙◌}
-use Rattle.dwarf_types.specs.SectionBytes.{bytes_in}
+use Rattle.dwarf_types.specs.SectionBytes.{bytes_in, location_bytes}
 use Rattle.dwarf_types.specs.Seen.{value_seen}
 use Rattle.expr_resolve.specs.Context.{Context}
-use Rattle.loc_lists.specs.Reading.{location_bytes}
 use Rattle.unit_tree.specs.declared.meaning.Meaning.{Meaning}
 use Rattle.unit_tree.specs.Inside.{IsListInside}
 use Rattle.object_view.specs.Ready.{context_among}

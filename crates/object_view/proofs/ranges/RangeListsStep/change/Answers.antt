@@ -1,7 +1,6 @@
 use Rattle.std.proofs.Common.{◌<◌, length, ap, subst, sym, ◌∙◌}
-use Rattle.dwarf_types.specs.SectionBytes.{bytes_in}
+use Rattle.dwarf_types.specs.SectionBytes.{bytes_in, range_bytes}
 use Rattle.dwarf_types.specs.Seen.{value_seen}
-use Rattle.range_lists.specs.Reading.{range_bytes}
 use Rattle.unit_tree.specs.declared.meaning.Meaning.{Meaning}
 use Rattle.unit_tree.specs.Inside.{IsListInside}
 use Rattle.object_view.specs.declared.units.UnitContext.{UnitContext}
