@@ -6,7 +6,7 @@ use Rattle.ds_base.specs.declared.fault.Fault.{Fault}
 use Rattle.ds_base.specs.declared.fault.Kind.{Kind}
 use Rattle.ds_base.specs.declared.fault.Kind.TheVariants as kinds
 use Rattle.ds_base.specs.Spot.{Spot, fault_at}
-use Rattle.ds_base.specs.Reading.{◌>>=◌, or_fault, bytes_at, number_at, text_at, sleb_at, refuse_if, text_of}
+use Rattle.ds_base.specs.Reading.{◌>>=◌, or_fault, bytes_at, number_at, placed_text_at, text_at, sleb_at, refuse_if, text_of}
 use Rattle.dwarf_types.specs.declared.abbrev.Field.{Field}
 use Rattle.dwarf_types.specs.SectionBytes.{SectionBytes}
 use Rattle.dwarf_types.specs.declared.value.Value.{Value}
@@ -17,7 +17,7 @@ use Rattle.form_value.specs.declared.form.Coding.TheVariants.{One, Two, Three, F
 use Rattle.form_value.specs.declared.form.FormClass.{FormClass}
 use Rattle.form_value.specs.declared.form.FormClass.TheVariants.{Address, Text, StrText, LineStrText, Number, Signed, Present, Implicit, Wide, Block, Offset, Outside}
 use Rattle.form_value.specs.Forms.{form_row}
-use Rattle.form_value.specs.Reading.{coded_at, block_at, placed_text_at, made, fixed_address, in_64_bits, class_at, value_at}
+use Rattle.form_value.specs.Reading.{coded_at, block_at, made, fixed_address, in_64_bits, class_at, value_at}
 
 abbrev pub IsOne : Kind → Type 0
 IsOne = Contains (kinds.Truncated ∷ kinds.LebTooWide ∷ kinds.UnknownForm ∷ kinds.FormOutsideProfile ∷ kinds.BadOffset ∷ [])

@@ -5,7 +5,7 @@ use Rattle.std.proofs.lemmas.Bool.{ltb-false, le-ltb}
 use Rattle.ds_base.specs.declared.dwarf.TheConstants.{DW_FORM_sdata}
 use Rattle.ds_base.specs.declared.fault.Kind.TheVariants as kinds
 use Rattle.ds_base.specs.Spot.{Spot, rest, fault_at}
-use Rattle.ds_base.specs.Reading.{◌>>=◌, refuse_if, or_fault, bytes_at, number_at, text_at, sleb_at, text_of}
+use Rattle.ds_base.specs.Reading.{◌>>=◌, refuse_if, or_fault, bytes_at, number_at, placed_text_at, text_at, sleb_at, text_of}
 use Rattle.dwarf_types.specs.Spelled.{IsSleb, IsNumber, IsCopy, IsText}
 use Rattle.dwarf_types.specs.declared.abbrev.Field.{Field}
 use Rattle.dwarf_types.specs.SectionBytes.{SectionBytes}
@@ -18,7 +18,7 @@ use Rattle.form_value.specs.declared.form.Coding.TheVariants.{One, Two, Three, F
 use Rattle.form_value.specs.declared.form.FormClass.{FormClass}
 use Rattle.form_value.specs.declared.form.FormClass.TheVariants.{Address, Text, StrText, LineStrText, Number, Signed, Present, Implicit, Wide, Block, Offset, Outside}
 use Rattle.form_value.specs.Forms.{form_row}
-use Rattle.form_value.specs.Reading.{coded_at, block_at, placed_text_at, fixed_address, in_64_bits, class_at, value_at}
+use Rattle.form_value.specs.Reading.{coded_at, block_at, fixed_address, in_64_bits, class_at, value_at}
 use Rattle.form_value.specs.Spelling.{SpellsNumber, SpellsBlock, SpellsPlace, SpellsClass, SpellsValue, IsSpelled, IsRead}
 
 coded_reader : (coding : Coding) → Reader (coded_at coding) (SpellsNumber coding)

@@ -5,7 +5,7 @@ use Rattle.ds_base.specs.declared.dwarf.TheConstants.{DW_FORM_sdata}
 use Rattle.ds_base.specs.declared.fault.Fault.{Fault}
 use Rattle.ds_base.specs.declared.fault.Kind.TheVariants as kinds
 use Rattle.ds_base.specs.Spot.{Spot, fault_at}
-use Rattle.ds_base.specs.Reading.{◌>>=◌, refuse_if, or_fault, bytes_at, number_at, text_at, uleb_at, sleb_at, text_of}
+use Rattle.ds_base.specs.Reading.{◌>>=◌, refuse_if, or_fault, bytes_at, number_at, placed_text_at, text_at, uleb_at, sleb_at}
 use Rattle.dwarf_types.specs.declared.address.Addr.TheVariants.{Fixed}
 use Rattle.dwarf_types.specs.declared.abbrev.Field.{Field}
 use Rattle.dwarf_types.specs.SectionBytes.{SectionBytes}
@@ -30,13 +30,6 @@ unfoldable pub block_at : Coding → Spot → Result (List ℕ × Spot) Fault
 block_at coding s = do
   n ← coded_at coding s
   bytes_at n.0 n.1
-
--- the text whose place in a section stands here
-unfoldable pub placed_text_at : List ℕ → Spot → Result (List ℕ × Spot) Fault
-placed_text_at section s = do
-  place ← number_at 4 s
-  text ← or_fault (text_of section place.0) (fault_at s kinds.BadOffset)
-  Ok (text, place.1)
 
 -- a value made of what is read
 abbrev pub made : {A : Type 0} → (A → Value) → Result (A × Spot) Fault → Result (Value × Spot) Fault

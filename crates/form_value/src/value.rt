@@ -1,15 +1,15 @@
 //! One attribute value, by its form.
 
 ghost use Rattle.std.specs.Prelude.{◌≡◌, ◌<◌, Some, IfOk};
-ghost use Rattle.ds_base.specs.Reading.{Moves, number_at, text_of};
+ghost use Rattle.ds_base.specs.Reading.{Moves, number_at};
 ghost use Rattle.dwarf_types.specs.Put.{value_read};
 ghost use Rattle.dwarf_types.specs.SectionBytes.{bytes_in};
 ghost use Rattle.form_value.specs.Forms.{form_row};
-ghost use Rattle.form_value.specs.Reading.{coded_at, block_at, placed_text_at, class_at, value_at};
+ghost use Rattle.form_value.specs.Reading.{coded_at, block_at, class_at, value_at};
 
 use crate::form::{Coding, FormClass, FormRow, form_class};
 use byteorder::{ByteOrder, LittleEndian};
-use ds_base::{Cursor, Fault, Kind, text_in};
+use ds_base::{Cursor, Fault, Kind};
 use dwarf_types::{Field, RawValue, Sections};
 
 /// The next value of an attribute in a unit of the given version (DWARF 5, section 7.5.5). What is long
@@ -57,14 +57,14 @@ fn read_row<'a>(
             Ok(RawValue::Text { bytes, place: None })
         }
         FormClass::StrText => {
-            let (place, bytes) = read_placed_text(cursor, sections.strings)?;
+            let (place, bytes) = cursor.placed_text(sections.strings)?;
             Ok(RawValue::Text {
                 bytes,
                 place: Some(place),
             })
         }
         FormClass::LineStrText => {
-            let (place, bytes) = read_placed_text(cursor, sections.line_str)?;
+            let (place, bytes) = cursor.placed_text(sections.line_str)?;
             let place = place_behind(sections.strings, place);
             Ok(RawValue::Text { bytes, place })
         }
@@ -77,20 +77,6 @@ fn read_row<'a>(
         FormClass::Offset(coding) => Ok(RawValue::Offset(read_coded(cursor, coding)?)),
         FormClass::Outside => Err(cursor.fault(Kind::FormOutsideProfile)),
     }
-}
-
-/// The text of a section whose place stands next, in four bytes, behind that place.
-#[tactic(auto, unfolding(crate::specs::Reading::placed_text_at))]
-fn read_placed_text<'a>(cursor: &mut Cursor, section: &'a [u8]) -> Result<(u32, &'a [u8]), Fault>
-    ensures { Moves (λ text. text.1.now) result cursor.old cursor.new (placed_text_at section.now cursor.old) }
-{
-    let mut next = cursor.fork();
-    let place = next.u32()?;
-    let Some(text) = text_in(section, place) else {
-        return Err(cursor.fault(Kind::BadOffset));
-    };
-    *cursor = next;
-    Ok((place, text))
 }
 
 /// A place of `__debug_line_str` among the texts of the sections, behind those of `__debug_str`, if 32 bits hold it.

@@ -6,7 +6,7 @@ use Rattle.std.proofs.lemmas.List.{append-nil, flat_map_more, map-append}
 use Rattle.ds_base.specs.declared.fault.Fault.{Fault}
 use Rattle.ds_base.specs.declared.fault.Kind.TheVariants as kinds
 use Rattle.ds_base.specs.Spot.{Spot, fault_at}
-use Rattle.ds_base.specs.Reading.{◌>>=◌, refuse_if, or_fault, bytes_at, number_at, text_at, sleb_at, text_of}
+use Rattle.ds_base.specs.Reading.{◌>>=◌, refuse_if, or_fault, bytes_at, number_at, placed_text_at, text_at, sleb_at, text_of}
 use Rattle.ds_base.proofs.Passing.{bind_ok, passed, ok_is}
 use Rattle.dwarf_types.specs.declared.abbrev.Abbrev.{Abbrev}
 use Rattle.dwarf_types.specs.declared.abbrev.Field.{Field}
@@ -19,7 +19,7 @@ use Rattle.dwarf_types.specs.declared.value.Value.TheVariants as values
 use Rattle.form_value.specs.declared.form.FormClass.{FormClass}
 use Rattle.form_value.specs.declared.form.FormClass.TheVariants.{Address, Text, StrText, LineStrText, Number, Signed, Present, Implicit, Wide, Block, Offset, Outside}
 use Rattle.form_value.specs.Forms.{form_row}
-use Rattle.form_value.specs.Reading.{block_at, class_at, coded_at, fixed_address, in_64_bits, made, placed_text_at, value_at}
+use Rattle.form_value.specs.Reading.{block_at, class_at, coded_at, fixed_address, in_64_bits, made, value_at}
 use Rattle.index_tables.specs.declared.bases.Bases.{Bases}
 use Rattle.index_tables.specs.Tables.{text_place, address_place, list_place}
 use Rattle.unit_tree.specs.declared.attribute.UnitContext.{UnitContext}

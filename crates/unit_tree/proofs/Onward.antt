@@ -5,7 +5,7 @@ use Rattle.std.specs.Option.{option_to_list}
 use Rattle.ds_base.specs.declared.fault.Fault.{Fault}
 use Rattle.ds_base.specs.declared.fault.Kind.TheVariants as kinds
 use Rattle.ds_base.specs.Spot.{Spot, IsSmall, fault_at}
-use Rattle.ds_base.specs.Reading.{◌>>=◌, refuse_if, or_fault, bytes_at, number_at, text_at, uleb_at, sleb_at, Moves, text_of}
+use Rattle.ds_base.specs.Reading.{◌>>=◌, refuse_if, or_fault, bytes_at, number_at, placed_text_at, text_at, uleb_at, sleb_at, Moves, text_of}
 use Rattle.ds_base.proofs.Passing.{bind_ok, passed, ok_is}
 use Rattle.ds_base.proofs.Onward.{Onward, stays, onward_then, small_kept, number_onward, bytes_onward, text_onward, uleb_onward, sleb_onward}
 use Rattle.dwarf_types.specs.declared.abbrev.Field.{Field}
@@ -18,7 +18,7 @@ use Rattle.form_value.specs.declared.form.Coding.TheVariants.{One, Two, Three, F
 use Rattle.form_value.specs.declared.form.FormClass.{FormClass}
 use Rattle.form_value.specs.declared.form.FormClass.TheVariants.{Address, Text, StrText, LineStrText, Number, Signed, Present, Implicit, Wide, Block, Offset, Outside}
 use Rattle.form_value.specs.Forms.{form_row}
-use Rattle.form_value.specs.Reading.{coded_at, block_at, placed_text_at, made, fixed_address, in_64_bits, class_at, value_at}
+use Rattle.form_value.specs.Reading.{coded_at, block_at, made, fixed_address, in_64_bits, class_at, value_at}
 use Rattle.unit_tree.specs.declared.attribute.UnitContext.{UnitContext}
 use Rattle.unit_tree.specs.declared.reference.Reference.{Reference}
 use Rattle.unit_tree.specs.Attribute.{Described, value_meant_at, attr_at, attrs_at}
