@@ -12,7 +12,7 @@ use Rattle.ds_base.specs.Reading.{◌>>=◌, or_fault, text_of}
 use Rattle.dwarf_types.specs.declared.abbrev.Field.{Field}
 use Rattle.dwarf_types.specs.declared.entry.RawAttr.{RawAttr}
 use Rattle.dwarf_types.specs.declared.entry.RawEntry.{RawEntry}
-use Rattle.dwarf_types.specs.SectionBytes.{SectionBytes}
+use Rattle.dwarf_types.specs.SectionBytes.{SectionBytes, location_bytes, range_bytes}
 use Rattle.dwarf_types.specs.declared.value.Value.{Value}
 use Rattle.dwarf_types.specs.declared.value.Value.TheVariants as values
 use Rattle.ds_base.proofs.Passing.{bind_ok, passed, ok_is, found_ok}
@@ -29,7 +29,7 @@ use Rattle.unit_tree.specs.declared.attribute.UnitContext.{UnitContext}
 use Rattle.unit_tree.specs.declared.meaning.Meaning.{Meaning}
 use Rattle.unit_tree.specs.declared.meaning.Meaning.TheVariants.{InUnit, InObject, LineTable, RangeList, LocationList, TextIndex, AddressIndex, RangeListIndex, LocationListIndex, Other}
 use Rattle.unit_tree.specs.declared.reference.Reference.{Reference}
-use Rattle.unit_tree.specs.Attribute.{led_to, names_lines, offset_in, reference_to, ranges_of, locations_of, text_named, address_named, list_named, meant_at, value_meant_at, attr_at, Described, attrs_at}
+use Rattle.unit_tree.specs.Attribute.{led_to, names_lines, offset_in, reference_to, text_named, address_named, list_named, meant_at, value_meant_at, attr_at, Described, attrs_at}
 use Rattle.unit_tree.specs.Meaning.{meaning_of}
 use Rattle.unit_tree.specs.Reference.{leads}
 use Rattle.unit_tree.specs.Spelling.{Origin, NamesText, NamesAddress, NamesList, Names, Means, IsMeant, SpellsAttr, SpellsAttrs, ValueLeads, AttrsLead, begins_at}
@@ -211,10 +211,10 @@ meant_taken all low sections context lines LineTable n s y e h =
     let o = lines_below lines sections.line n s y e in
     record { means = (o.0, value_is (values.Offset n) y o.1); leads_on = tt }
 meant_taken all low sections context lines RangeList n s y e h =
-    let o = offset_below (ranges_of context.version sections) n s y e in
+    let o = offset_below (range_bytes sections context.version) n s y e in
     record { means = (o.0, value_is (values.Offset n) y o.1); leads_on = tt }
 meant_taken all low sections context lines LocationList n s y e h =
-    let o = offset_below (locations_of context.version sections) n s y e in
+    let o = offset_below (location_bytes sections context.version) n s y e in
     record { means = (o.0, value_is (values.Offset n) y o.1); leads_on = tt }
 meant_taken all low sections context lines TextIndex n s y e h = record { means = text_taken sections context.bases n s y e; leads_on = tt }
 meant_taken all low sections context lines AddressIndex n s y e h = record { means = address_taken sections context.bases n s y e; leads_on = tt }
@@ -232,8 +232,8 @@ meant_goes all low sections context lines InObject n value s means h =
     let r = leads_as all n None value s low means (subst (ValueLeads all context.unit InObject) means h) in
     record { reference = r.0; reads = ap Ok r.1; lead = r.2 }
 meant_goes all low sections context lines LineTable n value s means h = record { reference = None; reads = lines_go lines sections.line n s means.0 ∙ ap (λ (v : Value). Ok (v, None)) (sym means.1); lead = refl }
-meant_goes all low sections context lines RangeList n value s means h = record { reference = None; reads = offset_goes (ranges_of context.version sections) n s means.0 ∙ ap (λ (v : Value). Ok (v, None)) (sym means.1); lead = refl }
-meant_goes all low sections context lines LocationList n value s means h = record { reference = None; reads = offset_goes (locations_of context.version sections) n s means.0 ∙ ap (λ (v : Value). Ok (v, None)) (sym means.1); lead = refl }
+meant_goes all low sections context lines RangeList n value s means h = record { reference = None; reads = offset_goes (range_bytes sections context.version) n s means.0 ∙ ap (λ (v : Value). Ok (v, None)) (sym means.1); lead = refl }
+meant_goes all low sections context lines LocationList n value s means h = record { reference = None; reads = offset_goes (location_bytes sections context.version) n s means.0 ∙ ap (λ (v : Value). Ok (v, None)) (sym means.1); lead = refl }
 meant_goes all low sections context lines TextIndex n value s means h = record { reference = None; reads = text_goes sections context.bases n value s means; lead = refl }
 meant_goes all low sections context lines AddressIndex n value s means h = record { reference = None; reads = address_goes sections context.bases n value s means; lead = refl }
 meant_goes all low sections context lines RangeListIndex n value s means h = record { reference = None; reads = list_goes sections.rnglists (λ bases. bases.ranges) context.bases n value s means; lead = refl }

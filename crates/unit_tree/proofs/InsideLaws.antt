@@ -13,7 +13,7 @@ use Rattle.dwarf_types.specs.declared.entry.InUnit.{InUnit as AUnit}
 use Rattle.dwarf_types.specs.declared.entry.RawUnits.{RawUnits}
 use Rattle.dwarf_types.specs.declared.value.Value.{Value}
 use Rattle.dwarf_types.specs.declared.value.Value.TheVariants as values
-use Rattle.dwarf_types.specs.SectionBytes.{SectionBytes}
+use Rattle.dwarf_types.specs.SectionBytes.{SectionBytes, location_bytes, range_bytes}
 use Rattle.dwarf_types.specs.Spelled.{AreBytes}
 use Rattle.form_value.specs.declared.form.FormClass.{FormClass}
 use Rattle.form_value.specs.declared.form.FormClass.TheVariants as classes
@@ -28,7 +28,7 @@ use Rattle.unit_tree.specs.Entry.{Parsed}
 use Rattle.ds_base.specs.declared.dwarf.TheConstants.{DWARF_4, DWARF_5}
 use Rattle.unit_tree.specs.declared.meaning.Meaning.{Meaning}
 use Rattle.unit_tree.specs.declared.meaning.Meaning.TheVariants.{InUnit, InObject, LineTable, RangeList, LocationList, TextIndex, AddressIndex, RangeListIndex, LocationListIndex, Other}
-use Rattle.unit_tree.specs.Attribute.{has_attr, locations_of, names_lines, ranges_of}
+use Rattle.unit_tree.specs.Attribute.{has_attr, names_lines}
 use Rattle.unit_tree.specs.Inside.{AreInside, IsListInside, IsOffsetInside, IsRootInside, IsValueInside, LiesInside}
 use Rattle.unit_tree.specs.Meaning.{index_of, is_address_index, meaning_of, table_of}
 use Rattle.unit_tree.specs.Spelling.{AreSoundUnits, AttrsLead, Forest, IsMeant, Means, Names, NamesAddress, NamesList, NamesText, Node, NodeLeads, Origin, SpellsAttr, SpellsAttrs, SpellsBelow, SpellsFields, SpellsNode, SpellsTrees, SpellsUnit, SpellsUnits, TreesLead, UnitTree, ValueLeads, begins_at, entries_of, entry_of, in_unit, in_units, no_more, origin_in, preorder, raw_units, size, tree, unit_entries}
@@ -292,12 +292,12 @@ module _ (sections : SectionBytes) (all : List RawEntry) (unit : ℕ) (o : Origi
   meant_inside a since RangeListIndex n value has known old means leads told =
       let w = subst (λ (b : Option Bases). Names (λ bases v. NamesList sections.rnglists bases.ranges n v) b n value) has means in
       let five = five_is o.version since known old told.2 in
-      let there : w.place < length (ranges_of o.version sections) = subst (λ (v : ℕ). w.place < length (ranges_of v sections)) (sym five) w.inside in
+      let there : w.place < length (range_bytes sections o.version) = subst (λ (v : ℕ). w.place < length (range_bytes sections v)) (sym five) w.inside in
       offset_inside a w.place value w.is told.0 (subst (λ (m : Meaning). IsListInside sections o.version m w.place) (sym told.1) there)
   meant_inside a since LocationListIndex n value has known old means leads told =
       let w = subst (λ (b : Option Bases). Names (λ bases v. NamesList sections.loclists bases.locations n v) b n value) has means in
       let five = five_is o.version since known old told.2 in
-      let there : w.place < length (locations_of o.version sections) = subst (λ (v : ℕ). w.place < length (locations_of v sections)) (sym five) w.inside in
+      let there : w.place < length (location_bytes sections o.version) = subst (λ (v : ℕ). w.place < length (location_bytes sections v)) (sym five) w.inside in
       offset_inside a w.place value w.is told.0 (subst (λ (m : Meaning). IsListInside sections o.version m w.place) (sym told.1) there)
   meant_inside a since Other n value has known old means leads told = offset_inside a n value means told.0 (listless (table_of a.name) n told.1)
 

@@ -13,7 +13,7 @@ use Rattle.dwarf_types.specs.declared.abbrev.Field.{Field}
 use Rattle.dwarf_types.specs.declared.entry.InUnit.{InUnit as AUnit}
 use Rattle.dwarf_types.specs.declared.entry.RawAttr.{RawAttr}
 use Rattle.dwarf_types.specs.declared.entry.RawEntry.{RawEntry}
-use Rattle.dwarf_types.specs.SectionBytes.{SectionBytes}
+use Rattle.dwarf_types.specs.SectionBytes.{SectionBytes, location_bytes, range_bytes}
 use Rattle.dwarf_types.specs.declared.value.Value.{Value}
 use Rattle.dwarf_types.specs.declared.value.Value.TheVariants as values
 use Rattle.form_value.specs.declared.form.FormClass.{FormClass}
@@ -26,7 +26,7 @@ use Rattle.unit_tree.specs.declared.attribute.UnitContext.{UnitContext}
 use Rattle.unit_tree.specs.declared.meaning.Meaning.{Meaning}
 use Rattle.unit_tree.specs.declared.meaning.Meaning.TheVariants.{InUnit, InObject, LineTable, RangeList, LocationList, TextIndex, AddressIndex, RangeListIndex, LocationListIndex, Other}
 use Rattle.unit_tree.specs.declared.reference.Reference.{Reference}
-use Rattle.unit_tree.specs.Attribute.{Described, address_named, attr_at, attrs_at, list_named, locations_of, meant_at, names_lines, number_in, offset_in, ranges_of, text_named, value_meant_at}
+use Rattle.unit_tree.specs.Attribute.{Described, address_named, attr_at, attrs_at, list_named, meant_at, names_lines, number_in, offset_in, text_named, value_meant_at}
 use Rattle.unit_tree.specs.Entry.{Parsed, Walk, child_at, children_at, entry_at, innermost, root_at, tree_at}
 use Rattle.unit_tree.specs.Meaning.{meaning_of}
 use Rattle.unit_tree.specs.Targets.{target_in, targets_in, targets_of}
@@ -118,8 +118,8 @@ unfolding meant_at
 meant_noted sections context lines InUnit n s y e = is_noted _ y e refl
 meant_noted sections context lines InObject n s y e = is_noted _ y e refl
 meant_noted sections context lines LineTable n s y e = line_noted lines sections.line n s y e
-meant_noted sections context lines RangeList n s y e = offset_noted (ranges_of context.version sections) n s y e
-meant_noted sections context lines LocationList n s y e = offset_noted (locations_of context.version sections) n s y e
+meant_noted sections context lines RangeList n s y e = offset_noted (range_bytes sections context.version) n s y e
+meant_noted sections context lines LocationList n s y e = offset_noted (location_bytes sections context.version) n s y e
 meant_noted sections context lines TextIndex n s y e = text_noted sections context.bases n s y e
 meant_noted sections context lines AddressIndex n s y e = address_noted sections context.bases n s y e
 meant_noted sections context lines RangeListIndex n s y e = list_noted sections.rnglists (option_map (λ bases. bases.ranges) context.bases) n s y e

@@ -18,7 +18,7 @@ use Rattle.dwarf_types.specs.declared.entry.RawAttr.{RawAttr}
 use Rattle.dwarf_types.specs.declared.entry.RawEntry.{RawEntry}
 use Rattle.dwarf_types.specs.declared.entry.InUnit.{InUnit as AUnit}
 use Rattle.dwarf_types.specs.declared.value.Value.{Value}
-use Rattle.dwarf_types.specs.SectionBytes.{SectionBytes}
+use Rattle.dwarf_types.specs.SectionBytes.{SectionBytes, location_bytes, range_bytes}
 use Rattle.abbrev_read.specs.Reading.{table_at}
 use Rattle.ds_base.proofs.FaultKinds.{FaultsAre, ok_kinds, err_kinds, bind_kinds, refuse_kinds, either_kinds, found_kinds, bytes_kinds, number_kinds, uleb_kinds}
 use Rattle.abbrev_read.proofs.Refused.{IsOne as IsTableKind, table_faults_kinds as table_faults}
@@ -31,7 +31,7 @@ use Rattle.ds_base.specs.declared.dwarf.TheConstants.{DWARF_4, DWARF_5, ADDRESS_
 use Rattle.unit_tree.specs.declared.meaning.Meaning.{Meaning}
 use Rattle.unit_tree.specs.declared.meaning.Meaning.TheVariants.{InUnit, InObject, LineTable, RangeList, LocationList, TextIndex, AddressIndex, RangeListIndex, LocationListIndex, Other}
 use Rattle.unit_tree.specs.declared.reference.Reference.{Reference}
-use Rattle.unit_tree.specs.Attribute.{Described, address_named, attr_at, attrs_at, list_named, locations_of, meant_at, names_lines, number_in, offset_in, ranges_of, text_named, value_meant_at}
+use Rattle.unit_tree.specs.Attribute.{Described, address_named, attr_at, attrs_at, list_named, meant_at, names_lines, number_in, offset_in, text_named, value_meant_at}
 use Rattle.unit_tree.specs.Entry.{Parsed, Walk, bases_at, child_at, children_at, closed, declared_as, entry_at, first_at, innermost, is_full, is_split, listed_at, opened, root_at, tree_at}
 use Rattle.unit_tree.specs.Header.{behind_length, fields_4_at, fields_5_at, fields_at, header_at, info_at, is_bad_length}
 use Rattle.unit_tree.specs.Meaning.{meaning_of}
@@ -128,8 +128,8 @@ unfolding meant_at
 meant_kinds sections context lines InUnit n s = ok_kinds IsOne _
 meant_kinds sections context lines InObject n s = ok_kinds IsOne _
 meant_kinds sections context lines LineTable n s = either_kinds IsOne lines (offset_in sections.line n s) (Ok _) (offset_kinds sections.line n s) (ok_kinds IsOne _)
-meant_kinds sections context lines RangeList n s = offset_kinds (ranges_of context.version sections) n s
-meant_kinds sections context lines LocationList n s = offset_kinds (locations_of context.version sections) n s
+meant_kinds sections context lines RangeList n s = offset_kinds (range_bytes sections context.version) n s
+meant_kinds sections context lines LocationList n s = offset_kinds (location_bytes sections context.version) n s
 meant_kinds sections context lines TextIndex n s = text_kinds sections context.bases n s
 meant_kinds sections context lines AddressIndex n s = address_kinds sections context.bases n s
 meant_kinds sections context lines RangeListIndex n s = list_kinds sections.rnglists (option_map (λ bases. bases.ranges) context.bases) n s

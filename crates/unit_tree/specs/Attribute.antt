@@ -9,13 +9,12 @@ use Rattle.ds_base.specs.Spot.{Spot, fault_at}
 use Rattle.ds_base.specs.Reading.{◌>>=◌, refuse_if, or_fault, text_of}
 use Rattle.dwarf_types.specs.declared.abbrev.Field.{Field}
 use Rattle.dwarf_types.specs.declared.entry.RawAttr.{RawAttr}
-use Rattle.dwarf_types.specs.SectionBytes.{SectionBytes}
+use Rattle.dwarf_types.specs.SectionBytes.{SectionBytes, location_bytes, range_bytes}
 use Rattle.dwarf_types.specs.declared.value.Value.{Value}
 use Rattle.dwarf_types.specs.declared.value.Value.TheVariants as values
 use Rattle.form_value.specs.Reading.{value_at}
 use Rattle.index_tables.specs.declared.bases.Bases.{Bases}
 use Rattle.index_tables.specs.Tables.{text_place, address_place, list_place}
-use Rattle.ds_base.specs.declared.dwarf.TheConstants.{DWARF_5}
 use Rattle.unit_tree.specs.declared.attribute.UnitContext.{UnitContext}
 use Rattle.unit_tree.specs.declared.meaning.Meaning.{Meaning}
 use Rattle.unit_tree.specs.declared.meaning.Meaning.TheVariants.{InUnit, InObject, LineTable, RangeList, LocationList, TextIndex, AddressIndex, RangeListIndex, LocationListIndex, Other}
@@ -46,13 +45,6 @@ offset_in section n s = refuse_if (not (nat_lt n (length section))) (fault_at s 
 abbrev pub reference_to : ℕ → Option ℕ → Spot → Value × Option Reference
 reference_to place unit s = (values.Ref (led_to place), Some (record { place = s.place; target = led_to place; unit = unit }))
 
--- the sections of the lists of a version (DWARF 4, sections 2.17.3 and 2.6.2; DWARF 5, sections 2.17.3 and 2.6.2)
-abbrev pub ranges_of : ℕ → SectionBytes → List ℕ
-ranges_of version sections = if version == DWARF_5 then sections.rnglists else sections.ranges
-
-abbrev pub locations_of : ℕ → SectionBytes → List ℕ
-locations_of version sections = if version == DWARF_5 then sections.loclists else sections.loc
-
 -- What an index means, which stands here, by the bases of the unit (DWARF 5, sections 7.26 to 7.29). Where these are not known yet no index is tried.
 
 -- a text of __debug_str
@@ -82,8 +74,8 @@ unfoldable pub meant_at : SectionBytes → UnitContext → Bool → Meaning → 
 meant_at sections context lines InUnit n s = Ok (reference_to (context.place + n) (Some context.unit) s)
 meant_at sections context lines InObject n s = Ok (reference_to n None s)
 meant_at sections context lines LineTable n s = if lines then offset_in sections.line n s else Ok (values.Offset n, None)
-meant_at sections context lines RangeList n s = offset_in (ranges_of context.version sections) n s
-meant_at sections context lines LocationList n s = offset_in (locations_of context.version sections) n s
+meant_at sections context lines RangeList n s = offset_in (range_bytes sections context.version) n s
+meant_at sections context lines LocationList n s = offset_in (location_bytes sections context.version) n s
 meant_at sections context lines TextIndex n s = text_named sections context.bases n s
 meant_at sections context lines AddressIndex n s = address_named sections context.bases n s
 meant_at sections context lines RangeListIndex n s = list_named sections.rnglists (option_map (λ bases. bases.ranges) context.bases) n s

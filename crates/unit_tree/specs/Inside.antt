@@ -9,20 +9,19 @@ use Rattle.dwarf_types.specs.declared.entry.RawEntry.{RawEntry}
 use Rattle.dwarf_types.specs.declared.entry.RawUnits.{RawUnits}
 use Rattle.dwarf_types.specs.declared.value.Value.{Value}
 use Rattle.dwarf_types.specs.declared.value.Value.TheVariants as values
-use Rattle.dwarf_types.specs.SectionBytes.{SectionBytes}
+use Rattle.dwarf_types.specs.SectionBytes.{SectionBytes, location_bytes, range_bytes}
 use Rattle.index_tables.specs.declared.bases.Bases.{Bases}
 use Rattle.index_tables.specs.Bases.{bases_in}
 use Rattle.index_tables.specs.Tables.{address_place}
 use Rattle.unit_tree.specs.declared.meaning.Meaning.{Meaning}
 use Rattle.unit_tree.specs.declared.meaning.Meaning.TheVariants.{RangeList, LocationList}
-use Rattle.unit_tree.specs.Attribute.{ranges_of, locations_of}
 use Rattle.unit_tree.specs.Meaning.{is_address_index, table_of}
 use Rattle.unit_tree.specs.Spelling.{begins_at}
 
 -- an offset to a list, by what its attribute names, in a unit of a version
 abbrev pub IsListInside : SectionBytes → ℕ → Meaning → ℕ → Type 0
-IsListInside sections version RangeList n = n < length (ranges_of version sections)
-IsListInside sections version LocationList n = n < length (locations_of version sections)
+IsListInside sections version RangeList n = n < length (range_bytes sections version)
+IsListInside sections version LocationList n = n < length (location_bytes sections version)
 IsListInside sections version _ n = Unit {0}
 
 -- an index of an address, or an offset

@@ -9,7 +9,7 @@ use Rattle.dwarf_types.specs.declared.entry.RawAttr.{RawAttr}
 use Rattle.dwarf_types.specs.declared.entry.RawEntry.{RawEntry}
 use Rattle.dwarf_types.specs.declared.entry.InUnit.{InUnit}
 use Rattle.dwarf_types.specs.declared.entry.RawUnits.{RawUnits}
-use Rattle.dwarf_types.specs.SectionBytes.{SectionBytes}
+use Rattle.dwarf_types.specs.SectionBytes.{SectionBytes, location_bytes, range_bytes}
 use Rattle.dwarf_types.specs.declared.value.Value.{Value}
 use Rattle.dwarf_types.specs.declared.value.Value.TheVariants as values
 use Rattle.dwarf_types.specs.Spelled.{InTurn, IsUleb, IsNumber}
@@ -23,7 +23,7 @@ use Rattle.ds_base.specs.declared.dwarf.TheConstants.{DWARF_4, DWARF_5, ADDRESS_
 use Rattle.ds_base.specs.Reading.{text_of}
 use Rattle.unit_tree.specs.declared.meaning.Meaning.{Meaning}
 use Rattle.unit_tree.specs.declared.meaning.Meaning.TheVariants.{InUnit as InTheUnit, InObject, LineTable, RangeList, LocationList, TextIndex, AddressIndex, RangeListIndex, LocationListIndex, Other}
-use Rattle.unit_tree.specs.Attribute.{names_lines, ranges_of, locations_of}
+use Rattle.unit_tree.specs.Attribute.{names_lines}
 use Rattle.unit_tree.specs.Entry.{is_split}
 use Rattle.unit_tree.specs.Entry.{declared_as}
 use Rattle.unit_tree.specs.Meaning.{meaning_of}
@@ -136,8 +136,8 @@ abbrev pub Means : SectionBytes → Origin → Bool → Meaning → ℕ → Valu
 Means sections o lines InTheUnit n value = value ≡ values.Ref (o.place + n)
 Means sections o lines InObject n value = value ≡ values.Ref n
 Means sections o lines LineTable n value = (lines ≡ true → n < length sections.line) × (value ≡ values.Offset n)
-Means sections o lines RangeList n value = IsBelow (ranges_of o.version sections) n value
-Means sections o lines LocationList n value = IsBelow (locations_of o.version sections) n value
+Means sections o lines RangeList n value = IsBelow (range_bytes sections o.version) n value
+Means sections o lines LocationList n value = IsBelow (location_bytes sections o.version) n value
 Means sections o lines TextIndex n value = Names (λ bases v. NamesText sections bases n v) o.bases n value
 Means sections o lines AddressIndex n value = Names (λ bases v. NamesAddress sections bases n v) o.bases n value
 Means sections o lines RangeListIndex n value = Names (λ bases v. NamesList sections.rnglists bases.ranges n v) o.bases n value

@@ -11,12 +11,12 @@ ghost use Rattle.dwarf_types.specs.declared.value.Value.TheVariants.{Ref};
 ghost use Rattle.unit_tree.specs.declared.packed.TheConstants.{ANY_UNIT};
 ghost use Rattle.unit_tree.specs.Bounds.{IsOf};
 ghost use Rattle.unit_tree.specs.Meaning.{meaning_of};
-ghost use Rattle.unit_tree.specs.Attribute.{number_in, names_lines, offset_in, reference_to, ranges_of, locations_of, text_named, address_named, list_named, meant_at, value_meant_at, attr_at, attrs_at};
+ghost use Rattle.unit_tree.specs.Attribute.{number_in, names_lines, offset_in, reference_to, text_named, address_named, list_named, meant_at, value_meant_at, attr_at, attrs_at};
 
 use crate::meaning::{Meaning, meaning_of_value};
 use crate::packed::PackedReference;
 use crate::reference::Reference;
-use ds_base::dwarf::{DW_AT_stmt_list, DWARF_5};
+use ds_base::dwarf::DW_AT_stmt_list;
 use ds_base::{Cursor, Fault, Kind, List, NoMemory, ReadError, text_in};
 use dwarf_types::{Builder, Field, RawValue, Sections};
 use form_value::read_value;
@@ -166,8 +166,8 @@ fn value_of_number<'a>(
             return Ok((RawValue::Ref(reference.target), Some(reference)));
         }
         Meaning::LineTable if lines => try_offset(first, sections.line, n)?,
-        Meaning::RangeList => try_offset(first, range_lists(sections, context.version), n)?,
-        Meaning::LocationList => try_offset(first, location_lists(sections, context.version), n)?,
+        Meaning::RangeList => try_offset(first, sections.range_lists(context.version), n)?,
+        Meaning::LocationList => try_offset(first, sections.location_lists(context.version), n)?,
         Meaning::TextIndex => return find_text(first, sections, context.bases, field, n),
         Meaning::AddressIndex => return find_address(first, sections, context.bases, field, n),
         Meaning::RangeListIndex => {
@@ -181,28 +181,6 @@ fn value_of_number<'a>(
         _ => {}
     }
     Ok((RawValue::Offset(n), None))
-}
-
-/// The section of the range lists of a version.
-fn range_lists<'a>(sections: &Sections<'a>, version: u16) -> &'a [u8]
-    ensures { result.now ≡ ranges_of version (bytes_in sections.now) }
-{
-    if version == DWARF_5 {
-        sections.rnglists
-    } else {
-        sections.ranges
-    }
-}
-
-/// The section of the location lists of a version.
-fn location_lists<'a>(sections: &Sections<'a>, version: u16) -> &'a [u8]
-    ensures { result.now ≡ locations_of version (bytes_in sections.now) }
-{
-    if version == DWARF_5 {
-        sections.loclists
-    } else {
-        sections.loc
-    }
 }
 
 /// The text at an index, which stands at the cursor.
