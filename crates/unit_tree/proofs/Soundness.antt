@@ -45,6 +45,47 @@ module _ {A : Type 0} where
   front_at (suc n) (y ∷ xs) zero x e = e
   front_at (suc n) (y ∷ xs) (suc i) x e = front_at n xs i x e
 
+-- ---- each step puts entries behind those before
+
+entry_longer : (sections : SectionBytes) (context : UnitContext) (parent : Option ℕ) (place : ℕ) (declared : Abbrev) (before : Parsed) (s : Spot) (y : Parsed × Spot) → entry_at sections context parent place declared before s ≡ Ok y
+    → length y.0.entries ≡ length before.entries + 1
+entry_longer sections context parent place declared before s y e =
+    let w = entry_steps sections context parent place declared before s y e in
+    subst (λ (p : Parsed × Spot). length p.0.entries ≡ length before.entries + 1) w.is (length-append before.entries _)
+
+child_longer : (sections : SectionBytes) (context : UnitContext) (table : List Abbrev) (walk : Walk) (s : Spot) (y : Walk × Spot) → child_at sections context table walk s ≡ Ok y → length walk.0.entries ≤ length y.0.0.entries
+child_longer sections context table walk s y e =
+    elim (child_steps sections context table walk s y e) [
+      | inl w ↦ subst (λ (p : Walk × Spot). length walk.0.entries ≤ length p.0.0.entries) w.is (omega arith)
+      | inr w ↦
+          let l = listed_steps sections context w.declared walk s w.code.1 y w.listed in
+          let n = entry_longer sections context (innermost walk.1) s.place w.declared walk.0 w.code.1 l.read l.entry in
+          subst (λ (p : Walk × Spot). length walk.0.entries ≤ length p.0.0.entries) l.is (omega (arith, n))
+    ]
+
+children_longer : (sections : SectionBytes) (context : UnitContext) (table : List Abbrev) (left : ℕ) (walk : Walk) (s : Spot) (y : Parsed × Spot) → children_at sections context table left walk s ≡ Ok y → length walk.0.entries ≤ length y.0.entries
+children_longer sections context table zero walk s y e =
+    let w = children_end sections context table walk s y e in
+    subst (λ (p : Parsed × Spot). length walk.0.entries ≤ length p.0.entries) w.1 (omega arith)
+children_longer sections context table (suc left) walk s y e =
+    elim (children_steps sections context table left walk s y e) [
+      | inl w ↦ subst (λ (p : Parsed × Spot). length walk.0.entries ≤ length p.0.entries) w.1 (omega arith)
+      | inr w ↦
+          let n = child_longer sections context table walk s w.read w.child in
+          let m = children_longer sections context table left w.read.0 w.read.1 y w.others in
+          omega (arith, n, m)
+    ]
+
+-- a unit has its root at least
+pub tree_longer : (start : Spot) (sections : SectionBytes) (context : UnitContext) (table : List Abbrev) (before : Parsed) (s : Spot) (y : Parsed × Spot) → tree_at start sections context table before s ≡ Ok y → length before.entries < length y.0.entries
+tree_longer start sections context table before s y e =
+    let w = tree_steps start sections context table before s y e in
+    let r = root_steps start sections context table before s w.root w.first in
+    let n = entry_longer sections context None s.place r.declared before r.code.1 r.read r.entry in
+    let root = subst (λ (p : (Bool × Parsed) × Spot). length before.entries < length p.0.1.entries) r.is (omega (arith, n)) in
+    let m = children_longer sections context table _ _ w.root.1 y w.others in
+    omega (arith, root, m)
+
 -- ---- the entries of a unit that is read
 
 -- the root, or an entry whose parent is one of the unit
@@ -81,11 +122,10 @@ pushed_grows units first entries e h room unit parent =
     }
 
 entry_grows : (sections : SectionBytes) (context : UnitContext) (parent : Option ℕ) (place : ℕ) (declared : Abbrev) (before : Parsed) (s : Spot) (y : Parsed × Spot) (units : List InUnit) (first : ℕ) → entry_at sections context parent place declared before s ≡ Ok y
-    → context.unit ≡ length units → length before.entries < 2 ^ 24 → Grows units first before.entries → ParentFrom first (length before.entries) parent → Grows units first y.0.entries × (length y.0.entries ≡ length before.entries + 1)
+    → context.unit ≡ length units → length before.entries < 2 ^ 24 → Grows units first before.entries → ParentFrom first (length before.entries) parent → Grows units first y.0.entries
 entry_grows sections context parent place declared before s y units first e is room h from =
     let w = entry_steps sections context parent place declared before s y e in
-    subst (λ (p : Parsed × Spot). Grows units first p.0.entries × (length p.0.entries ≡ length before.entries + 1)) w.is
-    (pushed_grows units first before.entries _ h room is from, length-append before.entries _)
+    subst (λ (p : Parsed × Spot). Grows units first p.0.entries) w.is (pushed_grows units first before.entries _ h room is from)
 
 inner_some : (lists : List ℕ) → (length lists == 0) ≡ false → (p : ℕ) × (innermost lists ≡ Some p)
 inner_some [] e = absurd cc
@@ -115,40 +155,24 @@ child_walks sections context table walk s y units first e is some h =
           let within = h.open_lists (length walk.1 - 1) p.0 p.1 in
           let parent : ParentFrom first (length walk.0.entries) (innermost walk.1) = subst (ParentFrom first (length walk.0.entries)) (sym p.1) within in
           let g = entry_grows sections context (innermost walk.1) s.place w.declared walk.0 w.code.1 l.read units first l.entry is (has_room walk.0 l.room) h.grows parent in
+          let n = entry_longer sections context (innermost walk.1) s.place w.declared walk.0 w.code.1 l.read l.entry in
           let behind = h.grows in
           subst (λ (q : Walk × Spot). Walks units first q.0) l.is (record {
-            grows = g.0;
-            open_lists = opened_open w.declared.children first (length walk.0.entries) (length l.read.0.entries) walk.1 behind.behind (omega (arith, g.1)) h.open_lists;
+            grows = g;
+            open_lists = opened_open w.declared.children first (length walk.0.entries) (length l.read.0.entries) walk.1 behind.behind (omega (arith, n)) h.open_lists;
           })
     ]
 
 children_grow : (sections : SectionBytes) (context : UnitContext) (table : List Abbrev) (left : ℕ) (walk : Walk) (s : Spot) (y : Parsed × Spot) (units : List InUnit) (first : ℕ) → children_at sections context table left walk s ≡ Ok y → context.unit ≡ length units
-    → Walks units first walk → Grows units first y.0.entries × (length walk.0.entries ≤ length y.0.entries)
+    → Walks units first walk → Grows units first y.0.entries
 children_grow sections context table zero walk s y units first e is h =
     let w = children_end sections context table walk s y e in
-    subst (λ (p : Parsed × Spot). Grows units first p.0.entries × (length walk.0.entries ≤ length p.0.entries)) w.1 (h.grows, omega arith)
+    subst (λ (p : Parsed × Spot). Grows units first p.0.entries) w.1 h.grows
 children_grow sections context table (suc left) walk s y units first e is h =
     elim (children_steps sections context table left walk s y e) [
-      | inl w ↦ subst (λ (p : Parsed × Spot). Grows units first p.0.entries × (length walk.0.entries ≤ length p.0.entries)) w.1 (h.grows, omega arith)
-      | inr w ↦
-          let longer = child_longer sections context table walk s w.read w.child in
-          let r = children_grow sections context table left w.read.0 w.read.1 y units first w.others is (child_walks sections context table walk s w.read units first w.child is w.still_open h) in
-          (r.0, omega (arith, r.1, longer))
+      | inl w ↦ subst (λ (p : Parsed × Spot). Grows units first p.0.entries) w.1 h.grows
+      | inr w ↦ children_grow sections context table left w.read.0 w.read.1 y units first w.others is (child_walks sections context table walk s w.read units first w.child is w.still_open h)
     ]
-  where
-    entry_longer : (sections : SectionBytes) (context : UnitContext) (parent : Option ℕ) (place : ℕ) (declared : Abbrev) (before : Parsed) (s : Spot) (y : Parsed × Spot) → entry_at sections context parent place declared before s ≡ Ok y → length before.entries ≤ length y.0.entries
-    entry_longer sections context parent place declared before s y e =
-        let w = entry_steps sections context parent place declared before s y e in
-        subst (λ (p : Parsed × Spot). length before.entries ≤ length p.0.entries) w.is (let n = length-append before.entries (record { parent = parent; unit = context.unit; place = place; tag = declared.tag; attrs = w.read.0.0 } ∷ []) in omega (arith, n))
-
-    child_longer : (sections : SectionBytes) (context : UnitContext) (table : List Abbrev) (walk : Walk) (s : Spot) (y : Walk × Spot) → child_at sections context table walk s ≡ Ok y → length walk.0.entries ≤ length y.0.0.entries
-    child_longer sections context table walk s y e =
-        elim (child_steps sections context table walk s y e) [
-          | inl w ↦ subst (λ (p : Walk × Spot). length walk.0.entries ≤ length p.0.0.entries) w.is (omega arith)
-          | inr w ↦
-              let l = listed_steps sections context w.declared walk s w.code.1 y w.listed in
-              subst (λ (p : Walk × Spot). length walk.0.entries ≤ length p.0.0.entries) l.is (entry_longer sections context (innermost walk.1) s.place w.declared walk.0 w.code.1 l.read l.entry)
-        ]
 
 -- ---- units
 
@@ -180,28 +204,27 @@ still_lies : (units : List InUnit) (k : ℕ) (e : RawEntry) (u : InUnit) → Lie
 still_lies units k e u h = record { unit = h.unit; its_unit = kept_at units (u ∷ []) e.unit h.unit h.its_unit; lies = h.lies; parent = h.parent }
 
 tree_grows : (start : Spot) (sections : SectionBytes) (context : UnitContext) (table : List Abbrev) (before : Parsed) (s : Spot) (y : Parsed × Spot) (units : List InUnit) → tree_at start sections context table before s ≡ Ok y → context.unit ≡ length units
-    → Reads units before.entries → Grows units (length before.entries) y.0.entries × (length before.entries < length y.0.entries)
+    → Reads units before.entries → Grows units (length before.entries) y.0.entries
 tree_grows start sections context table before s y units e is h =
     let w = tree_steps start sections context table before s y e in
     let r = root_steps start sections context table before s w.root w.first in
     let g = entry_grows sections context None s.place r.declared before r.code.1 r.read units (length before.entries) r.entry is (has_room before r.room) (record { few = h.few; behind = omega arith; each = λ k d at. inl (h.each k d at) }) refl in
+    let n = entry_longer sections context None s.place r.declared before r.code.1 r.read r.entry in
     let walks : Walks units (length before.entries) (r.read.0, opened r.declared.children (length before.entries) []) =
-    record { grows = g.0; open_lists = opened_open r.declared.children (length before.entries) (length before.entries) (length r.read.0.entries) [] (omega arith) (omega (arith, g.1)) (λ i p at. absurd cc) } in
-    let root : (Bool × Parsed) × Spot → Type 0 = λ p. Walks units (length before.entries) (p.0.1, opened p.0.0 (length before.entries) []) × (length before.entries < length p.0.1.entries) in
-    let ready = subst root r.is (walks, omega (arith, g.1)) in
-    let c = children_grow sections context table _ _ w.root.1 y units (length before.entries) w.others is ready.0 in
-    (c.0, omega (arith, c.1, ready.1))
+    record { grows = g; open_lists = opened_open r.declared.children (length before.entries) (length before.entries) (length r.read.0.entries) [] (omega arith) (omega (arith, n)) (λ i p at. absurd cc) } in
+    let root : (Bool × Parsed) × Spot → Type 0 = λ p. Walks units (length before.entries) (p.0.1, opened p.0.0 (length before.entries) []) in
+    children_grow sections context table _ _ w.root.1 y units (length before.entries) w.others is (subst root r.is walks)
 
 unit_reads : (sections : SectionBytes) (units : List InUnit) (before : Parsed) (place : ℕ) (y : (InUnit × Parsed) × ℕ) → unit_at sections (length units) before place ≡ Ok y → Reads units before.entries → Reads (units ++ y.0.0 ∷ []) y.0.1.entries
 unit_reads sections units before place y e h =
     let w = unit_steps sections (length units) before place y e in
-    let t = tree_grows _ sections _ w.table before w.header.1 w.tree units w.tree_is refl h in
+    let g = tree_grows _ sections _ w.table before w.header.1 w.tree units w.tree_is refl h in
+    let n = tree_longer _ sections _ w.table before w.header.1 w.tree w.tree_is in
     let u : InUnit = unit_from w.header.0.version (length before.entries) w.tree.0.entries in
-    let ends : u.first + u.count ≡ length w.tree.0.entries = omega (arith, t.1) in
-    let g = t.0 in
+    let ends : u.first + u.count ≡ length w.tree.0.entries = omega (arith, n) in
     subst (λ (p : (InUnit × Parsed) × ℕ). Reads (units ++ p.0.0 ∷ []) p.0.1.entries) w.is (record {
       few = g.few;
-      follow = units_pushed 0 units u (length w.tree.0.entries) h.follow (omega (arith, t.1)) ends;
+      follow = units_pushed 0 units u (length w.tree.0.entries) h.follow (omega (arith, n)) ends;
       each = λ k d at. elim (g.each k d at) [
         | inl there ↦ still_lies units k d u there
         | inr own ↦ own_lies units (length before.entries) (length w.tree.0.entries) k d u refl ends (slice_get_within w.tree.0.entries k d at) own

@@ -31,7 +31,7 @@ short_in _ = 0
 abbrev pub language_of : List RawAttr → ℕ
 language_of attrs = option_map_or (λ a. short_in a.value) (find (λ a. a.name == DW_AT_language) attrs) 0
 
--- the unit of a version whose entries are those from a number on
+-- the unit of a version whose entries are those from a number on; its root is the first of them, which is there (`tree_at` reads one at least)
 abbrev pub unit_from : ℕ → ℕ → List RawEntry → InUnit
 unit_from version first entries =
     record { first = first; count = length entries - first; version = version; language = option_map_or (λ e. language_of e.attrs) (slice_get entries first) 0; lines = None }

@@ -191,21 +191,20 @@ fn are_zeros(bytes: &[u8]) -> bool
     bytes.iter().all(|b| *b == 0)
 }
 
-/// The unit of a version whose entries are those from `first` on.
+/// The unit of a version whose entries are those from `first` on: its root, and what follows.
 fn unit_of(version: u16, first: u32, built: &Builder) -> InUnit
-    requires { length built.now.entries ≤ MOST_ENTRIES }
+    requires root { first < length built.now.entries }
+    requires few { length built.now.entries ≤ MOST_ENTRIES }
     ensures { result ≡ unit_from version first built.now.entries }
 {
-    let count = built.len() as u32;
-    let language = match built.get(first as usize) {
-        Some(root) => language_in(&root),
-        None => 0,
+    let Some(root) = built.get(first as usize) else {
+        unreachable!();
     };
     InUnit {
         first,
-        count: count.saturating_sub(first),
+        count: built.len() as u32 - first,
         version,
-        language,
+        language: language_in(&root),
         lines: None,
     }
 }
