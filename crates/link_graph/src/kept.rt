@@ -3,8 +3,9 @@
 ghost use Rattle.std.specs.Prelude.{◌≡◌, ◌≤◌, ◌<◌, ◌^◌, ◌&&◌, ◌||◌, ◌==◌, not, length, IfOk};
 ghost use Rattle.ds_base.specs.declared.dwarf.TheConstants.{DW_TAG_namespace as the_namespace};
 ghost use Rattle.dwarf_types.specs.Kept.{is_plain, kept_of};
+ghost use Rattle.dwarf_types.specs.Tree.{ParentsStandBefore};
 ghost use Rattle.type_names.specs.Rows.{IsRow};
-ghost use Rattle.type_names.specs.Tree.{ParentsStandBefore, is_marked};
+ghost use Rattle.type_names.specs.Tree.{is_marked};
 
 use ds_base::dwarf::DW_TAG_namespace;
 use ds_base::{BitRow, NoMemory};

@@ -7,7 +7,8 @@ use Rattle.std.proofs.lemmas.Option.{same_Some}
 use Rattle.ds_base.specs.declared.dwarf.TheConstants.{DW_TAG_subprogram}
 use Rattle.dwarf_types.specs.declared.entry.Entry.{Entry}
 use Rattle.dwarf_types.specs.Live.{IsAbove, IsInSubprogram, Stands}
-use Rattle.liveness.specs.Roots.{ParentsStandBefore, TellsInside, is_below_subprogram, is_subprogram}
+use Rattle.dwarf_types.specs.Tree.{ParentsStandBefore}
+use Rattle.liveness.specs.Roots.{TellsInside, is_below_subprogram, is_subprogram}
 use Rattle.liveness.proofs.Marks.{none_marked}
 
 pub tells_none : (entries : List Entry) → TellsInside entries (replicate (length entries) false) 0

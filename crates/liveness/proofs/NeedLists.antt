@@ -12,7 +12,7 @@ use Rattle.dwarf_types.specs.declared.entry.Entry.{Entry}
 use Rattle.dwarf_types.specs.declared.entry.InUnit.{InUnit}
 use Rattle.dwarf_types.specs.Live.{Needs, Stands, bases_of, op_bases, operations_of, target_in, targets_of, its_base, its_child, its_import, its_parent, its_target}
 use Rattle.dwarf_types.specs.Sound.{IsParent, IsSound}
-use Rattle.liveness.specs.Roots.{ParentsStandBefore}
+use Rattle.dwarf_types.specs.Tree.{ParentsStandBefore}
 use Rattle.liveness.specs.ChildTable.{IsKept}
 use Rattle.liveness.proofs.Elements.{contained_after, contained_first, first_cases, from_filter_map, none_contained, one_contained, one_contains}
 

@@ -3,12 +3,8 @@ use Rattle.std.specs.Prelude.{◌≡◌, ℕ, ◌<◌, ◌==◌, ◌||◌, ◌&&
 use Rattle.std.specs.Option.{option_map_or}
 use Rattle.ds_base.specs.declared.dwarf.TheConstants.{DW_AT_const_value, DW_TAG_label, DW_TAG_subprogram, DW_TAG_variable}
 use Rattle.dwarf_types.specs.declared.entry.Entry.{Entry}
-use Rattle.dwarf_types.specs.Live.{IsInSubprogram, Stands, low_pc_moves}
+use Rattle.dwarf_types.specs.Live.{IsInSubprogram, low_pc_moves}
 use Rattle.dwarf_types.specs.Moves.{location_moves, value_of}
-
--- each parent stands before its children
-abbrev pub ParentsStandBefore : List Entry → Type 0
-ParentsStandBefore entries = (k p : ℕ) (e : Entry) → Stands entries k e → e.parent ≡ Some p → p < k
 
 abbrev pub is_subprogram : Entry → Bool
 is_subprogram e = e.tag == DW_TAG_subprogram

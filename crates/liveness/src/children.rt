@@ -2,7 +2,7 @@
 
 ghost use Rattle.std.specs.Prelude.{◌≡◌, ◌≤◌, ◌<◌, ◌^◌, Some, None, length, IfOk, slice_index_or, slice_set};
 ghost use Rattle.std.specs.Option.{ForSome, option_and_then, option_map_or};
-ghost use Rattle.liveness.specs.Roots.{ParentsStandBefore};
+ghost use Rattle.dwarf_types.specs.Tree.{ParentsStandBefore};
 ghost use Rattle.liveness.specs.ChildTable.{IsTable};
 
 use ds_base::NoMemory;

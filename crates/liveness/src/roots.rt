@@ -4,7 +4,8 @@ ghost use Rattle.std.specs.Prelude.{◌≡◌, ◌≤◌, ◌<◌, ◌^◌, ◌�
 ghost use Rattle.std.specs.List.{Contains};
 ghost use Rattle.std.specs.Option.{ForSome};
 ghost use Rattle.dwarf_types.specs.Live.{IsRoot};
-ghost use Rattle.liveness.specs.Roots.{ParentsStandBefore, TellsInside, is_below_subprogram, is_constant, is_linked, is_root};
+ghost use Rattle.dwarf_types.specs.Tree.{ParentsStandBefore};
+ghost use Rattle.liveness.specs.Roots.{TellsInside, is_below_subprogram, is_constant, is_linked, is_root};
 
 use crate::moves::{location_moves, low_pc_moves};
 use ds_base::dwarf::{DW_AT_const_value, DW_TAG_label, DW_TAG_subprogram, DW_TAG_variable};

@@ -13,6 +13,7 @@ use Rattle.dwarf_types.specs.declared.analysis.Analysis.{Analysis}
 use Rattle.dwarf_types.specs.declared.entry.Entry.{Entry}
 use Rattle.dwarf_types.specs.Live.{its_parent}
 use Rattle.dwarf_types.specs.Sound.{IsSound}
+use Rattle.dwarf_types.specs.Tree.{ParentsStandBefore}
 use Rattle.link_graph.specs.Merged.{linked_names}
 use Rattle.link_graph.specs.Pool.{node_of_path, pool_names, preorder, same_path}
 use Rattle.link_graph.proofs.Gathered.{enumerate_at, take_on}
@@ -25,7 +26,7 @@ use Rattle.odr_names.proofs.ObjectLists.{object_parts}
 use Rattle.type_names.specs.Heads.{Object, entries_of, is_pooled}
 use Rattle.type_names.specs.Names.{Named, named_of, names, names_in}
 use Rattle.type_names.specs.Paths.{Piece, ordinal_of, parts_of, path_of, piece_of}
-use Rattle.type_names.specs.Tree.{ParentsStandBefore, parent_of}
+use Rattle.type_names.specs.Tree.{parent_of}
 use Rattle.type_names.proofs.Lineages.{parent_before}
 use Rattle.type_names.proofs.Pooling.{sound_parents}
 use Rattle.type_names.proofs.Scopes.{parent_within}

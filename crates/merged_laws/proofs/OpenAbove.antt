@@ -7,10 +7,11 @@ use Rattle.std.proofs.lemmas.List.Folds.{list_any-append}
 use Rattle.std.proofs.lemmas.Option.{none-some, same_Some}
 use Rattle.ds_base.specs.declared.dwarf.TheConstants.{DW_TAG_base_type, DW_TAG_namespace}
 use Rattle.dwarf_types.specs.declared.entry.Entry.{Entry}
+use Rattle.dwarf_types.specs.Tree.{ParentsStandBefore}
 use Rattle.odr_names.proofs.Closed.{head_parent}
 use Rattle.type_names.specs.Entries.{has_field, is_type, name_of}
 use Rattle.type_names.specs.Heads.{Object, derived_name, derived_name_entry, entries_of, is_above_head, is_clean, is_derived, is_derived_at_top, is_head, is_in_head, is_live, is_named_head, is_named_head_entry, is_open_namespace, is_pooled, is_reached, may_be_derived, takes_part, tells}
-use Rattle.type_names.specs.Tree.{ParentsStandBefore, below_unit, is_at_top, is_below, is_in, numbers_above, parent_of}
+use Rattle.type_names.specs.Tree.{below_unit, is_at_top, is_below, is_in, numbers_above, parent_of}
 use Rattle.type_names.proofs.Pooling.{any_numbers}
 use Rattle.type_names.proofs.Scopes.{one_up}
 use Rattle.type_names.proofs.Subtrees.{by_parents, in_below, in_top}

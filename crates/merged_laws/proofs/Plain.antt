@@ -10,6 +10,7 @@ use Rattle.dwarf_types.specs.Kept.{holds_plain, is_plain, is_plain_above}
 use Rattle.dwarf_types.specs.LinkedUnits.{is_kept}
 use Rattle.dwarf_types.specs.Live.{Stands, bases_of, its_base}
 use Rattle.dwarf_types.specs.Sound.{IsSound}
+use Rattle.dwarf_types.specs.Tree.{ParentsStandBefore}
 use Rattle.link_graph.specs.Merged.{kept_object, merged_in}
 use Rattle.linked_laws.specs.Spellable.{IsSpellable}
 use Rattle.linked_laws.specs.Kept.{IsWhole}
@@ -21,7 +22,7 @@ use Rattle.odr_names.proofs.Siblings.{inside_below}
 use Rattle.type_names.specs.Entries.{has_field, is_tied}
 use Rattle.type_names.specs.Heads.{Object, derived_name, derived_name_entry, entries_of, is_above_head, is_clean, is_derived_at_top, is_head, is_in_head, is_live, is_named_head, is_named_head_entry, is_pooled, is_reached, may_be_derived, takes_part, tells}
 use Rattle.type_names.specs.Entries.{is_type, name_of}
-use Rattle.type_names.specs.Tree.{ParentsStandBefore, is_in, lineage, parent_of}
+use Rattle.type_names.specs.Tree.{is_in, lineage, parent_of}
 use Rattle.type_names.proofs.Pooling.{any_numbers, sound_parents}
 use Rattle.type_names.proofs.Subtrees.{by_parents, child_in, in_below, in_itself, in_top}
 use Rattle.merged_laws.proofs.Told.{numbered_get}

@@ -12,6 +12,7 @@ use Rattle.dwarf_types.specs.LinkedShape.{shape_in, unit_shape}
 use Rattle.dwarf_types.specs.LinkedUnits.{Object, Source, is_kept, kept_entries, sources, sources_in}
 use Rattle.dwarf_types.specs.Live.{Stands}
 use Rattle.dwarf_types.specs.Sound.{IsParent, IsSound}
+use Rattle.dwarf_types.specs.Tree.{ParentsStandBefore}
 use Rattle.link_graph.specs.Graph.{pool_version}
 use Rattle.link_graph.specs.Merged.{kept_object, kept_objects, object_units}
 use Rattle.linked_laws.specs.Spellable.{IsSpellable, IsSpellableUnit, version_of}
@@ -25,7 +26,7 @@ use Rattle.odr_names.specs.Making.{IsLiveRow}
 use Rattle.odr_names.proofs.Closed.{unit_is_plain}
 use Rattle.type_names.specs.Heads.{derived_name, derived_name_entry, entries_of, is_above_head, is_head, is_in_head, is_live, is_named_head, is_named_head_entry, is_pooled, may_be_derived, takes_part}
 use Rattle.type_names.specs.Heads as heads
-use Rattle.type_names.specs.Tree.{ParentsStandBefore, is_below, is_in, parent_of}
+use Rattle.type_names.specs.Tree.{is_below, is_in, parent_of}
 use Rattle.type_names.proofs.Pooling.{any_numbers, sound_parents}
 use Rattle.type_names.proofs.Subtrees.{in_itself}
 use Rattle.merged_laws.proofs.Members.{any_from, in_filter_map, in_flat_map, in_numbered}

@@ -8,6 +8,7 @@ use Rattle.std.proofs.lemmas.List.Folds.{list_any-append}
 use Rattle.std.proofs.lemmas.Option.{none-some, same_Some}
 use Rattle.ds_base.specs.declared.dwarf.TheConstants.{DW_TAG_namespace, DW_TAG_subprogram}
 use Rattle.dwarf_types.specs.declared.entry.Entry.{Entry}
+use Rattle.dwarf_types.specs.Tree.{ParentsStandBefore}
 use Rattle.type_names.specs.Entries.{Text, is_named_type, is_type, linkage_of, name_of}
 use Rattle.type_names.specs.Heads.{Object, derived_name, derived_name_entry, is_clean, is_derived, takes_part, tells, entries_of, is_above_head, is_common, is_head, is_in_head, is_live, is_named_head, is_named_head_entry, is_open_namespace, is_pooled, is_reached, may_be_derived}
 use Rattle.type_names.specs.Paths.{Piece, earlier_twins, is_overloaded, is_told_by_parts, ordinal_of, parts_of, path_of, piece_of, piece_text, spelled_of}
@@ -16,7 +17,7 @@ use Rattle.odr_names.specs.Pieces.{IsSpelled}
 use Rattle.odr_names.specs.Entering.{AreLiveParents}
 use Rattle.odr_names.specs.Twins.{is_inside, twins_before}
 use Rattle.odr_names.proofs.Siblings.{spelled_in_head}
-use Rattle.type_names.specs.Tree.{ParentsStandBefore, below_unit, is_at_top, is_below, is_in, lineage, numbers_above, parent_of}
+use Rattle.type_names.specs.Tree.{below_unit, is_at_top, is_below, is_in, lineage, numbers_above, parent_of}
 use Rattle.type_names.proofs.Lineages.{lineage_below, lineage_top, parent_before}
 use Rattle.type_names.proofs.Pooling.{any_numbers}
 use Rattle.type_names.proofs.Scopes.{one_up, parent_within, unit_is_last}

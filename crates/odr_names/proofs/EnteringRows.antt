@@ -8,6 +8,7 @@ use Rattle.std.proofs.lemmas.List.{get_or_append_left, get_or_past, get_or_push,
 use Rattle.std.proofs.lemmas.List.Elements.{filter_map-append}
 use Rattle.std.proofs.lemmas.Option.{get_or_from_slice_get, none-some, same_Some, slice_get_within}
 use Rattle.dwarf_types.specs.declared.entry.Entry.{Entry}
+use Rattle.dwarf_types.specs.Tree.{ParentsStandBefore}
 use Rattle.odr_names.specs.declared.path_book.Row.{Row}
 use Rattle.odr_names.specs.Book.{AreRows, IsLinked, IsRowOf, path_above, row_above, row_name, row_path}
 use Rattle.odr_names.specs.Entering.{AreEntered, AreLiveParents, IsEntered, IsEnteredTo, IsEntering, hash_above, names_to, new_row, piece_at, private_above}
@@ -18,7 +19,7 @@ use Rattle.type_names.specs.Heads.{Object, entries_of, is_pooled}
 use Rattle.type_names.specs.Names.{Named, named_of}
 use Rattle.type_names.specs.Paths.{Piece, path_of, piece_of}
 use Rattle.type_names.specs.Start.{hash_from, path_hash, piece_bytes}
-use Rattle.type_names.specs.Tree.{ParentsStandBefore, parent_of}
+use Rattle.type_names.specs.Tree.{parent_of}
 use Rattle.type_names.proofs.HeadTests.{enumerated_more}
 use Rattle.type_names.proofs.Lineages.{parent_before}
 use Rattle.odr_names.proofs.BookPaths.{above_found, get_before, get_last, hash_is, link_before, private_is, row_in, up_within}

@@ -11,6 +11,7 @@ use Rattle.std.proofs.lemmas.List.{get_or-set_other, get_or-set_same, length-set
 use Rattle.std.proofs.lemmas.List.Sorted.{Contains-permutation, IsPermutation-sym}
 use Rattle.std.proofs.lemmas.Option.{get_or_from_slice_get, none-some, same_Some, slice_get-get_or, slice_get_read, slice_get_within}
 use Rattle.dwarf_types.specs.declared.entry.Entry.{Entry}
+use Rattle.dwarf_types.specs.Tree.{ParentsStandBefore}
 use Rattle.odr_names.specs.declared.winners.Ranked.{Ranked}
 use Rattle.odr_names.specs.Pieces.{IsSpelled}
 use Rattle.odr_names.specs.Ranking.{AreInOrder}
@@ -18,7 +19,7 @@ use Rattle.odr_names.specs.Twins.{AreCounted, AreNoTwins, AreSiblings, AreTwins,
 use Rattle.type_names.specs.Heads.{Object, entries_of, is_head, is_in_head}
 use Rattle.type_names.specs.Paths.{Parts, earlier_twins, is_overloaded, parts_of, spelled_of}
 use Rattle.type_names.specs.Rows.{IsRow}
-use Rattle.type_names.specs.Tree.{ParentsStandBefore, lineage, parent_of}
+use Rattle.type_names.specs.Tree.{lineage, parent_of}
 use Rattle.type_names.proofs.Lineages.{lineage_below, parent_before}
 use Rattle.odr_names.proofs.BookPaths.{get_before, get_last}
 use Rattle.odr_names.proofs.Counting.{entry_at, no_twin, one_twin_more}

@@ -3,10 +3,10 @@ use Rattle.std.specs.Prelude.{◌≡◌, ◌↔◌, ℕ, ◌^◌, ◌≤◌, Boo
 use Rattle.dwarf_types.specs.declared.analysis.Analysis.{Analysis}
 use Rattle.dwarf_types.specs.declared.entry.Entry.{Entry}
 use Rattle.dwarf_types.specs.Live.{IsLive}
+use Rattle.dwarf_types.specs.Tree.{ParentsStandBefore}
 use Rattle.odr_names.specs.Book.{objects_of}
 use Rattle.odr_names.specs.Entering.{AreLiveParents}
 use Rattle.type_names.specs.Heads.{Object, entries_of}
-use Rattle.type_names.specs.Tree.{ParentsStandBefore}
 
 -- one mark for each entry, and exactly the live ones are marked
 pub record IsLiveRow (entries : List Entry) (row : List Bool) : Type 0 where

@@ -3,6 +3,7 @@
 ghost use Rattle.std.specs.Prelude.{◌≡◌, ◌||◌, is_some, ◌+◌, ◌≤◌, ◌<◌, ◌^◌, ℕ, ◌-◌, List, true, length, slice_get, slice_index_or, Some, None, IfOk, OnOk};
 ghost use Rattle.std.specs.Option.{ForSome, option_and_then};
 ghost use Rattle.dwarf_types.specs.declared.entry.Entry.{Entry as AnEntry};
+ghost use Rattle.dwarf_types.specs.Tree.{ParentsStandBefore};
 ghost use Rattle.odr_names.specs.declared.path_book.Row.{Row as ARow};
 ghost use Rattle.odr_names.specs.Book.{AreRows};
 ghost use Rattle.odr_names.specs.Entering.{AreEntered, AreLiveParents, Enters, hash_above, new_row, private_above, rows_up};
@@ -12,7 +13,7 @@ ghost use Rattle.type_names.specs.Entries.{is_declaration};
 ghost use Rattle.type_names.specs.Heads.{Object, is_pooled};
 ghost use Rattle.type_names.specs.Objects.{object_of};
 ghost use Rattle.type_names.specs.Pooled.{AreNames};
-ghost use Rattle.type_names.specs.Tree.{ParentsStandBefore, parent_of};
+ghost use Rattle.type_names.specs.Tree.{parent_of};
 
 use crate::hash::hash_piece;
 use crate::ordinals::ordinal_at;

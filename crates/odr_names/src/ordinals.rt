@@ -3,6 +3,7 @@
 ghost use Rattle.std.specs.Prelude.{◌≡◌, ◌==◌, ◌||◌, ◌&&◌, not, ◌≤◌, ◌<◌, ◌^◌, ◌↔◌, ℕ, true, false, length, slice_get, slice_index_or, Some, None, IfOk, IsTrue, is_some, if◌then◌else◌};
 ghost use Rattle.std.specs.Option.{option_and_then};
 ghost use Rattle.dwarf_types.specs.declared.entry.Entry.{Entry as AnEntry};
+ghost use Rattle.dwarf_types.specs.Tree.{ParentsStandBefore};
 ghost use Rattle.odr_names.specs.Pieces.{IsSpelled, parts_seen};
 ghost use Rattle.odr_names.specs.Ranking.{AreInOrder};
 ghost use Rattle.odr_names.specs.Twins.{AreCounted, AreNoTwins, AreSiblings, AreTwins, IsRankOf, is_inside, parts_hash, twins_before};
@@ -12,7 +13,7 @@ ghost use Rattle.type_names.specs.Heads.{is_in_head, is_pooled};
 ghost use Rattle.type_names.specs.Objects.{object_of};
 ghost use Rattle.type_names.specs.Paths.{is_overloaded, ordinal_of, parts_of};
 ghost use Rattle.type_names.specs.Pooled.{AreNames};
-ghost use Rattle.type_names.specs.Tree.{ParentsStandBefore, parent_of};
+ghost use Rattle.type_names.specs.Tree.{parent_of};
 
 use crate::hash::hash_piece;
 use crate::marks::count_marked;

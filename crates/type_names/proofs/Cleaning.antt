@@ -3,7 +3,8 @@ use Rattle.std.proofs.Common.{◌≡◌, ◌↔◌, ◌+◌, ◌==◌, ◌||◌,
 use Rattle.std.specs.List.{enumerate_from, filter, list_all}
 use Rattle.std.proofs.lemmas.Bool.{both_ways, cases_Bool, cases_eq, false_from_ne_true, ne_eqb}
 use Rattle.dwarf_types.specs.declared.entry.Entry.{Entry}
-use Rattle.type_names.specs.Tree.{HasMarkedBelow, ParentsStandBefore, is_below, is_in, is_marked, subtree}
+use Rattle.dwarf_types.specs.Tree.{ParentsStandBefore}
+use Rattle.type_names.specs.Tree.{HasMarkedBelow, is_below, is_in, is_marked, subtree}
 use Rattle.std.specs.Option.{option_map_or}
 use Rattle.type_names.specs.Entries.{is_tied}
 use Rattle.type_names.specs.HeadRows.{is_tied_at}

@@ -9,13 +9,14 @@ use Rattle.std.proofs.lemmas.List.Folds.{list_all-append, list_any-append}
 use Rattle.std.proofs.lemmas.Option.{get_or_from_slice_get, slice_get_past, slice_get_within}
 use Rattle.dwarf_types.specs.declared.analysis.Analysis.{Analysis}
 use Rattle.dwarf_types.specs.declared.entry.Entry.{Entry}
+use Rattle.dwarf_types.specs.Tree.{ParentsStandBefore}
 use Rattle.type_names.specs.declared.heads.HeadRows.{HeadRows}
 use Rattle.type_names.specs.Entries.{is_template_parameter, is_tied}
 use Rattle.type_names.specs.HeadRows.{AreRows, HasParametersTo, has_parameter_before, is_open_at, is_tied_at, template_of}
 use Rattle.type_names.specs.Heads.{has_template_parameter, is_clean, is_open_namespace, is_reached}
 use Rattle.type_names.specs.Objects.{object_of}
 use Rattle.type_names.specs.Rows.{IsRow}
-use Rattle.type_names.specs.Tree.{ParentsStandBefore, below_unit, is_marked, parent_of}
+use Rattle.type_names.specs.Tree.{below_unit, is_marked, parent_of}
 use Rattle.type_names.proofs.Cleaning.{clean_is}
 use Rattle.type_names.proofs.Lineages.{lineage_top}
 use Rattle.type_names.proofs.Scopes.{one_up}

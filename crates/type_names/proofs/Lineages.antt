@@ -3,7 +3,8 @@ use Rattle.std.proofs.Common.{◌≡◌, ℕ, zero, suc, ◌<◌, ◌≤◌, Boo
 use Rattle.std.specs.Option.{option_and_then, option_map_or}
 use Rattle.std.proofs.lemmas.List.Folds.{list_any-append}
 use Rattle.dwarf_types.specs.declared.entry.Entry.{Entry}
-use Rattle.type_names.specs.Tree.{ParentsStandBefore, is_in_marked, is_marked, lineage, lineage_of, parent_of}
+use Rattle.dwarf_types.specs.Tree.{ParentsStandBefore}
+use Rattle.type_names.specs.Tree.{is_in_marked, is_marked, lineage, lineage_of, parent_of}
 
 -- the parent stands before
 pub parent_before : (entries : List Entry) (k p : ℕ) → ParentsStandBefore entries → parent_of entries k ≡ Some p → p < k

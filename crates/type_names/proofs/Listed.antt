@@ -8,7 +8,7 @@ use Rattle.std.proofs.lemmas.Option.{get_or_from_slice_get, none-some, same_Some
 use Rattle.dwarf_types.specs.declared.entry.Entry.{Entry}
 use Rattle.std.specs.Prelude.{if◌then◌else◌}
 use Rattle.ds_base.specs.declared.dwarf.TheConstants.{DW_TAG_array_type}
-use Rattle.type_names.specs.Tree.{ParentsStandBefore}
+use Rattle.dwarf_types.specs.Tree.{ParentsStandBefore}
 use Rattle.type_names.specs.Children.{IsListed, IsTableFrom, has_tag, is_parameter, holder, listed_from, next_listed}
 
 pub next_entry : (entries : List Entry) (j : ℕ) (e : Entry) → slice_get entries j ≡ Some e → drop j entries ≡ e ∷ drop (j + 1) entries

@@ -9,13 +9,14 @@ use mathlib.Core.Path.{fun_ext}
 use Rattle.dwarf_types.specs.declared.analysis.Analysis.{Analysis}
 use Rattle.dwarf_types.specs.declared.entry.Entry.{Entry}
 use Rattle.dwarf_types.specs.Sound.{IsParent, IsSound}
+use Rattle.dwarf_types.specs.Tree.{ParentsStandBefore}
 use Rattle.type_names.specs.Entries.{Text}
 use Rattle.type_names.specs.Heads.{Object, derived_name, derived_name_entry, entries_of, is_common, is_common_entry, is_head, is_named_head, is_named_head_entry, may_be_derived}
 use Rattle.type_names.specs.Objects.{object_of}
 use Rattle.type_names.specs.Onto.{onto}
 use Rattle.type_names.specs.Rows.{IsRow}
 use Rattle.type_names.specs.Spell.{not_too_long, spelled_by, spelled_within, spelling}
-use Rattle.type_names.specs.Tree.{HasMarkedBelow, ParentsStandBefore, is_below, is_in_marked, is_marked, lineage}
+use Rattle.type_names.specs.Tree.{HasMarkedBelow, is_below, is_in_marked, is_marked, lineage}
 use Rattle.type_names.proofs.HeadTests.{row_is}
 
 pub sound_parents : (seen : Analysis) → IsSound seen → ParentsStandBefore seen.entries

@@ -7,11 +7,12 @@ use Rattle.std.proofs.lemmas.List.{drop-append-le, get_or_append_left, reverse-a
 use Rattle.std.proofs.lemmas.List.Elements.{All-push}
 use Rattle.std.proofs.lemmas.Option.{none-some, same_Some, slice_get_within}
 use Rattle.dwarf_types.specs.declared.entry.Entry.{Entry}
+use Rattle.dwarf_types.specs.Tree.{ParentsStandBefore}
 use Rattle.type_names.specs.Entries.{Text}
 use Rattle.type_names.specs.declared.spell.SpellError.{SpellError}
 use Rattle.type_names.specs.Onto.{Writes, onto}
 use Rattle.type_names.specs.Spell.{◌&◌, all_of, scope_name}
-use Rattle.type_names.specs.Tree.{ParentsStandBefore, below_unit, lineage, parent_of}
+use Rattle.type_names.specs.Tree.{below_unit, lineage, parent_of}
 use Rattle.type_names.proofs.Lineages.{lineage_below, lineage_top, parent_before}
 use Rattle.type_names.proofs.Texts.{onto_joined, stopped}
 

@@ -6,7 +6,8 @@ use Rattle.std.proofs.lemmas.List.{get_or-set_other, get_or-set_same, length-set
 use Rattle.std.proofs.lemmas.List.Folds.{list_any-append}
 use Rattle.std.proofs.lemmas.Option.{same_Some, slice_get_past}
 use Rattle.dwarf_types.specs.declared.entry.Entry.{Entry}
-use Rattle.type_names.specs.Tree.{HasMarkedBelow, HasMarkedFrom, HasMarkedIn, IsPassedTo, ParentsStandBefore, is_in, is_marked, lineage, parent_of, passed_up}
+use Rattle.dwarf_types.specs.Tree.{ParentsStandBefore}
+use Rattle.type_names.specs.Tree.{HasMarkedBelow, HasMarkedFrom, HasMarkedIn, IsPassedTo, is_in, is_marked, lineage, parent_of, passed_up}
 use Rattle.type_names.proofs.Lineages.{lineage_below, lineage_top, parent_before}
 
 or_cases : (a b : Bool) → (a || b) ≡ true → (a ≡ true) ⊎ (b ≡ true)

@@ -1,12 +1,13 @@
 -- Texts written one behind the other, up to the length that a spelling may have.
 use Rattle.std.specs.Prelude.{◌≡◌, ℕ, ◌≤◌, ◌^◌, List, ◌++◌, length, Option, Some, None, Result, Ok, Err, nat_le, if◌then◌else◌}
+use Rattle.dwarf_types.specs.Tree.{ParentsStandBefore}
 use Rattle.type_names.specs.declared.spell.SpellError.{SpellError}
 use Rattle.type_names.specs.declared.spell.SpellError.TheVariants as errors
 use Rattle.type_names.specs.declared.spell.Types.{Types}
 use Rattle.type_names.specs.Children.{IsTableFrom}
 use Rattle.type_names.specs.Entries.{Text}
 use Rattle.type_names.specs.Spell.{spelled_within}
-use Rattle.type_names.specs.Tree.{ParentsStandBefore, is_marked}
+use Rattle.type_names.specs.Tree.{is_marked}
 
 -- a text behind what is written, where it is there and fits
 unfoldable pub onto : List ℕ → Option Text → Option (List ℕ)

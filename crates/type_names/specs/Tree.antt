@@ -1,7 +1,7 @@
 -- The trees of an object's entries: what stands above an entry, and what below it.
-use Rattle.std.specs.Prelude.{ℕ, zero, suc, ◌≡◌, ◌<◌, ◌≤◌, ◌↔◌, ◌==◌, ◌||◌, ◌&&◌, not, Bool, true, false, List, length, slice_index_or, slice_set, if◌then◌else◌, [], ◌∷◌, ◌++◌, map, drop, slice_get, Option, Some, is_some}
+use Rattle.std.specs.Prelude.{ℕ, ◌≡◌, ◌≤◌, ◌↔◌, ◌==◌, ◌||◌, ◌&&◌, not, Bool, true, false, List, length, slice_index_or, slice_set, if◌then◌else◌, [], map, drop, slice_get, Option, Some, is_some}
 use Rattle.std.specs.List.{enumerate_from, filter, filter_map, list_any}
-use Rattle.std.specs.Option.{option_and_then, option_map_or}
+use Rattle.std.specs.Option.{option_map_or}
 use Rattle.dwarf_types.specs.declared.entry.Entry.{Entry}
 unfoldable pub use Rattle.dwarf_types.specs.Tree.{lineage}
 pub use Rattle.dwarf_types.specs.Tree.{is_in, lineage_of, parent_of}
@@ -28,10 +28,6 @@ above entries k = filter_map (slice_get entries) (numbers_above entries k)
 -- its parent is the unit
 abbrev pub is_at_top : List Entry → Entry → Bool
 is_at_top entries e = option_map_or (λ parent. is_some (slice_get entries parent) && not (is_some (parent_of entries parent))) e.parent false
-
--- each parent stands before its children
-abbrev pub ParentsStandBefore : List Entry → Type 0
-ParentsStandBefore entries = (k p : ℕ) (e : Entry) → slice_get entries k ≡ Some e → e.parent ≡ Some p → p < k
 
 -- ---- marks
 

@@ -3,8 +3,8 @@
 ghost use Rattle.std.specs.Prelude.{◌≡◌, ◌≤◌, ◌<◌, ◌^◌, ◌+◌, ◌||◌, Some, None, length, slice_get, slice_index_or, slice_set, IfOk};
 ghost use Rattle.std.specs.Option.{ForSome, option_and_then, option_map_or};
 ghost use Rattle.dwarf_types.specs.declared.entry.Entry.{Entry as AnEntry};
+ghost use Rattle.dwarf_types.specs.Tree.{ParentsStandBefore};
 ghost use Rattle.type_names.specs.Children.{IsListed, IsTableFrom, has_tag, holder, is_parameter, next_listed};
-ghost use Rattle.type_names.specs.Tree.{ParentsStandBefore};
 
 use ds_base::NoMemory;
 use ds_base::dwarf::{DW_TAG_array_type, DW_TAG_formal_parameter, DW_TAG_unspecified_parameters};

@@ -1,6 +1,7 @@
 //! Heads: the types that are merged with those of the same name in other objects.
 
 ghost use Rattle.std.specs.Prelude.{◌≡◌, ◌≤◌, ◌<◌, ◌^◌, ◌&&◌, ◌||◌, not, true, false, length, slice_get, Some, is_some, IfOk, codes};
+ghost use Rattle.dwarf_types.specs.Tree.{ParentsStandBefore};
 ghost use Rattle.type_names.specs.Spell.{made_by};
 ghost use Rattle.std.specs.List.{list_all};
 ghost use Rattle.std.specs.Option.{ForSome, option_map_or};
@@ -9,7 +10,7 @@ ghost use Rattle.type_names.specs.HeadRows.{AreRows, HasParametersTo, is_open_at
 ghost use Rattle.type_names.specs.Heads.{has_one_definition, has_template_parameter, is_clean, is_common, is_derived, is_derived_at_top, is_derived_attribute, is_in_named_head, is_named_head, is_open_namespace, is_plain_derived, is_reached, takes_part, tells};
 ghost use Rattle.type_names.specs.Objects.{object_of};
 ghost use Rattle.type_names.specs.Rows.{IsRow};
-ghost use Rattle.type_names.specs.Tree.{ParentsStandBefore, is_at_top, is_marked, parent_of};
+ghost use Rattle.type_names.specs.Tree.{is_at_top, is_marked, parent_of};
 
 use crate::entries::{
     has_field, holds, is_made_up, is_named_type, is_template_parameter, is_tied, is_type, name_of,

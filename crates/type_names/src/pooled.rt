@@ -3,6 +3,7 @@
 ghost use Rattle.std.specs.Prelude.{◌≡◌, ◌≤◌, ◌<◌, ◌^◌, ◌&&◌, ◌||◌, ℕ, List, Option, [], true, false, length, slice_index_or, is_some, None, IfOk};
 ghost use Rattle.std.specs.Option.{option_map};
 ghost use Rattle.dwarf_types.specs.Sound.{IsSound};
+ghost use Rattle.dwarf_types.specs.Tree.{ParentsStandBefore};
 ghost use Rattle.type_names.specs.Children.{IsTableFrom};
 ghost use Rattle.type_names.specs.HeadRows.{AreRows};
 ghost use Rattle.type_names.specs.Heads.{derived_name, may_be_derived, is_common, is_head, is_in_head, is_in_named_head, is_named_head, is_pooled};
@@ -13,7 +14,7 @@ ghost use Rattle.type_names.specs.Pooled.{AreNames, text_if};
 ghost use Rattle.type_names.specs.Rows.{IsRow};
 ghost use Rattle.type_names.specs.Spell.{spelled_parameters, spelling};
 ghost use Rattle.type_names.specs.TextTable.{AreTexts};
-ghost use Rattle.type_names.specs.Tree.{ParentsStandBefore, is_marked, parent_of};
+ghost use Rattle.type_names.specs.Tree.{is_marked, parent_of};
 
 use crate::children::{Children, children_of};
 use crate::entries::linkage_of;

@@ -6,11 +6,12 @@ ghost use Rattle.std.specs.List.{filter_map};
 ghost use Rattle.std.specs.Option.{option_map};
 ghost use Rattle.dwarf_types.specs.Moves.{value_of};
 ghost use Rattle.dwarf_types.specs.Seen.{value_seen};
+ghost use Rattle.dwarf_types.specs.Tree.{ParentsStandBefore};
 ghost use Rattle.type_names.specs.Children.{has_tag, next_listed};
 ghost use Rattle.type_names.specs.Entries.{is_made_up, own_name};
 ghost use Rattle.type_names.specs.Onto.{AreTypes, Writes, onto, spelled_in};
 ghost use Rattle.type_names.specs.Spell.{◌&◌, all_of, bound_in, count_in, made_by, named_by, number_in, parameter_in, parameters_in, qualified_name, scope_name, spelled_by, spelled_target, subrange_in, subranges_in, type_in};
-ghost use Rattle.type_names.specs.Tree.{ParentsStandBefore, above, numbers_above};
+ghost use Rattle.type_names.specs.Tree.{above, numbers_above};
 
 use crate::children::{Children, first_listed, next_listed};
 use crate::entries::{is_made_up, is_type, name_of, value_of};

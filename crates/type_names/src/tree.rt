@@ -2,8 +2,9 @@
 
 ghost use Rattle.std.specs.Prelude.{◌≡◌, ◌≤◌, ◌<◌, ◌^◌, ◌↔◌, ◌||◌, ℕ, true, false, length, slice_set, IfOk};
 ghost use Rattle.std.specs.Option.{ForSome, option_map_or};
+ghost use Rattle.dwarf_types.specs.Tree.{ParentsStandBefore};
 ghost use Rattle.type_names.specs.Rows.{IsRow};
-ghost use Rattle.type_names.specs.Tree.{HasMarkedBelow, IsPassedTo, ParentsStandBefore, is_in_marked, is_marked, parent_of, passed_up};
+ghost use Rattle.type_names.specs.Tree.{HasMarkedBelow, IsPassedTo, is_in_marked, is_marked, parent_of, passed_up};
 
 use ds_base::{BitRow, NoMemory};
 use dwarf_types::Entries;
