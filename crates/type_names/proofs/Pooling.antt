@@ -12,7 +12,7 @@ use Rattle.dwarf_types.specs.Sound.{IsParent, IsSound}
 use Rattle.dwarf_types.specs.Tree.{ParentsStandBefore}
 use Rattle.type_names.specs.Entries.{Text}
 use Rattle.type_names.specs.Heads.{Object, derived_name, derived_name_entry, entries_of, is_common, is_common_entry, is_head, is_named_head, is_named_head_entry, may_be_derived}
-use Rattle.type_names.specs.Objects.{object_of}
+use Rattle.type_names.specs.Objects.{AreInUnits, object_of}
 use Rattle.type_names.specs.Onto.{onto}
 use Rattle.type_names.specs.Rows.{IsRow}
 use Rattle.type_names.specs.Spell.{not_too_long, spelled_by, spelled_within, spelling}
@@ -21,6 +21,9 @@ use Rattle.type_names.proofs.HeadTests.{row_is}
 
 pub sound_parents : (seen : Analysis) → IsSound seen → ParentsStandBefore seen.entries
 sound_parents seen sound k p e at is = (subst (IsParent (sound.entries k e at).unit k) is (sound.entries k e at).parent).1
+
+pub sound_units : (seen : Analysis) → IsSound seen → AreInUnits seen
+sound_units seen sound k e at = slice_get_within seen.units e.unit (sound.entries k e at).unit (sound.entries k e at).its_unit
 
 -- ---- rows of heads
 

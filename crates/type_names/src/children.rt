@@ -76,6 +76,7 @@ fn holder_at(entries: &Entries, i: usize) -> Option<u32>
 
 /// Whether the spelling of its parent reads an entry.
 fn is_read(entries: &Entries, entry: &EntryRef, parent: u32) -> bool
+    requires { parent < length entries.now }
     ensures { result ≡ (is_parameter entry.now.tag || has_tag entries.now DW_TAG_array_type parent) }
 {
     is_parameter(entry.tag()) || is_array(entries, parent)
@@ -90,12 +91,10 @@ fn is_parameter(tag: u16) -> bool
 
 /// Whether an entry is an array type.
 fn is_array(entries: &Entries, k: u32) -> bool
+    requires { k < length entries.now }
     ensures { result ≡ has_tag entries.now DW_TAG_array_type k }
 {
-    match entries.get(k as usize) {
-        Some(entry) => entry.tag() == DW_TAG_array_type,
-        None => false,
-    }
+    entries.entry(k as usize).tag() == DW_TAG_array_type
 }
 
 /// The first entry that the spelling of an entry reads.

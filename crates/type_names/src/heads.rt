@@ -8,7 +8,7 @@ ghost use Rattle.std.specs.Option.{ForSome, option_map_or};
 ghost use Rattle.type_names.specs.Entries.{holds, is_named_type, is_type, name_of};
 ghost use Rattle.type_names.specs.HeadRows.{AreRows, HasParametersTo, is_open_at, is_tied_at, template_of};
 ghost use Rattle.type_names.specs.Heads.{has_one_definition, has_template_parameter, is_clean, is_common, is_derived, is_derived_at_top, is_derived_attribute, is_in_named_head, is_named_head, is_open_namespace, is_plain_derived, is_reached, takes_part, tells};
-ghost use Rattle.type_names.specs.Objects.{object_of};
+ghost use Rattle.type_names.specs.Objects.{AreInUnits, object_of};
 ghost use Rattle.type_names.specs.Rows.{IsRow};
 ghost use Rattle.type_names.specs.Tree.{is_at_top, is_marked, parent_of};
 
@@ -155,6 +155,7 @@ pub(crate) fn named_heads(
 ) -> Result<BitRow, NoMemory>
     requires few { length seen.now.entries ≤ 2 ^ 24 }
     requires live { length live.now ≡ length seen.now.entries }
+    requires units { AreInUnits seen.now }
     requires parents { ParentsStandBefore seen.now.entries }
     requires rows { AreRows seen.now.entries rows.now }
     ensures { IfOk result (λ row. IsRow (is_named_head (object_of seen.now live.now)) (length seen.now.entries) row) }
@@ -172,6 +173,7 @@ pub(crate) fn named_heads(
 fn is_named_head(seen: &Analysis, live: &BitRow, rows: &HeadRows, k: u32) -> bool
     requires place { k < length seen.now.entries }
     requires live { length live.now ≡ length seen.now.entries }
+    requires units { AreInUnits seen.now }
     requires parents { ParentsStandBefore seen.now.entries }
     requires rows { AreRows seen.now.entries rows.now }
     ensures { result ≡ is_named_head (object_of seen.now live.now) k }
@@ -193,6 +195,7 @@ fn may_be_named_head(
 ) -> bool
     requires stands { slice_get seen.now.entries k ≡ Some entry.now }
     requires live { length live.now ≡ length seen.now.entries }
+    requires units { AreInUnits seen.now }
     requires parents { ParentsStandBefore seen.now.entries }
     requires rows { AreRows seen.now.entries rows.now }
     ensures { result ≡ (is_type entry.now.tag && (takes_part (object_of seen.now live.now) k entry.now && (is_reached seen.now.entries k entry.now && is_clean (object_of seen.now live.now) k))) }
@@ -205,7 +208,8 @@ fn may_be_named_head(
 
 /// Whether an entry is live, and its unit takes part in merging.
 pub(crate) fn takes_part(seen: &Analysis, live: &BitRow, k: u32, entry: &EntryRef) -> bool
-    requires { k < length live.now }
+    requires place { k < length live.now }
+    requires unit { entry.now.unit < length seen.now.units }
     ensures { result ≡ takes_part (object_of seen.now live.now) k entry.now }
 {
     live.get(k) && is_in_merged_unit(seen, entry)
@@ -213,12 +217,10 @@ pub(crate) fn takes_part(seen: &Analysis, live: &BitRow, k: u32, entry: &EntryRe
 
 /// Whether the unit of an entry takes part in merging.
 fn is_in_merged_unit(seen: &Analysis, entry: &EntryRef) -> bool
+    requires { entry.now.unit < length seen.now.units }
     ensures { result ≡ option_map_or (λ unit. has_one_definition unit.language) (slice_get seen.now.units entry.now.unit) false }
 {
-    match seen.units.get(entry.unit() as usize) {
-        Some(unit) => has_one_definition(unit.language),
-        None => false,
-    }
+    has_one_definition(seen.units.as_slice()[entry.unit() as usize].language)
 }
 
 /// Whether the types of a language have one definition in the whole program: C++ and Objective-C++.
@@ -298,6 +300,7 @@ pub(crate) fn common_of(
     in_named: &BitRow,
 ) -> Result<BitRow, NoMemory>
     requires few { length seen.now.entries ≤ 2 ^ 24 }
+    requires parents { ParentsStandBefore seen.now.entries }
     requires named { IsRow (is_in_named_head (object_of seen.now live.now)) (length seen.now.entries) in_named.now }
     ensures { IfOk result (λ row. IsRow (is_common (object_of seen.now live.now)) (length seen.now.entries) row) }
 {
@@ -312,6 +315,7 @@ pub(crate) fn common_of(
 /// Whether an entry is a type that means the same in every object.
 fn is_common(seen: &Analysis, live: &BitRow, in_named: &BitRow, k: u32) -> bool
     requires place { k < length seen.now.entries }
+    requires parents { ParentsStandBefore seen.now.entries }
     requires named { IsRow (is_in_named_head (object_of seen.now live.now)) (length seen.now.entries) in_named.now }
     ensures { result ≡ is_common (object_of seen.now live.now) k }
 {
@@ -335,6 +339,7 @@ fn is_named_inside(in_named: &BitRow, k: u32, entry: &EntryRef) -> bool
 
 /// Whether an entry is a derived type below its unit of which nothing else is told.
 fn is_plain_derived(entries: &Entries, entry: &EntryRef) -> bool
+    requires { ForSome entry.now.parent (λ p. p < length entries.now) }
     ensures { result ≡ is_plain_derived entries.now entry.now }
 {
     is_derived_at_top(entries, entry) && has_derived_attributes(entry)
@@ -342,6 +347,7 @@ fn is_plain_derived(entries: &Entries, entry: &EntryRef) -> bool
 
 /// Whether an entry is a derived type whose parent is the unit.
 pub(crate) fn is_derived_at_top(entries: &Entries, entry: &EntryRef) -> bool
+    requires { ForSome entry.now.parent (λ p. p < length entries.now) }
     ensures { result ≡ is_derived_at_top entries.now entry.now }
 {
     is_derived(entry.tag()) && is_at_top(entries, entry)
@@ -375,6 +381,7 @@ fn is_made(tag: u16) -> bool
 
 /// Whether the parent of an entry is its unit.
 fn is_at_top(entries: &Entries, entry: &EntryRef) -> bool
+    requires { ForSome entry.now.parent (λ p. p < length entries.now) }
     ensures { result ≡ is_at_top entries.now entry.now }
 {
     match entry.parent() {
@@ -385,12 +392,10 @@ fn is_at_top(entries: &Entries, entry: &EntryRef) -> bool
 
 /// Whether an entry is a unit.
 fn is_root(entries: &Entries, k: u32) -> bool
+    requires { k < length entries.now }
     ensures { result ≡ (is_some (slice_get entries.now k) && not (is_some (parent_of entries.now k))) }
 {
-    match entries.get(k as usize) {
-        Some(entry) => entry.parent().is_none(),
-        None => false,
-    }
+    entries.entry(k as usize).parent().is_none()
 }
 
 /// Whether an entry has no attributes but those that every derived type may have.

@@ -1,13 +1,13 @@
 //! Which entries of an object are pooled, and the spelled texts of their pieces.
 
-ghost use Rattle.std.specs.Prelude.{◌≡◌, ◌≤◌, ◌<◌, ◌^◌, ◌&&◌, ◌||◌, ℕ, List, Option, [], true, false, length, slice_index_or, is_some, None, IfOk};
+ghost use Rattle.std.specs.Prelude.{◌≡◌, ◌≤◌, ◌<◌, ◌^◌, ◌&&◌, ◌||◌, ℕ, List, Option, [], true, false, length, slice_get, slice_index_or, is_some, Some, None, IfOk};
 ghost use Rattle.std.specs.Option.{option_map};
 ghost use Rattle.dwarf_types.specs.Sound.{IsSound};
 ghost use Rattle.dwarf_types.specs.Tree.{ParentsStandBefore};
 ghost use Rattle.type_names.specs.Children.{IsTableFrom};
 ghost use Rattle.type_names.specs.HeadRows.{AreRows};
 ghost use Rattle.type_names.specs.Heads.{derived_name, may_be_derived, is_common, is_head, is_in_head, is_in_named_head, is_named_head, is_pooled};
-ghost use Rattle.type_names.specs.Objects.{object_of};
+ghost use Rattle.type_names.specs.Objects.{AreInUnits, object_of};
 ghost use Rattle.type_names.specs.Onto.{AreTypes, Writes};
 ghost use Rattle.type_names.specs.Paths.{is_overloaded, piece_text};
 ghost use Rattle.type_names.specs.Pooled.{AreNames, text_if};
@@ -54,6 +54,7 @@ pub fn type_names(alloc: Global, seen: &Analysis, live: &BitRow) -> Result<TypeN
 /// The same, for an analysis of which this much is known.
 fn names_of(alloc: Global, seen: &Analysis, live: &BitRow) -> Result<TypeNames, NoMemory>
     requires few { length seen.now.entries ≤ 2 ^ 24 }
+    requires units { AreInUnits seen.now }
     requires parents { ParentsStandBefore seen.now.entries }
     requires live { length live.now ≡ length seen.now.entries }
     ensures { IfOk result (λ names. AreNames (object_of seen.now live.now) names) }
@@ -85,6 +86,7 @@ fn derived_of(
 ) -> Result<TextTable, NoMemory>
     requires few { length seen.now.entries ≤ 2 ^ 24 }
     requires live { length live.now ≡ length seen.now.entries }
+    requires units { AreInUnits seen.now }
     requires parents { ParentsStandBefore seen.now.entries }
     requires rows { AreRows seen.now.entries rows.now }
     requires named { IsRow (is_named_head (object_of seen.now live.now)) (length seen.now.entries) named.now }
@@ -128,6 +130,7 @@ fn spell_derived_all(
 ) -> Result<TextTable, NoMemory>
     requires few { length seen.now.entries ≤ 2 ^ 24 }
     requires live { length live.now ≡ length seen.now.entries }
+    requires units { AreInUnits seen.now }
     requires parents { ParentsStandBefore seen.now.entries }
     requires rows { AreRows seen.now.entries rows.now }
     requires types { AreTypes types.now }
@@ -157,6 +160,7 @@ fn spell_derived(
 ) -> Result<bool, NoMemory>
     requires place { k < length seen.now.entries }
     requires live { length live.now ≡ length seen.now.entries }
+    requires units { AreInUnits seen.now }
     requires parents { ParentsStandBefore seen.now.entries }
     requires rows { AreRows seen.now.entries rows.now }
     requires types { AreTypes types.now }
@@ -174,8 +178,10 @@ fn spell_derived(
 
 /// Whether an entry is a derived head where it can be spelled.
 fn may_be_derived(seen: &Analysis, live: &BitRow, rows: &HeadRows, k: u32, entry: &EntryRef) -> bool
+    requires stands { slice_get seen.now.entries k ≡ Some entry.now }
     requires place { k < length seen.now.entries }
     requires live { length live.now ≡ length seen.now.entries }
+    requires units { AreInUnits seen.now }
     requires parents { ParentsStandBefore seen.now.entries }
     requires rows { AreRows seen.now.entries rows.now }
     ensures { result ≡ may_be_derived (object_of seen.now live.now) k entry.now }
