@@ -16,13 +16,13 @@ ghost use Rattle.name_bids.specs.Opening.{IsOpenFor};
 
 use crate::refusal::{LimitKind, Refusal};
 use crate::shaping::shared_shape;
-use ds_base::limits::SECTION_BYTES;
+use ds_base::limits::{POOLED_ENTRIES, SECTION_BYTES};
 use ds_base::{BitRow, List, NoMemory};
 use ds_files::Gate;
 use dwarf_types::{Analysis, OutFrames, Shape};
 use link_graph::ShapeError;
 use name_bids::{OpenTable, joined_names, open_table, shared_winners};
-use odr_names::{BookError, MOST_POOLED, ObjectNames, PathBook, book, count};
+use odr_names::{BookError, ObjectNames, PathBook, book, count};
 use std::alloc::Global;
 use std::thread::Threads;
 use type_pool::ClosedPool;
@@ -128,7 +128,7 @@ fn names_of<'a, R: Threads>(
         Ok(open) => Ok(open),
         Err(BookError::Pooled) => Err(Refusal::Limit {
             which: LimitKind::Pooled,
-            number: MOST_POOLED as u64,
+            number: POOLED_ENTRIES as u64,
         }),
         Err(BookError::NoMemory) => Err(Refusal::NoMemory),
     }

@@ -32,5 +32,5 @@ pub use path_book::{
     PathBook, above, bids_are_some, book, count, first_of, joined_book, number, object_count,
     occurrence, path_equal, path_start,
 };
-pub use together::{MOST_POOLED, names_together};
+pub use together::names_together;
 pub use winners::{put_winners, winners_plain};

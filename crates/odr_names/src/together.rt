@@ -7,9 +7,7 @@ ghost use Rattle.type_names.specs.Heads.{Object};
 ghost use Rattle.type_names.specs.Names.{names};
 
 use crate::one_object::ObjectNames;
-
-/// So many names or more of a link have no book ([`BookError::Pooled`](crate::BookError::Pooled)).
-pub const MOST_POOLED: usize = 1 << 25;
+use ds_base::limits::POOLED_ENTRIES;
 
 /// How many names objects have together, where the names of each are made ([`crate::object_names`]); `None` where there
 /// are too many for a book.
@@ -19,7 +17,7 @@ pub fn names_together(own: &[ObjectNames]) -> Option<u32>
     ensures { (objects : Listed Object) → AreAllNames objects own.now → SomeIff result (length (names objects) < 2 ^ 25) (length (names objects)) }
 {
     let total = rows_in(own);
-    if total >= MOST_POOLED {
+    if total >= POOLED_ENTRIES {
         return None;
     }
     Some(total as u32)
