@@ -43,6 +43,7 @@ pub(crate) fn enter_entry(
     requires counts { (j : ℕ) → j < length seen.now.entries → is_inside (object_of seen.now live.now) j ≡ true
         → slice_index_or counts.now j 0 ≡ twins_before object (object_of seen.now live.now) j }
     requires counted { object < 2 ^ 16 }
+    requires known { length numbers.now ≡ k }
     requires numbers { (x : ℕ) → option_and_then (λ p. slice_index_or numbers.now p None) (parent_of seen.now.entries k) ≡ Some x → x < length rows.old.items }
     requires few { length rows.old.items < 2 ^ 25 }
     ensures { (e : AnEntry) → slice_get seen.now.entries k ≡ Some e
@@ -60,6 +61,7 @@ pub(crate) fn enter_entry(
 
 /// The number of the parent's row, if it has one.
 fn number_of(numbers: &RowNumbers, parent: Option<u32>) -> Option<u32>
+    requires { ForSome parent (λ p. p < length numbers.now) }
     ensures { result ≡ option_and_then (λ p. slice_index_or numbers.now p None) parent }
 {
     numbers.get(parent?)

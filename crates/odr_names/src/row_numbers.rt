@@ -1,6 +1,6 @@
 //! The numbers of rows by entry.
 
-ghost use Rattle.std.specs.Prelude.{◌≡◌, ◌<◌, ◌^◌, [], ◌∷◌, ◌++◌, slice_index_or, None, IfOk, IfSome, OnOk};
+ghost use Rattle.std.specs.Prelude.{◌≡◌, ◌<◌, ◌^◌, [], ◌∷◌, ◌++◌, length, slice_index_or, None, IfOk, IfSome, OnOk};
 ghost use Rattle.odr_names.specs.Entering.{number_held};
 
 use ds_base::NoMemory;
@@ -42,8 +42,9 @@ impl RowNumbers {
         Ok(())
     }
 
-    /// That of an entry; none behind the last.
+    /// That of an entry.
     pub(crate) fn get(&self, k: u32) -> Option<u32>
+        requires { k < length self.now }
         ensures { result ≡ slice_index_or self.now k None }
     {
         number_at(&self.held, k)
@@ -61,16 +62,12 @@ fn to_hold(number: Option<u32>) -> u32
     }
 }
 
-/// The number that is held at a place; none behind the last.
+/// The number that is held at a place.
 fn number_at(held: &[u32], k: u32) -> Option<u32>
+    requires { k < length held.now }
     ensures { result ≡ number_held (slice_index_or held.now k 0) }
 {
-    let k = k as usize;
-    if k < held.len() {
-        number_held(held[k])
-    } else {
-        None
-    }
+    number_held(held[k as usize])
 }
 
 /// The number of which this is held.

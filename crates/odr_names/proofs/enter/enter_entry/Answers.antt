@@ -31,3 +31,8 @@ returns c = λ e at. (
     let pushed = c.in_ok-push.ensures.items ∙ ap (λ (row : Row). rows ++ row ∷ []) row in
     let small : c.len-number.result ≡ length rows = omega (arith, c.len-number.ensures) in
     subst (λ (b : Bool). IsEntered b (new_row c.args.object o k e rows parent) rows c.push.new.self.items (Some c.len-number.result)) (sym (sym told ∙ c.if-not-get.false)) (ap (λ (x : ℕ). Some x) small, pushed))
+
+pub number_of-parent-requires : goal.number_of-parent-requires
+number_of-parent-requires c = λ p is. (
+    let lower = c.requires.parents c.args.k p c.entry.result c.entry.ensures.stands (sym c.parent.ensures ∙ is) in
+    omega (arith, lower, c.requires.known))
