@@ -30,7 +30,7 @@ ranked_apart names ranked i j v w at_i at_j same = elim (cases_lt i j) [
 -- ---- names by their numbers
 
 pub name_is : (names : List Named) (x : ℕ) → x < length names → slice_get names x ≡ Some (name_at names x)
-name_is names x within = slice_get-get_or names x (record { object = 0; entry = 0; path = []; bid = 0 }) within
+name_is names x within = slice_get-get_or names x (record { object = 0; entry = 0; parent = None; path = []; bid = 0 }) within
 
 pub path_is : (names : List Named) (x : ℕ) → x < length names → path_at names x ≡ (name_at names x).path
 path_is names x within = ap (λ (o : Option Named). option_map_or (λ (w : Named). w.path) o []) (name_is names x within)

@@ -34,7 +34,7 @@ AreRanked names = (i j : ℕ) (v w : Named) → i < j → slice_get names i ≡ 
 
 -- the name of a number
 abbrev pub name_at : List Named → ℕ → Named
-name_at names x = slice_index_or names x (record { object = 0; entry = 0; path = []; bid = 0 })
+name_at names x = slice_index_or names x (record { object = 0; entry = 0; parent = None; path = []; bid = 0 })
 
 -- ---- winners with what stands above them
 

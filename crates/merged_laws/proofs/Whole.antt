@@ -89,7 +89,7 @@ node_small ns (p ∷ path) m is = go (position (λ w. same_path w.path (p ∷ pa
     go : (found : Option ℕ) → position (λ w. same_path w.path (p ∷ path)) (pool_names ns) ≡ found → option_map (λ n. n + 1) found ≡ Some m → m < length (pool_names ns) + 1
     go None none e = absurd (none-some m e)
     go (Some n) some e =
-        let d : Named = record { object = 0; entry = 0; path = []; bid = 0 } in
+        let d : Named = record { object = 0; entry = 0; parent = None; path = []; bid = 0 } in
         omega (arith, (position-Some (λ w. same_path w.path (p ∷ path)) (pool_names ns) n d some).0, same_Some (n + 1) m e)
 
 module _ (odr : Bool) (seen : List Analysis) (live : List (List Bool)) (sound : All IsSound seen) (given : All IsSpellable seen) (rows : AreLiveRows seen live) (few : length seen < 2 ^ 16) (fit : FilesFit seen (shape_of odr seen live)) where

@@ -6,10 +6,11 @@ use Rattle.std.proofs.lemmas.Bool.{eqb-false, ne_eqb}
 use Rattle.std.proofs.lemmas.List.{length-map, same_from_push}
 use Rattle.std.proofs.lemmas.Option.{none-some, slice_get-map, slice_get_cases, same_Some, slice_get_within}
 use Rattle.type_names.specs.Heads.{Object}
+use Rattle.type_names.specs.Names.{Named}
 use Rattle.type_names.specs.Paths.{Piece}
 use Rattle.type_names.specs.Start.{path_hash}
 use Rattle.odr_names.specs.declared.path_book.Row.{Row}
-use Rattle.odr_names.specs.Book.{AreRows, Compared, IsLinked, bid_at, path_above, path_at, path_in, row_above, row_bid, row_name, row_path, row_piece}
+use Rattle.odr_names.specs.Book.{AreRows, Compared, IsLinked, IsOfParent, bid_at, path_above, path_at, path_in, row_above, row_bid, row_name, row_path, row_piece}
 use Rattle.odr_names.specs.Entering.{rows_up}
 use Rattle.odr_names.specs.Innermost.{innermost}
 use Rattle.odr_names.proofs.Innermost.{innermost_more}
@@ -166,6 +167,17 @@ above_in_names objects rows x row sound at =
       go None within = refl
       go (Some p) within = sym (path_at_names objects rows p (within p refl))
 
+-- the name of the row above is that of the parent of the entry
+pub parent_in_names : (objects : List Object) (rows : List Row) (x : ℕ) (row : Row) → AreRows objects rows → slice_get rows x ≡ Some row → ForSome (row_above x row) (IsOfParent (map (row_name objects) rows) x)
+parent_in_names objects rows x row sound at = λ p is name up name_at up_at. (
+    let above = row_in rows p (above_in objects rows x row sound at p is) in
+    let its = (sound.linked x row at).above p is above.0 above.1 in
+    let one : row_name objects row ≡ name = same_Some (row_name objects row) name (sym (name_is objects rows x row at) ∙ name_at) in
+    let other : row_name objects above.0 ≡ up = same_Some (row_name objects above.0) up (sym (name_is objects rows p above.0 above.1) ∙ up_at) in (
+      sym (ap (λ (w : Named). w.object) other) ∙ its.0 ∙ ap (λ (w : Named). w.object) one,
+      sym (ap (λ (w : Named). w.parent) one) ∙ its.1 ∙ ap (λ (w : Named). Some w.entry) other,
+    ))
+
 -- ---- lists that grow
 
 pub get_before : {X : Type 0} (xs ys : List X) (x : ℕ) → x < length xs → slice_get (xs ++ ys) x ≡ slice_get xs x
@@ -188,6 +200,9 @@ link_before objects before more row x within link = record {
   piece = link.piece;
   its_piece = link.its_piece;
   before = link.before;
+  above = λ p is up at. (
+      let lower = above_lower x row link.before p is in
+      link.above p is up (sym (get_before before more p (omega (arith, lower, within))) ∙ at));
   path = link.path ∙ ap (λ (path : List Piece). path ++ link.piece ∷ []) (sym (above_before objects before more (row_above x row) x within (above_lower x row link.before)));
   hash = link.hash;
   private = link.private;

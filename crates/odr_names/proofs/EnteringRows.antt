@@ -1,5 +1,5 @@
 -- Rows entered one after the other.
-use Rattle.std.proofs.Common.{◌≡◌, inl, inr, ℕ, ◌+◌, ◌-◌, ◌<◌, ◌≤◌, ◌^◌, Bool, true, false, List, [], ◌∷◌, ◌++◌, length, map, take, Option, Some, None, slice_get, get_or, refl, sym, ap, ◌∙◌, arith, subst, append_assoc, append-nil, ◌*◌}
+use Rattle.std.proofs.Common.{◌≡◌, inl, inr, ℕ, ◌+◌, ◌-◌, ◌<◌, ◌≤◌, ◌^◌, Bool, true, false, List, [], ◌∷◌, ◌++◌, length, map, take, Option, Some, None, slice_get, get_or, refl, sym, ap, ◌∙◌, arith, subst, append_assoc, append-nil}
 use Rattle.std.specs.Prelude.{IfSome, ◌||◌, is_some, if◌then◌else◌}
 use Rattle.std.specs.List.{cons_option, enumerate_from, filter_map}
 use Rattle.std.specs.Option.{ForSome, option_and_then, option_map, option_map_or}
@@ -10,13 +10,12 @@ use Rattle.std.proofs.lemmas.Option.{get_or_from_slice_get, none-some, same_Some
 use Rattle.dwarf_types.specs.declared.entry.Entry.{Entry}
 use Rattle.dwarf_types.specs.Tree.{ParentsStandBefore}
 use Rattle.odr_names.specs.declared.path_book.Row.{Row}
-use Rattle.odr_names.specs.Book.{AreRows, IsLinked, IsRowOf, path_above, row_above, row_name, row_path}
-use Rattle.odr_names.specs.Entering.{AreEntered, AreLiveParents, IsEntered, IsEnteredTo, IsEntering, hash_above, names_to, new_row, piece_at, private_above}
+use Rattle.odr_names.specs.Book.{AreRows, IsLinked, IsRowOf, IsRowOfParent, path_above, row_above, row_name, row_parent, row_path}
+use Rattle.odr_names.specs.Entering.{AreEntered, AreLiveParents, IsEntered, IsEnteredTo, IsEntering, IsRowOfEntry, hash_above, names_to, new_row, piece_at, private_above}
 use Rattle.odr_names.specs.Innermost.{innermost}
 use Rattle.odr_names.proofs.Innermost.{private_more}
-use Rattle.type_names.specs.Entries.{is_declaration}
 use Rattle.type_names.specs.Heads.{Object, entries_of, is_pooled}
-use Rattle.type_names.specs.Names.{Named, named_of}
+use Rattle.type_names.specs.Names.{Named, bid_of, named_of}
 use Rattle.type_names.specs.Paths.{Piece, path_of, piece_of}
 use Rattle.type_names.specs.Start.{hash_from, path_hash, piece_bytes}
 use Rattle.type_names.specs.Tree.{parent_of}
@@ -83,6 +82,7 @@ private_above_is objects rows (Some p) sound within = let row = row_in rows p (w
 pub above_is : (objects : List Object) (n : ℕ) (o : Object) (before rows : List Row) (numbers : List (Option ℕ)) (k : ℕ) → ParentsStandBefore (entries_of o) → AreLiveParents o → is_pooled o k ≡ true → IsEnteredTo objects n o before rows numbers k
     → (p : ℕ) × (parent_of (entries_of o) k ≡ Some p) × (path_above objects rows (option_and_then (λ (p : ℕ). get_or numbers p None) (parent_of (entries_of o) k)) ≡ path_of n o p)
     × ForSome (option_and_then (λ (p : ℕ). get_or numbers p None) (parent_of (entries_of o) k)) (λ x. x < length rows)
+    × ForSome (option_and_then (λ (p : ℕ). get_or numbers p None) (parent_of (entries_of o) k)) (IsRowOfEntry n p rows)
 above_is objects n o before rows numbers k stand live pooled so_far =
     let up = pooled_parent o k stand live pooled in
     let lower = parent_before (entries_of o) k up.0 stand up.1 in
@@ -90,11 +90,16 @@ above_is objects n o before rows numbers k stand live pooled so_far =
     elim up.2 [
       | inl above ↦ (
           let it = so_far.some up.0 lower above in
-          let is = number ∙ it.1 in
-          (up.0, up.1, ap (path_above objects rows) is ∙ it.3, λ x same. (let one = same_Some it.0 x (sym is ∙ same) in omega (arith, it.2))))
+          let is = number ∙ it.1 in (
+            up.0,
+            up.1,
+            ap (path_above objects rows) is ∙ it.3,
+            λ x same. (let one = same_Some it.0 x (sym is ∙ same) in omega (arith, it.2)),
+            λ x same. subst (IsRowOfEntry n up.0 rows) (same_Some it.0 x (sym is ∙ same)) it.4,
+          ))
       | inr top ↦ (
           let is = number ∙ so_far.none up.0 lower (unit_is_plain o up.0 top) in
-          (up.0, up.1, ap (path_above objects rows) is ∙ sym (path_top n o up.0 top), λ x same. absurd (none-some x (sym is ∙ same))))
+          (up.0, up.1, ap (path_above objects rows) is ∙ sym (path_top n o up.0 top), λ x same. absurd (none-some x (sym is ∙ same)), λ x same. absurd (none-some x (sym is ∙ same))))
     ]
 
 -- ---- one entry more
@@ -107,7 +112,7 @@ skipped objects n o before rows numbers k e at plain so_far = record {
   len = length_push numbers None ∙ ap (λ m. m + 1) so_far.len;
   some = λ j lt pooled. elim (cases_eq j k) [
     | inl same ↦ absurd (both_ways _ plain (ap (is_pooled o) (sym same) ∙ pooled))
-    | inr other ↦ (let it = so_far.some j (omega arith) pooled in (it.0, get_or_append_left numbers (None ∷ []) None j (omega (arith, so_far.len)) ∙ it.1, it.2, it.3))
+    | inr other ↦ (let it = so_far.some j (omega arith) pooled in (it.0, get_or_append_left numbers (None ∷ []) None j (omega (arith, so_far.len)) ∙ it.1, it.2, it.3, it.4))
   ];
   none = λ j lt is. elim (cases_eq j k) [
     | inl same ↦ get_or_push numbers None None j (so_far.len ∙ sym same)
@@ -129,26 +134,39 @@ entered objects n o before rows numbers k e parent stand live its counted small 
     let own : row_path objects row ≡ path_of n o k = ap (λ (x : Option Object). option_map_or (λ (o : Object). path_of n o k) x []) its in
     let its_piece : piece_of n o k ≡ Some piece = ap (option_map (λ (e : Entry). piece_at n o k e)) at in
     let path : row_path objects row ≡ path_above objects rows (row_above (length rows) row) ++ piece ∷ [] = own ∙ path_below n o k above.0 piece stand above.1 its_piece ∙ ap (λ (path : List Piece). path ++ piece ∷ []) (sym over) in
+    let parent_is : row_parent objects row ≡ parent_of (entries_of o) k = ap (option_and_then (λ (o : Object). parent_of (entries_of o) k)) its in
+    let of_parent : ForSome (row_above (length rows) row) (IsRowOfParent objects rows row) = λ p same r at_p. (
+    let it = above.4 p (sym (up ∙ is) ∙ same) r at_p in
+    (it.0, parent_is ∙ above.1 ∙ ap (λ (q : ℕ). Some q) (sym it.1))) in
     let hash : row.hash ≡ path_hash (row_path objects row) = ap (λ (h : ℕ). hash_from h (piece_bytes piece)) (hash_above_is objects rows parent so_far.are_rows within) ∙ sym (path_hash_more (path_above objects rows parent) piece)
     ∙ ap path_hash (sym (path ∙ ap (λ (above : Option ℕ). path_above objects rows above ++ piece ∷ []) up)) in
     let private : row.private ≡ is_some (innermost (row_path objects row)) = ap (λ (above : Bool). is_some piece.parts.private || above) (private_above_is objects rows parent so_far.are_rows within) ∙ sym (private_more (path_above objects rows parent) piece)
     ∙ ap (λ (path : List Piece). is_some (innermost path)) (sym (path ∙ ap (λ (above : Option ℕ). path_above objects rows above ++ piece ∷ []) up)) in
     let of_entry : IsRowOf objects row = record { object = o; entry = e; its_object = its; stands = at; counted = (counted, small); few = few; declared = refl; spelled = spelled_pooled o k stand pooled; ordinal = refl } in
-    let link : IsLinked objects rows (length rows) row = record { piece = piece; its_piece = ap (option_and_then (λ (o : Object). piece_of n o k)) its ∙ its_piece; before = up_within (length rows) parent; path = path; hash = hash; private = private } in
-    let name : row_name objects row ≡ named_of n o k e = ap (λ (path : List Piece). record { object = n; entry = k; path = path; bid = (if is_declaration e then 2 ^ 63 else 0) + n * 2 ^ 32 + k }) own in
+    let link : IsLinked objects rows (length rows) row = record { piece = piece; its_piece = ap (option_and_then (λ (o : Object). piece_of n o k)) its ∙ its_piece; before = up_within (length rows) parent; above = of_parent; path = path; hash = hash; private = private } in
+    let name : row_name objects row ≡ named_of n o k e =
+    ap (λ (path : List Piece). record { object = n; entry = k; parent = row_parent objects row; path = path; bid = bid_of n k e }) own
+    ∙ ap (λ (parent : Option ℕ). record { object = n; entry = k; parent = parent; path = path_of n o k; bid = bid_of n k e }) parent_is in
     record {
       are_rows = rows_more objects rows row so_far.are_rows of_entry link;
       names = map_push (row_name objects) rows row ∙ ap (λ (xs : List Named). xs ++ row_name objects row ∷ []) so_far.names ∙ append_assoc (map (row_name objects) before) (names_to n o k) (row_name objects row ∷ [])
           ∙ ap (λ (name : Named). map (row_name objects) before ++ (names_to n o k ++ name ∷ [])) name ∙ ap (λ (xs : List Named). map (row_name objects) before ++ xs) (sym (names_more n o k e at pooled));
       len = length_push numbers (Some (length rows)) ∙ ap (λ m. m + 1) so_far.len;
       some = λ j lt is_pooled_j. elim (cases_eq j k) [
-        | inl same ↦ (length rows, get_or_push numbers (Some (length rows)) None j (so_far.len ∙ sym same), omega (arith, length_push rows row), ap (λ (o : Option Row). option_map_or (row_path objects) o []) (get_last rows row) ∙ own ∙ ap (path_of n o) (sym same))
+        | inl same ↦ (
+          length rows,
+          get_or_push numbers (Some (length rows)) None j (so_far.len ∙ sym same),
+          omega (arith, length_push rows row),
+          ap (λ (o : Option Row). option_map_or (row_path objects) o []) (get_last rows row) ∙ own ∙ ap (path_of n o) (sym same),
+          λ r at_r. (let one = same_Some row r (sym (get_last rows row) ∙ at_r) in (sym (ap (λ (r : Row). r.object) one), sym (ap (λ (r : Row). r.entry) one) ∙ sym same)),
+        )
         | inr other ↦ (
             let it = so_far.some j (omega arith) is_pooled_j in (
               it.0,
               get_or_append_left numbers (Some (length rows) ∷ []) None j (omega (arith, so_far.len)) ∙ it.1,
               omega (arith, it.2, length_push rows row),
               ap (λ (o : Option Row). option_map_or (row_path objects) o []) (get_before rows (row ∷ []) it.0 it.2) ∙ it.3,
+              λ r at_r. it.4 r (sym (get_before rows (row ∷ []) it.0 it.2) ∙ at_r),
             ))
       ];
       none = λ j lt plain. elim (cases_eq j k) [

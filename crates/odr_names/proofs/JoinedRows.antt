@@ -38,10 +38,16 @@ link_behind objects before rows row y link = record {
   piece = link.piece;
   its_piece = link.its_piece;
   before = omega (arith, link.before);
+  above = λ p is up at. (
+      let its = below (row_above y row) p (sym (above_moved (length before) y row link.before) ∙ is) in
+      link.above its.0 its.1 up (sym (get_behind before rows its.0 p (sym its.2)) ∙ at));
   path = link.path ∙ ap (λ (path : List Piece). path ++ link.piece ∷ []) (sym (ap (path_above objects (before ++ rows)) (above_moved (length before) y row link.before) ∙ above_behind objects before rows (row_above y row)));
   hash = link.hash;
   private = link.private;
-}
+} where
+  below : (o : Option ℕ) (p : ℕ) → option_map (λ (p : ℕ). length before + p) o ≡ Some p → (q : ℕ) × (o ≡ Some q) × (length before + q ≡ p)
+  below None p is = absurd (none-some p is)
+  below (Some q) p is = (q, refl, same_Some (length before + q) p is)
 
 rows_behind : (objects : List Object) (before rows : List Row) → AreRows objects before → AreRows objects rows → AreRows objects (before ++ rows)
 rows_behind objects before rows first second = record {

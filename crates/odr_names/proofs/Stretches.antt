@@ -1,19 +1,19 @@
 -- Names stand in the order of their objects.
-use Rattle.std.proofs.Common.{◌≡◌, inl, inr, zero, suc, ℕ, ◌+◌, ◌-◌, ◌*◌, ◌<◌, ◌≤◌, ◌^◌, Bool, true, false, cond, if◌then◌else◌, List, [], ◌∷◌, ◌++◌, length, map, Some, None, slice_get, get_or, refl, sym, ap, ◌∙◌, arith, subst, length-append}
+use Rattle.std.proofs.Common.{◌≡◌, inl, inr, zero, suc, ℕ, ◌+◌, ◌-◌, ◌*◌, ◌<◌, ◌≤◌, ◌^◌, Bool, true, false, cond, if◌then◌else◌, List, [], ◌∷◌, ◌++◌, length, map, Option, Some, None, slice_get, get_or, refl, sym, ap, ◌∙◌, arith, subst, length-append}
 use Rattle.std.specs.List.{cons_option, enumerate_from, filter_map, flat_map}
 use Rattle.std.specs.List.Sorted.{IsNonDecreasingBy, IsPartitionPoint}
+use Rattle.std.specs.Option.{option_map, option_map_or}
 use Rattle.std.proofs.lemmas.Bool.{cases_lt}
 use Rattle.std.proofs.lemmas.List.{get_or-append_right, get_or_append_left, get_or-map}
-use Rattle.std.proofs.lemmas.Option.{get_or_from_slice_get, slice_get_within}
+use Rattle.std.proofs.lemmas.Option.{get_or_from_slice_get, slice_get-map}
 use Rattle.dwarf_types.specs.declared.entry.Entry.{Entry}
 use Rattle.odr_names.specs.declared.path_book.Objects.{Objects}
 use Rattle.odr_names.specs.declared.path_book.Row.{Row}
 use Rattle.odr_names.specs.Book.{IsBook, bid_at, objects_in, row_name}
-use Rattle.odr_names.specs.Stretches.{AreOfObjects, IsFirstOf, object_at}
+use Rattle.odr_names.specs.Stretches.{AreOfObjects, IsFirstOf, last_object, object_at}
 use Rattle.type_names.specs.Heads.{Object, entries_of, is_pooled}
 use Rattle.type_names.specs.Names.{Named, named_of, names, names_in}
 use Rattle.odr_names.proofs.BookPaths.{bid_at_names, length_names, name_is, row_in}
-use Rattle.odr_names.proofs.MakingBooks.{length_objects}
 
 abbrev named : ℕ → Object → List (ℕ × Entry) → List Named
 named n o es = filter_map (λ (e : ℕ × Entry). if is_pooled o e.0 then Some (named_of n o e.0 e.1) else None) es
@@ -94,13 +94,35 @@ first_is objects rows object first within parted = record {
       omega (arith, at, its, read));
 }
 
-pub of_objects : (os : Objects) (rows : List Row) → IsBook os rows → AreOfObjects (map (row_name (objects_in os)) rows) (length os.seen.now)
+-- no name is of an object behind that of the last one
+pub of_objects : (os : Objects) (rows : List Row) → IsBook os rows → AreOfObjects (map (row_name (objects_in os)) rows) (last_object rows)
 of_objects os rows book = λ x below. (
-    let row = row_in rows x (omega (arith, below, length_names (objects_in os) rows)) in
+    let within : x < length rows = omega (arith, below, length_names (objects_in os) rows) in
+    let row = row_in rows x within in
+    let last = row_in rows (length rows - 1) (omega (arith, within)) in
     let at = object_is (objects_in os) rows x row.0 row.1 in
+    let end : last_object rows ≡ last.0.object = ap (λ (r : Option Row). option_map_or (λ (r : Row). r.object) r 0) last.1 in
     let its = book.are_rows.of_entries x row.0 row.1 in
-    let there = slice_get_within (objects_in os) (row.0.object - 1) its.object its.its_object in
-    (omega (arith, at, its.counted.0), omega (arith, at, there, length_objects os.seen.now os.live.now book.told.live_len)))
+    let order = book.in_order x (length rows - 1) row.0 (omega (arith, within)) (omega (arith, within)) in
+    let first = ap (λ (r : Row). r.object) (get_or_from_slice_get rows x row.0 row.0 row.1) in
+    let second = ap (λ (r : Row). r.object) (get_or_from_slice_get rows (length rows - 1) last.0 row.0 last.1) in
+    (omega (arith, at, its.counted.0), omega (arith, at, end, order, first, second)))
+
+pub last_small : (os : Objects) (rows : List Row) → IsBook os rows → last_object rows < 2 ^ 16
+last_small os rows book = go (slice_get rows (length rows - 1)) refl where
+  go : (row : Option Row) → slice_get rows (length rows - 1) ≡ row → option_map_or (λ (row : Row). row.object) row 0 < 2 ^ 16
+  go None at = omega arith
+  go (Some row) at = (book.are_rows.of_entries (length rows - 1) row at).counted.1
+
+-- the object of the last name
+pub last_is : (objects : List Object) (rows : List Row) → last_object rows ≡ object_at (map (row_name objects) rows) (length (map (row_name objects) rows) - 1)
+last_is objects rows =
+    go (slice_get rows (length rows - 1))
+    ∙ ap (λ (name : Option Named). option_map_or (λ (name : Named). name.object) name 0) (sym (slice_get-map (row_name objects) rows (length rows - 1)))
+    ∙ ap (λ (n : ℕ). object_at (map (row_name objects) rows) (n - 1)) (sym (length_names objects rows)) where
+      go : (row : Option Row) → option_map_or (λ (row : Row). row.object) row 0 ≡ option_map_or (λ (name : Named). name.object) (option_map (row_name objects) row) 0
+      go None = refl
+      go (Some row) = refl
 
 pub bids_small : (os : Objects) (rows : List Row) → IsBook os rows → (x : ℕ) → x < length (map (row_name (objects_in os)) rows) → bid_at (map (row_name (objects_in os)) rows) x < 2 ^ 64 - 1
 bids_small os rows book x below =

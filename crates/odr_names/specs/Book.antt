@@ -16,6 +16,7 @@ use Rattle.type_names.specs.Objects.{object_of}
 use Rattle.type_names.specs.Paths.{Piece, ordinal_of, path_of, piece_of}
 use Rattle.type_names.specs.Pooled.{AreNames}
 use Rattle.type_names.specs.Start.{path_hash}
+use Rattle.type_names.specs.Tree.{parent_of}
 
 -- ---- names
 
@@ -24,6 +25,10 @@ path_at names x = option_map_or (λ name. name.path) (slice_get names x) []
 
 abbrev pub bid_at : List Named → ℕ → ℕ
 bid_at names x = option_map_or (λ name. name.bid) (slice_get names x) 0
+
+-- name p is that of the parent of the entry of name x
+abbrev pub IsOfParent : List Named → ℕ → ℕ → Type 0
+IsOfParent names x p = (name up : Named) → slice_get names x ≡ Some name → slice_get names p ≡ Some up → (up.object ≡ name.object) × (name.parent ≡ Some up.entry)
 
 -- names a and b have one path
 abbrev pub SamePath : List Named → ℕ → ℕ → Type 0
@@ -57,6 +62,9 @@ row_object objects row = slice_get objects (row.object - 1)
 abbrev pub row_path : List Object → Row → List Piece
 row_path objects row = option_map_or (λ o. path_of row.object o row.entry) (row_object objects row) []
 
+abbrev pub row_parent : List Object → Row → Option ℕ
+row_parent objects row = option_and_then (λ o. parent_of (entries_of o) row.entry) (row_object objects row)
+
 abbrev pub row_piece : List Object → Row → Option Piece
 row_piece objects row = option_and_then (λ o. piece_of row.object o row.entry) (row_object objects row)
 
@@ -64,7 +72,7 @@ abbrev pub row_bid : Row → ℕ
 row_bid row = (if row.declared then 2 ^ 63 else 0) + row.object * 2 ^ 32 + row.entry
 
 abbrev pub row_name : List Object → Row → Named
-row_name objects row = record { object = row.object; entry = row.entry; path = row_path objects row; bid = row_bid row }
+row_name objects row = record { object = row.object; entry = row.entry; parent = row_parent objects row; path = row_path objects row; bid = row_bid row }
 
 abbrev pub path_in : List Object → List Row → ℕ → List Piece
 path_in objects rows x = option_map_or (row_path objects) (slice_get rows x) []
@@ -84,11 +92,16 @@ pub record IsRowOf (objects : List Object) (row : Row) : Type 0 where
   pub spelled : IsSpelled object row.entry
   pub ordinal : row.ordinal ≡ ordinal_of row.object object row.entry entry
 
--- its path is that of the row above, which stands before it, and its piece
+-- row p is that of the parent of the entry of this row
+abbrev pub IsRowOfParent : List Object → List Row → Row → ℕ → Type 0
+IsRowOfParent objects rows row p = (up : Row) → slice_get rows p ≡ Some up → (up.object ≡ row.object) × (row_parent objects row ≡ Some up.entry)
+
+-- its path is that of the row above, which stands before it and is that of its parent, and its piece
 pub record IsLinked (objects : List Object) (rows : List Row) (x : ℕ) (row : Row) : Type 0 where
   pub piece : Piece
   pub its_piece : row_piece objects row ≡ Some piece
   pub before : row.up ≤ x
+  pub above : ForSome (row_above x row) (IsRowOfParent objects rows row)
   pub path : row_path objects row ≡ path_above objects rows (row_above x row) ++ piece ∷ []
   pub hash : row.hash ≡ path_hash (row_path objects row)
   pub private : row.private ≡ is_some (innermost (row_path objects row))

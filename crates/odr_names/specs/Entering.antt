@@ -52,12 +52,16 @@ Enters n o k e parent old new number = IsEntered (is_pooled o k) (new_row n o k 
 abbrev pub names_to : ℕ → Object → ℕ → List Named
 names_to n o k = filter_map (λ e. if is_pooled o e.0 then Some (named_of n o e.0 e.1) else None) (enumerate_from 0 (take k (entries_of o)))
 
+-- row x is that of entry k of object n
+abbrev pub IsRowOfEntry : ℕ → ℕ → List Row → ℕ → Type 0
+IsRowOfEntry n k rows x = (row : Row) → slice_get rows x ≡ Some row → (row.object ≡ n) × (row.entry ≡ k)
+
 -- the first k entries are entered, and the number of each pooled one is known
 pub record IsEnteredTo (objects : List Object) (n : ℕ) (o : Object) (before rows : List Row) (numbers : List (Option ℕ)) (k : ℕ) : Type 0 where
   pub are_rows : AreRows objects rows
   pub names : map (row_name objects) rows ≡ map (row_name objects) before ++ names_to n o k
   pub len : length numbers ≡ k
-  pub some : (j : ℕ) → j < k → is_pooled o j ≡ true → (x : ℕ) × (slice_index_or numbers j None ≡ Some x) × (x < length rows) × (path_in objects rows x ≡ path_of n o j)
+  pub some : (j : ℕ) → j < k → is_pooled o j ≡ true → (x : ℕ) × (slice_index_or numbers j None ≡ Some x) × (x < length rows) × (path_in objects rows x ≡ path_of n o j) × IsRowOfEntry n j rows x
   pub none : (j : ℕ) → j < k → is_pooled o j ≡ false → slice_index_or numbers j None ≡ None
 
 -- the parents of live entries are live

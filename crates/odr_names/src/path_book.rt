@@ -6,11 +6,11 @@ ghost use Rattle.std.specs.List.Sorted.{IsNonDecreasingBy, IsPartitionPoint};
 ghost use Rattle.std.specs.Option.{ForSome, option_map, option_map_or};
 ghost use Rattle.dwarf_types.specs.Sound.{IsSound};
 ghost use Rattle.odr_names.specs.declared.book_error.BookError.TheVariants as errors;
-ghost use Rattle.odr_names.specs.Book.{AreRows, AreTold, IsBook, IsRowOf, SamePath, bid_at, objects_in, objects_of, path_at, path_in, row_above, row_bid, row_piece};
+ghost use Rattle.odr_names.specs.Book.{AreRows, AreTold, IsBook, IsOfParent, IsRowOf, SamePath, bid_at, objects_in, objects_of, path_at, path_in, row_above, row_bid, row_piece};
 ghost use Rattle.odr_names.specs.Innermost.{innermost, rank_hash};
 ghost use Rattle.odr_names.specs.Joining.{AreAllNames};
 ghost use Rattle.odr_names.specs.Making.{AreLiveRows, merged};
-ghost use Rattle.odr_names.specs.Stretches.{AreOfObjects, IsFirstOf};
+ghost use Rattle.odr_names.specs.Stretches.{AreOfObjects, IsFirstOf, last_object, object_at};
 ghost use Rattle.odr_names.specs.Pieces.{own_seen, piece_seen};
 ghost use Rattle.odr_names.specs.declared.path_book.Row.{Row as ARow};
 ghost use Rattle.type_names.specs.Names.{Named, names};
@@ -167,12 +167,14 @@ pub fn count(names: &PathBook) -> u32
     names.rows.len() as u32
 }
 
-/// A number of objects among which those of all names are: each is one of so many, which are counted from 1.
+/// The number of the last object that has a name, counted from 1; 0 where none has. Names stand in the order of their
+/// objects, so it is that of the last name.
 pub fn object_count(names: &PathBook) -> u32
+    ensures last { result ≡ object_at names.now (length names.now - 1) }
     ensures objects { AreOfObjects names.now result }
     ensures few { result < 2 ^ 16 }
 {
-    names.objects.seen.len() as u32
+    last_object(&names.rows)
 }
 
 /// The first name of an object, or of one behind it.
@@ -210,11 +212,12 @@ pub fn bids_are_some(names: &PathBook)
     let _count = names.rows.len();
 }
 
-/// The name of the entry above that of name `x`, whose path is that of `x` without its last piece; none where that has one
-/// piece.
+/// The name of the parent of the entry of name `x`, whose path is that of `x` without its last piece; none where that path
+/// has one piece, since the parent then has no name.
 pub fn above(names: &PathBook, x: u32) -> Option<u32>
     requires { x < length names.now }
     ensures before { ForSome result (λ p. p < x) }
+    ensures parent { ForSome result (IsOfParent names.now x) }
     ensures path { (piece : Piece) × (path_at names.now x ≡ option_map_or (path_at names.now) result [] ++ piece ∷ []) }
 {
     row_above(x, row_at(&names.rows, x))
@@ -297,6 +300,16 @@ fn count_before(rows: &[Row], object: u32) -> usize
     ensures parted { IsPartitionPoint (λ row. row.object < object) (λ row. object ≤ row.object) rows.now result }
 {
     rows.partition_point(|row| u32::from(row.object) < object)
+}
+
+/// The object of the last row; 0 where there is no row.
+fn last_object(rows: &[Row]) -> u32
+    ensures { result ≡ last_object rows.now }
+{
+    match rows.last() {
+        Some(row) => u32::from(row.object),
+        None => 0,
+    }
 }
 
 /// The bid of a row.

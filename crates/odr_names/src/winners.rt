@@ -36,7 +36,8 @@ pub fn winners_plain(alloc: Global, names: &PathBook) -> Result<Vec<u32>, NoMemo
     Ok(winners)
 }
 
-/// Puts the winner of each of these names in its place. All names of a path are among them, or none.
+/// Puts the winner of each of these names in its place. All names of a path are among them, or none. Where memory runs out
+/// nothing has changed.
 pub fn put_winners(
     alloc: Global,
     names: &PathBook,
@@ -46,7 +47,8 @@ pub fn put_winners(
     requires inside { All (λ x. x < length names.now) some.now }
     requires whole { AreWholePaths names.now some.now }
     requires len { length winners.old.items ≡ length names.now }
-    ensures { OnOk result (ArePut names.now some.now winners.old.items winners.new.items) }
+    ensures put { OnOk result (ArePut names.now some.now winners.old.items winners.new.items) }
+    ensures unchanged { OnErr result (winners.new ≡ winners.old) }
 {
     let mut ranks = ranks_among(alloc, names, some)?;
     sort_ranks(&mut ranks);

@@ -33,6 +33,6 @@ returns g c =
     let state = c.args.closed.now.state in
     let cells = cells_in c.args.cells.now in
     let is : c.in_ok-winners.winners.items ≡ map (winner_at c.in_ok-least.least.items) cells = rw c.deref.ensures.value at c.in_ok-winners.ensures in
-    let put : ArePut names c.in_ok-crowded.crowded.items c.in_ok-winners.winners.items c.put_winners.new.winners.items = rw c.deref-2.ensures.value at c.in_ok-put_winners.ensures in
+    let put : ArePut names c.in_ok-crowded.crowded.items c.in_ok-winners.winners.items c.put_winners.new.winners.items = rw c.deref-2.ensures.value at c.in_ok-put_winners.ensures.put in
     all_win names state cells c.in_ok-crowded.crowded.items c.requires.table c.requires.cells c.in_ok-crowded.ensures
     c.in_ok-least.least.items c.in_ok-winners.winners.items c.put_winners.new.winners.items c.in_ok-least.ensures is put
