@@ -30,7 +30,8 @@ use unit_source::{OutAttrRef, OutValueRef};
 /// files. A dropped attribute speaks of how the input was laid out, has an address that did not move, a section offset
 /// that leads to no table or list, a list with nothing left, a reference to an entry that is not written or a file that
 /// the output unit lacks, or is the length of code whose low_pc did not move. A root's own addresses are dropped, since
-/// its unit's ranges stand for them.
+/// its unit's ranges stand for them. Where memory runs out, `attrs` is left with what stood there and the first of the
+/// attributes to be put, and is good for nothing.
 pub fn add_attrs<'a>(
     alloc: Global,
     images: &[Option<Target>],
