@@ -1,6 +1,7 @@
 //! One entry: its node.
 
 ghost use Rattle.std.specs.Prelude.{◌≡◌, ◌<◌, ◌^◌, ◌++◌, [], ◌∷◌, length, OnOk};
+ghost use Rattle.std.specs.Option.{ForSome};
 ghost use Rattle.link_graph.specs.Passes.{nodes_with, parent_in, plain_with};
 
 use ds_base::{List, NoMemory};
@@ -18,7 +19,8 @@ pub(crate) fn add_entry(
     nodes: &mut List<Origin>,
     plain: &mut List<Option<u32>>,
 ) -> Result<(), NoMemory>
-    requires { length nodes.old < 2 ^ 32 }
+    requires few { length nodes.old < 2 ^ 32 }
+    requires parent { ForSome entry.now.parent (λ p. p < length plain.old) }
     ensures nodes { OnOk result (nodes.new ≡ nodes.old ++ nodes_with kept object k entry.now plain.old) }
     ensures plain { OnOk result (plain.new ≡ plain.old ++ plain_with kept (length nodes.old) ∷ []) }
 {
@@ -30,15 +32,16 @@ pub(crate) fn add_entry(
     nodes.push(Origin {
         object,
         entry: k,
-        parent: parent_in(plain, entry.parent()),
+        parent: parent_in(plain.as_slice(), entry.parent()),
     })?;
     plain.push(Some(node))?;
     Ok(())
 }
 
 /// The node of a parent, by those of the entries up to it.
-fn parent_in(plain: &List<Option<u32>>, parent: Option<u32>) -> Option<u32>
+fn parent_in(plain: &[Option<u32>], parent: Option<u32>) -> Option<u32>
+    requires { ForSome parent (λ p. p < length plain.now) }
     ensures { result ≡ parent_in plain.now parent }
 {
-    *plain.get(parent? as usize)?
+    plain[parent? as usize]
 }
