@@ -140,7 +140,7 @@ module _ {P : Type 0} (at : P → ℕ) (part : P → List ℕ) where
       ∙ fill_behind shift n moved same ps xs (put ys (at p) (part p)) len
 
 module _ (bytes : List ℕ) (owns : List OwnPatch) (outers : List OuterPatch) (h : AreInside (holey bytes owns outers)) where
-  pub filled-both : (more : Holey) (f : Filling)
+  filled-both : (more : Holey) (f : Filling)
       → filled (holey (bytes ++ more.bytes) (owns ++ map (own_behind (length bytes)) more.own) (outers ++ map (outer_behind (length bytes)) more.outer)) f ≡ filled (holey bytes owns outers) f ++ filled more f
   filled-both more f =
       let own_part = λ (p : OwnPatch). own_bytes f.own p.hole in
@@ -158,6 +158,16 @@ module _ (bytes : List ℕ) (owns : List OwnPatch) (outers : List OuterPatch) (h
       ap (fill_outer f.outer (outers ++ map (outer_behind n) more.outer)) owned ∙ fill-more at_outer outer_part outers (map (outer_behind n) more.outer) (first ++ second)
       ∙ ap (fill_outer f.outer (map (outer_behind n) more.outer)) (fill-append at_outer outer_part fours outers first second inside)
       ∙ fill_behind at_outer outer_part (outer_behind n) n (λ p. refl) (λ p. refl) more.outer (fill_outer f.outer outers first) second (length-fill at_outer outer_part fours outers first inside ∙ len)
+
+module _ (bytes : List ℕ) (owns : List OwnPatch) (outers : List OuterPatch) (h : AreInside (holey bytes owns outers)) where
+  -- and with some bytes between
+  pub filled-behind : (front : List ℕ) (more : Holey) (f : Filling)
+      → filled (holey ((bytes ++ front) ++ more.bytes) (owns ++ map (own_behind (length (bytes ++ front))) more.own) (outers ++ map (outer_behind (length (bytes ++ front))) more.outer)) f
+      ≡ filled (holey bytes owns outers) f ++ (front ++ filled more f)
+  filled-behind front more f =
+      filled-both (bytes ++ front) owns outers (inside_longer bytes owns outers h front) more f
+      ∙ ap (λ (xs : List ℕ). xs ++ filled more f) (filled-append bytes owns outers h front f)
+      ∙ append_assoc (filled (holey bytes owns outers) f) front (filled more f)
 
 -- where holes stand in longer bytes
 

@@ -1,6 +1,7 @@
 //! Bytes that grow, with holes.
 
-ghost use Rattle.std.specs.Prelude.{ℕ, ◌≡◌, ◌++◌, ◌∷◌, ◌<◌, ◌≤◌, ◌^◌, [], ◌+◌, length, map, OnOk};
+ghost use Rattle.std.specs.Prelude.{ℕ, ◌≡◌, ◌++◌, ◌∷◌, ◌<◌, ◌≤◌, ◌^◌, [], ◌+◌, length, map, OnErr, OnOk};
+ghost use Rattle.std.specs.Vec.{vec_capacity, vec_len};
 ghost use Rattle.std.specs.List.{All};
 ghost use Rattle.byteorder.specs.Endian.{little_bytes};
 ghost use Rattle.ds_base.specs.Leb.{sleb, uleb};
@@ -18,6 +19,8 @@ use std::marker::Model;
 const MOST_DIGITS: usize = 10;
 
 /// Bytes with holes. A contract sees what they are, once each hole has its number. Places count from the first byte.
+///
+/// Where there is no memory for what is put last, the bytes stay, and their holes.
 #[derive(Drop)]
 pub struct Buffer {
     bytes: Vec<u8>,
@@ -75,7 +78,8 @@ impl Buffer {
 
     /// Puts a byte last.
     pub fn push(&mut self, byte: u8) -> Result<(), NoMemory>
-        ensures { OnOk result ((f : Filling) → filled self.new f ≡ filled self.old f ++ byte ∷ []) }
+        ensures ok { OnOk result ((f : Filling) → filled self.new f ≡ filled self.old f ++ byte ∷ []) }
+        ensures unchanged { OnErr result (self.new ≡ self.old) }
     {
         self.bytes.push(byte)?;
         Ok(())
@@ -83,7 +87,8 @@ impl Buffer {
 
     /// Puts bytes last.
     pub fn extend(&mut self, bytes: &[u8]) -> Result<(), NoMemory>
-        ensures { OnOk result ((f : Filling) → filled self.new f ≡ filled self.old f ++ bytes.now) }
+        ensures ok { OnOk result ((f : Filling) → filled self.new f ≡ filled self.old f ++ bytes.now) }
+        ensures unchanged { OnErr result (self.new ≡ self.old) }
     {
         self.bytes.extend_from_slice(bytes)?;
         Ok(())
@@ -92,7 +97,8 @@ impl Buffer {
     /// Puts the lowest bytes of a number last, the lowest first.
     pub fn extend_lowest(&mut self, n: u64, count: usize) -> Result<(), NoMemory>
         requires few { count ≤ 8 }
-        ensures { OnOk result ((f : Filling) → filled self.new f ≡ filled self.old f ++ little_bytes count n) }
+        ensures ok { OnOk result ((f : Filling) → filled self.new f ≡ filled self.old f ++ little_bytes count n) }
+        ensures unchanged { OnErr result (self.new ≡ self.old) }
     {
         self.extend(&n.to_le_bytes()[..count])?;
         Ok(())
@@ -100,7 +106,8 @@ impl Buffer {
 
     /// Puts the shortest LEB number without a sign last (DWARF 4, section 7.6).
     pub fn extend_uleb(&mut self, n: u64) -> Result<(), NoMemory>
-        ensures { OnOk result ((f : Filling) → filled self.new f ≡ filled self.old f ++ uleb n) }
+        ensures ok { OnOk result ((f : Filling) → filled self.new f ≡ filled self.old f ++ uleb n) }
+        ensures unchanged { OnErr result (self.new ≡ self.old) }
     {
         let mut room = [0; MOST_DIGITS];
         put_uleb(&mut room, 0, n);
@@ -110,7 +117,8 @@ impl Buffer {
 
     /// Puts the shortest LEB number with a sign last (DWARF 4, section 7.6).
     pub fn extend_sleb(&mut self, n: i64) -> Result<(), NoMemory>
-        ensures { OnOk result ((f : Filling) → filled self.new f ≡ filled self.old f ++ sleb n) }
+        ensures ok { OnOk result ((f : Filling) → filled self.new f ≡ filled self.old f ++ sleb n) }
+        ensures unchanged { OnErr result (self.new ≡ self.old) }
     {
         let mut room = [0; MOST_DIGITS];
         put_sleb(&mut room, 0, n);
@@ -120,42 +128,65 @@ impl Buffer {
 
     /// Leaves a hole for what stands outside of the unit.
     pub fn leave(&mut self, hole: Outer) -> Result<(), NoMemory>
-        ensures { OnOk result ((f : Filling) → filled self.new f ≡ filled self.old f ++ outer_bytes f.outer hole) }
+        ensures ok { OnOk result ((f : Filling) → filled self.new f ≡ filled self.old f ++ outer_bytes f.outer hole) }
+        ensures unchanged { OnErr result (self.new ≡ self.old) }
     {
         let at = self.bytes.len();
+        self.outer.reserve(1)?;
         self.bytes.extend_from_slice(&[0; OFFSET_LEN])?;
-        self.outer.push(OuterPatch { at, hole })?;
+        self.outer.push_reserved(OuterPatch { at, hole });
         Ok(())
     }
 
     /// Leaves a hole for what the unit itself tells.
     pub fn leave_own(&mut self, hole: Own) -> Result<(), NoMemory>
-        ensures { OnOk result ((f : Filling) → filled self.new f ≡ filled self.old f ++ own_bytes f.own hole) }
+        ensures ok { OnOk result ((f : Filling) → filled self.new f ≡ filled self.old f ++ own_bytes f.own hole) }
+        ensures unchanged { OnErr result (self.new ≡ self.old) }
     {
         let at = self.bytes.len();
+        self.own.reserve(1)?;
         self.bytes.extend_from_slice(&[0; OFFSET_LEN])?;
-        self.own.push(OwnPatch { at, hole })?;
+        self.own.push_reserved(OwnPatch { at, hole });
         Ok(())
     }
 
     /// Puts other bytes last, with their holes.
     pub fn append(&mut self, other: &Buffer) -> Result<(), NoMemory>
-        ensures { OnOk result ((f : Filling) → filled self.new f ≡ filled self.old f ++ filled other.now f) }
+        ensures ok { OnOk result ((f : Filling) → filled self.new f ≡ filled self.old f ++ filled other.now f) }
+        ensures unchanged { OnErr result (self.new ≡ self.old) }
     {
-        let base = self.bytes.len();
-        self.bytes.extend_from_slice(other.bytes.as_slice())?;
-        let end = self.bytes.len();
-        push_own(&mut self.own, other.own.as_slice(), base, end)?;
-        push_outer(&mut self.outer, other.outer.as_slice(), base, end)?;
+        self.append_behind(&[], other)?;
         Ok(())
     }
 
     /// Puts other bytes last, and before them their length, as the shortest LEB number without a sign.
     pub fn append_prefixed(&mut self, other: &Buffer) -> Result<(), NoMemory>
-        ensures { OnOk result ((f : Filling) → filled self.new f ≡ filled self.old f ++ (uleb (length (filled other.now f)) ++ filled other.now f)) }
+        ensures ok { OnOk result ((f : Filling) → filled self.new f ≡ filled self.old f ++ (uleb (length (filled other.now f)) ++ filled other.now f)) }
+        ensures unchanged { OnErr result (self.new ≡ self.old) }
     {
-        self.extend_uleb(other.len() as u64)?;
-        self.append(other)?;
+        let len = other.len() as u64;
+        let mut room = [0; MOST_DIGITS];
+        put_uleb(&mut room, 0, len);
+        self.append_behind(&room[..uleb_len(len) as usize], other)?;
+        Ok(())
+    }
+
+    /// Puts a few bytes last, and other bytes behind them, with their holes.
+    fn append_behind(&mut self, front: &[u8], other: &Buffer) -> Result<(), NoMemory>
+        requires few { length front.now ≤ 10 }
+        ensures ok { OnOk result ((f : Filling) → filled self.new f ≡ filled self.old f ++ (front.now ++ filled other.now f)) }
+        ensures unchanged { OnErr result (self.new ≡ self.old) }
+    {
+        // Room first: behind it nothing fails, so all grow or none.
+        self.own.reserve(other.own.len())?;
+        self.outer.reserve(other.outer.len())?;
+        self.bytes.reserve(front.len() + other.bytes.len())?;
+        self.bytes.extend_from_slice(front)?;
+        let base = self.bytes.len();
+        self.bytes.extend_from_slice(other.bytes.as_slice())?;
+        let end = self.bytes.len();
+        push_own(&mut self.own, other.own.as_slice(), base, end);
+        push_outer(&mut self.outer, other.outer.as_slice(), base, end);
         Ok(())
     }
 
@@ -193,7 +224,7 @@ impl Buffer {
         fill_all_outer(room, self.outer.as_slice(), outside);
     }
 
-    /// The bytes, with zeros in the holes that are left.
+    /// The bytes as they stand: of what stands in a hole that is left nothing is said.
     pub fn into_bytes(self) -> Bytes
         ensures { result ≡ self.bytes }
     {
@@ -202,42 +233,32 @@ impl Buffer {
     }
 }
 
-/// Puts patches last, of bytes that stand behind `base` others and before `end`.
-fn push_own(
-    out: &mut Vec<OwnPatch>,
-    patches: &[OwnPatch],
-    base: usize,
-    end: usize,
-) -> Result<(), NoMemory>
-    requires { All (λ p. base + p.at + 4 ≤ end) patches.now }
-    ensures pushed { OnOk result (out.new.items ≡ out.old.items ++ map (own_behind base) patches.now) }
+/// Puts patches last, of bytes that stand behind `base` others and before `end`. There is room for them.
+fn push_own(out: &mut Vec<OwnPatch>, patches: &[OwnPatch], base: usize, end: usize)
+    requires room { vec_len out.old + length patches.now ≤ vec_capacity out.old }
+    requires within { All (λ p. base + p.at + 4 ≤ end) patches.now }
+    ensures pushed { out.new.items ≡ out.old.items ++ map (own_behind base) patches.now }
     ensures inside { All (λ p. p.at + 4 ≤ end) out.old.items → All (λ p. p.at + 4 ≤ end) out.new.items }
 {
     for patch in patches {
-        out.push(OwnPatch {
+        out.push_reserved(OwnPatch {
             at: base + patch.at,
             hole: patch.hole,
-        })?;
+        });
     }
-    Ok(())
 }
 
-/// Puts patches last, of bytes that stand behind `base` others and before `end`.
-fn push_outer(
-    out: &mut Vec<OuterPatch>,
-    patches: &[OuterPatch],
-    base: usize,
-    end: usize,
-) -> Result<(), NoMemory>
-    requires { All (λ p. base + p.at + 4 ≤ end) patches.now }
-    ensures pushed { OnOk result (out.new.items ≡ out.old.items ++ map (outer_behind base) patches.now) }
+/// Puts patches last, of bytes that stand behind `base` others and before `end`. There is room for them.
+fn push_outer(out: &mut Vec<OuterPatch>, patches: &[OuterPatch], base: usize, end: usize)
+    requires room { vec_len out.old + length patches.now ≤ vec_capacity out.old }
+    requires within { All (λ p. base + p.at + 4 ≤ end) patches.now }
+    ensures pushed { out.new.items ≡ out.old.items ++ map (outer_behind base) patches.now }
     ensures inside { All (λ p. p.at + 4 ≤ end) out.old.items → All (λ p. p.at + 4 ≤ end) out.new.items }
 {
     for patch in patches {
-        out.push(OuterPatch {
+        out.push_reserved(OuterPatch {
             at: base + patch.at,
             hole: patch.hole,
-        })?;
+        });
     }
-    Ok(())
 }

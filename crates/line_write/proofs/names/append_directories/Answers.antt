@@ -15,4 +15,4 @@ returns c =
     let front = c.append_directory_format.new.out in
     named_behind c.args.out.now front new names after dirs (λ text. uleb (length dirs) ++ flat_map (directory_entry text) dirs) directory_format c.in_ok-append_directory_format.ensures
     (named_behind front c.extend_uleb.new.self new names after dirs (λ text. flat_map (directory_entry text) dirs) (uleb (length dirs))
-    (λ f. c.in_ok-extend_uleb.ensures f ∙ ap (λ (n : ℕ). filled front f ++ uleb n) c.len.ensures) c.in_ok-append_each_directory.ensures)
+    (λ f. c.in_ok-extend_uleb.ensures.ok f ∙ ap (λ (n : ℕ). filled front f ++ uleb n) c.len.ensures) c.in_ok-append_each_directory.ensures)

@@ -9,6 +9,6 @@ returns c = λ f.
       c.in_ok-append_format-3.ensures f,
       c.in_ok-append_format-2.ensures f,
       c.in_ok-append_format.ensures f,
-      c.in_ok-push.ensures f,
+      c.in_ok-push.ensures.ok f,
       c.pairs_in.ensures,
     ) (simp append_assoc)

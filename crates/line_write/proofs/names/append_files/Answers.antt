@@ -19,4 +19,4 @@ returns c =
     subst (λ (b : Bool). AppendsNamed c.args.out.now new names after (λ text. file_format b ++ (uleb (length files) ++ flat_map (file_entry text b) files)) texts) c.are_with_digests-digests.ensures
     (named_behind c.args.out.now front new names after texts (λ text. uleb (length files) ++ flat_map (file_entry text digests) files) (file_format digests) c.in_ok-append_file_format.ensures
     (named_behind front c.extend_uleb.new.self new names after texts (λ text. flat_map (file_entry text digests) files) (uleb (length files))
-    (λ f. c.in_ok-extend_uleb.ensures f ∙ ap (λ (n : ℕ). filled front f ++ uleb n) c.len.ensures) c.in_ok-append_each_file.ensures))
+    (λ f. c.in_ok-extend_uleb.ensures.ok f ∙ ap (λ (n : ℕ). filled front f ++ uleb n) c.len.ensures) c.in_ok-append_each_file.ensures))

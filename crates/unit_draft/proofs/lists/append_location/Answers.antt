@@ -15,5 +15,5 @@ returns c = λ f place tells.
     let expr = c.in_ok-write_expression.ensures f place tells
     ∙ ap (λ (ps : List ExprPart). expression_bytes place ps) c.as_slice.ensures in
     location_is version place item.parts (kind_bytes version DW_LLE_start_end) (little_bytes 8 item.span.low) (little_bytes 8 item.span.high) _ _ _ _ _ _ _ expr
-    (c.in_ok-append_location_kind.ensures f) (c.in_ok-extend_lowest.ensures f) (c.in_ok-extend_lowest-2.ensures f)
-    (c.in_ok-append_size.ensures f ∙ ap (λ (n : ℕ). filled c.extend_lowest-2.new.self f ++ size_bytes version n) (sym (c.len.ensures f))) (c.in_ok-append.ensures f)
+    (c.in_ok-append_location_kind.ensures f) (c.in_ok-extend_lowest.ensures.ok f) (c.in_ok-extend_lowest-2.ensures.ok f)
+    (c.in_ok-append_size.ensures f ∙ ap (λ (n : ℕ). filled c.extend_lowest-2.new.self f ++ size_bytes version n) (sym (c.len.ensures f))) (c.in_ok-append.ensures.ok f)

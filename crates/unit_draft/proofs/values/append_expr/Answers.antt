@@ -13,4 +13,4 @@ returns c =
     (λ w fits.
     let f = w.filling in
     let place = own_node w.places in
-    expr_bytes place parts _ _ _ (c.in_ok-write_expression.ensures f place fits.base) (c.in_ok-append_prefixed.ensures f))
+    expr_bytes place parts _ _ _ (c.in_ok-write_expression.ensures f place fits.base) (c.in_ok-append_prefixed.ensures.ok f))

@@ -2,5 +2,5 @@ use Rattle.std.proofs.Common.{◌∙◌}
 use Rattle.patches.proofs.Fills.{filled-outer}
 use Rattle.patches.proofs.buffer.Buffer.leave.Goals as goal
 
-pub returns : goal.returns
-returns c = λ f. rw (c.in_ok-push.ensures.items, c.in_ok-extend_from_slice.ensures.items, ← c.self.view_is) (filled-outer _ _ _ c.self.invariant c.len-at.result c.args.hole f (c.len-at.ensures ∙ c.self.inside.bytes.ok.0))
+pub returns-clause-ok : goal.returns-clause-ok
+returns-clause-ok c = λ f. rw (c.push_reserved.ensures.items, c.reserve.ensures.items, c.in_ok-extend_from_slice.ensures.items, ← c.self.view_is) (filled-outer _ _ _ c.self.invariant c.len-at.result c.args.hole f (c.len-at.ensures ∙ c.self.inside.bytes.ok.0))
