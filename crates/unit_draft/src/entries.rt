@@ -16,12 +16,10 @@ use crate::numbers::append_zeros;
 use crate::stretch::Stretch;
 use crate::task::Task;
 use crate::values::append_values;
+use ds_base::limits::UNIT_BYTES;
 use ds_base::{List, NoMemory};
 use patches::Buffer;
 use unit_source::OutAttrRef;
-
-/// The size of a unit that is too long: a place in four LEB digits is below it.
-pub(crate) const UNIT_LIMIT: usize = 1 << 28;
 
 /// What appends the entries of a unit to its draft.
 #[derive(Drop)]
@@ -97,7 +95,7 @@ pub(crate) fn end_of(info: &Buffer) -> Result<u32, DraftError>
     ensures long { RefusesLong result (length (filled info.now nowhere)) }
 {
     let len = info.len();
-    if len >= UNIT_LIMIT {
+    if len as u64 >= UNIT_BYTES {
         return Err(DraftError::Unit);
     }
     Ok(len as u32)

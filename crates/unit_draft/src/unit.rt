@@ -15,10 +15,10 @@ ghost use Rattle.unit_draft.specs.Settled.{Settles};
 ghost use Rattle.unit_draft.specs.Whole.{IsWhole};
 ghost use Rattle.unit_draft.specs.World.{Stands, World};
 
-use crate::entries::UNIT_LIMIT;
 use crate::error::DraftError;
 use crate::parts::{DraftedLines, abbreviations_of, copy_of, lines_of};
 use crate::whole::{Whole, append_unit, append_unit_by_two};
+use ds_base::limits::UNIT_BYTES;
 use ds_base::{Bytes, List, NoMemory};
 use dwarf_types::Span;
 use patches::{Buffer, Outside};
@@ -62,7 +62,7 @@ pub fn draft_unit<S: UnitSource>(alloc: Global, unit: &S, number: u32) -> Result
     ensures { Drafts number (S.unit unit.now) result }
 {
     // Each node has a byte at least.
-    if unit.len() >= UNIT_LIMIT {
+    if unit.len() as u64 >= UNIT_BYTES {
         return Err(DraftError::Unit);
     }
     let whole = append_unit(alloc, unit, number)?;
@@ -81,7 +81,7 @@ pub fn draft_unit_by_two<R: Threads + Sync, S: UnitSource + Sync>(
     ensures { Drafts number (S.unit unit.now) result }
 {
     // Each node has a byte at least.
-    if unit.len() >= UNIT_LIMIT {
+    if unit.len() as u64 >= UNIT_BYTES {
         return Err(DraftError::Unit);
     }
     let whole = append_unit_by_two(rt, alloc, unit, number)?;
