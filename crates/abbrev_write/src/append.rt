@@ -10,7 +10,8 @@ use appending::append_uleb;
 use ds_base::{Bytes, NoMemory};
 use dwarf_types::Declaration;
 
-/// Puts the table of the declarations last: each with its code, and the zero byte that ends them.
+/// Puts the table of the declarations last: each with its code, and the zero byte that ends them. Where memory runs out,
+/// `out` begins with what stood in it, and first bytes of the table may follow.
 pub fn append_table(out: &mut Bytes, declared: &Declared) -> Result<(), NoMemory>
     ensures { OnOk result (out.new ≡ out.old ++ declarations_bytes declared.now) }
 {
