@@ -5,7 +5,7 @@ use Rattle.std.proofs.lemmas.Bool.{eqb-true}
 use Rattle.byteorder.specs.Endian.{little_bytes}
 use Rattle.ds_base.specs.declared.fault.Part.{Part}
 use Rattle.ds_base.specs.declared.fault.Part.TheVariants as parts
-use Rattle.ds_base.specs.declared.macho.TheConstants.{LC_SEGMENT_64, SEG_DWARF}
+use Rattle.ds_base.specs.declared.macho.TheConstants.{LC_SEGMENT_64, SEG_DWARF, VM_PROT_ALL, VM_PROT_DEFAULT}
 use Rattle.dwarf_types.specs.declared.graph.Graph.{Graph}
 use Rattle.dwarf_types.specs.declared.graph.Written.{Written}
 use Rattle.dwarf_types.specs.Encode.{abbrev_section, aranges_section, encode, frame_section, has_bytes, info_section, line_section, line_str_section, loc_section, loclists_section, ranges_section, rnglists_section, str_section}
@@ -15,7 +15,6 @@ use Rattle.macho_read.specs.declared.image.Image.{Image}
 use Rattle.macho_read.specs.ImageSpelling.{command_of}
 use Rattle.macho_read.specs.Spelling.{command_bytes, padded, section_bytes, segment_fields, spelled}
 use Rattle.macho_read.specs.Fields.{before_zero}
-use Rattle.dsym_write.specs.declared.protection.TheConstants.{VM_PROT_ALL, VM_PROT_DEFAULT}
 use Rattle.dsym_write.specs.Bundle.{contents, dwarf_command, dwarf_sections, end_of, name_of_part, page_end}
 use Rattle.dsym_write.specs.Pieces.{count_of, dwarf_section, records_from, segment_with, sized, total}
 use Rattle.dsym_write.proofs.SegmentCommands.{length-section}

@@ -4,7 +4,7 @@ use Rattle.std.specs.List.{flat_map}
 use Rattle.std.specs.Option.{option_map_or}
 use Rattle.byteorder.specs.Endian.{little_bytes}
 use Rattle.ds_base.specs.declared.fault.Part.{Part}
-use Rattle.ds_base.specs.declared.macho.TheConstants.{LC_SEGMENT_64, LC_SYMTAB, MACH_HEADER_64_SIZE, MH_DSYM, MH_MAGIC_64, NLIST_64_SIZE, SECTION_64_SIZE, SEGMENT_COMMAND_64_SIZE, SEG_DWARF, SYMTAB_COMMAND_SIZE, S_ATTR_DEBUG, UUID_COMMAND_SIZE}
+use Rattle.ds_base.specs.declared.macho.TheConstants.{LC_SEGMENT_64, LC_SYMTAB, MACH_HEADER_64_SIZE, MH_DSYM, MH_MAGIC_64, NLIST_64_SIZE, SECTION_64_SIZE, SEGMENT_COMMAND_64_SIZE, SEG_DWARF, SYMTAB_COMMAND_SIZE, S_ATTR_DEBUG, UUID_COMMAND_SIZE, VM_PROT_ALL, VM_PROT_DEFAULT}
 use Rattle.ds_base.specs.Texts.{ended}
 use Rattle.layout.specs.declared.sizes.Sizes.{Sizes}
 use Rattle.layout.specs.Laid.{size_in}
@@ -23,7 +23,6 @@ use Rattle.dsym_write.specs.declared.segments.SectionNumbers.{SectionNumbers}
 use Rattle.dsym_write.specs.declared.segments.SegmentNumbers.{SegmentNumbers}
 use Rattle.dsym_write.specs.declared.dwarf.TheConstants.{WRITTEN_PARTS}
 use Rattle.dsym_write.specs.declared.places.Places.{Places}
-use Rattle.dsym_write.specs.declared.protection.TheConstants.{VM_PROT_ALL, VM_PROT_DEFAULT}
 use Rattle.dsym_write.specs.Bundle.{end_of, is_empty, kept_symbols, name_of_part, page_end, segment_commands, uuid_command}
 
 -- ---- segments

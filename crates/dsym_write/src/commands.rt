@@ -12,13 +12,12 @@ use crate::dwarf::{WRITTEN_PARTS, emit_records};
 use crate::fields::emit_words;
 use crate::page::page_end;
 use crate::places::Places;
-use crate::protection::{VM_PROT_ALL, VM_PROT_DEFAULT};
 use crate::segments::{SegmentNumbers, emit_segment_numbers, emit_segments};
 use crate::symbols::{emit_strings, emit_symbols};
 use ds_base::emit_bytes;
 use ds_base::macho::{
     LC_SEGMENT_64, LC_SYMTAB, LC_UUID, MH_DSYM, MH_MAGIC_64, SECTION_64_SIZE, SEG_DWARF,
-    SEGMENT_COMMAND_64_SIZE, SYMTAB_COMMAND_SIZE, UUID_COMMAND_SIZE,
+    SEGMENT_COMMAND_64_SIZE, SYMTAB_COMMAND_SIZE, UUID_COMMAND_SIZE, VM_PROT_ALL, VM_PROT_DEFAULT,
 };
 use layout::Layout;
 use macho_read::Image;

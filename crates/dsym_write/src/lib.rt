@@ -14,7 +14,6 @@ mod image;
 mod page;
 mod places;
 mod plist;
-mod protection;
 mod segments;
 mod symbols;
 
