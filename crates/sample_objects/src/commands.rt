@@ -14,14 +14,10 @@ use crate::records::{
     SectionNumbers, SegmentNumbers, append_section_numbers, append_segment_numbers,
 };
 use ds_base::macho::{
-    LC_SEGMENT_64, S_ATTR_DEBUG, SECT_TEXT, SEG_DWARF, SEG_TEXT, SYMTAB_COMMAND_SIZE,
-    VM_PROT_EXECUTE, VM_PROT_READ, VM_PROT_WRITE,
+    LC_SEGMENT_64, S_ATTR_DEBUG, SECT_TEXT, SEG_DWARF, SEG_TEXT, SYMTAB_COMMAND_SIZE, VM_PROT_ALL,
 };
 use ds_base::{Bytes, NoMemory, Part};
 use dsym_write::section_name;
-
-/// Reading, writing and running (mach/vm_prot.h).
-const ALL_PROTECTIONS: u32 = VM_PROT_READ + VM_PROT_WRITE + VM_PROT_EXECUTE;
 
 /// Puts the segment last, with the records of its sections (`segment_command_64`).
 pub(crate) fn append_segment(
@@ -39,8 +35,8 @@ pub(crate) fn append_segment(
         vmsize: places.contents,
         fileoff: places.offset,
         filesize: places.contents,
-        maxprot: ALL_PROTECTIONS,
-        initprot: ALL_PROTECTIONS,
+        maxprot: VM_PROT_ALL,
+        initprot: VM_PROT_ALL,
         sections: 1 + u128::from(places.sections),
         flags: 0,
     };
