@@ -15,9 +15,7 @@ ghost use Rattle.link_cli.specs.Plans.{plan_seen};
 ghost use Rattle.link_cli.specs.Seen.{AreSmall, HaveNames, held_seen};
 
 use crate::ending::Ending;
-use crate::files::{
-    HeldFiles, contents_of, expect_files, numbers_of, read_files, unread,
-};
+use crate::files::{HeldFiles, contents_of, expect_files, numbers_of, read_files, unread};
 use crate::generate::link_generated;
 use crate::output::write_bundle;
 use crate::plan::{Mode, Plan, PlanError, plan_of_words};

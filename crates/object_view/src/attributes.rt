@@ -14,8 +14,8 @@ ghost use Rattle.object_view.specs.Numbers.{LeadTo, behind};
 ghost use Rattle.object_view.specs.Ready.{IsReady};
 
 use crate::expressions::{ExprRoom, Expressions, info_context};
-use ds_base::dwarf::{ADDRESS_SIZE, DW_FORM_exprloc};
 use ds_base::ReadError;
+use ds_base::dwarf::{ADDRESS_SIZE, DW_FORM_exprloc};
 use dwarf_types::{Addr, Place, RawAttrRef, ValueRef};
 use expr_resolve::{ExprContext, read_expression};
 use index_tables::{address_at, stored_address};
