@@ -38,10 +38,12 @@ use unit_tree::read_resolved_units;
 /// Analyses the object in a file's bytes, for a program of this CPU type: its units, entries, code and frames, with
 /// the addresses that its part of the debug map moves to the linked program.
 ///
-/// Faults come in this order: those of [`open_object`]; of the units, and of the references between their entries; of
-/// the expressions among the attributes, in document order; of the line tables, unit by unit; of the range lists of
-/// `DW_AT_ranges`, and then of the location lists of location attributes, both in document order; and of the frame
-/// descriptions. Only tables and lists that an entry names are read.
+/// Faults come in this order: those of the image; that it is no object of the CPU type; of the sections of `__DWARF` in
+/// the image's order `CompressedSection` and `BadSection`; of the relocations of each debug section, in the order of the
+/// parts; of the units, and of the references between their entries; of the expressions among the attributes, in document
+/// order; of the line tables, unit by unit; of the range lists of `DW_AT_ranges`, and then of the location lists of
+/// location attributes, both in document order; and of the frame descriptions. Of two debug sections of one name only the
+/// first counts, and only tables and lists that an entry names are read.
 ///
 /// Addresses are moved, also those that are indices, references are numbers of entries, expressions are operations, and
 /// a root's line table is `Lines`, in the form of the unit's version. A section offset that leads to no table or list stays as it is.

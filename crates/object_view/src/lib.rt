@@ -1,11 +1,10 @@
 //! One object: its image, its debug sections, and what these say of the code that was linked.
 //!
-//! Layer: object readers. [`open_object`] gives `opened_of` the bytes (`specs/Opened.antt`): what every reader of a
-//! debug section stands on, or the object's first fault up to its relocations. [`analyse`] gives `analysis_of` them
-//! (`specs/Analysis.antt`): units of DWARF 4 and 5, and entries with moved addresses, expressions, line tables, range
-//! and location lists (`specs/Attributes.antt`), the code of subprograms (`specs/Code.antt`) and the frames that are
-//! kept, or the object's first fault. It is a list of steps in the order of faults, over readers that stand on their
-//! own. Which entries are kept is not said here.
+//! Layer: object readers. [`analyse`] gives `analysis_of` the bytes (`specs/Analysis.antt`): units of DWARF 4 and 5, and
+//! entries with moved addresses, expressions, line tables, range and location lists (`specs/Attributes.antt`), the code of
+//! subprograms (`specs/Code.antt`) and the frames that are kept, or the object's first fault. It is a list of steps in the
+//! order of faults, over readers that stand on their own; what each of these stands on is the object as it is opened
+//! (`specs/Opened.antt`). Which entries are kept is not said here.
 #![tactic(auto)]
 
 mod analysis;
@@ -24,4 +23,3 @@ mod units;
 
 pub use analysis::analyse;
 pub use laws::kinds_of_object_faults;
-pub use open::{DebugRelocs, OpenObject, open_object};

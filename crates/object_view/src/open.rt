@@ -17,23 +17,23 @@ use std::alloc::Global;
 
 /// The relocations of an object's debug sections that hold addresses.
 #[derive(Drop)]
-pub struct DebugRelocs {
-    pub info: Relocs,
-    pub addr: Relocs,
-    pub line: Relocs,
-    pub ranges: Relocs,
-    pub rnglists: Relocs,
-    pub loc: Relocs,
-    pub loclists: Relocs,
-    pub frame: Relocs,
+pub(crate) struct DebugRelocs {
+    pub(crate) info: Relocs,
+    pub(crate) addr: Relocs,
+    pub(crate) line: Relocs,
+    pub(crate) ranges: Relocs,
+    pub(crate) rnglists: Relocs,
+    pub(crate) loc: Relocs,
+    pub(crate) loclists: Relocs,
+    pub(crate) frame: Relocs,
 }
 
 /// An object with its debug sections, whose bytes are the file's.
 #[derive(Drop)]
-pub struct OpenObject<'a> {
-    pub image: Image,
-    pub sections: Sections<'a>,
-    pub relocs: DebugRelocs,
+pub(crate) struct OpenObject<'a> {
+    pub(crate) image: Image,
+    pub(crate) sections: Sections<'a>,
+    pub(crate) relocs: DebugRelocs,
 }
 
 /// Opens the object in a file's bytes, for a program of this CPU type (mach-o/loader.h, mach-o/reloc.h).
@@ -42,7 +42,11 @@ pub struct OpenObject<'a> {
 /// `__DWARF` in the image's order `CompressedSection` and `BadSection`; of the relocations those of each debug
 /// section, in the order of the parts. Of two debug sections of one name only the first counts.
 #[tactic(auto, unfolding(crate::specs::Opened::opened_of))]
-pub fn open_object(alloc: Global, bytes: &[u8], cpu: u32) -> Result<OpenObject<'_>, ReadError>
+pub(crate) fn open_object(
+    alloc: Global,
+    bytes: &[u8],
+    cpu: u32,
+) -> Result<OpenObject<'_>, ReadError>
     ensures exact { Gives spec.opened_seen result (spec.opened_of bytes.now cpu) }
     ensures sound_image { IfOk result (λ o. IsSoundImage o.image) }
     ensures sound { IfOk result (λ o. AreSound o.image o.relocs) }
