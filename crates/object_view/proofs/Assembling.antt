@@ -1,5 +1,5 @@
 -- The steps of an analysis, one after the other.
-use Rattle.std.proofs.Common.{◌≡◌, ℕ, false, List, length, Result, Ok, refl, ap, ◌∙◌}
+use Rattle.std.proofs.Common.{◌≡◌, ◌<◌, ℕ, false, List, length, Result, Ok, refl, ap, ◌∙◌}
 use Rattle.std.specs.List.{All}
 use Rattle.ds_base.proofs.Refusals.{Refused}
 use Rattle.ds_base.specs.declared.fault.Fault.{Fault}
@@ -25,10 +25,10 @@ use Rattle.unit_tree.specs.Unit.{units_of}
 use Rattle.object_view.specs.Analysis.{analysis_of}
 use Rattle.object_view.specs.Attributes.{info_context, units_meant}
 use Rattle.object_view.specs.Opened.{Opened, opened_of}
-use Rattle.object_view.specs.Ready.{AllAttrs, AllRawAttrs, IsLinesInside, IsListAttr, IsRooted, context_among}
+use Rattle.object_view.specs.Ready.{AllAttrs, AllRawAttrs, AreOfUnits, IsLinesInside, IsListAttr, IsRooted, context_among}
 use Rattle.object_view.specs.Stages.{MadeOnce, analysed, bases_of, entries_analysed, finished, info_done, info_meant, lists_meant}
 use Rattle.object_view.proofs.Definitions.{analysed_same}
-use Rattle.object_view.proofs.Fitting.{info_count, info_listed, units_lines}
+use Rattle.object_view.proofs.Fitting.{info_count, info_listed, info_units, units_lines}
 use Rattle.object_view.proofs.Understood.{given_is}
 
 module _ (o : Opened) (m : AddrMap) (t : MadeOnce) (units : List InUnit) (raw : List RawEntry) (meant : List Entry) (with_lines : List InUnit) (bases : List Addr)
@@ -57,6 +57,9 @@ module _ (o : Opened) (m : AddrMap) (t : MadeOnce) (raw : List RawEntry) (now : 
 
   pub done_listed : AllRawAttrs (λ unit a. is_address_index a.form ≡ false → IsListed unit (attr_of a)) raw → AllAttrs IsListed now
   done_listed listed = info_listed o.sections (λ unit. (context_among t.units unit).version) context (places_of raw) raw now (given_is (info_meant o m t (places_of raw)) raw now done) listed
+
+  pub done_units : (count : ℕ) → All (λ (e : RawEntry). e.unit < count) raw → AreOfUnits count now
+  done_units count h = info_units context (places_of raw) count raw now (given_is (info_meant o m t (places_of raw)) raw now done) h
 
   pub done_count : length now ≡ length raw
   done_count = info_count context (places_of raw) raw now (given_is (info_meant o m t (places_of raw)) raw now done)

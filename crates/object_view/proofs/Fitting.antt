@@ -1,12 +1,12 @@
 -- What was read keeps to what each step of an analysis asks of an attribute.
-use Rattle.std.proofs.Common.{◌≡◌, ℕ, zero, suc, ◌<◌, ◌==◌, ◌&&◌, ◌||◌, Bool, true, false, cond, List, [], ◌∷◌, Option, Some, None, length, get_or, slice_get, Result, Ok, refl, sym, ap, subst, ◌∙◌, arith}
+use Rattle.std.proofs.Common.{◌≡◌, ℕ, zero, suc, ◌<◌, ◌==◌, ◌&&◌, ◌||◌, Bool, true, false, cond, List, [], ◌∷◌, Option, Some, None, length, map, get_or, slice_get, Result, Ok, refl, sym, ap, subst, ◌∙◌, arith}
 use Rattle.std.specs.Prelude.{IsSome, IfSome, is_none, is_some, if◌then◌else◌}
 use Rattle.std.specs.List.{All, find, position_or_len}
 use Rattle.std.specs.Option.{option_and_then, option_map_or}
 use Rattle.std.proofs.lemmas.Bool.{eqb-true, lt-ltb}
 use Rattle.std.proofs.lemmas.List.{length-map}
 use Rattle.std.proofs.lemmas.List.Elements.{All-cons, All-map}
-use Rattle.std.proofs.lemmas.Option.{get_or_from_slice_get, slice_get_within}
+use Rattle.std.proofs.lemmas.Option.{get_or_from_slice_get, slice_get-get_or, slice_get_within}
 use Rattle.ds_base.specs.declared.dwarf.TheConstants.{DW_AT_stmt_list, DW_FORM_exprloc, DW_FORM_sec_offset}
 use Rattle.ds_base.specs.declared.fault.Fault.{Fault}
 use Rattle.ds_base.specs.Reading.{◌>>=◌, or_fault}
@@ -39,11 +39,11 @@ use Rattle.unit_tree.specs.Spelling.{begins_at}
 use Rattle.object_view.specs.declared.units.UnitContext.{UnitContext}
 use Rattle.object_view.specs.Attributes.{address_named, all_marked, attr_by, attrs_by, dangling, each_of, entries_by, entry_by, entry_marked, line_place, lines_marked, lines_value, number_at, offset_in, ranges_by_role, ranges_meant, ranges_read, section_offset, unnamed, value_meant, with_value}
 use Rattle.object_view.specs.Opened.{Opened}
-use Rattle.object_view.specs.Ready.{AllAttrs, AllRawAttrs, IsLinesInside, IsListAttr, IsReadAttr, IsReadValue, IsRooted, context_among}
+use Rattle.object_view.specs.Ready.{AllAttrs, AllRawAttrs, AreOfUnits, IsLinesInside, IsListAttr, IsReadAttr, IsReadValue, IsRooted, context_among}
 use Rattle.object_view.specs.Stages.{MadeOnce, lists_meant, location_meant, range_meant}
 use Rattle.object_view.specs.Units.{addr_base_of, context_of, contexts_of, no_unit}
 use Rattle.object_view.proofs.Definitions.{context_same}
-use Rattle.object_view.proofs.Kept.{Kept, all_kept, bare, entries_kept, given_kept, kept_length}
+use Rattle.object_view.proofs.Kept.{Kept, all_kept, bare, entries_kept, given_kept, kept_length, raw_bare, stood}
 use Rattle.object_view.proofs.Names.{each_all}
 use Rattle.object_view.proofs.Understood.{as_attr, as_entry, attr_given, entries_given, entry_given, given_all}
 
@@ -111,12 +111,22 @@ module _ (sections : SectionBytes) (units : List InUnit) (entries : List RawEntr
   version_is : (e : RawEntry) (h : LiesInside sections all e) → h.unit.version ≡ (known e.unit).version
   version_is e h = sym (ap (λ (u : UnitContext). u.version) (found units entries e.unit h.unit h.its_unit))
 
+  unit_there : (e : RawEntry) → LiesInside sections all e → e.unit < length units
+  unit_there e h = slice_get_within units e.unit h.unit h.its_unit
+
+  -- every entry is of a unit that is there
+  pub raw_units : AreInside sections all → All (λ (e : RawEntry). e.unit < length units) entries
+  raw_units h k d lt = unit_there (get_or entries k d) (h.values k d lt)
+
   pub all_read : AreInside sections all → AllRawAttrs (IsReadAttr sections (contexts_of entries units) (places_of entries)) entries
   all_read h k d lt i x within =
       let e = get_or entries k d in
       let a = get_or e.attrs i x in
       let lies = h.values k d lt in
-      subst (λ (base : ℕ). IsReadValue sections base (places_of entries) a a.value) (base_is e lies) (value_read sections lies.unit.version (bases_in lies.root.attrs) entries a a.value (lies.values i x within))
+      let there = unit_there e lies in (
+        omega (arith, there, length-map units (context_of entries)),
+        subst (λ (base : ℕ). IsReadValue sections base (places_of entries) a a.value) (base_is e lies) (value_read sections lies.unit.version (bases_in lies.root.attrs) entries a a.value (lies.values i x within)),
+      )
 
   pub all_listed : AreInside sections all → AllRawAttrs (λ unit a. is_address_index a.form ≡ false → IsListAttr sections (known unit).version (attr_of a)) entries
   all_listed h k d lt i x within no_index n is =
@@ -327,7 +337,27 @@ pub units_lines : (sections : SectionBytes) (context : ℕ → Context) (places 
     → All (IsRooted raw) units → All (IsLinesInside sections now) units
 units_lines sections context places raw now units made inside rooted k d lt = unit_lines sections context places raw now made inside (get_or units k d) (rooted k d lt)
 
--- ---- no entry comes or goes
+-- ---- no entry comes or goes, or into another unit
+
+-- an attribute of an entry whose unit is there
+pub all_listed_there : (count : ℕ) (P : ℕ → Attr → Type 0) (entries : List Entry) → AreOfUnits count entries → AllAttrs P entries → AllAttrs (λ unit a. (unit < count) × P unit a) entries
+all_listed_there count P entries units h k d lt i x within = (units k d lt, h k d lt i x within)
+
+units_kept : {X : Type 0} (was : X → Entry) (count : ℕ) (now : List Entry) (old : List X) → map bare now ≡ map was old → All (λ (x : X). (was x).unit < count) old → AreOfUnits count now
+units_kept {X} was count now old kept h k d lt =
+    let s = stood bare was now old kept k (get_or now k d) (slice_get-get_or now k d lt) in
+    let there = one_of (λ (x : X). (was x).unit < count) old k s.0 h s.1 in
+    subst (λ (n : ℕ). n < count) (sym (ap (λ (e : Entry). e.unit) s.2)) there
+
+pub marked_units : (count : ℕ) (entries : List Entry) → AreOfUnits count entries → AreOfUnits count (all_marked entries)
+marked_units count entries h = units_kept bare count (all_marked entries) entries (all_kept entries) h
+
+pub step_units : (meant : ℕ → Attr → Result Value Fault) (count : ℕ) (entries now : List Entry) → entries_by meant entries ≡ Ok now → AreOfUnits count entries → AreOfUnits count now
+step_units meant count entries now e h = units_kept bare count now entries (entries_kept meant entries now e) h
+
+pub info_units : (context : ℕ → Context) (places : List ℕ) (count : ℕ) (raw : List RawEntry) (now : List Entry) → entries_given (λ unit a. value_meant (context unit) places a a.value) raw ≡ Ok now
+    → All (λ (e : RawEntry). e.unit < count) raw → AreOfUnits count now
+info_units context places count raw now e h = units_kept raw_bare count now raw (given_kept (λ unit a. value_meant (context unit) places a a.value) raw now e) h
 
 same_count : (now old : List Entry) → Kept now old → length now ≡ length old
 same_count now old kept = sym (length-map now bare) ∙ ap (λ (es : List Entry). length es) kept ∙ length-map old bare

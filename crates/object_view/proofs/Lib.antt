@@ -16,6 +16,7 @@ pub mod Others
 pub mod Outlines
 pub mod Ordered
 pub mod RawValues
+pub mod Roots
 pub mod SoundAnalysis
 pub mod Refused
 pub mod Soundness

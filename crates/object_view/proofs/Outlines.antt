@@ -332,5 +332,5 @@ analysis_of_raw o m raw a inside e =
     let contexts : List UnitContext = contexts_of raw.entries raw.units in
     let es : ByItem (IsEntry entries.0) raw.entries entries.0 =
     by_item (λ (x : RawEntry). All (λ (b : RawAttr). IsReadAttr o.sections contexts places x.unit b) x.attrs) (IsEntry entries.0) outline (outline_led places)
-    (λ y x r i. entry_is places entries.0 are o.sections (context_among contexts y.unit).addr_base y x r i) entries.0 raw.entries (all_read o.sections raw.units raw.entries inside) whole in
+    (λ y x r i. entry_is places entries.0 are o.sections (context_among contexts y.unit).addr_base y x (λ k d lt. (r k d lt).1) i) entries.0 raw.entries (all_read o.sections raw.units raw.entries inside) whole in
     subst (IsOfRaw raw) (ok_is done a frames.2) (record { units = u; entries = es })

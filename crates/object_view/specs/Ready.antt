@@ -32,7 +32,7 @@ use Rattle.object_view.specs.Opened.{Opened, opened_seen}
 use Rattle.object_view.specs.Sound.{AreSmall, AreSound}
 use Rattle.object_view.specs.Units.{no_unit}
 
--- what is known of the unit of a number
+-- what is known of the unit of a number; entries are of units that are there
 abbrev pub context_among : List UnitContext → ℕ → UnitContext
 context_among units unit = unwrap_or (slice_get units unit) no_unit
 
@@ -59,7 +59,7 @@ pub record IsOpen (o : Opened) (map : AddrMap) : Type 0 where
   pub sound_map : IsSoundMap map
   pub small : AreSmall o.sections
 
--- the address from which the lists of a unit count
+-- the address from which the lists of the unit of a number count; entries are of units that are there
 abbrev pub base_at : List Addr → ℕ → Addr
 base_at bases unit = unwrap_or (slice_get bases unit) (addrs.Fixed 0)
 
@@ -72,7 +72,11 @@ AllAttrs P entries = All (λ e. All (P e.unit) e.attrs) entries
 abbrev pub AllRawAttrs : (ℕ → RawAttr → Type 0) → List RawEntry → Type 0
 AllRawAttrs P entries = All (λ e. All (P e.unit) e.attrs) entries
 
--- as it was read in a unit: its bytes stand before the place behind it, a reference leads to one of these places, and the index of an address to one
+-- entries of the first so many units
+abbrev pub AreOfUnits : ℕ → List Entry → Type 0
+AreOfUnits count entries = All (λ e. e.unit < count) entries
+
+-- as it was read in a unit that is there: its bytes stand before the place behind it, a reference leads to one of these places, and the index of an address to one
 abbrev pub IsReadValue : SectionBytes → ℕ → List ℕ → RawAttr → Value → Type 0
 IsReadValue sections addr_base places a (values.Address place) = 8 ≤ a.end
 IsReadValue sections addr_base places a (values.Block form bytes) = length bytes ≤ a.end
@@ -81,15 +85,23 @@ IsReadValue sections addr_base places a (values.Offset n) = is_address_index a.f
 IsReadValue sections addr_base places a value = Unit {0}
 
 abbrev pub IsReadAttr : SectionBytes → List UnitContext → List ℕ → ℕ → RawAttr → Type 0
-IsReadAttr sections units places unit a = IsReadValue sections (context_among units unit).addr_base places a a.value
+IsReadAttr sections units places unit a = (unit < length units) × IsReadValue sections (context_among units unit).addr_base places a a.value
 
 -- an offset that leads to a list is inside the section of the lists of a version
 abbrev pub IsListAttr : SectionBytes → ℕ → Attr → Type 0
 IsListAttr sections version a = (n : ℕ) → a.value ≡ values.Offset n → IsListInside sections version (table_of a.name) n
 
+-- so in a unit that is there, by the version of that
+abbrev pub IsListedAttr : SectionBytes → List UnitContext → ℕ → Attr → Type 0
+IsListedAttr sections units unit a = (unit < length units) × IsListAttr sections (context_among units unit).version a
+
 -- the line table of the unit that begins with an entry of these is inside its section
 abbrev pub IsLinesInside : SectionBytes → List Entry → InUnit → Type 0
 IsLinesInside sections entries unit = IfSome (option_and_then line_place (slice_get entries unit.first)) (λ n. n < length sections.line)
+
+-- a unit has a first entry, which is one of so many
+abbrev pub HasRoot : ℕ → InUnit → Type 0
+HasRoot count unit = unit.first < count
 
 -- the first entry of a unit is its root
 abbrev pub IsRooted : List RawEntry → InUnit → Type 0

@@ -18,11 +18,11 @@ base_type_in e = if e.1.tag == DW_TAG_base_type then Some (record { entry = e.0;
 abbrev pub base_types : List RawEntry → List BaseType
 base_types entries = filter_map base_type_in (enumerate_from 0 entries)
 
--- the place of a unit's first byte: its root stands behind the header
+-- the place of a unit's first byte: its root stands behind the header; each unit that is read has one, so no case is left to 0
 abbrev pub start_of : List RawEntry → InUnit → ℕ
 start_of entries unit = option_map_or (λ root. root.place - header_size unit.version) (slice_get entries unit.first) 0
 
--- the place in `__debug_addr` of a unit's first address, by its root (DWARF 5, section 3.1.1)
+-- the place in `__debug_addr` of a unit's first address, by its root, which is there (DWARF 5, section 3.1.1)
 abbrev pub addr_base_of : List RawEntry → InUnit → ℕ
 addr_base_of entries unit = option_map_or (λ root. (bases_in root.attrs).addresses) (slice_get entries unit.first) 0
 
@@ -32,7 +32,7 @@ context_of entries unit = record { version = unit.version; start = start_of entr
 abbrev pub contexts_of : List RawEntry → List InUnit → List UnitContext
 contexts_of entries units = map (context_of entries) units
 
--- what is known of a unit that is not there
+-- what is known of a unit that is not there; no entry is of one
 abbrev pub no_unit : UnitContext
 no_unit = record { version = 0; start = 0; addr_base = 0 }
 

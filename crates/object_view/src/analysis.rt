@@ -12,7 +12,7 @@ ghost use Rattle.expr_resolve.specs.Context.{AreInOrder};
 ghost use Rattle.object_view.specs.Analysis.{analysis_of};
 ghost use Rattle.object_view.specs.Numbers.{AreNumbers};
 ghost use Rattle.object_view.specs.Opened.{opened_seen};
-ghost use Rattle.object_view.specs.Ready.{AllAttrs, AllRawAttrs, IsListAttr, IsOpen, IsReadAttr, IsRooted, context_among};
+ghost use Rattle.object_view.specs.Ready.{AllAttrs, AllRawAttrs, AreOfUnits, HasRoot, IsListAttr, IsOpen, IsReadAttr, IsRooted, context_among};
 ghost use Rattle.object_view.specs.Spelled.{IsOfObject};
 ghost use Rattle.object_view.specs.Stages.{analysed, entries_analysed, finished, info_done, lists_meant, tables_in};
 ghost use Rattle.object_view.specs.Units;
@@ -107,6 +107,7 @@ fn analyse_entries(
     requires few { length raw < 2 ^ 32 }
     requires numbers { AreNumbers (places_of raw) raw tables.now.numbers.now }
     requires units { tables.now.units.now ≡ Units.contexts_of raw units }
+    requires roots { All (HasRoot (length raw)) units }
     requires inside { AreInside (bytes_in object.now.sections) (record { units = units; entries = raw }) }
     requires rooted { All (IsRooted raw) units }
     ensures { Gives (λ analysis. analysis) result (entries_analysed (opened_seen object.now) map.now (tables_in tables.now) units raw) }
@@ -153,6 +154,8 @@ fn read_lists(
 ) -> Result<Entries, ReadError>
     requires open { IsOpen (opened_seen object.now) map.now }
     requires order { AreInOrder tables.now.types.now }
+    requires bases { length bases.now ≡ length tables.now.units.now }
+    requires units { AreOfUnits (length tables.now.units.now) entries }
     requires fits { AllAttrs (λ unit. IsListAttr (bytes_in object.now.sections) (context_among tables.now.units.now unit).version) entries }
     ensures { Gives (λ entries. entries) result (lists_meant (opened_seen object.now) map.now (tables_in tables.now) bases.now entries) }
 {

@@ -1,6 +1,6 @@
 //! What the expressions of an object are understood by.
 
-ghost use Rattle.std.specs.Prelude.{◌≡◌};
+ghost use Rattle.std.specs.Prelude.{◌≡◌, ◌<◌, length};
 ghost use Rattle.expr_resolve.specs.Context.{context_in};
 ghost use Rattle.loc_lists.specs.Reading.{location_part};
 ghost use Rattle.object_view.specs.Attributes;
@@ -46,20 +46,15 @@ impl ExprRoom {
 
 /// What is known of the unit of a number.
 pub(crate) fn unit_at(units: &[UnitContext], unit: u32) -> UnitContext
+    requires { unit < length units.now }
     ensures { result ≡ context_among units.now unit }
 {
-    match units.get(unit as usize) {
-        Some(context) => *context,
-        None => UnitContext {
-            version: 0,
-            start: 0,
-            addr_base: 0,
-        },
-    }
+    units[unit as usize]
 }
 
 /// Where an expression of `__debug_info` stands, in the unit of this number.
 pub(crate) fn info_context<'a>(expressions: &Expressions<'a>, unit: u32) -> ExprContext<'a>
+    requires { unit < length expressions.now.units.now }
     ensures { context_in result ≡ info_seen expressions.now unit }
 {
     let relocs = &expressions.object.relocs.info;
@@ -68,6 +63,7 @@ pub(crate) fn info_context<'a>(expressions: &Expressions<'a>, unit: u32) -> Expr
 
 /// Where an expression of a location list stands, in the unit of this number.
 pub(crate) fn locations_context<'a>(expressions: &Expressions<'a>, unit: u32) -> ExprContext<'a>
+    requires { unit < length expressions.now.units.now }
     ensures { context_in result ≡ locations_seen expressions.now unit }
 {
     let version = unit_at(expressions.units, unit).version;
@@ -104,6 +100,7 @@ fn context_at<'a>(
     relocs: &'a Relocs,
     unit: u32,
 ) -> ExprContext<'a>
+    requires { unit < length expressions.now.units.now }
     ensures { context_in result ≡ Attributes.context_at (opened_seen expressions.now.object.now) expressions.now.map.now expressions.now.types.now part relocs.now unit (context_among expressions.now.units.now unit) }
 {
     let context = unit_at(expressions.units, unit);

@@ -1,15 +1,14 @@
 //! The line tables of units (DWARF 4 and 5, section 3.1.1, the statement list).
 
-ghost use Rattle.std.specs.Prelude.{◌≡◌, ◌<◌, [], ◌∷◌, ◌++◌, length, slice_get, slice_set, take, Some, IfOk, OnOk};
+ghost use Rattle.std.specs.Prelude.{◌≡◌, ◌<◌, ◌∷◌, ◌++◌, length, slice_get, slice_set, take, Some, IfOk, OnOk};
 ghost use Rattle.std.specs.List.{All};
-ghost use Rattle.std.specs.Option.{option_and_then, option_map_or};
 ghost use Rattle.ds_base.specs.Reading.{Gives};
 ghost use Rattle.dwarf_types.specs.SectionBytes.{bytes_in};
 ghost use Rattle.dwarf_types.specs.Seen.{attr_seen, value_seen};
 ghost use Rattle.dwarf_types.specs.declared.entry.Entry.{Entry as AnEntry};
 ghost use Rattle.object_view.specs.Attributes;
 ghost use Rattle.object_view.specs.Opened.{opened_seen};
-ghost use Rattle.object_view.specs.Ready.{IsFirstList, IsLinesInside, IsMarkedAt, IsOpen};
+ghost use Rattle.object_view.specs.Ready.{HasRoot, IsFirstList, IsLinesInside, IsMarkedAt, IsOpen};
 
 use crate::open::OpenObject;
 use addr_map::AddrMap;
@@ -32,6 +31,7 @@ pub(crate) fn read_line_tables(
     mut units: List<InUnit>,
 ) -> Result<List<InUnit>, ReadError>
     requires open { IsOpen (opened_seen object.now) map.now }
+    requires roots { All (HasRoot (length entries.now)) units }
     requires inside { All (IsLinesInside (bytes_in object.now.sections) entries.now) units }
     ensures { Gives (λ units. units) result (Attributes.units_meant (opened_seen object.now) map.now entries.now units) }
 {
@@ -50,6 +50,7 @@ fn read_each(
     units: &mut [InUnit],
 ) -> Result<(), ReadError>
     requires open { IsOpen (opened_seen object.now) map.now }
+    requires roots { All (HasRoot (length entries.now)) units.old }
     requires inside { All (IsLinesInside (bytes_in object.now.sections) entries.now) units.old }
     ensures { Gives (λ _. units.new) result (Attributes.units_meant (opened_seen object.now) map.now entries.now units.old) }
 {
@@ -69,13 +70,15 @@ fn read_unit_lines(
     unit: &mut InUnit,
 ) -> Result<(), ReadError>
     requires open { IsOpen (opened_seen object.now) map.now }
+    requires root { HasRoot (length entries.now) unit.old }
     requires inside { IsLinesInside (bytes_in object.now.sections) entries.now unit.old }
     ensures { Gives (λ _. unit.new) result (Attributes.unit_with_lines (opened_seen object.now) map.now entries.now unit.old) }
 {
-    let Some(place) = place_of_lines(entries, unit.first) else {
+    let root = entries.entry(unit.first as usize);
+    let Some(place) = line_place(&root) else {
         return Ok(());
     };
-    let dir = dir_of_unit(entries, unit.first);
+    let dir = comp_dir(&root);
     unit.lines = Some(lines_at(alloc, object, texts, map, unit.version, dir, place)?);
     Ok(())
 }
@@ -194,13 +197,6 @@ fn first_file(alloc: Global, files: &FileNames) -> Result<FileNames, NoMemory>
     Ok(first)
 }
 
-/// The place of the line table of the unit whose root has this number.
-fn place_of_lines(entries: &Entries, first: u32) -> Option<u64>
-    ensures { result ≡ option_and_then Attributes.line_place (slice_get entries.now first) }
-{
-    line_place(&entries.get(first as usize)?)
-}
-
 /// The place of a unit's line table, which its root's first stmt_list tells where it is a section offset.
 fn line_place(root: &EntryRef) -> Option<u64>
     ensures { result ≡ Attributes.line_place root.now }
@@ -218,16 +214,7 @@ fn section_offset(attr: &AttrRef<'_>) -> Option<u64>
     }
 }
 
-/// The directory in which the unit was compiled whose root has this number, empty where that tells none.
-fn dir_of_unit<'a>(entries: &'a Entries, first: u32) -> &'a [u8]
-    ensures { result.now ≡ option_map_or Attributes.comp_dir (slice_get entries.now first) [] }
-{
-    match entries.get(first as usize) {
-        Some(root) => comp_dir(&root),
-        None => &[],
-    }
-}
-
+/// The directory in which a unit was compiled, empty where its root tells none.
 fn comp_dir<'a>(root: &EntryRef<'a>) -> &'a [u8]
     ensures { result.now ≡ Attributes.comp_dir root.now }
 {

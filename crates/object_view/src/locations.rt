@@ -35,16 +35,16 @@ pub(crate) struct LocationLists<'a> {
 }
 
 impl<'a> Step for LocationLists<'a> {
-    ghost use Rattle.std.specs.Prelude.{ℕ};
+    ghost use Rattle.std.specs.Prelude.{◌≡◌, ℕ, length};
     ghost use Rattle.expr_resolve.specs.Context.{AreInOrder};
     ghost use Rattle.dwarf_types.specs.SectionBytes.{bytes_in};
     ghost use Rattle.object_view.specs.Attributes.{locations_meant};
     ghost use Rattle.object_view.specs.Opened.{opened_seen};
-    ghost use Rattle.object_view.specs.Ready.{IsListAttr, IsOpen, base_at, context_among, locations_seen};
+    ghost use Rattle.object_view.specs.Ready.{IsListedAttr, IsOpen, base_at, locations_seen};
 
-    ghost ready = { λ s. IsOpen (opened_seen s.expressions.object.now) s.expressions.map.now × AreInOrder s.expressions.types.now };
+    ghost ready = { λ s. IsOpen (opened_seen s.expressions.object.now) s.expressions.map.now × AreInOrder s.expressions.types.now × (length s.bases.now ≡ length s.expressions.units.now) };
 
-    ghost fits = { λ s unit a. IsListAttr (bytes_in s.expressions.object.now.sections) (context_among s.expressions.units.now unit).version a };
+    ghost fits = { λ s unit a. IsListedAttr (bytes_in s.expressions.object.now.sections) s.expressions.units.now unit a };
 
     ghost meant = { λ s unit a. locations_meant (locations_seen s.expressions unit) (base_at s.bases.now unit) a a.value };
 

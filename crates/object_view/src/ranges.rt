@@ -1,7 +1,7 @@
 //! Range lists (DWARF 4 and 5, section 2.17.3).
 
 ghost use Rattle.std.specs.Prelude.{◌≡◌, ◌<◌, map, length, slice_get, IfOk};
-ghost use Rattle.std.specs.List.{filter_map};
+ghost use Rattle.std.specs.List.{All, filter_map};
 ghost use Rattle.std.specs.Option.{option_map_or};
 ghost use Rattle.ds_base.specs.Reading.{Gives};
 ghost use Rattle.dwarf_types.specs.SectionBytes.{bytes_in, range_bytes};
@@ -10,7 +10,7 @@ ghost use Rattle.dwarf_types.specs.declared.address.Addr.TheVariants as addrs;
 ghost use Rattle.dwarf_types.specs.declared.value.Value.TheVariants as values;
 ghost use Rattle.object_view.specs.Attributes;
 ghost use Rattle.object_view.specs.Opened.{opened_seen};
-ghost use Rattle.object_view.specs.Ready.{IsOpen, base_at};
+ghost use Rattle.object_view.specs.Ready.{HasRoot, IsOpen, base_at};
 
 use crate::expressions::{ExprRoom, unit_at};
 use crate::open::{DebugRelocs, OpenObject};
@@ -38,14 +38,15 @@ pub(crate) struct RangeLists<'a> {
 }
 
 impl<'a> Step for RangeLists<'a> {
+    ghost use Rattle.std.specs.Prelude.{◌≡◌, length};
     ghost use Rattle.dwarf_types.specs.SectionBytes.{bytes_in};
     ghost use Rattle.object_view.specs.Attributes.{ranges_meant};
     ghost use Rattle.object_view.specs.Opened.{opened_seen};
-    ghost use Rattle.object_view.specs.Ready.{IsListAttr, IsOpen, base_at, context_among};
+    ghost use Rattle.object_view.specs.Ready.{IsListedAttr, IsOpen, base_at, context_among};
 
-    ghost ready = { λ s. IsOpen (opened_seen s.object.now) s.map.now };
+    ghost ready = { λ s. IsOpen (opened_seen s.object.now) s.map.now × (length s.bases.now ≡ length s.units.now) };
 
-    ghost fits = { λ s unit a. IsListAttr (bytes_in s.object.now.sections) (context_among s.units.now unit).version a };
+    ghost fits = { λ s unit a. IsListedAttr (bytes_in s.object.now.sections) s.units.now unit a };
 
     ghost meant = { λ s unit a. ranges_meant (opened_seen s.object.now) s.map.now (context_among s.units.now unit) (base_at s.bases.now unit) a a.value };
 
@@ -109,12 +110,10 @@ fn ranges_relocs<'a>(relocs: &'a DebugRelocs, version: u16) -> &'a Relocs
 
 /// The address from which the lists of the unit of this number count.
 pub(crate) fn base_of_unit(bases: &[Addr], unit: u32) -> Addr
+    requires { unit < length bases.now }
     ensures { result ≡ base_at bases.now unit }
 {
-    match bases.get(unit as usize) {
-        Some(base) => *base,
-        None => Addr::Fixed(0),
-    }
+    bases[unit as usize]
 }
 
 /// Of each unit, the address from which its lists count.
@@ -123,6 +122,7 @@ pub(crate) fn unit_bases(
     units: &[InUnit],
     entries: &Entries,
 ) -> Result<List<Addr>, NoMemory>
+    requires { All (HasRoot (length entries.now)) units.now }
     ensures { IfOk result (λ bases. bases ≡ map (λ u. option_map_or Attributes.base_of (slice_get entries.now u.first) (addrs.Fixed 0)) units.now) }
 {
     let mut bases = List::new(alloc);
@@ -134,12 +134,10 @@ pub(crate) fn unit_bases(
 
 /// The address from which the lists of a unit count.
 fn unit_base(entries: &Entries, unit: &InUnit) -> Addr
+    requires { HasRoot (length entries.now) unit.now }
     ensures { result ≡ option_map_or Attributes.base_of (slice_get entries.now unit.now.first) (addrs.Fixed 0) }
 {
-    match entries.get(unit.first as usize) {
-        Some(root) => base_of(&root),
-        None => Addr::Fixed(0),
-    }
+    base_of(&entries.entry(unit.first as usize))
 }
 
 /// The first low_pc of class address of a root, else 0.

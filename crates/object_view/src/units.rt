@@ -1,6 +1,8 @@
 //! What the values of units are understood by, and the base types of all.
 
 ghost use Rattle.std.specs.Prelude.{◌≡◌, ◌<◌, ◌^◌, length, IfOk};
+ghost use Rattle.std.specs.List.{All};
+ghost use Rattle.object_view.specs.Ready.{HasRoot};
 ghost use Rattle.object_view.specs.Units;
 
 use ds_base::dwarf::DW_TAG_base_type;
@@ -58,6 +60,7 @@ pub(crate) fn unit_contexts(
     units: &[InUnit],
     entries: &RawEntries,
 ) -> Result<List<UnitContext>, NoMemory>
+    requires { All (HasRoot (length entries.now)) units.now }
     ensures { IfOk result (λ contexts. contexts ≡ Units.contexts_of entries.now units.now) }
 {
     let mut contexts = List::new(alloc);
@@ -69,20 +72,15 @@ pub(crate) fn unit_contexts(
 
 /// What the values of a unit are understood by: its version, and what its root tells.
 fn context_of(entries: &RawEntries, unit: &InUnit) -> UnitContext
+    requires { HasRoot (length entries.now) unit.now }
     ensures { result ≡ Units.context_of entries.now unit.now }
 {
-    match entries.get(unit.first as usize) {
-        Some(root) => UnitContext {
-            version: unit.version,
-            start: root
-                .place()
-                .saturating_sub(u32::from(header_size(unit.version))),
-            addr_base: bases_of(&root).addresses,
-        },
-        None => UnitContext {
-            version: unit.version,
-            start: 0,
-            addr_base: 0,
-        },
+    let root = entries.entry(unit.first as usize);
+    UnitContext {
+        version: unit.version,
+        start: root
+            .place()
+            .saturating_sub(u32::from(header_size(unit.version))),
+        addr_base: bases_of(&root).addresses,
     }
 }

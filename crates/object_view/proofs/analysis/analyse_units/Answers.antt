@@ -4,6 +4,7 @@ use Rattle.dwarf_types.specs.declared.analysis.Analysis.{Analysis}
 use Rattle.object_view.specs.Opened.{opened_seen}
 use Rattle.object_view.specs.Stages.{MadeOnce, entries_analysed, made_of}
 use Rattle.object_view.proofs.Ordered.{types_in_order}
+use Rattle.object_view.proofs.Roots.{have_roots}
 use Rattle.object_view.proofs.analysis.analyse_units.Goals as goal
 
 pub analyse_entries-requires-clause-order : goal.analyse_entries-requires-clause-order
@@ -11,6 +12,12 @@ analyse_entries-requires-clause-order c = rw (c.as_slice-2.ensures, c.in_ok-type
 
 pub analyse_entries-requires-clause-few : goal.analyse_entries-requires-clause-few
 analyse_entries-requires-clause-few c = omega (arith, c.requires.raw.few)
+
+pub unit_contexts-requires : goal.unit_contexts-requires
+unit_contexts-requires c = rw c.as_slice.ensures (have_roots c.args.raw.units _ c.requires.raw.units)
+
+pub analyse_entries-requires-clause-roots : goal.analyse_entries-requires-clause-roots
+analyse_entries-requires-clause-roots c = have_roots c.args.raw.units _ c.requires.raw.units
 
 pub returns : goal.returns
 returns c =

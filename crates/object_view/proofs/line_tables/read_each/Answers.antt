@@ -4,7 +4,7 @@ use Rattle.ds_base.proofs.Refusals.{refused_from_gives, refused_gives}
 use Rattle.dwarf_types.specs.SectionBytes.{bytes_in}
 use Rattle.object_view.specs.Attributes.{unit_with_lines}
 use Rattle.object_view.specs.Opened.{opened_seen}
-use Rattle.object_view.specs.Ready.{IsLinesInside}
+use Rattle.object_view.specs.Ready.{HasRoot, IsLinesInside}
 use Rattle.object_view.proofs.EachOf.{changed_none, changed_more, changed_err, changed_all, unchanged}
 use Rattle.object_view.proofs.line_tables.read_each.Goals as goal
 
@@ -40,3 +40,11 @@ read_unit_lines-requires-clause-inside c =
     let same = unchanged meant c.args.units.now c.loop-unit.units c.loop-unit.unit-index c.unit-item.result lt c.loop-unit.invariant in
     let long = c.loop-unit.invariant.long in
     subst (IsLinesInside (bytes_in c.args.object.now.sections) c.args.entries.now) (sym same) (c.requires.inside c.loop-unit.unit-index c.unit-item.result (omega (arith, lt, long)))
+
+pub read_unit_lines-requires-clause-root : goal.read_unit_lines-requires-clause-root
+read_unit_lines-requires-clause-root c =
+    let lt : c.loop-unit.unit-index < length c.loop-unit.units = omega arith in
+    let meant = unit_with_lines (opened_seen c.args.object.now) c.args.map.now c.args.entries.now in
+    let same = unchanged meant c.args.units.now c.loop-unit.units c.loop-unit.unit-index c.unit-item.result lt c.loop-unit.invariant in
+    let long = c.loop-unit.invariant.long in
+    subst (HasRoot (length c.args.entries.now)) (sym same) (c.requires.roots c.loop-unit.unit-index c.unit-item.result (omega (arith, lt, long)))
