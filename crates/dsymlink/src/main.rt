@@ -8,10 +8,11 @@ ghost use Rattle.std.specs.Prelude.{◌≡◌, ◌≢◌, [], map, IfOk, drop};
 ghost use Rattle.std.specs.Process.{exit_status};
 ghost use Rattle.std.specs.String.{string_bytes};
 ghost use Rattle.std.specs.Vec.Iter.{into_iter_items};
-ghost use Rattle.dsymlink.specs.Runs.{Answers, Ends, IsUnasked, Runs};
+ghost use Rattle.dsymlink.specs.Runs.{Answers, IsUnasked};
 ghost use Rattle.link_cli.specs.Answer.{Links};
 ghost use Rattle.link_cli.specs.Endings.{said};
 ghost use Rattle.link_cli.specs.Files.{world};
+ghost use Rattle.link_core.specs.Codes.{code_of};
 
 use ds_files::{Files, HostFiles, HostSink, OpenGate, Sink};
 use link_cli::link_main;
@@ -24,17 +25,14 @@ use std::thread::Threads;
 use std::{env, rt};
 
 fn main(rt: HostRuntime) -> ExitCode {
-    exit_code(&rt)
+    ended(&run(&rt))
 }
 
-/// Links the program that the words name, and gives the code of the status.
-fn exit_code<R: Env + rt::Files + Print + AllocGlobal + Threads + Sync>(rt: &R) -> ExitCode
-where
-    R::File: Send,
-    R::Dir: Send,
-    ensures { Ends (exit_status result) }
+/// The code with which the process ends after a link of this status.
+fn ended(status: &Status) -> ExitCode
+    ensures { exit_status result ≡ code_of status.now }
 {
-    ExitCode::from(code(&run(rt)))
+    ExitCode::from(code(status))
 }
 
 /// Links the program that the process's arguments name, by the system's files and standard output.
@@ -42,7 +40,6 @@ fn run<R: Env + rt::Files + Print + AllocGlobal + Threads + Sync>(rt: &R) -> Sta
 where
     R::File: Send,
     R::Dir: Send,
-    ensures { Runs result }
 {
     let alloc = rt.alloc();
     let mut files = HostFiles::new(rt);
@@ -86,7 +83,6 @@ fn link_nothing<R: Threads + Sync, F: Files + Sync, S: Sink>(
 ) -> Status
     ensures memory { kind ≡ ErrorKind.OutOfMemory → IsUnasked (world (F.files files.old) (F.counts files.old)) (world (F.files files.new) (F.counts files.new)) (said (S.text messages.old) (S.faults messages.old) (S.calls messages.old)) (said (S.text messages.new) (S.faults messages.new) (S.calls messages.new)) result }
     ensures words { kind ≢ ErrorKind.OutOfMemory → Links [] (world (F.files files.old) (F.counts files.old)) (world (F.files files.new) (F.counts files.new)) (said (S.text messages.old) (S.faults messages.old) (S.calls messages.old)) (said (S.text messages.new) (S.faults messages.new) (S.calls messages.new)) result }
-    ensures either { Answers [] (world (F.files files.old) (F.counts files.old)) (world (F.files files.new) (F.counts files.new)) (said (S.text messages.old) (S.faults messages.old) (S.calls messages.old)) (said (S.text messages.new) (S.faults messages.new) (S.calls messages.new)) result }
 {
     if kind == ErrorKind::OutOfMemory {
         return Status::NoMemory;
