@@ -14,8 +14,8 @@ use std::alloc::Global;
 /// The declarations of the abbreviation table at `offset` (DWARF 4, section 7.5.3), in their order.
 ///
 /// `bytes` is the whole of `__debug_abbrev`, and `offset` counts bytes from its start, as do the
-/// places of faults. "Abbreviations for a given compilation unit end with an entry consisting of a
-/// 0 byte for the abbreviation code."
+/// places of faults. They are `Truncated`, `LebTooWide`, `BadAbbrev`, `DuplicateCode` and `LimitAttributes`.
+/// "Abbreviations for a given compilation unit end with an entry consisting of a 0 byte for the abbreviation code."
 pub fn read_table(alloc: Global, bytes: &[u8], offset: u32) -> Result<List<Abbrev>, ReadError>
     requires inside { offset < length bytes.now }
     ensures exact { Gives (λ table. table) result (table_at bytes.now offset) }

@@ -14,7 +14,7 @@ use dwarf_types::Ops;
 /// those that are in `ops`.
 ///
 /// `first` is the place of the expression's first byte in the part, in bytes from the part's start, and faults are placed
-/// from there too. `version` is that of the expression's unit: `DW_OP_addrx` and `DW_OP_constx` are `OpOutsideProfile`
+/// from there too; they are `Truncated`, `LebTooWide`, `UnknownOp` and `OpOutsideProfile`. `version` is that of the expression's unit: `DW_OP_addrx` and `DW_OP_constx` are `OpOutsideProfile`
 /// where it isn't 5. An operation holds all its bytes, those of the expression inside an entry value with it. The operand
 /// of `DW_OP_addr` is `Fixed` of the stored number, that of `DW_OP_addrx` and `DW_OP_constx` is `Fixed` of the index, and
 /// each has gone nowhere yet. A base type is told by its place in the unit; a number past 32 bits is told as 2^32 - 1,

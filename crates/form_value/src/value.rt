@@ -19,7 +19,8 @@ use dwarf_types::{Field, RawValue, Sections};
 /// indices into tables are `Offset` of the stored number; whether it leads anywhere is not tried. A flag
 /// that is only present is 1. Texts of `DW_FORM_strp` and `DW_FORM_line_strp` are those of their section. The
 /// place that comes with a text is a hint, of which the clause says nothing. Faults are placed in the cursor's
-/// part; on a refusal the cursor stays.
+/// part; they are `Truncated`, `LebTooWide`, `UnknownForm`, `FormOutsideProfile` and `BadOffset`. On a refusal the
+/// cursor stays.
 #[tactic(auto, unfolding(crate::specs::Reading::value_at))]
 pub fn read_value<'a>(
     cursor: &mut Cursor<'a>,

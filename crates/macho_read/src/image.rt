@@ -75,7 +75,8 @@ pub struct Symbol {
 ///
 /// The header is read first, then the load commands in order, then the symbols in order, and the first fault
 /// ends it. Faults of the header and the commands are placed at offsets in the file, those of symbols at the
-/// symbol's index, which counts from 0. Of several UUID or symbol table commands the first counts.
+/// symbol's index, which counts from 0. They are `Truncated`, `NotMachO`, `WrongCpu`, `BadCommand` and `BadSymbols`.
+/// Of several UUID or symbol table commands the first counts.
 #[tactic(auto, unfolding(crate::specs::Image::image_of))]
 pub fn read_image(alloc: Global, bytes: &[u8]) -> Result<Image, ReadError>
     ensures read { Gives (λ image. image) result (image_of bytes.now) }

@@ -41,7 +41,9 @@ const BYTES_A_REFERENCE: usize = 8;
 /// value is as `form_value::read_value` gives it. A unit's language is its root's where that is a constant
 /// below 65536 and no flag, else 0.
 ///
-/// Faults are placed in `__debug_info`, those of an abbreviation table in `__debug_abbrev`. Indices of a
+/// Faults are placed in `__debug_info`, those of an abbreviation table in `__debug_abbrev`. They are those of
+/// `abbrev_read::read_table` and `form_value::read_value`, and `UnsupportedVersion`, `BadUnit`, `SplitUnit`,
+/// `UnknownCode`, `UnclosedSiblings`, `LimitDepth`, `LimitEntries`, `BadReference` and `BadIndex`. Indices of a
 /// root's values are tried after its last value, since the bases of the unit's tables stand there. References
 /// are tried after all units; [`read_resolved_units`] says where they lead. The time is linear in the
 /// sections, where no abbreviation tables run into one another and no long text is named again and again.
