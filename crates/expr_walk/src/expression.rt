@@ -13,12 +13,13 @@ use dwarf_types::Ops;
 /// Reads the operations of an expression (DWARF 4 and 5, section 7.7.1), one after the other up to its end, in place of
 /// those that are in `ops`.
 ///
-/// `first` is the place of the expression's first byte in the part, in bytes from the part's start, and faults are placed
-/// from there too; they are `Truncated`, `LebTooWide`, `UnknownOp` and `OpOutsideProfile`. `version` is that of the expression's unit: `DW_OP_addrx` and `DW_OP_constx` are `OpOutsideProfile`
-/// where it isn't 5. An operation holds all its bytes, those of the expression inside an entry value with it. The operand
-/// of `DW_OP_addr` is `Fixed` of the stored number, that of `DW_OP_addrx` and `DW_OP_constx` is `Fixed` of the index, and
-/// each has gone nowhere yet. A base type is told by its place in the unit; a number past 32 bits is told as 2^32 - 1,
-/// where no entry can stand. A refusal leaves no operations.
+/// `first` is the place of the expression's first byte in the part, in bytes from the part's start, and faults are
+/// placed from there too; they are `Truncated`, `LebTooWide`, `UnknownOp` and `OpOutsideProfile`. `version` is that of
+/// the expression's unit: `DW_OP_addrx` and `DW_OP_constx` are `OpOutsideProfile` where it isn't 5. An operation holds
+/// all its bytes, those of the expression inside an entry value with it. The operand of `DW_OP_addr` is `Fixed` of the
+/// stored number, that of `DW_OP_addrx` and `DW_OP_constx` is `Fixed` of the index, and each has gone nowhere yet. A
+/// base type is told by its place in the unit; a number past 32 bits is told as 2^32 - 1, where no entry can stand. A
+/// refusal leaves no operations.
 #[tactic(auto, unfolding(crate::specs::Reading::walk_of))]
 pub fn walk(
     bytes: &[u8],
