@@ -1,44 +1,27 @@
 //! Files and a sink in memory, and files that are read ahead.
 
-use ds_base::{Bytes, List};
+use ds_base::List;
 use ds_files::{
-    FileError, Files, Gate, HostFiles, MemoryFiles, MemorySink, OpenGate, Sink, SinkFailed,
-    fetch_ahead,
+    FileError, Files, HostFiles, MemoryFiles, MemorySink, Sink, SinkFailed, fetch_ahead,
 };
 use std::alloc::Global;
 use std::fs::remove_file;
 use std::process::Abort;
 use std::rt;
+use std::thread::Threads;
 
-/// A read answers these bytes, or this error.
-fn reads(rt: &impl Abort, answer: Result<Bytes, FileError>, want: Result<&[u8], FileError>) {
-    assert!(rt; is_answer(&answer, want));
+/// The numbers of the calls that fail.
+fn failing(rt: &impl Abort, alloc: Global, numbers: &[u64]) -> List<u64> {
+    let mut failing = List::new(alloc);
+    for number in numbers {
+        failing.push(*number).expect(rt, "memory");
+    }
+    failing
 }
 
-fn is_answer(answer: &Result<Bytes, FileError>, want: Result<&[u8], FileError>) -> bool {
-    match answer {
-        Ok(bytes) => want == Ok(bytes.as_slice()),
-        Err(error) => want == Err(*error),
-    }
-}
-
-/// Files are replaced.
-fn puts<F: Files>(rt: &impl Abort, alloc: Global, files: &mut F, rows: &[(&str, &[u8])]) {
-    for (name, bytes) in rows {
-        assert!(rt; files.replace(alloc, name, bytes).is_ok());
-    }
-}
-
-/// Reads of at most so many bytes answer these, one after the other.
-fn answers<F: Files>(
-    rt: &impl Abort,
-    alloc: Global,
-    files: &mut F,
-    rows: &[(&str, u64, Result<&[u8], FileError>)],
-) {
-    for (name, most, want) in rows {
-        reads(rt, files.read(alloc, name, *most), *want);
-    }
+/// A file in memory has these bytes from now on.
+fn sets(rt: &impl Abort, alloc: Global, files: &mut MemoryFiles, name: &str, bytes: &[u8]) {
+    files.set(alloc, name, bytes).expect(rt, "memory");
 }
 
 /// The named file is there and has these bytes.
@@ -46,27 +29,70 @@ fn keeps(rt: &impl Abort, files: &MemoryFiles, name: &str, want: &[u8]) {
     assert!(rt; files.file(name) == Some(want));
 }
 
+/// A file is replaced, or that fails.
+fn puts<F: Files>(
+    rt: &impl Abort,
+    alloc: Global,
+    files: &mut F,
+    name: &str,
+    bytes: &[u8],
+    want: Result<(), FileError>,
+) {
+    let seen = files.replace(alloc, name, bytes);
+    assert!(rt; seen == want);
+}
+
+/// A read of at most so many bytes gives these.
+fn gives<F: Files>(
+    rt: &impl Abort,
+    alloc: Global,
+    files: &mut F,
+    name: &str,
+    most: u64,
+    want: &[u8],
+) {
+    let bytes = files.read(alloc, name, most).expect(rt, "a file");
+    assert!(rt; bytes.as_slice() == want);
+}
+
+/// A read of at most so many bytes fails.
+fn fails<F: Files>(
+    rt: &impl Abort,
+    alloc: Global,
+    files: &mut F,
+    name: &str,
+    most: u64,
+    want: FileError,
+) {
+    let seen = files.read(alloc, name, most).err();
+    assert!(rt; seen == Some(want));
+}
+
+/// The sink takes a text, or fails.
+fn takes(rt: &impl Abort, sink: &mut MemorySink, text: &[u8], want: Result<(), SinkFailed>) {
+    let seen = sink.put(text);
+    assert!(rt; seen == want);
+}
+
+/// The sink has this text.
+fn holds(rt: &impl Abort, sink: &MemorySink, want: &[u8]) {
+    assert!(rt; sink.text() == want);
+}
+
 // The second and the third call fail.
 #[test]
 fn memory_files_keep_what_was_put_and_fail_at_their_numbers(rt: HostRuntime) {
     let alloc = rt.alloc();
-    let mut failing = List::new(alloc);
-    assert_eq!(rt; failing.push(2), Ok(()));
-    assert_eq!(rt; failing.push(3), Ok(()));
-    let mut files = MemoryFiles::new(alloc, failing);
-    assert!(rt; files.set(alloc, "a", b"abc").is_ok());
-    let rows = [
-        ("a", 3, Ok(b"abc".as_slice())),
-        ("a", 3, Err(FileError::Failed)),
-    ];
-    answers(&rt, alloc, &mut files, &rows);
-    assert!(rt; files.replace(alloc, "a", b"new") == Err(FileError::Failed));
-    let rows = [
-        ("a", 2, Err(FileError::TooLong)),
-        ("b", 3, Err(FileError::Missing)),
-    ];
-    answers(&rt, alloc, &mut files, &rows);
-    puts(&rt, alloc, &mut files, &[("b", b"new")]);
+    let numbers = failing(&rt, alloc, &[2, 3]);
+    let mut files = MemoryFiles::new(alloc, numbers);
+    sets(&rt, alloc, &mut files, "a", b"abc");
+    gives(&rt, alloc, &mut files, "a", 3, b"abc");
+    fails(&rt, alloc, &mut files, "a", 3, FileError::Failed);
+    let failed = Err(FileError::Failed);
+    puts(&rt, alloc, &mut files, "a", b"new", failed);
+    fails(&rt, alloc, &mut files, "a", 2, FileError::TooLong);
+    fails(&rt, alloc, &mut files, "b", 3, FileError::Missing);
+    puts(&rt, alloc, &mut files, "b", b"new", Ok(()));
     keeps(&rt, &files, "a", b"abc");
     keeps(&rt, &files, "b", b"new");
 }
@@ -75,49 +101,49 @@ fn memory_files_keep_what_was_put_and_fail_at_their_numbers(rt: HostRuntime) {
 #[test]
 fn memory_sink_keeps_what_it_has_room_for(rt: HostRuntime) {
     let alloc = rt.alloc();
-    let mut failing = List::new(alloc);
-    assert_eq!(rt; failing.push(2), Ok(()));
-    let Ok(mut sink) = MemorySink::new(alloc, 4, failing) else {
-        panic!(rt; "no room");
-    };
-    assert_eq!(rt; sink.put(b"ab"), Ok(()));
-    assert_eq!(rt; sink.put(b"c"), Err(SinkFailed));
-    assert_eq!(rt; sink.put(b"def"), Err(SinkFailed));
-    assert_eq!(rt; sink.put(b"gh"), Ok(()));
-    assert_eq!(rt; sink.text(), b"abgh".as_slice());
-    OpenGate::new().pass(0, 7);
+    let numbers = failing(&rt, alloc, &[2]);
+    let mut sink = MemorySink::new(alloc, 4, numbers).expect(&rt, "memory");
+    takes(&rt, &mut sink, b"ab", Ok(()));
+    takes(&rt, &mut sink, b"c", Err(SinkFailed));
+    takes(&rt, &mut sink, b"def", Err(SinkFailed));
+    takes(&rt, &mut sink, b"gh", Ok(()));
+    holds(&rt, &sink, b"abgh");
 }
 
-/// Files of the system are removed.
-fn removes<R: Abort + rt::Files>(rt: &R, names: &[&str]) {
-    for name in names {
-        assert!(rt; remove_file(rt, *name).is_ok());
-    }
+/// A file of the system is removed.
+fn removes<R: Abort + rt::Files>(rt: &R, name: &str) {
+    assert!(rt; remove_file(rt, name).is_ok());
 }
 
-// The files are gone when they are asked for, so that only what was read ahead can be answered: the first two, whose eight
-// bytes are as many as may be kept. Each is given out once. The first was written over a longer one.
+/// Files are replaced, the first over a longer one, and read ahead: the eight bytes of the first two are as many as may be
+/// kept.
+fn reads_ahead<R: Abort + Threads + Sync, F: Files + Sync>(rt: &R, alloc: Global, files: &mut F) {
+    puts(rt, alloc, files, "first", b"longer", Ok(()));
+    puts(rt, alloc, files, "first", b"abc", Ok(()));
+    puts(rt, alloc, files, "second", b"defgh", Ok(()));
+    puts(rt, alloc, files, "third", b"i", Ok(()));
+    let names = ["first", "none", "second", "third"];
+    let ahead = fetch_ahead(rt, alloc, 2, &names, 8, files);
+    files.keep(ahead);
+}
+
+/// Only what was read ahead is answered. Each file is given out once.
+fn gives_once<F: Files>(rt: &impl Abort, alloc: Global, files: &mut F) {
+    gives(rt, alloc, files, "first", 3, b"abc");
+    fails(rt, alloc, files, "first", 3, FileError::Missing);
+    fails(rt, alloc, files, "none", 3, FileError::Missing);
+    fails(rt, alloc, files, "second", 4, FileError::TooLong);
+    fails(rt, alloc, files, "third", 9, FileError::Missing);
+}
+
+// The files are gone when they are asked for.
 #[test]
 fn files_that_were_read_ahead_are_answered_as_others(rt: HostRuntime) {
     let alloc = rt.alloc();
     let mut files = HostFiles::new(&rt);
-    let rows = [
-        ("first", b"longer".as_slice()),
-        ("first", b"abc"),
-        ("second", b"defgh"),
-        ("third", b"i"),
-    ];
-    puts(&rt, alloc, &mut files, &rows);
-    let names = ["first", "none", "second", "third"];
-    let ahead = fetch_ahead(&rt, alloc, 2, &names, 8, &files);
-    files.keep(ahead);
-    removes(&rt, &["first", "second", "third"]);
-    let rows = [
-        ("first", 3, Ok(b"abc".as_slice())),
-        ("first", 3, Err(FileError::Missing)),
-        ("none", 3, Err(FileError::Missing)),
-        ("second", 4, Err(FileError::TooLong)),
-        ("third", 9, Err(FileError::Missing)),
-    ];
-    answers(&rt, alloc, &mut files, &rows);
+    reads_ahead(&rt, alloc, &mut files);
+    removes(&rt, "first");
+    removes(&rt, "second");
+    removes(&rt, "third");
+    gives_once(&rt, alloc, &mut files);
 }
