@@ -1,5 +1,5 @@
-//! Tests over the calls of the shared table, of shared work and of files: rows that several seats make together, threads
-//! that share one table, jobs that they share, and files in memory and ahead of their reading.
+//! Tests over the calls of the shared table and of shared work: rows that several seats make together, threads that share
+//! one table, and jobs that they share.
 //!
 //! Layer: sharing. There is nothing here but tests, so `type_pool` and `work_share` are proved without them.
 #![tactic(auto)]
@@ -10,8 +10,6 @@ mod keyed;
 mod parts;
 #[cfg(test)]
 mod tests;
-#[cfg(test)]
-mod tests_files;
 #[cfg(test)]
 mod tests_tasks;
 #[cfg(test)]
