@@ -4,10 +4,11 @@ ghost use Rattle.macho_read.specs.Sound.{IsSound};
 
 use crate::parts::{add, has_at, one, same};
 use crate::samples::{add_file, made, one_sequence, row};
-use crate::units::{add_attr, bytes, node, text, unit};
+use crate::units::{add_attr, bytes, node, text};
 use ds_base::dwarf::{
-    DW_AT_location, DW_AT_low_pc, DW_AT_name, DW_AT_ranges, DW_AT_stmt_list, DW_OP_dup,
-    DW_OP_stack_value, DW_TAG_compile_unit, DW_TAG_variable,
+    DW_AT_high_pc, DW_AT_language, DW_AT_location, DW_AT_low_pc, DW_AT_name, DW_AT_ranges,
+    DW_AT_stmt_list, DW_FORM_data2, DW_FORM_data4, DW_OP_dup, DW_OP_stack_value,
+    DW_TAG_compile_unit, DW_TAG_subprogram, DW_TAG_variable,
 };
 use ds_base::macho::{CPU_TYPE_ARM64, MH_EXECUTE, N_EXT, N_FUN, N_OSO, N_SECT};
 use ds_base::{Bytes, List, bytes_from, cut};
@@ -206,6 +207,50 @@ const SECTIONS_4: [u8; 162] = [
     0, 0, 0, 0, 0, 0, 0, 0,  0, 0, 0, 0, 0, 0, 0, 0,
 ];
 
+// A root has a name, another attribute, and the code of its unit.
+fn root(rt: &impl Abort, alloc: Global, name: u16, value: OutValue, code: Span) -> Node {
+    let mut attrs = List::new(alloc);
+    add_attr(rt, &mut attrs, DW_AT_name, text(rt, alloc, b"m.c"));
+    add_attr(rt, &mut attrs, name, value);
+    add_attr(rt, &mut attrs, DW_AT_low_pc, OutValue::Address(0));
+    let ranges = OutValue::Ranges(one(rt, alloc, code));
+    add_attr(rt, &mut attrs, DW_AT_ranges, ranges);
+    node(None, DW_TAG_compile_unit, attrs)
+}
+
+fn function(rt: &impl Abort, alloc: Global) -> Node {
+    let mut attrs = List::new(alloc);
+    let size = OutValue::Number {
+        form: DW_FORM_data4,
+        bits: 0x2a,
+    };
+    add_attr(rt, &mut attrs, DW_AT_low_pc, OutValue::Address(MAIN));
+    add_attr(rt, &mut attrs, DW_AT_high_pc, size);
+    add_attr(rt, &mut attrs, DW_AT_name, text(rt, alloc, b"main"));
+    node(Some(0), DW_TAG_subprogram, attrs)
+}
+
+// A unit of one function, of a version.
+fn unit(rt: &impl Abort, alloc: Global, version: u16) -> OutUnit {
+    let code = Span {
+        low: MAIN,
+        high: 0x1_0000_3f7a,
+    };
+    let language = OutValue::Number {
+        form: DW_FORM_data2,
+        bits: 12,
+    };
+    let root = root(rt, alloc, DW_AT_language, language, code);
+    let mut nodes = one(rt, alloc, root);
+    add(rt, &mut nodes, function(rt, alloc));
+    OutUnit {
+        version,
+        nodes,
+        lines: None,
+        ranges: one(rt, alloc, code),
+    }
+}
+
 // A graph of one unit, without frames.
 fn graph_of(rt: &impl Abort, alloc: Global, unit: OutUnit) -> Graph {
     Graph {
@@ -281,19 +326,9 @@ fn span() -> Span {
     }
 }
 
-// A root has a name, a line table, and the code of its unit.
-fn full_root(rt: &impl Abort, alloc: Global) -> Node {
-    let mut attrs = List::new(alloc);
-    add_attr(rt, &mut attrs, DW_AT_name, text(rt, alloc, b"m.c"));
-    add_attr(rt, &mut attrs, DW_AT_stmt_list, OutValue::Lines);
-    add_attr(rt, &mut attrs, DW_AT_low_pc, OutValue::Address(0));
-    let ranges = OutValue::Ranges(one(rt, alloc, span()));
-    add_attr(rt, &mut attrs, DW_AT_ranges, ranges);
-    node(None, DW_TAG_compile_unit, attrs)
-}
-
 fn full_unit(rt: &impl Abort, alloc: Global, version: u16, lines: OutLines) -> OutUnit {
-    let mut nodes = one(rt, alloc, full_root(rt, alloc));
+    let root = root(rt, alloc, DW_AT_stmt_list, OutValue::Lines, span());
+    let mut nodes = one(rt, alloc, root);
     add(rt, &mut nodes, variable(rt, alloc));
     OutUnit {
         version,
