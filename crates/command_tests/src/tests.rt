@@ -149,7 +149,7 @@ fn a_program_is_linked_again_where_the_image_was_not_written(
 ) -> Result<(), NoMemory> {
     let alloc = rt.alloc();
     let program = program(alloc)?;
-    let object = main_object(&rt, alloc)?;
+    let object = main_object(&rt, alloc);
     let image = image(alloc)?;
     assert_eq!(rt; image.len(), 4258);
     let mut files = files(alloc, program.as_slice(), object.as_slice(), 4)?;
@@ -194,7 +194,7 @@ fn a_program_is_linked_again_where_the_image_was_not_written(
 fn a_message_that_fails_leaves_the_bundle(rt: HostRuntime) -> Result<(), NoMemory> {
     let alloc = rt.alloc();
     let program = program(alloc)?;
-    let object = main_object(&rt, alloc)?;
+    let object = main_object(&rt, alloc);
     let image = image(alloc)?;
     let mut files = files(alloc, program.as_slice(), object.as_slice(), 0)?;
     let words = &["--statistics", "a.out"];
@@ -310,7 +310,7 @@ fn a_missing_object_is_told_or_let_go(rt: HostRuntime) -> Result<(), NoMemory> {
 fn a_link_that_is_refused_writes_nothing(rt: HostRuntime) -> Result<(), NoMemory> {
     let alloc = rt.alloc();
     let program = program(alloc)?;
-    let object = main_object(&rt, alloc)?;
+    let object = main_object(&rt, alloc);
     let (a, o) = (program.as_slice(), object.as_slice());
     let words = &["a.out"];
     let unread = Status::ReadFault { file: 0 };
