@@ -1,2 +1,0 @@
-pub mod NamesTests
-pub mod SoundTests
