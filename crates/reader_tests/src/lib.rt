@@ -1,11 +1,10 @@
-//! Tables of what the readers of an object's sections answer: bytes, and what they say or their first fault.
+//! Tables of what the readers of expressions, frames, line tables and lists answer: bytes, and what they say or their first
+//! fault.
 //!
 //! Layer: object readers. Expected values are other tools' or were written out by hand from the standard. There is nothing
 //! here but tests.
 #![tactic(auto)]
 
-#[cfg(test)]
-mod entries;
 #[cfg(test)]
 mod expressions;
 #[cfg(test)]
@@ -15,8 +14,4 @@ mod lines;
 #[cfg(test)]
 mod lists;
 #[cfg(test)]
-mod objects;
-#[cfg(test)]
 mod parts;
-#[cfg(test)]
-mod values;

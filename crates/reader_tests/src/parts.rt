@@ -7,7 +7,7 @@ ghost use Rattle.macho_read.specs.Sound.{IsSound as IsSoundImage};
 ghost use Rattle.reloc_table.specs.Sound.{IsSound};
 
 use ds_base::{Fault, Kind, List, Part, ReadError};
-use dwarf_types::{FileNames, InUnit, Paths, Sections};
+use dwarf_types::{FileNames, Paths, Sections};
 use macho_read::{Image, Symbols};
 use reloc_table::{Reloc, Relocs};
 use std::alloc::Global;
@@ -188,18 +188,6 @@ pub(crate) fn assert_refused(
         place,
     };
     same(rt, label, error, Some(ReadError::Faulty(fault)));
-}
-
-/// The unit at a place has this first entry, so many entries, this version and this language.
-pub(crate) fn assert_in_unit(
-    rt: &impl Abort,
-    units: &List<InUnit>,
-    i: usize,
-    want: (u32, u32, u16, u16),
-) {
-    let unit = units.get(i).expect(rt, "a unit");
-    let read = (unit.first, unit.count, unit.version, unit.language);
-    same(rt, "first entry, entries, version and language", read, want);
 }
 
 /// A line table has a directory at a place, which is counted from 0.
