@@ -1,0 +1,2 @@
+pub mod NamesTests
+pub mod SoundTests

@@ -1,0 +1,2 @@
+pub mod SoundTests
+pub mod TwoObjects

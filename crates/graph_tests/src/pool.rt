@@ -5,11 +5,14 @@
 
 ghost use Rattle.std.specs.Prelude.{All};
 ghost use Rattle.dwarf_types.specs.Sound.{IsSound};
-ghost use Rattle.sample_analyses.specs.TwoObjects.{AreSound};
+ghost use Rattle.graph_tests.specs.TwoObjects.{AreSound};
 ghost use Rattle.link_graph.specs.Graph.{IsShape};
 ghost use Rattle.odr_names.specs.Making.{AreLiveRows};
 
-use crate::parts::{assert_words, put, put_bytes, put_number, sound};
+use crate::live::{Objects, two_objects};
+use crate::rows::{NONE, Row, Says, analysis_of_files, root, two, unit, user};
+use crate::sound::sound;
+use crate::words::{assert_words, put, put_bytes, put_number};
 use clone_units::{UnitClone, clone_unit};
 use ds_base::dwarf::{
     DW_AT_comp_dir, DW_AT_decl_file, DW_AT_name, DW_FORM_data1, DW_TAG_structure_type,
@@ -17,9 +20,6 @@ use ds_base::dwarf::{
 use dwarf_types::{Analysis, OutLines, Shape};
 use link_graph::build;
 use odr_names::{book, winners_plain};
-use sample_analyses::{
-    NONE, Objects, Row, Says, analysis_of_files, root, two, two_objects, unit, user,
-};
 use std::alloc::Global;
 use std::process::Abort;
 use std::thread::Threads;
@@ -126,7 +126,7 @@ fn sound_unit(rt: &impl Abort, alloc: Global, label: &str, version: u16, unit: U
     sound(
         rt,
         label,
-        analysis_of_files(alloc, version, unit.dirs, unit.files, unit.rows),
+        analysis_of_files(rt, alloc, version, unit.dirs, unit.files, unit.rows),
     )
 }
 
@@ -142,7 +142,7 @@ fn assert_pooled<R: Threads + Abort + Sync>(
 ) {
     let first = sound_unit(rt, alloc, label, 4, first);
     let second = sound_unit(rt, alloc, label, version, second);
-    let objects = two_objects(alloc, first, second).expect(rt, "memory");
+    let objects = two_objects(rt, alloc, first, second);
     assert_words(rt, label, &first_unit(rt, alloc, label, &objects), wanted);
 }
 

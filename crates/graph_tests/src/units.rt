@@ -7,10 +7,13 @@
 
 ghost use Rattle.std.specs.Prelude.{◌≡◌, ◌<◌, All, length};
 ghost use Rattle.dwarf_types.specs.Sound.{IsSound};
-ghost use Rattle.sample_analyses.specs.TwoObjects.{AreSound};
+ghost use Rattle.graph_tests.specs.TwoObjects.{AreSound};
 ghost use Rattle.link_graph.specs.Graph.{IsShape};
 
-use crate::parts::{assert_words, put, put_bytes, put_number, sound};
+use crate::live::Objects;
+use crate::rows::{NONE, Row, Says, analysis, bare, marks, one, piece, root, two, under, unit};
+use crate::sound::sound;
+use crate::words::{assert_words, put, put_bytes, put_number};
 use clone_units::{UnitClone, clone_unit};
 use ds_base::BitRow;
 use ds_base::dwarf::{
@@ -22,9 +25,6 @@ use ds_base::dwarf::{
 use dwarf_types::{Analysis, CodeRange, OutLines, Shape, Span};
 use link_graph::build;
 use odr_names::{book, winners_plain};
-use sample_analyses::{
-    NONE, Objects, Row, Says, analysis, bare, marks, one, piece, root, two, under, unit,
-};
 use std::alloc::Global;
 use std::process::Abort;
 use std::thread::Threads;
@@ -181,7 +181,7 @@ struct Object<'a> {
 fn sound_object(rt: &impl Abort, alloc: Global, label: &str, object: Object) -> Analysis
     ensures { IsSound result }
 {
-    sound(rt, label, analysis(alloc, object.rows, object.code))
+    sound(rt, label, analysis(rt, alloc, object.rows, object.code))
 }
 
 /// The row of these marks, for the entries of an object.
@@ -189,7 +189,7 @@ fn marked(rt: &impl Abort, alloc: Global, live: &[u8], seen: &Analysis) -> BitRo
     requires { IsSound seen.now }
     ensures { length result ≡ length seen.now.entries }
 {
-    marks(alloc, live, seen.entries.len() as u32).expect(rt, "memory")
+    marks(rt, alloc, live, seen.entries.len() as u32)
 }
 
 /// Two objects with these live entries.

@@ -1,2 +1,0 @@
-pub mod SoundTests
-pub mod TwoLive
