@@ -32,7 +32,8 @@ impl From<NoMemory> for FileError {
 ///
 /// `files` are the files where they are told, a map from the bytes of a name to the bytes of the file. `counts` says
 /// how many calls of [`Files::read`] and [`Files::replace`] there were, and how often one failed, missed its file, and
-/// found it too long. No count ever falls, and one that stands at 2^64 - 1, its last value, counts as risen.
+/// found it too long. No count ever falls, and one that stands at 2^64 - 1, its last value, counts as risen. A call that
+/// goes well is counted as a call alone.
 ///
 /// [`Files::size_ahead`], [`Files::fetch`] and [`Files::keep`] serve [`crate::fetch_ahead`]: by them files may be read
 /// before they are asked for. Where that gains nothing, the first two answer `None`, and the third does nothing.
@@ -40,7 +41,7 @@ pub trait Files {
     ghost use Rattle.std.specs.Prelude.{◌≡◌, ◌≤◌, length, Some, IfOk, IfSome, OnOk, IfErr, option_map};
     ghost use Rattle.std.specs.declared.option.Option.{Option as Maybe};
     ghost use Rattle.std.specs.FinMap as map;
-    ghost use Rattle.ds_files.specs.Outside.{Contents, Counts, IsLater, IsOneCall, Told, IsLong, IsQuiet, ReadFails, RefusesLong, ReplaceFails};
+    ghost use Rattle.ds_files.specs.Outside.{Contents, Counts, IsLater, IsOneCall, Told, IsLong, IsQuiet, ReadFails, RefusesLong, ReplaceFails, called};
 
     /// The files, where they are told.
     ghost files: { Self → Maybe Contents };
@@ -51,6 +52,7 @@ pub trait Files {
     /// All bytes of the named file, which are at most `most`. No file changes.
     fn read(&mut self, alloc: Global, name: &str, most: u64) -> Result<Bytes, FileError>
         ensures found { IfOk result (λ b. (length b ≤ most) × Told (files self.old) (λ m. map.get m name.now ≡ Some b)) }
+        ensures quiet { IfOk result (λ _. counts self.new ≡ called (counts self.old)) }
 
         // Each error has its cause. A file that is too long is answered so, unless memory ran out or a failure or a
         // missing file was counted.
@@ -66,6 +68,7 @@ pub trait Files {
     /// It answers only `Failed`, and then the named file is of unknown content or absent, or `NoMemory`.
     fn replace(&mut self, alloc: Global, name: &str, bytes: &[u8]) -> Result<(), FileError>
         ensures done { OnOk result (files self.new ≡ option_map (λ m. map.insert m name.now bytes.now) (files self.old)) }
+        ensures quiet { OnOk result (counts self.new ≡ called (counts self.old)) }
         ensures failed { IfErr result (ReplaceFails (files self.old) (files self.new) name.now (counts self.old) (counts self.new)) }
         ensures called { IsOneCall (counts self.old) (counts self.new) }
         ensures later { IsLater (counts self.old) (counts self.new) };

@@ -94,7 +94,7 @@ impl MemoryFiles {
 impl Files for MemoryFiles {
     ghost use Rattle.std.specs.Prelude.{◌≡◌, ◌≤◌, length, None, Some, IfOk, OnOk, IfErr, option_map};
     ghost use Rattle.std.specs.FinMap as map;
-    ghost use Rattle.ds_files.specs.Outside.{IsLater, IsOneCall, Told, IsLong, IsQuiet, ReadFails, RefusesLong, ReplaceFails};
+    ghost use Rattle.ds_files.specs.Outside.{IsLater, IsOneCall, Told, IsLong, IsQuiet, ReadFails, RefusesLong, ReplaceFails, called};
     ghost use Rattle.ds_files.specs.MemoryFiles.{Answers, read_of, replace_of, after_read, after_replace};
 
     ghost files = { λ s. Some s.files };
@@ -107,6 +107,7 @@ impl Files for MemoryFiles {
         ensures after { self.new ≡ after_read result self.old }
 
         ensures found { IfOk result (λ b. (length b ≤ most) × Told (Some self.old.files) (λ m. map.get m name.now ≡ Some b)) }
+        ensures quiet { IfOk result (λ _. self.new.counts ≡ called self.old.counts) }
         ensures failed { IfErr result (ReadFails (Some self.old.files) name.now most self.old.counts self.new.counts) }
         ensures long { Told (Some self.old.files) (λ m. IsLong name.now most m → IsQuiet self.old.counts self.new.counts → RefusesLong result) }
 
@@ -133,6 +134,7 @@ impl Files for MemoryFiles {
         ensures after { self.new ≡ after_replace result name.now bytes.now self.old }
 
         ensures done { OnOk result (Some self.new.files ≡ option_map (λ m. map.insert m name.now bytes.now) (Some self.old.files)) }
+        ensures quiet { OnOk result (self.new.counts ≡ called self.old.counts) }
         ensures failed { IfErr result (ReplaceFails (Some self.old.files) (Some self.new.files) name.now self.old.counts self.new.counts) }
         ensures called { IsOneCall self.old.counts self.new.counts }
         ensures later { IsLater self.old.counts self.new.counts }
