@@ -74,6 +74,7 @@ impl Sink for MemorySink {
         ensures after { self.new ≡ after_put (is_ok result) bytes.now self.old }
 
         ensures done { OnOk result (Some self.new.text ≡ option_map (λ t. t ++ bytes.now) (Some self.old.text)) }
+        ensures quiet { OnOk result (self.new.faults ≡ self.old.faults) }
         ensures failed { OnErr result (Rose self.old.faults self.new.faults × PrefixAdded bytes.now (Some self.old.text) (Some self.new.text)) }
         ensures called { self.new.calls ≡ one_more self.old.calls }
         ensures later { self.old.faults ≤ self.new.faults }

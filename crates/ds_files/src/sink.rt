@@ -7,7 +7,8 @@ pub struct SinkFailed;
 /// Takes bytes, one piece after the other, and asks for no memory.
 ///
 /// `text` are all bytes that were taken, where they are told. `calls` says how many calls there were, and `faults` how
-/// often one failed. Neither ever falls, and at 2^64 - 1, its last value, it counts as risen.
+/// often one failed. Neither ever falls, and at 2^64 - 1, its last value, it counts as risen. A call that goes well counts
+/// no failure.
 pub trait Sink {
     ghost use Rattle.std.specs.Prelude.{◌≡◌, ◌≤◌, ℕ, List, ◌++◌, OnOk, OnErr, option_map};
     ghost use Rattle.std.specs.declared.option.Option.{Option as Maybe};
@@ -25,6 +26,7 @@ pub trait Sink {
     /// Takes all the bytes, behind those it took before. Where it fails, it took the first of them, perhaps none.
     fn put(&mut self, bytes: &[u8]) -> Result<(), SinkFailed>
         ensures done { OnOk result (text self.new ≡ option_map (λ t. t ++ bytes.now) (text self.old)) }
+        ensures quiet { OnOk result (faults self.new ≡ faults self.old) }
         ensures failed { OnErr result (Rose (faults self.old) (faults self.new) × PrefixAdded bytes.now (text self.old) (text self.new)) }
         ensures called { calls self.new ≡ one_more (calls self.old) }
         ensures later { faults self.old ≤ faults self.new };

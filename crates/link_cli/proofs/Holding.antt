@@ -5,7 +5,7 @@ use Rattle.std.specs.Map.{lookup}
 use Rattle.std.specs.Str.{bytes_eq}
 use Rattle.std.specs.FinMap as fin
 use Rattle.std.proofs.lemmas.List.{map_push, drop_all}
-use Rattle.ds_files.specs.Outside.{Contents, Counts, IsLater, IsOneCall, Told, ReadFails}
+use Rattle.ds_files.specs.Outside.{Contents, Counts, IsLater, IsOneCall, Told, ReadFails, called}
 use Rattle.ds_files.specs.declared.files.FileError.{FileError}
 use Rattle.stab_map.specs.declared.object.MapObject.{MapObject}
 use Rattle.link_core.specs.declared.status.Status.{Status}
@@ -83,15 +83,15 @@ module _ (keep_going : Bool) (number : ℕ) (object : MapObject) (old : Held) wh
         (ran_out_unasked number (object ∷ objects) old now new.warnings)
 
     pub goes_read : (path name bytes : List ℕ) (o m : Option Contents) (before middle : Counts) → IsNew old object → path ≡ object.file → name ≡ object.file
-        → (length bytes ≤ old.left) × Told o (λ files. fin.get files path ≡ Some bytes) → m ≡ o → IsOneCall before middle → IsLater before middle → (result : Result (Unit {0}) Status) → Becomes (with_file old name bytes) new result
+        → (length bytes ≤ old.left) × Told o (λ files. fin.get files path ≡ Some bytes) → m ≡ o → middle ≡ called before → IsLater before middle → (result : Result (Unit {0}) Status) → Becomes (with_file old name bytes) new result
         → Goes (world o before) (world m middle) result
-    goes_read path name bytes o m before middle is_new is_path is_name found same once later (Ok ok) is = λ objects after answer rest.
+    goes_read path name bytes o m before middle is_new is_path is_name found same counted later (Ok ok) is = λ objects after answer rest.
         is_read number object objects old (world o before) (world m middle) after bytes answer is_new
-        (record { few = found.0; told = subst (λ (n : List ℕ). Told o (λ files. fin.get files n ≡ Some bytes)) is_path found.1; same = same; once = once; later = later })
+        (record { few = found.0; told = subst (λ (n : List ℕ). Told o (λ files. fin.get files n ≡ Some bytes)) is_path found.1; same = same; counted = counted; later = later })
         (subst (λ (h : Held). ReadsFiles keep_going (number + 1) objects h (world m middle) after answer) (is ∙ ap (λ (n : List ℕ). with_file old n bytes) is_name) rest)
-    goes_read path name bytes o m before middle is_new is_path is_name found same once later (Err status) is =
+    goes_read path name bytes o m before middle is_new is_path is_name found same counted later (Err status) is =
         out_behind status (world o before) (world m middle) is_new
-        (behind_read bytes (record { few = found.0; told = subst (λ (n : List ℕ). Told o (λ files. fin.get files n ≡ Some bytes)) is_path found.1; same = same; once = once; later = later })) is
+        (behind_read bytes (record { few = found.0; told = subst (λ (n : List ℕ). Told o (λ files. fin.get files n ≡ Some bytes)) is_path found.1; same = same; counted = counted; later = later })) is
 
 module _ (keep_going : Bool) (number : ℕ) (object : MapObject) (was new : HeldFiles) where
   module _ (path : List ℕ) (error : FileError) (o m : Option Contents) (before middle : Counts) (is_new : IsNew (held_of was) object) (is_path : path ≡ object.file)

@@ -3,7 +3,7 @@ use Rattle.std.proofs.Common.{◌≡◌, ℕ, Bool, inl, inr, ◌-◌, ◌^◌, 
 use Rattle.std.specs.Option.{option_map}
 use Rattle.std.specs.FinMap as map
 use Rattle.std.specs.Result.{IsErrAnd}
-use Rattle.ds_files.specs.Outside.{Contents, Counts, IsLater, IsOneCall, ReplaceFails}
+use Rattle.ds_files.specs.Outside.{Contents, Counts, IsLater, IsOneCall, ReplaceFails, called}
 use Rattle.ds_files.specs.declared.files.FileError.{FileError}
 use Rattle.stab_map.specs.declared.object.MapObject.{MapObject}
 use Rattle.link_core.specs.declared.bundle.Linked.{Linked}
@@ -35,10 +35,10 @@ told_or P wanted ending (inr is) good bad = subst P (sym is) bad
 
 -- a file was written under the name that was made
 pub replaces_as : (name made bytes shown : List ℕ) (old new : Option Contents) (before now : Counts) → made ≡ name → shown ≡ bytes
-    → new ≡ option_map (λ m. map.insert m made shown) old → IsOneCall before now → IsLater before now → Replaces name bytes (world old before) (world new now)
-replaces_as name made bytes shown old new before now is_name is_bytes is once later = record {
+    → new ≡ option_map (λ m. map.insert m made shown) old → now ≡ called before → IsLater before now → Replaces name bytes (world old before) (world new now)
+replaces_as name made bytes shown old new before now is_name is_bytes is counted later = record {
   files = is ∙ ap (λ (n : List ℕ). option_map (λ m. map.insert m n shown) old) is_name ∙ ap (λ (b : List ℕ). option_map (λ m. map.insert m name b) old) is_bytes;
-  once = once;
+  counted = counted;
   later = later;
 }
 
@@ -66,11 +66,11 @@ module _ (plan : Planned) (objects : List MapObject) (warnings : List ℕ) (made
 
   pub written_as : (made shown message : List ℕ) (old mid new : Option Contents) (before middle now : Counts) → Replaces (plist_name plan.out) made_of.plist (world old before) (world mid middle)
       → made ≡ image_name plan.out plan.exe → shown ≡ made_of.image → message ≡ done_message plan warnings made_of.counts
-      → new ≡ option_map (λ m. map.insert m made shown) mid → IsOneCall middle now → IsLater middle now
+      → new ≡ option_map (λ m. map.insert m made shown) mid → now ≡ called middle → IsLater middle now
       → Writes plan objects warnings made_of (world old before) (world new now) (record { status = statuses.Done; message = message })
-  written_as made shown message old mid new before middle now first is_name is_image is_message second once later =
+  written_as made shown message old mid new before middle now first is_name is_image is_message second counted later =
       subst (λ (m : List ℕ). Writes plan objects warnings made_of (world old before) (world new now) (record { status = statuses.Done; message = m })) (sym is_message)
-      (written (world mid middle) first (replaces_as (image_name plan.out plan.exe) made made_of.image shown mid new middle now is_name is_image second once later))
+      (written (world mid middle) first (replaces_as (image_name plan.out plan.exe) made made_of.image shown mid new middle now is_name is_image second counted later))
 
 -- ---- the objects
 

@@ -1,5 +1,5 @@
 -- A message that goes out.
-use Rattle.std.proofs.Common.{◌≡◌, ◌≢◌, ℕ, true, false, true≢false, List, [], ◌∷◌, ◌++◌, length, Option, nat_eq, refl, sym, ap, subst, ◌∙◌, ◌≤◌, arith}
+use Rattle.std.proofs.Common.{◌≡◌, ◌≢◌, ℕ, true, false, true≢false, List, [], ◌∷◌, ◌++◌, length, Option, nat_eq, refl, sym, ap, subst, ◌∙◌, arith}
 use Rattle.std.specs.Option.{option_map}
 use Rattle.std.proofs.lemmas.Bool.{eqb-true}
 use Rattle.ds_files.specs.Outside.{PrefixAdded, Rose, one_more}
@@ -21,8 +21,8 @@ module _ (ending : Ending) where
   module _ (is : nat_eq (length ending.message) 0 ≡ false) (bytes : List ℕ) (same : bytes ≡ ending.message) (old new : Option (List ℕ)) (before now first calls : ℕ)
       (once : calls ≡ one_more first)
     where
-      pub told : new ≡ option_map (λ text. text ++ bytes) old → before ≤ now → Puts ending (said old before first) (said new now calls) ending.status
-      told done later = put (some_left ending.message is) once (done ∙ ap (λ (more : List ℕ). option_map (λ text. text ++ more) old) same) later
+      pub told : new ≡ option_map (λ text. text ++ bytes) old → now ≡ before → Puts ending (said old before first) (said new now calls) ending.status
+      told done quiet = put (some_left ending.message is) once (done ∙ ap (λ (more : List ℕ). option_map (λ text. text ++ more) old) same) quiet
 
       pub not_told : Rose before now → PrefixAdded bytes old new → Puts ending (said old before first) (said new now calls) statuses.MessageFault
       not_told rose prefix = failed (some_left ending.message is) once rose (subst (λ (more : List ℕ). PrefixAdded more old new) same prefix)

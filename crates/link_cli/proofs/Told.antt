@@ -218,7 +218,7 @@ module _ (words : List (List ℕ)) (files : Contents) (can : IsAnswerable words 
 -- what is put out is the status, where the sink doesn't fail
 put_done : (ending : Ending) (silent heard : Said) (status : Status) → Puts ending silent heard status → (Rose silent.faults heard.faults → ⊥) → IsDone ending.status → IsDone status
 put_done ending silent heard status (endings.nothing empty same) quiet is = is
-put_done ending silent heard status (endings.put some once text later) quiet is = is
+put_done ending silent heard status (endings.put some once text same) quiet is = is
 put_done ending silent heard status (endings.failed some once rose prefix) quiet is = absurd (quiet rose)
 
 pub linkable_done : (words : List (List ℕ)) (before after : World) (silent heard : Said) (status : Status) (files : Contents) → Links words before after silent heard status → before.files ≡ Some files

@@ -3,7 +3,7 @@ use Rattle.std.specs.Prelude.{◌≡◌, ℕ, ◌-◌, false, List, [], length, 
 use Rattle.std.specs.List.{range_with_len}
 use Rattle.std.specs.Option.{option_map}
 use Rattle.std.specs.FinMap as fin
-use Rattle.ds_files.specs.Outside.{IsLater, IsOneCall, ReplaceFails}
+use Rattle.ds_files.specs.Outside.{IsLater, IsOneCall, ReplaceFails, called}
 use Rattle.ds_files.specs.declared.files.FileError.{FileError}
 use Rattle.stab_map.specs.declared.object.MapObject.{MapObject}
 use Rattle.link_core.specs.declared.bundle.Linked.{Linked}
@@ -27,10 +27,10 @@ use Rattle.link_cli.specs.Refusals.{program_of}
 
 -- ---- the bundle
 
--- a file has these bytes now, by one call, and all others are as before; no count fell
+-- a file has these bytes now, by one call that alone is counted, and all others are as before; no count fell
 pub record Replaces (name bytes : List ℕ) (before after : World) : Type 0 where
   pub files : after.files ≡ option_map (λ files. fin.insert files name bytes) before.files
-  pub once : IsOneCall before.counts after.counts
+  pub counted : after.counts ≡ called before.counts
   pub later : IsLater before.counts after.counts
 
 -- the call did not replace a file, and this is why; no count fell

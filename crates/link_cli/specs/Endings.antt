@@ -1,5 +1,5 @@
 -- How the command ends: its status, and the message that goes out.
-use Rattle.std.specs.Prelude.{◌≡◌, ◌≢◌, ◌⊎◌, ℕ, ◌≤◌, List, [], ◌++◌, Bool, true, false, Option, if◌then◌else◌}
+use Rattle.std.specs.Prelude.{◌≡◌, ◌≢◌, ◌⊎◌, ℕ, List, [], ◌++◌, Bool, true, false, Option, if◌then◌else◌}
 use Rattle.std.specs.Option.{option_map}
 use Rattle.ds_files.specs.Outside.{PrefixAdded, Rose, one_more}
 use Rattle.ds_files.specs.declared.files.FileError.{FileError}
@@ -73,5 +73,5 @@ said text faults calls = record { text = text; faults = faults; calls = calls }
 -- A message goes out by one call, unless it is empty. Where that fails, its failure is the status.
 pub data Puts (ending : Ending) (before after : Said) : Status → Type 0 where
   nothing : ending.message ≡ [] → after ≡ before → Puts ending before after ending.status
-  put : ending.message ≢ [] → after.calls ≡ one_more before.calls → after.text ≡ option_map (λ text. text ++ ending.message) before.text → before.faults ≤ after.faults → Puts ending before after ending.status
+  put : ending.message ≢ [] → after.calls ≡ one_more before.calls → after.text ≡ option_map (λ text. text ++ ending.message) before.text → after.faults ≡ before.faults → Puts ending before after ending.status
   failed : ending.message ≢ [] → after.calls ≡ one_more before.calls → Rose before.faults after.faults → PrefixAdded ending.message before.text after.text → Puts ending before after statuses.MessageFault

@@ -4,7 +4,7 @@ use Rattle.std.specs.Option.{option_map}
 use Rattle.std.specs.List.{find, list_any}
 use Rattle.std.specs.Str.{bytes_eq}
 use Rattle.std.specs.FinMap as map
-use Rattle.ds_files.specs.Outside.{Contents, Counts, IsLater, IsOneCall, Told, ReadFails}
+use Rattle.ds_files.specs.Outside.{Contents, Counts, IsLater, IsOneCall, Told, ReadFails, called}
 use Rattle.ds_files.specs.declared.files.FileError.{FileError}
 use Rattle.ds_files.specs.declared.files.FileError.TheVariants as errors
 use Rattle.stab_map.specs.declared.object.MapObject.{MapObject}
@@ -26,12 +26,12 @@ world files counts = record { files = files; counts = counts }
 abbrev pub most_input : ℕ
 most_input = 2 ^ 29
 
--- a file was read by one call: these bytes, which are the file's where files are told
+-- a file was read by one call, which alone is counted: these bytes, which are the file's where files are told
 pub record ReadsFile (name : List ℕ) (most : ℕ) (bytes : List ℕ) (before after : World) : Type 0 where
   pub few : length bytes ≤ most
   pub told : Told before.files (λ files. map.get files name ≡ Some bytes)
   pub same : after.files ≡ before.files
-  pub once : IsOneCall before.counts after.counts
+  pub counted : after.counts ≡ called before.counts
   pub later : IsLater before.counts after.counts
 
 -- the call did not read it, and this is why

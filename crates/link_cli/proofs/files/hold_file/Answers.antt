@@ -34,7 +34,7 @@ returns-in-Ok g c =
     let kept : is_missing (missing_seen c.args.held.now.missing) c.args.object.now.file ≡ false =
     missing_is c.args.held.now.missing c.args.object.now.file ∙ rw (← c.as_slice-name.ensures) (sym c.contains_key-2.ensures ∙ c.if-contains_key-2.false) in
     goes_read c.args.keep_going c.args.number c.args.object.now (held_of c.args.held.now) c.hold.new.held _ _ c.in-Ok.bytes (g.F.Files.files c.args.files.now) (g.F.Files.files c.read.new.self) _ _
-    (record { unread = none; kept = kept }) c.file_name.ensures c.as_slice-name.ensures c.in-Ok.ensures.found c.in-Ok.ensures.same c.in-Ok.ensures.called c.in-Ok.ensures.later c.hold.result c.hold.ensures
+    (record { unread = none; kept = kept }) c.file_name.ensures c.as_slice-name.ensures c.in-Ok.ensures.found c.in-Ok.ensures.same c.in-Ok.ensures.quiet c.in-Ok.ensures.later c.hold.result c.hold.ensures
 
 pub returns-in-Err : goal.returns-in-Err
 returns-in-Err g c =

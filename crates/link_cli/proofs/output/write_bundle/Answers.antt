@@ -15,13 +15,13 @@ pub returns-in-Ok-replace : goal.returns-in-Ok-replace
 returns-in-Ok-replace g c =
     let made = c.in-Ok.ensures in
     written_as _ _ _ _ _ _ _ _ (g.F.Files.files c.replace.new.self) _ _ (g.F.Files.counts c.replace.new.self) _
-    (replaces_as _ _ _ _ _ _ (g.F.Files.counts c.args.files.now) (g.F.Files.counts c.replace.new.self) (c.as_str.ensures.value ∙ made.plist) c.as_slice.ensures c.in_default-replace.ensures.done c.in_default-replace.ensures.called c.in_default-replace.ensures.later)
-    (c.as_str-2.ensures.value ∙ made.image) c.as_slice-2.ensures made.done c.in-Ok-replace.ensures.done c.in-Ok-replace.ensures.called c.in-Ok-replace.ensures.later
+    (replaces_as _ _ _ _ _ _ (g.F.Files.counts c.args.files.now) (g.F.Files.counts c.replace.new.self) (c.as_str.ensures.value ∙ made.plist) c.as_slice.ensures c.in_default-replace.ensures.done c.in_default-replace.ensures.quiet c.in_default-replace.ensures.later)
+    (c.as_str-2.ensures.value ∙ made.image) c.as_slice-2.ensures made.done c.in-Ok-replace.ensures.done c.in-Ok-replace.ensures.quiet c.in-Ok-replace.ensures.later
 
 pub returns-in-Err-replace : goal.returns-in-Err-replace
 returns-in-Err-replace g c =
     let made = c.in-Ok.ensures in
     image_unwritten_as _ _ _ _ _ _ _ (g.F.Files.files c.replace.new.self) _ _ (g.F.Files.counts c.replace.new.self) _ c.in-Err-replace.error _ (c.as_str-2.ensures.value ∙ made.image)
     made.image_unwritten c.unwritten-in-Err-replace.ensures
-    (replaces_as _ _ _ _ _ _ (g.F.Files.counts c.args.files.now) (g.F.Files.counts c.replace.new.self) (c.as_str.ensures.value ∙ made.plist) c.as_slice.ensures c.in_default-replace.ensures.done c.in_default-replace.ensures.called c.in_default-replace.ensures.later)
+    (replaces_as _ _ _ _ _ _ (g.F.Files.counts c.args.files.now) (g.F.Files.counts c.replace.new.self) (c.as_str.ensures.value ∙ made.plist) c.as_slice.ensures c.in_default-replace.ensures.done c.in_default-replace.ensures.quiet c.in_default-replace.ensures.later)
     c.in-Err-replace.ensures.failed c.in-Err-replace.ensures.called c.in-Err-replace.ensures.later

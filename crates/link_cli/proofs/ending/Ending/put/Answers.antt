@@ -8,7 +8,7 @@ returns-then-is_empty g c = nothing_told c.args.self _ (sym c.is_empty.ensures â
 pub returns-in-Ok : goal.returns-in-Ok
 returns-in-Ok g c =
     told c.args.self (sym c.is_empty.ensures âˆ™ c.if-is_empty.false) _ c.as_slice.ensures (g.S.Sink.text c.args.messages.now) (g.S.Sink.text c.put.new.self) _ _ (g.S.Sink.calls c.args.messages.now) (g.S.Sink.calls c.put.new.self)
-    c.in-Ok.ensures.called c.in-Ok.ensures.done c.in-Ok.ensures.later
+    c.in-Ok.ensures.called c.in-Ok.ensures.done c.in-Ok.ensures.quiet
 
 pub returns : goal.returns
 returns g c =
