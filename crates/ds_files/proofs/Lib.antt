@@ -1,3 +1,3 @@
 pub mod Finding
-pub mod Fronts
 pub mod Later
+pub mod Reading

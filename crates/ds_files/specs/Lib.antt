@@ -2,4 +2,4 @@ pub mod Counting
 pub mod MemoryFiles
 pub mod MemorySink
 pub mod Outside
-pub mod Streams
+pub mod Reading

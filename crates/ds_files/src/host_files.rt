@@ -1,16 +1,18 @@
 //! The files of the system.
 
-ghost use Rattle.std.specs.Prelude.{◌≡◌, ◌≢◌, ◌≤◌, length, IfOk};
+ghost use Rattle.std.specs.Prelude.{◌≡◌, ◌≢◌, ◌<◌, ◌≤◌, [], length, IfOk, IfErr};
+ghost use Rattle.std.specs.Result.{IsErrAnd};
+ghost use Rattle.ds_files.specs.Outside.{Told};
+ghost use Rattle.ds_files.specs.Reading.{WholeFails};
 ghost use Rattle.ds_files.specs.declared.files.FileError.TheVariants as errors;
 
 use crate::ahead::Ahead;
 use crate::files::{FileError, Files};
-use crate::streams::{read_sized, write_whole};
 use crate::tally::Tally;
-use ds_base::Bytes;
+use ds_base::{Bytes, NoMemory};
 use std::alloc::Global;
 use std::fs::{File, OpenFile, OpenOptions};
-use std::io::{ErrorKind, Seek, SeekFrom};
+use std::io::{ErrorKind, Read, Seek, SeekFrom, Write};
 use std::marker::Model;
 use std::path::Path;
 use std::{fs, io, rt};
@@ -131,7 +133,7 @@ fn read_once<R: rt::Files>(
 fn read_file<R: rt::Files>(rt: &R, alloc: Global, name: &str, most: u64) -> Result<Bytes, FileError>
     ensures { IfOk result (λ b. length b ≤ most) }
 {
-    let mut file = match File::open(rt, name) {
+    let file = match File::open(rt, name) {
         Ok(file) => file,
         Err(error) => return Err(open_error(error.kind())),
     };
@@ -139,7 +141,56 @@ fn read_file<R: rt::Files>(rt: &R, alloc: Global, name: &str, most: u64) -> Resu
         Ok(metadata) if metadata.is_file() => metadata.len(),
         _ => 0,
     };
-    read_sized(&mut file, alloc, size, most)
+    read_sized(file, alloc, size, most)
+}
+
+/// All bytes of a reader that is said to have `size` bytes left. It is not read where that is more than `most`.
+///
+/// What is said may be wrong: a reader that has fewer than `size` bytes, or more, is read as it is.
+fn read_sized<R: Read + Drop>(
+    reader: R,
+    alloc: Global,
+    size: u64,
+    most: u64,
+) -> Result<Bytes, FileError>
+    ensures within { IfOk result (λ b. length b ≤ most) }
+    ensures whole { IfOk result (λ b. Told (R.remaining reader) (λ bytes. b ≡ bytes)) }
+    ensures failed { size ≤ most → IfErr result (WholeFails (R.remaining reader) most) }
+    ensures long { most < size → IsErrAnd result (λ error. error ≡ errors.TooLong) }
+{
+    if size > most {
+        return Err(FileError::TooLong);
+    }
+    // One byte more, so that a read into it finds the end.
+    let mut bytes = room_for(alloc, (size as usize).saturating_add(1))?;
+    // One byte more than there may be tells that there are more.
+    let mut first = reader.take(most.saturating_add(1));
+    if let Err(error) = first.read_to_end(&mut bytes) {
+        return Err(read_error(error.kind()));
+    }
+    if bytes.len() as u64 > most {
+        return Err(FileError::TooLong);
+    }
+    Ok(Bytes::from_vec(bytes))
+}
+
+/// No bytes, and room for `count` of them.
+fn room_for(alloc: Global, count: usize) -> Result<Vec<u8>, NoMemory>
+    ensures { IfOk result (λ made. made.items ≡ []) }
+{
+    Ok(Vec::with_capacity(alloc, count)?)
+}
+
+/// Why a file was not read to its end.
+fn read_error(kind: ErrorKind) -> FileError
+    ensures memory { kind ≡ ErrorKind.OutOfMemory → result ≡ errors.NoMemory }
+    ensures failed { kind ≢ ErrorKind.OutOfMemory → result ≡ errors.Failed }
+{
+    if kind == ErrorKind::OutOfMemory {
+        FileError::NoMemory
+    } else {
+        FileError::Failed
+    }
 }
 
 /// Why a file was not opened: it is `Missing` where the system finds no such path, and only there.
@@ -164,11 +215,11 @@ fn replace_file<R: rt::Files>(rt: &R, name: &str, bytes: &[u8]) -> io::Result<()
     }
     let mut file = OpenOptions::new().write(true).create(true).open(rt, name)?;
     let (mark, rest) = bytes.split_at(bytes.len().min(MARK));
-    write_whole(&mut file, &[0; MARK][..mark.len()])?;
-    write_whole(&mut file, rest)?;
+    file.write_all(&[0; MARK][..mark.len()])?;
+    file.write_all(rest)?;
     cut_off(&file, bytes.len() as u64)?;
     file.seek(SeekFrom::Start(0))?;
-    write_whole(&mut file, mark)
+    file.write_all(mark)
 }
 
 /// Ends a file behind its first `len` bytes, if it has more.

@@ -3,8 +3,8 @@
 ghost use Rattle.std.specs.Prelude.{◌≡◌};
 
 use crate::sink::{Sink, SinkFailed};
-use crate::streams::write_whole;
 use std::io;
+use std::io::Write;
 use std::marker::Model;
 
 /// Standard output. What was written is not told; a contract sees the counts of calls and of failures alone.
@@ -53,7 +53,7 @@ impl<R: Print> Sink for HostSink<R> {
         ensures later { self.old.faults ≤ self.new.faults }
     {
         self.calls = self.calls.saturating_add(1);
-        match write_whole(&mut io::writer(&self.rt), bytes) {
+        match io::writer(&self.rt).write_all(bytes) {
             Ok(()) => Ok(()),
             Err(_) => {
                 self.faults = self.faults.saturating_add(1);

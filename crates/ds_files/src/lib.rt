@@ -20,7 +20,6 @@ mod host_sink;
 mod memory_files;
 mod memory_sink;
 mod sink;
-mod streams;
 mod tally;
 
 pub use ahead::{Ahead, fetch_ahead};
@@ -31,6 +30,3 @@ pub use host_sink::HostSink;
 pub use memory_files::MemoryFiles;
 pub use memory_sink::MemorySink;
 pub use sink::{Sink, SinkFailed};
-
-#[cfg(test)]
-mod tests;

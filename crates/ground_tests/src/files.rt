@@ -118,9 +118,9 @@ fn removes<R: Abort + rt::Files>(rt: &R, name: &str) {
 /// Files are replaced, the first over a longer one, and read ahead: the eight bytes of the first two are as many as may be
 /// kept.
 fn reads_ahead<R: Abort + Threads + Sync, F: Files + Sync>(rt: &R, alloc: Global, files: &mut F) {
-    puts(rt, alloc, files, "first", b"longer", Ok(()));
-    puts(rt, alloc, files, "first", b"abc", Ok(()));
-    puts(rt, alloc, files, "second", b"defgh", Ok(()));
+    puts(rt, alloc, files, "first", b"longer one", Ok(()));
+    puts(rt, alloc, files, "first", b"abcdef", Ok(()));
+    puts(rt, alloc, files, "second", b"gh", Ok(()));
     puts(rt, alloc, files, "third", b"i", Ok(()));
     let names = ["first", "none", "second", "third"];
     let ahead = fetch_ahead(rt, alloc, 2, &names, 8, files);
@@ -129,10 +129,10 @@ fn reads_ahead<R: Abort + Threads + Sync, F: Files + Sync>(rt: &R, alloc: Global
 
 /// Only what was read ahead is answered. Each file is given out once.
 fn gives_once<F: Files>(rt: &impl Abort, alloc: Global, files: &mut F) {
-    gives(rt, alloc, files, "first", 3, b"abc");
-    fails(rt, alloc, files, "first", 3, FileError::Missing);
+    gives(rt, alloc, files, "first", 6, b"abcdef");
+    fails(rt, alloc, files, "first", 6, FileError::Missing);
     fails(rt, alloc, files, "none", 3, FileError::Missing);
-    fails(rt, alloc, files, "second", 4, FileError::TooLong);
+    fails(rt, alloc, files, "second", 1, FileError::TooLong);
     fails(rt, alloc, files, "third", 9, FileError::Missing);
 }
 
