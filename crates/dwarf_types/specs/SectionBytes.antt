@@ -1,6 +1,5 @@
 -- The bytes of an object's debug sections, without where they lie in memory.
 use Rattle.std.specs.Prelude.{ℕ, ◌==◌, List, if◌then◌else◌}
-use Rattle.ds_base.specs.declared.dwarf.TheConstants.{DWARF_5}
 use Rattle.dwarf_types.specs.declared.sections.Sections.{Sections}
 
 pub record SectionBytes : Type 0 where
@@ -37,8 +36,8 @@ bytes_in s = record {
 
 -- the section of the range lists of a unit, by its version (DWARF 4 and 5, section 2.17.3)
 abbrev pub range_bytes : SectionBytes → ℕ → List ℕ
-range_bytes sections version = if version == DWARF_5 then sections.rnglists else sections.ranges
+range_bytes sections version = if version == 5 then sections.rnglists else sections.ranges
 
 -- the section of its location lists (DWARF 4 and 5, section 2.6.2)
 abbrev pub location_bytes : SectionBytes → ℕ → List ℕ
-location_bytes sections version = if version == DWARF_5 then sections.loclists else sections.loc
+location_bytes sections version = if version == 5 then sections.loclists else sections.loc
