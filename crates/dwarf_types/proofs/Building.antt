@@ -1,5 +1,5 @@
 -- What columns stand for as they grow, and as heads and cells are put.
-use Rattle.std.proofs.Common.{◌≡◌, ℕ, ◌+◌, ◌-◌, ◌≤◌, List, [], ◌∷◌, ◌++◌, map, length, drop, ap, ap₂, sym, ◌∙◌, arith}
+use Rattle.std.proofs.Common.{◌≡◌, ℕ, ◌+◌, ◌-◌, ◌*◌, ◌^◌, ◌<◌, ◌≤◌, List, [], ◌∷◌, ◌++◌, map, length, drop, ap, ap₂, sym, ◌∙◌, arith}
 use Rattle.std.specs.List.{zip}
 use Rattle.std.proofs.lemmas.List.{append-nil, drop-append-le, drop_all, length-append, length-drop, length-map, map_push}
 use Rattle.std.proofs.lemmas.List.Elements.{All-drop}
@@ -7,6 +7,7 @@ use Rattle.dwarf_types.specs.declared.abbrev.TheConstants.{MOST_FIELDS}
 use Rattle.dwarf_types.specs.declared.columns.Cell.{Cell}
 use Rattle.dwarf_types.specs.declared.columns.Head.{Head}
 use Rattle.dwarf_types.specs.declared.entry.Attr.{Attr}
+use Rattle.dwarf_types.specs.declared.entry.TheConstants.{MOST_ENTRIES}
 use Rattle.dwarf_types.specs.declared.entry.RawAttr.{RawAttr}
 use Rattle.dwarf_types.specs.declared.entry.RawEntry.{RawEntry}
 use Rattle.dwarf_types.specs.declared.sides.Sides.{Sides}
@@ -85,4 +86,12 @@ open_long s heads cells ends at beside = omega (arith, length-map (drop at (zip 
 
 pub still_built : (s : Sides) (heads : List Head) (cells : List Cell) (ends : List ℕ) (at : ℕ) (h : Head) → h.first ≡ at → at + h.count ≡ length cells → h.count ≤ MOST_FIELDS → IsBuilt s heads cells ends at → IsBuilt s (heads ++ h ∷ []) cells ends (length cells)
 still_built s heads cells ends at h first count few b =
-    record { raw = record { flat = flat_close (CellWithin s) heads cells at h first count b.raw.flat; beside = b.raw.beside }; few = omega (arith, b.few, length-append heads (h ∷ [])) }
+    record { raw = record { flat = flat_close (CellWithin s) heads cells at h first count b.raw.flat; beside = b.raw.beside }; few = omega (arith, b.few, length-append heads (h ∷ [])); columns = b.columns }
+
+-- a cell has room while entries and attributes have
+pub few_cells : (s : Sides) (heads : List Head) (cells : List Cell) (ends : List ℕ) (at : ℕ) → IsBuilt s heads cells ends at → length (built_of s heads cells ends at).attrs < MOST_FIELDS → length (built_of s heads cells ends at).entries < MOST_ENTRIES → length cells < 2 ^ 32
+few_cells s heads cells ends at b attrs entries =
+    let long = open_long s heads cells ends at b.raw.beside in
+    let rows = length-map heads (row (raw_attr_of s) raw_entry_with (zip cells ends)) in
+    let few : at ≤ MOST_FIELDS * length heads = b.few in
+    omega (arith, long, rows, few, attrs, entries)

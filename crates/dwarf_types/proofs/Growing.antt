@@ -7,7 +7,7 @@ use Rattle.dwarf_types.specs.declared.sides.ItemRow.{ItemRow}
 use Rattle.dwarf_types.specs.declared.sides.OpRow.{OpRow}
 use Rattle.dwarf_types.specs.declared.sides.Sides.{Sides}
 use Rattle.dwarf_types.specs.declared.sides.Stretch.{Stretch}
-use Rattle.dwarf_types.specs.Cells.{Begins, Grows, InColumn, stretch_of}
+use Rattle.dwarf_types.specs.Cells.{AreAsMany, Begins, Grows, InColumn, stretch_of}
 
 pub begins_not : {A : Type 0} (xs : List A) → Begins xs xs
 begins_not xs = ([], sym (append-nil xs))
@@ -23,6 +23,7 @@ grows_on r s t g h = record {
   large = begins_on _ _ _ g.large h.large;
   bytes = begins_on _ _ _ g.bytes h.bytes;
   stretches = begins_on _ _ _ g.stretches h.stretches;
+  lists = begins_on _ _ _ g.lists h.lists;
   places = begins_on _ _ _ g.places h.places;
   addresses = begins_on _ _ _ g.addresses h.addresses;
   spans = begins_on _ _ _ g.spans h.spans;
@@ -32,7 +33,13 @@ grows_on r s t g h = record {
 }
 
 pub grows_not : (s : Sides) → Grows s s
-grows_not s = record { large = begins_not _; bytes = begins_not _; stretches = begins_not _; places = begins_not _; addresses = begins_not _; spans = begins_not _; ops = begins_not _; inner = begins_not _; items = begins_not _ }
+grows_not s = record { large = begins_not _; bytes = begins_not _; stretches = begins_not _; lists = begins_not _; places = begins_not _; addresses = begins_not _; spans = begins_not _; ops = begins_not _; inner = begins_not _; items = begins_not _ }
+
+pub as_many : (s : Sides) → AreAsMany s s
+as_many s = (refl, refl)
+
+pub as_many_on : (r s t : Sides) → AreAsMany r s → AreAsMany s t → AreAsMany r t
+as_many_on r s t a b = (b.0 ∙ a.0, b.1 ∙ a.1)
 
 -- rows of a column that were put behind the others for some parts of a value
 pub record Rows {R A : Type 0} (column : Sides → List R) (mean : Sides → R → A) (Within : Sides → R → Type 0) (old now : Sides) (parts : List A) : Type 0 where

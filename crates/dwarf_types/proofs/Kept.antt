@@ -12,6 +12,7 @@ use Rattle.dwarf_types.specs.declared.address.Place.{Place}
 use Rattle.dwarf_types.specs.declared.expr.Op.{Op}
 use Rattle.dwarf_types.specs.declared.expr.PlainOp.{PlainOp}
 use Rattle.dwarf_types.specs.declared.lists.Location.{Location}
+use Rattle.dwarf_types.specs.declared.sides.Held.{Held}
 use Rattle.dwarf_types.specs.declared.sides.InnerRow.{InnerRow}
 use Rattle.dwarf_types.specs.declared.sides.ItemRow.{ItemRow}
 use Rattle.dwarf_types.specs.declared.sides.Kind.{Kind}
@@ -20,7 +21,7 @@ use Rattle.dwarf_types.specs.declared.sides.OpRow.{OpRow}
 use Rattle.dwarf_types.specs.declared.sides.Sides.{Sides}
 use Rattle.dwarf_types.specs.declared.sides.Stretch.{Stretch}
 use Rattle.dwarf_types.specs.declared.value.Value.TheVariants as values
-use Rattle.dwarf_types.specs.Cells.{Begins, Grows, InColumn, InnerWithin, IsAddress, IsStretch, IsWithin, ItemWithin, OpWithin, address_at, first_text, held_value, inner_of, item_of, no_place, no_stretch, op_of, stretch_at, stretch_of, text_from}
+use Rattle.dwarf_types.specs.Cells.{Begins, Grows, InColumn, InnerWithin, IsAddress, IsList, IsStretch, IsWithin, ItemWithin, KeepsOthers, OpWithin, address_at, first_text, held_value, inner_of, item_of, list_at, no_place, no_stretch, op_of, stretch_at, stretch_of, text_from}
 use Rattle.dwarf_types.specs.Put.{number_form}
 
 pub range_begins : {A : Type 0} (old new : List A) (from to : ℕ) → Begins old new → from ≤ to → to ≤ length old → slice_range new from to ≡ slice_range old from to
@@ -54,6 +55,18 @@ stretch_within old new c d i g b w =
     let P : Stretch → Type 0 = InColumn d in
     let e = get_begins _ _ i no_stretch g.stretches lt in
     (omega arith, subst P (sym e) (part_within c d (stretch_at old i) b w.1))
+
+list_kept : {A : Type 0} (old new : Sides) (c d : List A) (i : ℕ) → Grows old new → Begins c d → IsList old c i → stretch_of d (list_at new i) ≡ stretch_of c (list_at old i)
+list_kept old new c d i g b w =
+    rw (get_begins _ _ i no_stretch g.lists w.0) (range_begins c d _ _ b w.1.0 w.1.1)
+
+list_within : {A : Type 0} (old new : Sides) (c d : List A) (i : ℕ) → Grows old new → Begins c d → IsList old c i → IsList new d i
+list_within old new c d i g b w =
+    let l = longer _ _ g.lists in
+    let lt : i < length old.lists.items = w.0 in
+    let P : Stretch → Type 0 = InColumn d in
+    let e = get_begins _ _ i no_stretch g.lists lt in
+    (omega arith, subst P (sym e) (part_within c d (list_at old i) b w.1))
 
 -- ---- texts
 
@@ -165,11 +178,11 @@ held_kept old new g kinds.Stored form n w = refl
 held_kept old new g kinds.Address form n w = ap values.Address (get_begins _ _ n no_place g.places w)
 held_kept old new g kinds.Ref form n w = refl
 held_kept old new g kinds.Expr form n w =
-    let rows = stretch_kept old new _ _ n g g.ops w.0 in
+    let rows = list_kept old new _ _ n g g.ops w.0 in
     ap values.Expr (ap (map (op_of new)) rows ∙ ops_kept old new g _ w.1)
-held_kept old new g kinds.Ranges form n w = ap values.Ranges (stretch_kept old new _ _ n g g.spans w)
+held_kept old new g kinds.Ranges form n w = ap values.Ranges (list_kept old new _ _ n g g.spans w)
 held_kept old new g kinds.Locations form n w =
-    let rows = stretch_kept old new _ _ n g g.items w.0 in
+    let rows = list_kept old new _ _ n g g.items w.0 in
     ap values.Locations (ap (map (item_of new)) rows ∙ items_kept old new g _ w.1)
 held_kept old new g kinds.Lines form n w = refl
 held_kept old new g kinds.Offset form n w = refl
@@ -186,15 +199,19 @@ within_kept old new g kinds.Stored n w = tt
 within_kept old new g kinds.Address n w = let l = longer _ _ g.places in omega arith
 within_kept old new g kinds.Ref n w = tt
 within_kept old new g kinds.Expr n w =
-    let rows = stretch_kept old new _ _ n g g.ops w.0 in
-    (stretch_within old new _ _ n g g.ops w.0, rw rows (ops_within old new g _ w.1))
-within_kept old new g kinds.Ranges n w = stretch_within old new _ _ n g g.spans w
+    let rows = list_kept old new _ _ n g g.ops w.0 in
+    (list_within old new _ _ n g g.ops w.0, rw rows (ops_within old new g _ w.1))
+within_kept old new g kinds.Ranges n w = list_within old new _ _ n g g.spans w
 within_kept old new g kinds.Locations n w =
-    let rows = stretch_kept old new _ _ n g g.items w.0 in
-    (stretch_within old new _ _ n g g.items w.0, rw rows (items_within old new g _ w.1))
+    let rows = list_kept old new _ _ n g g.items w.0 in
+    (list_within old new _ _ n g g.items w.0, rw rows (items_within old new g _ w.1))
 within_kept old new g kinds.Lines n w = tt
 within_kept old new g kinds.Offset n w = tt
 within_kept old new g kinds.LargeOffset n w = let l = longer _ _ g.large in omega arith
+
+-- where columns grow, no cell loses its value
+pub others_kept : (was : Held) (old new : Sides) → Grows old new → KeepsOthers was old new
+others_kept was old new g = record { value = λ kind form n w apart. held_kept old new g kind form n w; within = within_kept old new g }
 
 -- ---- parts that are put
 

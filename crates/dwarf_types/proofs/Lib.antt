@@ -1,6 +1,7 @@
 pub mod Ancestors
 pub mod Building
 pub mod Ends
+pub mod Few
 pub mod FrameRows
 pub mod Gathering
 pub mod Growing
@@ -12,6 +13,7 @@ pub mod Placing
 pub mod Plain
 pub mod PlainCells
 pub mod Readers
+pub mod Replacing
 pub mod Setting
 pub mod Texts
 pub mod WorkedGraph

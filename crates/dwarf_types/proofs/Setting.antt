@@ -78,6 +78,14 @@ module _ {X A E : Type 0} (f : X → A) (with_attrs : Head → List A → E) (at
       let count : length (attrs e) ≡ h.count = ap (λ (x : E). length (attrs x)) (sym same) ∙ (ap length (seen h (map f (cells_of cells h))) ∙ count_read cells h ends) in
       (few, omega arith, ends)
 
+  -- and the attribute is the cell's
+  pub attr_stands : (Within : X → Type 0) (heads : List Head) (cells : List X) (at i j : ℕ) (h : Head) (cell : X) (e : E) → IsFlat Within heads cells at → h ≡ get_or heads i h → slice_get (map (row f with_attrs cells) heads) i ≡ Some e → j < length (attrs e) → cell ≡ get_or cells (h.first + j) cell → slice_get (attrs e) j ≡ Some (f cell)
+  attr_stands Within heads cells at i j h cell e flat is read lt here =
+      let there = cell_place Within heads cells at i j h e flat is read lt in
+      let same : row f with_attrs cells h ≡ e = some_same _ _ (sym (row_read Within with_attrs f heads cells i h there.0 is) ∙ read) in
+      let own : map f (cells_of cells h) ≡ attrs e = sym (seen h (map f (cells_of cells h))) ∙ ap attrs same in
+      ap (λ (xs : List A). slice_get xs j) (sym own) ∙ attr_read cells h j cell there.1 there.2 here
+
   -- one cell written: the entry of before, with another attribute at its place
   pub row_set : (Within : X → Type 0) (heads : List Head) (cells : List X) (at i j : ℕ) (h : Head) (cell to : X) (e : E) (a : A) → IsFlat Within heads cells at → h ≡ get_or heads i h → slice_get (map (row f with_attrs cells) heads) i ≡ Some e → slice_get (attrs e) j ≡ Some a → cell ≡ get_or cells (h.first + j) cell
       → (map (row f with_attrs (set cells (h.first + j) to)) heads ≡ set (map (row f with_attrs cells) heads) i (with_attrs h (set (attrs e) j (f to)))) × (with_attrs h (attrs e) ≡ e) × (f cell ≡ a)

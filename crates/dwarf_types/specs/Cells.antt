@@ -1,12 +1,16 @@
 -- What a cell stands for.
-use Rattle.std.specs.Prelude.{◌≡◌, ℕ, ◌<◌, ◌≤◌, ◌==◌, List, [], ◌++◌, drop, length, get_or, slice_range, take, All, IfSome, IsSome, Option, None, map, ⊤}
+use Rattle.std.specs.Prelude.{◌≡◌, ℕ, ◌+◌, ◌^◌, ◌<◌, ◌≤◌, ◌==◌, List, [], ◌++◌, drop, length, get_or, slice_range, take, All, IfSome, IsSome, Option, None, Result, Ok, Err, map, ⊤}
 use Rattle.std.specs.List.{position}
 use Rattle.std.specs.Option.{option_map, unwrap_or}
+use Rattle.ds_base.specs.declared.fault.NoMemory.{NoMemory}
 use Rattle.dwarf_types.specs.declared.address.Addr.TheVariants as addrs
 use Rattle.dwarf_types.specs.declared.address.Place.{Place}
 use Rattle.dwarf_types.specs.declared.expr.Op.{Op}
 use Rattle.dwarf_types.specs.declared.expr.PlainOp.{PlainOp}
 use Rattle.dwarf_types.specs.declared.lists.Location.{Location}
+use Rattle.dwarf_types.specs.declared.put.NewValue.{NewValue}
+use Rattle.dwarf_types.specs.declared.put.NewValue.TheVariants as news
+use Rattle.dwarf_types.specs.declared.sides.Held.{Held}
 use Rattle.dwarf_types.specs.declared.sides.InnerRow.{InnerRow}
 use Rattle.dwarf_types.specs.declared.sides.ItemRow.{ItemRow}
 use Rattle.dwarf_types.specs.declared.sides.Kind.{Kind}
@@ -30,6 +34,10 @@ no_stretch = record { from = 0; to = 0 }
 
 abbrev pub stretch_at : Sides → ℕ → Stretch
 stretch_at s i = get_or s.stretches.items i no_stretch
+
+-- the same of operations, spans and items of location lists
+abbrev pub list_at : Sides → ℕ → Stretch
+list_at s i = get_or s.lists.items i no_stretch
 
 -- the items of a stretch of a column
 abbrev pub stretch_of : {A : Type 0} → List A → Stretch → List A
@@ -72,9 +80,9 @@ held_value s kinds.Block form i = values.Block form (stretch_of s.bytes.items (s
 held_value s kinds.Stored form n = values.Address (stored_place n)
 held_value s kinds.Address form i = values.Address (get_or s.places.items i no_place)
 held_value s kinds.Ref form n = values.Ref n
-held_value s kinds.Expr form i = values.Expr (map (op_of s) (stretch_of s.ops.items (stretch_at s i)))
-held_value s kinds.Ranges form i = values.Ranges (stretch_of s.spans.items (stretch_at s i))
-held_value s kinds.Locations form i = values.Locations (map (item_of s) (stretch_of s.items.items (stretch_at s i)))
+held_value s kinds.Expr form i = values.Expr (map (op_of s) (stretch_of s.ops.items (list_at s i)))
+held_value s kinds.Ranges form i = values.Ranges (stretch_of s.spans.items (list_at s i))
+held_value s kinds.Locations form i = values.Locations (map (item_of s) (stretch_of s.items.items (list_at s i)))
 held_value s kinds.Lines form n = values.Lines
 held_value s kinds.Offset form n = values.Offset n
 held_value s kinds.LargeOffset form i = values.Offset (get_or s.large.items i 0)
@@ -100,6 +108,9 @@ ItemWithin s r = InColumn s.ops.items r.ops × All (OpWithin s) (stretch_of s.op
 abbrev pub IsStretch : {A : Type 0} → Sides → List A → ℕ → Type 0
 IsStretch s items i = (i < length s.stretches.items) × InColumn items (stretch_at s i)
 
+abbrev pub IsList : {A : Type 0} → Sides → List A → ℕ → Type 0
+IsList s items i = (i < length s.lists.items) × InColumn items (list_at s i)
+
 abbrev pub IsWithin : Sides → Kind → ℕ → Type 0
 IsWithin s kinds.Small n = ⊤
 IsWithin s kinds.Large i = i < length s.large.items
@@ -110,9 +121,9 @@ IsWithin s kinds.Block i = IsStretch s s.bytes.items i
 IsWithin s kinds.Stored n = ⊤
 IsWithin s kinds.Address i = i < length s.places.items
 IsWithin s kinds.Ref n = ⊤
-IsWithin s kinds.Expr i = IsStretch s s.ops.items i × All (OpWithin s) (stretch_of s.ops.items (stretch_at s i))
-IsWithin s kinds.Ranges i = IsStretch s s.spans.items i
-IsWithin s kinds.Locations i = IsStretch s s.items.items i × All (ItemWithin s) (stretch_of s.items.items (stretch_at s i))
+IsWithin s kinds.Expr i = IsList s s.ops.items i × All (OpWithin s) (stretch_of s.ops.items (list_at s i))
+IsWithin s kinds.Ranges i = IsList s s.spans.items i
+IsWithin s kinds.Locations i = IsList s s.items.items i × All (ItemWithin s) (stretch_of s.items.items (list_at s i))
 IsWithin s kinds.Lines n = ⊤
 IsWithin s kinds.Offset n = ⊤
 IsWithin s kinds.LargeOffset i = i < length s.large.items
@@ -127,9 +138,75 @@ pub record Grows (old new : Sides) : Type 0 where
   pub large : Begins old.large.items new.large.items
   pub bytes : Begins old.bytes.items new.bytes.items
   pub stretches : Begins old.stretches.items new.stretches.items
+  pub lists : Begins old.lists.items new.lists.items
   pub places : Begins old.places.items new.places.items
   pub addresses : Begins old.addresses.items new.addresses.items
   pub spans : Begins old.spans.items new.spans.items
   pub ops : Begins old.ops.items new.ops.items
   pub inner : Begins old.inner.items new.inner.items
   pub items : Begins old.items.items new.items.items
+
+-- ---- how many items the columns have
+
+-- in those into which only values that are read are put
+abbrev pub read_items : Sides → ℕ
+read_items s = length s.large.items + length s.stretches.items
+
+-- and in those of addresses and lists
+abbrev pub own_items : Sides → ℕ
+own_items s = length s.places.items + length s.lists.items
+
+-- how many of the latter a cell of a kind has: it keeps that one for good
+abbrev pub own_item : Kind → ℕ
+own_item kinds.Address = 1
+own_item kinds.Expr = 1
+own_item kinds.Ranges = 1
+own_item kinds.Locations = 1
+own_item kind = 0
+
+abbrev pub HaveNone : Sides → Type 0
+HaveNone s = (read_items s ≡ 0) × (own_items s ≡ 0)
+
+-- 32 bits hold the place of one item more
+abbrev pub HaveRoom : Sides → Type 0
+HaveRoom s = (read_items s < 2 ^ 32) × (own_items s < 2 ^ 32)
+
+abbrev pub AreAsMany : Sides → Sides → Type 0
+AreAsMany old new = (read_items new ≡ read_items old) × (own_items new ≡ own_items old)
+
+-- the item of an address is a new one
+abbrev pub IsNew : Sides → Kind → ℕ → Type 0
+IsNew s kinds.Address i = i ≡ length s.places.items
+IsNew s kind n = ⊤
+
+-- a value that is read puts one item at most into the columns, and none where it fails
+abbrev pub PutsRead : Sides → Sides → Result Held NoMemory → Type 0
+PutsRead old new (Ok h) = (read_items new ≤ read_items old + 1) × (own_items new ≡ own_items old + own_item h.kind) × IsNew old h.kind h.payload
+PutsRead old new (Err e) = AreAsMany old new
+
+-- one that is understood puts the item that its cell has of its own, if any
+abbrev pub PutsOwn : Sides → Sides → Result Held NoMemory → Type 0
+PutsOwn old new (Ok h) = (read_items new ≡ read_items old) × (own_items new ≡ own_items old + own_item h.kind) × IsNew old h.kind h.payload
+PutsOwn old new (Err e) = AreAsMany old new
+
+-- ---- a value in the place of another
+
+-- what may be put into a cell of a kind: anything where it has no item of its own, else an address for an address
+abbrev pub MayHold : Kind → NewValue → Type 0
+MayHold kind (news.Address place) = (kind ≡ kinds.Address → ⊥) → own_item kind ≡ 0
+MayHold kind new = own_item kind ≡ 0
+
+-- the item of an address is a new one, or that of the address before
+abbrev pub IsNewOver : Held → Sides → Kind → ℕ → Type 0
+IsNewOver was s kinds.Address i = i < length s.places.items → (was.kind ≡ kinds.Address) × (i ≡ was.payload)
+IsNewOver was s kind n = ⊤
+
+-- another value of a cell: the columns have as many items more as the cell has of its own
+abbrev pub PutsOver : Held → Sides → Sides → Result Held NoMemory → Type 0
+PutsOver was old new (Ok h) = (read_items new ≡ read_items old) × (own_items new + own_item was.kind ≡ own_items old + own_item h.kind) × IsNewOver was old h.kind h.payload
+PutsOver was old new (Err e) = AreAsMany old new
+
+-- all values stay but that of a cell, and those of cells that would share its address
+pub record KeepsOthers (was : Held) (old new : Sides) : Type 0 where
+  pub value : (kind : Kind) (form n : ℕ) → IsWithin old kind n → (was.kind ≡ kinds.Address → kind ≡ kinds.Address → n ≡ was.payload → ⊥) → held_value new kind form n ≡ held_value old kind form n
+  pub within : (kind : Kind) (n : ℕ) → IsWithin old kind n → IsWithin new kind n

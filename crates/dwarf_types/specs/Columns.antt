@@ -1,6 +1,6 @@
 -- What heads and cells stand for.
-use Rattle.std.specs.Prelude.{ℕ, ◌≡◌, ◌+◌, ◌*◌, ◌≤◌, ◌==◌, List, [], ◌∷◌, All, length, map, drop, slice_range, Option, None, Some, if◌then◌else◌}
-use Rattle.std.specs.List.{zip}
+use Rattle.std.specs.Prelude.{ℕ, ◌≡◌, ◌+◌, ◌*◌, ◌^◌, ◌≤◌, ◌==◌, List, [], ◌∷◌, All, length, map, drop, slice_range, Option, None, Some, if◌then◌else◌}
+use Rattle.std.specs.List.{AllPairs, sum_by, zip}
 use Rattle.dwarf_types.specs.declared.abbrev.TheConstants.{MOST_FIELDS}
 use Rattle.dwarf_types.specs.declared.columns.Cell.{Cell}
 use Rattle.dwarf_types.specs.declared.columns.Head.{Head}
@@ -9,9 +9,11 @@ use Rattle.dwarf_types.specs.declared.entry.Attr.{Attr}
 use Rattle.dwarf_types.specs.declared.entry.Entry.{Entry}
 use Rattle.dwarf_types.specs.declared.entry.RawAttr.{RawAttr}
 use Rattle.dwarf_types.specs.declared.entry.RawEntry.{RawEntry}
+use Rattle.dwarf_types.specs.declared.sides.Held.{Held}
+use Rattle.dwarf_types.specs.declared.sides.Kind.TheVariants as kinds
 use Rattle.dwarf_types.specs.declared.sides.Sides.{Sides}
 use Rattle.dwarf_types.specs.Built.{Built}
-use Rattle.dwarf_types.specs.Cells.{IsWithin, held_value}
+use Rattle.dwarf_types.specs.Cells.{IsWithin, held_value, own_item, own_items, read_items}
 
 -- ---- attributes
 
@@ -75,7 +77,36 @@ pub record IsRaw (s : Sides) (heads : List Head) (cells : List Cell) (ends : Lis
   pub flat : IsFlat (CellWithin s) heads cells open_from
   pub beside : length ends ≡ length cells
 
--- the same of entries that are still put: each head has few cells, so 32 bits hold their places
+-- ---- cells and the columns beside them
+
+-- what a cell holds of its value
+abbrev pub held_of : Cell → Held
+held_of c = record { kind = c.kind; payload = c.payload }
+
+-- no two cells have the same address
+abbrev pub Apart : Cell → Cell → Type 0
+Apart c d = c.kind ≡ kinds.Address → d.kind ≡ kinds.Address → c.payload ≡ d.payload → ⊥
+
+-- the columns have no more items than there are cells, so 32 bits hold their places
+pub record AreFew (s : Sides) (cells : List Cell) : Type 0 where
+  pub most : length cells ≤ 2 ^ 32
+  pub read : read_items s ≤ length cells
+  pub own : own_items s ≤ sum_by (λ c. own_item c.kind) cells
+  pub apart : AllPairs Apart cells
+
+-- ---- what is held of entries
+
+pub record AreEntries (s : Sides) (heads : List Head) (cells : List Cell) : Type 0 where
+  pub flat : IsFlat (CellWithin s) heads cells (length cells)
+  pub columns : AreFew s cells
+
+-- as they are read
+pub record AreRaw (s : Sides) (heads : List Head) (cells : List Cell) (ends : List ℕ) : Type 0 where
+  pub raw : IsRaw s heads cells ends (length cells)
+  pub columns : AreFew s cells
+
+-- as they are put: each head has few cells, so 32 bits hold their places
 pub record IsBuilt (s : Sides) (heads : List Head) (cells : List Cell) (ends : List ℕ) (open_from : ℕ) : Type 0 where
   pub raw : IsRaw s heads cells ends open_from
   pub few : open_from ≤ MOST_FIELDS * length heads
+  pub columns : AreFew s cells

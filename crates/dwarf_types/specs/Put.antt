@@ -1,5 +1,5 @@
 -- The values that are put into entries, as the values of which contracts speak.
-use Rattle.std.specs.Prelude.{ℕ, ◌==◌, None, if◌then◌else◌}
+use Rattle.std.specs.Prelude.{ℕ, ◌==◌, None, if◌then◌else◌, ⊤}
 use Rattle.ds_base.specs.declared.dwarf.TheConstants.{DW_FORM_implicit_const, DW_FORM_sdata}
 use Rattle.dwarf_types.specs.declared.address.Addr.TheVariants as addrs
 use Rattle.dwarf_types.specs.declared.put.NewValue.{NewValue}
@@ -31,3 +31,12 @@ value_put (news.Ref k) = values.Ref k
 value_put (news.Ranges spans) = values.Ranges spans.now
 value_put (news.Locations items) = values.Locations items
 value_put news.Lines = values.Lines
+
+-- what may be put in the place of a value: an address stays an address, and operations, ranges and locations are put once
+abbrev pub MayBecome : Value → NewValue → Type 0
+MayBecome (values.Address place) (news.Address new) = ⊤
+MayBecome (values.Address place) new = ⊥
+MayBecome (values.Expr ops) new = ⊥
+MayBecome (values.Ranges spans) new = ⊥
+MayBecome (values.Locations items) new = ⊥
+MayBecome value new = ⊤

@@ -105,19 +105,21 @@ impl Builder {
         value: RawValue<'_>,
     ) -> Result<(), NoMemory>
         requires form { form < 256 }
+        requires few { length self.old.attrs < MOST_FIELDS }
+        requires room { length self.old.entries < MOST_ENTRIES }
         ensures ok { OnOk result (self.new ≡ record self.old { attrs = self.old.attrs ++ record { name = name; form = form; end = end; value = value_read form value.entry } ∷ [] }) }
         ensures unchanged { OnErr result (self.new ≡ self.old) }
     {
+        // Room first: nothing fails behind the value, so a cell is made for each item that is put beside.
+        self.cells.reserve(1)?;
+        self.ends.reserve(1)?;
         let held = self.sides.store_read(form, value)?;
-        let cell = Cell {
+        self.cells.push_reserved(Cell {
             name,
             form: form as u8,
             kind: held.kind,
             payload: held.payload,
-        };
-        // Room first: nothing fails behind the cell, so both columns grow or neither.
-        self.ends.reserve(1)?;
-        self.cells.push(cell)?;
+        });
         self.ends.push_reserved(end);
         Ok(())
     }

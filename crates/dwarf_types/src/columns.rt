@@ -2,10 +2,10 @@
 
 ghost use Rattle.std.specs.Prelude.{◌≡◌, ◌==◌, ◌<◌, ◌≤◌, ◌+◌, length, map, drop, slice_get, Some};
 ghost use Rattle.std.specs.List.{list_any, position};
-ghost use Rattle.dwarf_types.specs.Columns.{cells_of, parent_of};
+ghost use Rattle.dwarf_types.specs.Columns.{cells_of, held_of, parent_of};
 ghost use Rattle.dwarf_types.specs.Plain.{holds_address, holds_offset, holds_plain};
 
-use crate::sides::Kind;
+use crate::sides::{Held, Kind};
 
 /// The parent of an entry that has none.
 pub(crate) const NO_PARENT: u32 = 0xffff_ffff;
@@ -39,6 +39,18 @@ impl Head {
             None
         } else {
             Some(self.parent)
+        }
+    }
+}
+
+impl Cell {
+    /// What it holds of its value.
+    pub(crate) fn held(&self) -> Held
+        ensures { result ≡ held_of self.now }
+    {
+        Held {
+            kind: self.kind,
+            payload: self.payload,
         }
     }
 }

@@ -5,9 +5,9 @@ ghost use Rattle.dwarf_types.specs.declared.entry.Attr.{Attr as AnAttr};
 ghost use Rattle.dwarf_types.specs.declared.entry.Entry.{Entry as AnEntry};
 ghost use Rattle.dwarf_types.specs.declared.entry.RawAttr.{RawAttr as ARawAttr};
 ghost use Rattle.dwarf_types.specs.declared.entry.RawEntry.{RawEntry as ARawEntry};
-ghost use Rattle.dwarf_types.specs.Columns.{CellWithin, IsFlat, IsRaw, raw_entries_of};
+ghost use Rattle.dwarf_types.specs.Columns.{AreRaw, raw_entries_of};
 ghost use Rattle.dwarf_types.specs.PlaceSteps.{places_of};
-ghost use Rattle.dwarf_types.specs.Put.{value_put};
+ghost use Rattle.dwarf_types.specs.Put.{MayBecome, value_put};
 ghost use Rattle.dwarf_types.specs.Raw.{attr_of, entry_of};
 
 use crate::columns::{Cell, Head, cells_in};
@@ -36,12 +36,11 @@ impl Model for Entries {
 
     ghost coded = { coded_list the_row.coded };
 
-    ghost use Rattle.std.specs.Prelude.{length};
-    ghost use Rattle.dwarf_types.specs.Columns.{CellWithin, IsFlat, entries_of};
+    ghost use Rattle.dwarf_types.specs.Columns.{AreEntries, entries_of};
 
     ghost view = { λ e. entries_of e.sides e.heads.items e.cells.items };
 
-    ghost invariant = { λ e. IsFlat (CellWithin e.sides) e.heads.items e.cells.items (length e.cells.items) };
+    ghost invariant = { λ e. AreEntries e.sides e.heads.items e.cells.items };
 }
 
 /// The entries of an object as they are read, which contracts see as the list of them.
@@ -64,12 +63,11 @@ impl Model for RawEntries {
 
     ghost coded = { coded_list the_row.coded };
 
-    ghost use Rattle.std.specs.Prelude.{length};
-    ghost use Rattle.dwarf_types.specs.Columns.{IsRaw, raw_entries_of};
+    ghost use Rattle.dwarf_types.specs.Columns.{AreRaw, raw_entries_of};
 
     ghost view = { λ e. raw_entries_of e.sides e.heads.items e.cells.items e.ends.items };
 
-    ghost invariant = { λ e. IsRaw e.sides e.heads.items e.cells.items e.ends.items (length e.cells.items) };
+    ghost invariant = { λ e. AreRaw e.sides e.heads.items e.cells.items e.ends.items };
 }
 
 impl Entries {
@@ -113,14 +111,15 @@ impl Entries {
 
     /// Another value for the attribute at place `j` of entry `i`.
     pub fn set(&mut self, i: usize, j: usize, value: NewValue<'_>) -> Result<(), NoMemory>
-        requires { (e : AnEntry) × (slice_get self.old i ≡ Some e) × (j < length e.attrs) }
+        requires stands { (e : AnEntry) × (slice_get self.old i ≡ Some e) × (j < length e.attrs) }
+        requires becomes { (e : AnEntry) (a : AnAttr) → slice_get self.old i ≡ Some e → slice_get e.attrs j ≡ Some a → MayBecome a.value value }
         ensures ok { (e : AnEntry) (a : AnAttr) → slice_get self.old i ≡ Some e → slice_get e.attrs j ≡ Some a
             → OnOk result (self.new ≡ slice_set self.old i (record e { attrs = slice_set e.attrs j (record a { value = value_put value.entry }) })) }
         ensures unchanged { OnErr result (self.new ≡ self.old) }
     {
         let k = self.heads[i].first as usize + j;
-        let held = self.sides.store_new(value)?;
         let cell = self.cells[k];
+        let held = self.sides.store_over(cell.held(), value)?;
         self.cells[k] = with_value(cell, held);
         Ok(())
     }
@@ -134,7 +133,7 @@ impl RawEntries {
         ends: Vec<u32>,
         sides: Sides,
     ) -> RawEntries
-        requires { IsRaw sides heads.items cells.items ends.items (length cells.items) }
+        requires { AreRaw sides heads.items cells.items ends.items }
         ensures { result ≡ raw_entries_of sides heads.items cells.items ends.items }
     {
         RawEntries {
@@ -184,14 +183,15 @@ impl RawEntries {
 
     /// Another value for the attribute at place `j` of entry `i`.
     pub fn set(&mut self, i: usize, j: usize, value: NewValue<'_>) -> Result<(), NoMemory>
-        requires { (e : ARawEntry) × (slice_get self.old i ≡ Some e) × (j < length e.attrs) }
+        requires stands { (e : ARawEntry) × (slice_get self.old i ≡ Some e) × (j < length e.attrs) }
+        requires becomes { (e : ARawEntry) (a : ARawAttr) → slice_get self.old i ≡ Some e → slice_get e.attrs j ≡ Some a → MayBecome a.value value }
         ensures ok { (e : ARawEntry) (a : ARawAttr) → slice_get self.old i ≡ Some e → slice_get e.attrs j ≡ Some a
             → OnOk result (self.new ≡ slice_set self.old i (record e { attrs = slice_set e.attrs j (record a { value = value_put value.entry }) })) }
         ensures unchanged { OnErr result (self.new ≡ self.old) }
     {
         let k = self.heads[i].first as usize + j;
-        let held = self.sides.store_new(value)?;
         let cell = self.cells[k];
+        let held = self.sides.store_over(cell.held(), value)?;
         self.cells[k] = with_value(cell, held);
         Ok(())
     }

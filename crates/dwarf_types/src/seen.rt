@@ -354,12 +354,12 @@ pub(crate) fn value_in<'a>(sides: &'a Sides, cell: Cell) -> ValueRef<'a>
         Kind::Address => ValueRef::Address(sides.places[at]),
         Kind::Ref => ValueRef::Ref(cell.payload),
         Kind::Expr => {
-            let rows = part_of(&sides.ops, sides.stretches[at]);
+            let rows = part_of(&sides.ops, sides.lists[at]);
             ValueRef::Expr(OpsRef::new(sides, rows))
         }
-        Kind::Ranges => ValueRef::Ranges(part_of(&sides.spans, sides.stretches[at])),
+        Kind::Ranges => ValueRef::Ranges(part_of(&sides.spans, sides.lists[at])),
         Kind::Locations => {
-            let rows = part_of(&sides.items, sides.stretches[at]);
+            let rows = part_of(&sides.items, sides.lists[at]);
             ValueRef::Locations(LocationsRef::new(sides, rows))
         }
         Kind::Lines => ValueRef::Lines,

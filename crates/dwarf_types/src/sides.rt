@@ -1,12 +1,13 @@
 //! What a cell holds, and the columns beside the cells.
 
-ghost use Rattle.std.specs.Prelude.{◌≡◌, ◌==◌, ◌+◌, ◌++◌, ◌<◌, ℕ, [], ◌∷◌, All, length, map, slice_get, Some, IfOk, IfSome, OnOk, OnErr, true};
+ghost use Rattle.std.specs.Prelude.{◌≡◌, ◌==◌, ◌+◌, ◌++◌, ◌^◌, ◌<◌, ℕ, [], ◌∷◌, All, length, map, slice_get, Some, IfOk, IfSome, OnOk, OnErr, true, false};
 ghost use Rattle.std.specs.List.{position};
 ghost use Rattle.std.specs.Option.{option_copied};
 ghost use Rattle.dwarf_types.specs.declared.sides.InnerRow.{InnerRow as AnInner};
 ghost use Rattle.dwarf_types.specs.declared.sides.ItemRow.{ItemRow as AnItem};
+ghost use Rattle.dwarf_types.specs.declared.sides.Kind.TheVariants as kinds;
 ghost use Rattle.dwarf_types.specs.declared.sides.OpRow.{OpRow as ARow};
-ghost use Rattle.dwarf_types.specs.Cells.{Grows, InColumn, InnerWithin, IsAddress, IsWithin, ItemWithin, OpWithin, held_value, address_at, first_text, inner_of, item_of, op_of, stored_place, stretch_of, text_from};
+ghost use Rattle.dwarf_types.specs.Cells.{AreAsMany, Grows, HaveNone, HaveRoom, InColumn, InnerWithin, IsAddress, IsWithin, ItemWithin, KeepsOthers, MayHold, OpWithin, PutsOver, PutsOwn, PutsRead, held_value, address_at, first_text, inner_of, item_of, op_of, own_item, own_items, stored_place, stretch_of, text_from};
 ghost use Rattle.dwarf_types.specs.Put.{number_form, value_put, value_read};
 ghost use Rattle.dwarf_types.specs.Seen.{inner_seen, location_seen, op_seen};
 ghost use Rattle.dwarf_types.specs.declared.value.Value.TheVariants as values;
@@ -97,14 +98,17 @@ pub(crate) struct Held {
     pub(crate) payload: u32,
 }
 
-/// The columns beside the cells. What stood in one stays there.
+/// The columns beside the cells. What stood in one stays there, but for the address of a cell that gets another one.
 #[derive(Drop)]
 pub(crate) struct Sides {
     /// Numbers that 32 bits do not hold.
     pub(crate) large: Vec<u64>,
     /// The sections of texts, one behind the other, and behind them all other bytes.
     pub(crate) bytes: Vec<u8>,
+    /// The stretches of texts, of constants of 16 bytes, and of blocks.
     pub(crate) stretches: Vec<Stretch>,
+    /// Those of operations, of spans, and of items of location lists.
+    pub(crate) lists: Vec<Stretch>,
     /// The addresses of cells.
     pub(crate) places: Vec<Place>,
     /// Those of operations.
@@ -118,12 +122,14 @@ pub(crate) struct Sides {
 impl Sides {
     /// Empty columns.
     pub(crate) fn new(alloc: Global) -> Sides
-        ensures { result.inner.items ≡ [] }
+        ensures inner { result.inner.items ≡ [] }
+        ensures few { HaveNone result }
     {
         Sides {
             large: Vec::new(alloc),
             bytes: Vec::new(alloc),
             stretches: Vec::new(alloc),
+            lists: Vec::new(alloc),
             places: Vec::new(alloc),
             addresses: Vec::new(alloc),
             spans: Vec::new(alloc),
@@ -138,7 +144,9 @@ impl Sides {
         alloc: Global,
         strings: &[u8],
         line_strings: &[u8],
-    ) -> Result<Sides, NoMemory> {
+    ) -> Result<Sides, NoMemory>
+        ensures { IfOk result HaveNone }
+    {
         let mut sides = Sides::new(alloc);
         let size = strings.len().saturating_add(line_strings.len());
         // A little more, so that the few bytes that stand in attributes find room behind the texts.
@@ -150,8 +158,10 @@ impl Sides {
 
     /// Puts what a cell cannot hold of a value behind the columns. The value was read in a form.
     pub(crate) fn store_read(&mut self, form: u16, value: RawValue<'_>) -> Result<Held, NoMemory>
+        requires { HaveRoom self.old }
         ensures value { IfOk result (λ h. held_value self.new h.kind form h.payload ≡ value_read form value.entry) }
         ensures within { IfOk result (λ h. IsWithin self.new h.kind h.payload) }
+        ensures few { PutsRead self.old self.new result }
         ensures grows { Grows self.old self.new }
     {
         match value {
@@ -168,33 +178,25 @@ impl Sides {
         }
     }
 
-    /// Puts what a cell cannot hold of an understood value behind the columns.
-    pub(crate) fn store_new(&mut self, value: NewValue<'_>) -> Result<Held, NoMemory>
+    /// Puts what a cell cannot hold of an understood value behind the columns, in the place of what the cell held.
+    pub(crate) fn store_over(&mut self, was: Held, value: NewValue<'_>) -> Result<Held, NoMemory>
+        requires within { IsWithin self.old was.kind was.payload }
+        requires becomes { MayHold was.kind value }
+        requires room { own_item was.kind ≡ 0 → own_items self.old < 2 ^ 32 }
         ensures value { IfOk result (λ h. (form : ℕ) → held_value self.new h.kind form h.payload ≡ value_put value.entry) }
         ensures within { IfOk result (λ h. IsWithin self.new h.kind h.payload) }
-        ensures grows { Grows self.old self.new }
+        ensures few { PutsOver was self.old self.new result }
+        ensures others { KeepsOthers was self.old self.new }
+        ensures unchanged { OnErr result (Grows self.old self.new) }
     {
         match value {
-            NewValue::Address(place) => {
-                let payload = push_at(&mut self.places, place)?;
-                Ok(Held {
-                    kind: Kind::Address,
-                    payload,
-                })
-            }
+            NewValue::Address(place) => self.store_place(was, place),
             NewValue::Expr(ops) => self.store_expr(&ops),
             NewValue::Ref(number) => Ok(Held {
                 kind: Kind::Ref,
                 payload: number,
             }),
-            NewValue::Ranges(spans) => {
-                let stretch = append(&mut self.spans, spans)?;
-                let payload = push_at(&mut self.stretches, stretch)?;
-                Ok(Held {
-                    kind: Kind::Ranges,
-                    payload,
-                })
-            }
+            NewValue::Ranges(spans) => self.store_ranges(spans),
             NewValue::Locations(items) => self.store_locations(&items),
             NewValue::Lines => Ok(Held {
                 kind: Kind::Lines,
@@ -203,10 +205,34 @@ impl Sides {
         }
     }
 
+    /// An address that is understood. It takes the place of the one before, where that stands in the column.
+    fn store_place(&mut self, was: Held, place: Place) -> Result<Held, NoMemory>
+        requires within { IsWithin self.old was.kind was.payload }
+        requires becomes { (was.kind ≡ kinds.Address → ⊥) → own_item was.kind ≡ 0 }
+        requires room { own_item was.kind ≡ 0 → own_items self.old < 2 ^ 32 }
+        ensures value { IfOk result (λ h. (form : ℕ) → held_value self.new h.kind form h.payload ≡ values.Address place) }
+        ensures within { IfOk result (λ h. IsWithin self.new h.kind h.payload) }
+        ensures few { PutsOver was self.old self.new result }
+        ensures others { KeepsOthers was self.old self.new }
+        ensures unchanged { OnErr result (Grows self.old self.new) }
+    {
+        if has_place(was.kind) {
+            self.places[was.payload as usize] = place;
+            return Ok(was);
+        }
+        let payload = push_at(&mut self.places, place)?;
+        Ok(Held {
+            kind: Kind::Address,
+            payload,
+        })
+    }
+
     /// A stored address.
     fn store_address(&mut self, number: u64) -> Result<Held, NoMemory>
+        requires { HaveRoom self.old }
         ensures value { IfOk result (λ h. (form : ℕ) → held_value self.new h.kind form h.payload ≡ values.Address (stored_place number)) }
         ensures within { IfOk result (λ h. IsWithin self.new h.kind h.payload) }
+        ensures few { PutsRead self.old self.new result }
         ensures grows { Grows self.old self.new }
     {
         if number < 1 << 32 {
@@ -229,8 +255,10 @@ impl Sides {
 
     /// A text: where it stands in the sections of texts, else as bytes of its own.
     fn store_text(&mut self, text: &[u8], place: Option<u32>) -> Result<Held, NoMemory>
+        requires { HaveRoom self.old }
         ensures value { IfOk result (λ h. (form : ℕ) → held_value self.new h.kind form h.payload ≡ values.Text text.now) }
         ensures within { IfOk result (λ h. IsWithin self.new h.kind h.payload) }
+        ensures few { PutsRead self.old self.new result }
         ensures grows { Grows self.old self.new }
     {
         if let Some(place) = place {
@@ -246,8 +274,10 @@ impl Sides {
 
     /// A text as bytes of its own.
     fn store_own_text(&mut self, text: &[u8]) -> Result<Held, NoMemory>
+        requires { HaveRoom self.old }
         ensures value { IfOk result (λ h. (form : ℕ) → held_value self.new h.kind form h.payload ≡ values.Text text.now) }
         ensures within { IfOk result (λ h. IsWithin self.new h.kind h.payload) }
+        ensures few { PutsRead self.old self.new result }
         ensures grows { Grows self.old self.new }
     {
         let stretch = append(&mut self.bytes, text)?;
@@ -260,8 +290,10 @@ impl Sides {
 
     /// A constant of 16 bytes.
     fn store_wide(&mut self, bytes: &[u8]) -> Result<Held, NoMemory>
+        requires { HaveRoom self.old }
         ensures value { IfOk result (λ h. (form : ℕ) → held_value self.new h.kind form h.payload ≡ values.Wide bytes.now) }
         ensures within { IfOk result (λ h. IsWithin self.new h.kind h.payload) }
+        ensures few { PutsRead self.old self.new result }
         ensures grows { Grows self.old self.new }
     {
         let stretch = append(&mut self.bytes, bytes)?;
@@ -274,8 +306,10 @@ impl Sides {
 
     /// A block.
     fn store_block(&mut self, bytes: &[u8]) -> Result<Held, NoMemory>
+        requires { HaveRoom self.old }
         ensures value { IfOk result (λ h. (form : ℕ) → held_value self.new h.kind form h.payload ≡ values.Block form bytes.now) }
         ensures within { IfOk result (λ h. IsWithin self.new h.kind h.payload) }
+        ensures few { PutsRead self.old self.new result }
         ensures grows { Grows self.old self.new }
     {
         let stretch = append(&mut self.bytes, bytes)?;
@@ -288,8 +322,10 @@ impl Sides {
 
     /// A constant or flag.
     fn store_number(&mut self, bits: u64) -> Result<Held, NoMemory>
+        requires { HaveRoom self.old }
         ensures value { IfOk result (λ h. (form : ℕ) → held_value self.new h.kind form h.payload ≡ values.Number (number_form form) bits) }
         ensures within { IfOk result (λ h. IsWithin self.new h.kind h.payload) }
+        ensures few { PutsRead self.old self.new result }
         ensures grows { Grows self.old self.new }
     {
         if bits < 1 << 32 {
@@ -307,8 +343,10 @@ impl Sides {
 
     /// An offset.
     fn store_offset(&mut self, n: u64) -> Result<Held, NoMemory>
+        requires { HaveRoom self.old }
         ensures value { IfOk result (λ h. (form : ℕ) → held_value self.new h.kind form h.payload ≡ values.Offset n) }
         ensures within { IfOk result (λ h. IsWithin self.new h.kind h.payload) }
+        ensures few { PutsRead self.old self.new result }
         ensures grows { Grows self.old self.new }
     {
         if n < 1 << 32 {
@@ -326,26 +364,46 @@ impl Sides {
 
     /// An expression.
     fn store_expr(&mut self, ops: &OpsRef<'_>) -> Result<Held, NoMemory>
+        requires { own_items self.old < 2 ^ 32 }
         ensures value { IfOk result (λ h. (form : ℕ) → held_value self.new h.kind form h.payload ≡ values.Expr ops.now) }
         ensures within { IfOk result (λ h. IsWithin self.new h.kind h.payload) }
+        ensures few { PutsOwn self.old self.new result }
         ensures grows { Grows self.old self.new }
     {
         let stretch = self.store_ops(ops)?;
-        let payload = push_at(&mut self.stretches, stretch)?;
+        let payload = push_at(&mut self.lists, stretch)?;
         Ok(Held {
             kind: Kind::Expr,
             payload,
         })
     }
 
+    /// Addresses in the linked program.
+    fn store_ranges(&mut self, spans: &[Span]) -> Result<Held, NoMemory>
+        requires { own_items self.old < 2 ^ 32 }
+        ensures value { IfOk result (λ h. (form : ℕ) → held_value self.new h.kind form h.payload ≡ values.Ranges spans.now) }
+        ensures within { IfOk result (λ h. IsWithin self.new h.kind h.payload) }
+        ensures few { PutsOwn self.old self.new result }
+        ensures grows { Grows self.old self.new }
+    {
+        let stretch = append(&mut self.spans, spans)?;
+        let payload = push_at(&mut self.lists, stretch)?;
+        Ok(Held {
+            kind: Kind::Ranges,
+            payload,
+        })
+    }
+
     /// A location list.
     fn store_locations(&mut self, items: &LocationsRef<'_>) -> Result<Held, NoMemory>
+        requires { own_items self.old < 2 ^ 32 }
         ensures value { IfOk result (λ h. (form : ℕ) → held_value self.new h.kind form h.payload ≡ values.Locations items.now) }
         ensures within { IfOk result (λ h. IsWithin self.new h.kind h.payload) }
+        ensures few { PutsOwn self.old self.new result }
         ensures grows { Grows self.old self.new }
     {
         let stretch = self.store_items(items)?;
-        let payload = push_at(&mut self.stretches, stretch)?;
+        let payload = push_at(&mut self.lists, stretch)?;
         Ok(Held {
             kind: Kind::Locations,
             payload,
@@ -355,6 +413,7 @@ impl Sides {
     /// Operations, each in a row.
     pub(crate) fn store_ops(&mut self, ops: &OpsRef<'_>) -> Result<Stretch, NoMemory>
         ensures rows { IfOk result (λ at. InColumn self.new.ops.items at × (map (op_of self.new) (stretch_of self.new.ops.items at) ≡ ops.now) × All (OpWithin self.new) (stretch_of self.new.ops.items at)) }
+        ensures few { AreAsMany self.old self.new }
         ensures grows { Grows self.old self.new }
         ensures others { self.new.items.items ≡ self.old.items.items }
     {
@@ -369,6 +428,7 @@ impl Sides {
     /// The row of an operation, behind the others.
     fn store_op(&mut self, op: &OpRef<'_>) -> Result<(), NoMemory>
         ensures row { OnOk result ((r : ARow) × (self.new.ops.items ≡ self.old.ops.items ++ r ∷ []) × (op_of self.new r ≡ op_seen op.now) × OpWithin self.new r) }
+        ensures few { AreAsMany self.old self.new }
         ensures grows { Grows self.old self.new }
         ensures others { self.new.items.items ≡ self.old.items.items }
     {
@@ -392,6 +452,7 @@ impl Sides {
     ) -> Result<(Stretch, Option<usize>), NoMemory>
         ensures value { IfOk result (λ at. (stretch_of self.new.bytes.items at.0 ≡ bytes.now) × (address_at self.new at.1 ≡ address)) }
         ensures within { IfOk result (λ at. InColumn self.new.bytes.items at.0 × IsAddress self.new at.1) }
+        ensures few { AreAsMany self.old self.new }
         ensures grows { Grows self.old self.new }
         ensures others { (self.new.ops.items ≡ self.old.ops.items) × (self.new.inner.items ≡ self.old.inner.items) × (self.new.items.items ≡ self.old.items.items) }
     {
@@ -404,6 +465,7 @@ impl Sides {
     fn store_field(&mut self, address: Option<Place>) -> Result<Option<usize>, NoMemory>
         ensures value { IfOk result (λ at. address_at self.new at ≡ address) }
         ensures within { IfOk result (λ at. IsAddress self.new at) }
+        ensures few { AreAsMany self.old self.new }
         ensures grows { Grows self.old self.new }
         ensures others { (self.new.bytes.items ≡ self.old.bytes.items) × (self.new.ops.items ≡ self.old.ops.items) × (self.new.inner.items ≡ self.old.inner.items) × (self.new.items.items ≡ self.old.items.items) }
     {
@@ -420,6 +482,7 @@ impl Sides {
     /// Operations inside an operation, each in a row.
     fn store_inner_ops(&mut self, ops: &InnerOpsRef<'_>) -> Result<Stretch, NoMemory>
         ensures rows { IfOk result (λ at. InColumn self.new.inner.items at × (map (inner_of self.new) (stretch_of self.new.inner.items at) ≡ ops.now) × All (InnerWithin self.new) (stretch_of self.new.inner.items at)) }
+        ensures few { AreAsMany self.old self.new }
         ensures grows { Grows self.old self.new }
         ensures others { (self.new.ops.items ≡ self.old.ops.items) × (self.new.items.items ≡ self.old.items.items) }
     {
@@ -434,6 +497,7 @@ impl Sides {
     /// The row of an operation inside another, behind the others.
     pub(crate) fn store_inner(&mut self, op: &InnerOpRef<'_>) -> Result<(), NoMemory>
         ensures row { OnOk result ((r : AnInner) × (self.new.inner.items ≡ self.old.inner.items ++ r ∷ []) × (inner_of self.new r ≡ inner_seen op.now) × InnerWithin self.new r) }
+        ensures few { AreAsMany self.old self.new }
         ensures grows { Grows self.old self.new }
         ensures others { (self.new.ops.items ≡ self.old.ops.items) × (self.new.items.items ≡ self.old.items.items) }
         ensures unchanged { OnErr result (self.new.inner.items ≡ self.old.inner.items) }
@@ -460,6 +524,7 @@ impl Sides {
     /// Items of a location list, each in a row.
     fn store_items(&mut self, items: &LocationsRef<'_>) -> Result<Stretch, NoMemory>
         ensures rows { IfOk result (λ at. InColumn self.new.items.items at × (map (item_of self.new) (stretch_of self.new.items.items at) ≡ items.now) × All (ItemWithin self.new) (stretch_of self.new.items.items at)) }
+        ensures few { AreAsMany self.old self.new }
         ensures grows { Grows self.old self.new }
     {
         let from = self.items.len();
@@ -473,6 +538,7 @@ impl Sides {
     /// The row of an item of a location list, behind the others.
     fn store_item(&mut self, item: &LocationRef<'_>) -> Result<(), NoMemory>
         ensures row { OnOk result ((r : AnItem) × (self.new.items.items ≡ self.old.items.items ++ r ∷ []) × (item_of self.new r ≡ location_seen item.now) × ItemWithin self.new r) }
+        ensures few { AreAsMany self.old self.new }
         ensures grows { Grows self.old self.new }
     {
         let ops = self.store_ops(&item.ops)?;
@@ -523,13 +589,24 @@ fn first_zero(bytes: &[u8]) -> Option<usize>
     memchr(0, bytes)
 }
 
-/// Puts an item last, and answers its place for a cell, which holds it in 32 bits: at most so many attributes hold a
-/// value beside their cell.
+/// Whether a cell of this kind has an item in the column of addresses.
+fn has_place(kind: Kind) -> bool
+    ensures there { result ≡ true → kind ≡ kinds.Address }
+    ensures none { result ≡ false → kind ≡ kinds.Address → ⊥ }
+{
+    match kind {
+        Kind::Address => true,
+        _ => false,
+    }
+}
+
+/// Puts an item last, and answers its place for a cell, which holds it in 32 bits.
 fn push_at<T: Copy + Drop>(column: &mut Vec<T>, item: T) -> Result<u32, NoMemory>
+    requires { length column.old.items < 2 ^ 32 }
     ensures ok { IfOk result (λ at. (at ≡ length column.old.items) × (column.new.items ≡ column.old.items ++ item ∷ [])) }
     ensures unchanged { OnErr result (column.new.items ≡ column.old.items) }
 {
-    let at = u32::try_from(column.len()).map_err(|_| NoMemory)?;
+    let at = column.len() as u32;
     column.push(item)?;
     Ok(at)
 }

@@ -7,7 +7,7 @@ use Rattle.dwarf_types.proofs.entries.Entries.entry.Goals as goal
 pub cells_in-requires : goal.cells_in-requires
 cells_in-requires c =
     let lt : c.args.i < length c.self.inside.heads.items = rw (← c.self.view_is, length-map) at c.requires in
-    rw c.deref.ensures.value (head_read (CellWithin c.self.inside.sides) _ _ _ c.args.i c.index.result.now c.self.invariant lt c.index.ensures)
+    rw c.deref.ensures.value (head_read (CellWithin c.self.inside.sides) _ _ _ c.args.i c.index.result.now c.self.invariant.flat lt c.index.ensures)
 
 pub returns-clause-stands : goal.returns-clause-stands
 returns-clause-stands c =

@@ -9,12 +9,12 @@ use Rattle.dwarf_types.proofs.entries.RawEntries.entry.Goals as goal
 pub cells_in-cells-requires : goal.cells_in-cells-requires
 cells_in-cells-requires c =
     let lt : c.args.i < length c.self.inside.heads.items = rw (← c.self.view_is, length-map) at c.requires in
-    rw c.deref.ensures.value (head_read (CellWithin c.self.inside.sides) _ _ _ c.args.i c.index.result.now c.self.invariant.flat lt c.index.ensures)
+    rw c.deref.ensures.value (head_read (CellWithin c.self.inside.sides) _ _ _ c.args.i c.index.result.now c.self.invariant.raw.flat lt c.index.ensures)
 
 pub cells_in-ends-requires : goal.cells_in-ends-requires
 cells_in-ends-requires c =
     let lt : c.args.i < length c.self.inside.heads.items = rw (← c.self.view_is, length-map) at c.requires in
-    rw (c.deref-2.ensures.value, c.self.invariant.beside) (head_read (CellWithin c.self.inside.sides) _ _ _ c.args.i c.index.result.now c.self.invariant.flat lt c.index.ensures)
+    rw (c.deref-2.ensures.value, c.self.invariant.raw.beside) (head_read (CellWithin c.self.inside.sides) _ _ _ c.args.i c.index.result.now c.self.invariant.raw.flat lt c.index.ensures)
 
 pub returns-clause-stands : goal.returns-clause-stands
 returns-clause-stands c =
