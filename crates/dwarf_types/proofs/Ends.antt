@@ -2,21 +2,19 @@
 use Rattle.std.proofs.Common.{◌≡◌, ℕ, zero, suc, ◌+◌, ◌-◌, ◌<◌, ◌≤◌, ◌||◌, List, [], ◌∷◌, ◌++◌, Bool, None, Some, map, length, drop, take, get_or, set, slice_get, All, cond, not, nat_lt, refl, ap, ap₂, sym, ◌∙◌, arith}
 use Rattle.std.specs.List.{list_any, position, prefix_len, zip}
 use Rattle.std.specs.Option.{option_map}
-use Rattle.std.proofs.lemmas.List.{get_or-map, get_or_default, length-drop, length-map, length-set, length_push}
+use Rattle.std.proofs.lemmas.List.{get_or-map, length-drop, length-map, length-set, length_push}
 use Rattle.std.proofs.lemmas.List.Elements.{All-cons, All-head, All-nil, All-tail}
-use Rattle.std.proofs.lemmas.Option.{slice_get-get_or, slice_get-map, slice_get_within}
+use Rattle.std.proofs.lemmas.Option.{slice_get-get_or, slice_get-map}
 use Rattle.std.proofs.lemmas.Slice.Zip.{get_or-zip, length-zip}
 use Rattle.dwarf_types.specs.declared.columns.Cell.{Cell}
 use Rattle.dwarf_types.specs.declared.columns.Head.{Head}
 use Rattle.dwarf_types.specs.declared.entry.RawAttr.{RawAttr}
 use Rattle.dwarf_types.specs.declared.entry.RawEntry.{RawEntry}
-use Rattle.dwarf_types.specs.declared.sides.Kind.{Kind}
 use Rattle.dwarf_types.specs.declared.sides.Sides.{Sides}
-use Rattle.dwarf_types.specs.Cells.{held_value}
 use Rattle.dwarf_types.specs.Columns.{CellWithin, IsFlat, IsRaw, cells_of, raw_attr_of, raw_attrs_of, raw_entries_of, raw_entry_with, row}
 use Rattle.dwarf_types.specs.PlaceSteps.{places_of}
 use Rattle.dwarf_types.proofs.Heads.{flat_cell, row_read}
-use Rattle.dwarf_types.proofs.Setting.{cell_place, flat_set, row_set}
+use Rattle.dwarf_types.proofs.Setting.{cell_place, flat_set}
 
 -- ---- two lists side by side
 
@@ -137,21 +135,3 @@ raw_cell_place s heads cells ends at i j h e r is read lt =
 pub raw_set : (s : Sides) (heads : List Head) (cells : List Cell) (ends : List ℕ) (k : ℕ) (to : Cell) → CellWithin s to → IsRaw s heads cells ends (length cells) → IsRaw s heads (set cells k to) ends (length (set cells k to))
 raw_set s heads cells ends k to w r =
     record { flat = flat_set (CellWithin s) heads cells k to w r.flat; beside = r.beside ∙ sym (length-set cells k to) }
-
--- a cell with another value: the entry of before, with another value at one attribute
-pub raw_row_set : (s : Sides) (heads : List Head) (cells : List Cell) (ends : List ℕ) (at i j : ℕ) (h : Head) (cell : Cell) (kind : Kind) (payload : ℕ) (e : RawEntry) (a : RawAttr) → IsRaw s heads cells ends at → h ≡ get_or heads i h → slice_get (raw_entries_of s heads cells ends) i ≡ Some e → slice_get e.attrs j ≡ Some a → cell ≡ get_or cells (h.first + j) cell
-    → raw_entries_of s heads (set cells (h.first + j) (record cell { kind = kind; payload = payload })) ends ≡ set (raw_entries_of s heads cells ends) i (record e { attrs = set e.attrs j (record a { value = held_value s kind cell.form payload }) })
-raw_row_set s heads cells ends at i j h cell kind payload e a r is read this here =
-    let k : ℕ = h.first + j in
-    let to : Cell = record cell { kind = kind; payload = payload } in
-    let own : ℕ = get_or ends k 0 in
-    let was : Cell × ℕ = (cell, own) in
-    let becomes : Cell × ℕ = (to, own) in
-    let beside : length ends ≡ length cells = r.beside in
-    let lt : k < length cells = raw_cell_place s heads cells ends at i j h e r is read (slice_get_within e.attrs j a this) in
-    let stays : own ≡ get_or ends k own = get_or_default ends k 0 own (omega arith) in
-    let pair : was ≡ get_or (zip cells ends) k was = sym (get_or-zip cells ends k was lt (omega arith) ∙ ap₂ (λ (x : Cell) (y : ℕ). (x, y)) (sym here) (sym stays)) in
-    let written = row_set (raw_attr_of s) raw_entry_with attrs_in (λ h xs. refl) (RawWithin s) heads (zip cells ends) at i j h was becomes e a (raw_flat s heads cells ends at r) is read this pair in
-    let attr : raw_attr_of s becomes ≡ record a { value = held_value s kind cell.form payload } = ap (λ (x : RawAttr). record x { value = held_value s kind cell.form payload }) written.2 in
-    let entry : raw_entry_with h (set e.attrs j (raw_attr_of s becomes)) ≡ record e { attrs = set e.attrs j (record a { value = held_value s kind cell.form payload }) } = ap₂ (λ (x : RawEntry) (y : RawAttr). record x { attrs = set e.attrs j y }) written.1 attr in
-    ap (λ (cs : List (Cell × ℕ)). map (row (raw_attr_of s) raw_entry_with cs) heads) (zip_set cells ends k to 0) ∙ (written.0 ∙ ap (set (raw_entries_of s heads cells ends) i) entry)

@@ -119,16 +119,20 @@ module _ {X : Type 0} (R : X → X → Type 0) where
             ]
       ]
 
+before_or_behind : {P : Type 0} (k l : ℕ) → (l ≡ k → ⊥) → (l < k → P) → (k < l → P) → P
+before_or_behind k l other before behind =
+    elim (cases_lt l k) [
+      | inl low ↦ before low
+      | inr le ↦ elim (cases_lt k l) [ inl high ↦ behind high | inr back ↦ absurd (other (omega arith)) ]
+    ]
+
 -- an address is not that of any other cell
 pub apart_from : (cells : List Cell) (k l : ℕ) (cell d : Cell) → AllPairs Apart cells → k < length cells → l < length cells → (l ≡ k → ⊥) → cell ≡ get_or cells k cell → cell.kind ≡ kinds.Address → (get_or cells l d).kind ≡ kinds.Address → (get_or cells l d).payload ≡ cell.payload → ⊥
 apart_from cells k l cell d all within inside other here own there same =
     let stands : cell ≡ get_or cells k d = here ∙ get_or_default cells k cell d within in
     let kind : (get_or cells k d).kind ≡ kinds.Address = subst (λ (c : Cell). c.kind ≡ kinds.Address) stands own in
     let payload : (get_or cells l d).payload ≡ (get_or cells k d).payload = subst (λ (c : Cell). (get_or cells l d).payload ≡ c.payload) stands same in
-    elim (cases_lt l k) [
-      | inl low ↦ all l k d low within there kind payload
-      | inr high ↦ all k l d (let no : (l ≡ k → ⊥) = other in elim (cases_lt k l) [ inl past ↦ past | inr le ↦ absurd (no (omega arith)) ]) inside kind there (sym payload)
-    ]
+    before_or_behind k l other (λ low. all l k d low within there kind payload) (λ high. all k l d high inside kind there (sym payload))
 
 -- ---- no cell more
 
@@ -136,6 +140,12 @@ pub few_same : (old new : Sides) (cells : List Cell) → AreFew old cells → Ar
 few_same old new cells few same = record { most = few.most; read = rw same.0 few.read; own = rw same.1 few.own; apart = few.apart }
 
 -- ---- a cell more
+
+put_apart : (old : Sides) (c d : Cell) → CellWithin old c → IsNew old d.kind d.payload → Apart c d
+put_apart old c d within is_new there now same =
+    let low : c.payload < length old.places.items = subst (λ (kind : Kind). IsWithin old kind c.payload) there within in
+    let last : d.payload ≡ length old.places.items = subst (λ (kind : Kind). IsNew old kind d.payload) now is_new in
+    omega arith
 
 pub few_put : (old new : Sides) (cells : List Cell) (c : Cell) → AreFew old cells → All (CellWithin old) cells → length cells < 2 ^ 32 → read_items new ≤ read_items old + 1 → own_items new ≡ own_items old + own_item c.kind → IsNew old c.kind c.payload → AreFew new (cells ++ c ∷ [])
 few_put old new cells c few within lt read own is_new =
@@ -147,14 +157,17 @@ few_put old new cells c few within lt read own is_new =
       most = omega arith;
       read = omega arith;
       own = omega arith;
-      apart = all_pairs_push Apart cells c few.apart (λ k d inside kind to same.
-          let w : CellWithin old (get_or cells k d) = All-get_or (CellWithin old) cells k d inside within in
-          let there : (get_or cells k d).payload < length old.places.items = subst (λ (x : Kind). IsWithin old x (get_or cells k d).payload) kind w in
-          let last : c.payload ≡ length old.places.items = subst (λ (x : Kind). IsNew old x c.payload) to is_new in
-          omega arith);
+      apart = all_pairs_push Apart cells c few.apart (λ k d inside. put_apart old (get_or cells k d) c (All-get_or (CellWithin old) cells k d inside within) is_new);
     }
 
 -- ---- another value in a cell
+
+over_apart : (old : Sides) (cell c to : Cell) → CellWithin old c → IsNewOver (held_of cell) old to.kind to.payload → (cell.kind ≡ kinds.Address → c.kind ≡ kinds.Address → c.payload ≡ cell.payload → ⊥) → Apart c to
+over_apart old cell c to within is_new other there now same =
+    let low : c.payload < length old.places.items = subst (λ (kind : Kind). IsWithin old kind c.payload) there within in
+    let of_old : to.payload < length old.places.items → (cell.kind ≡ kinds.Address) × (to.payload ≡ cell.payload) = subst (λ (kind : Kind). IsNewOver (held_of cell) old kind to.payload) now is_new in
+    let before = of_old (omega arith) in
+    other before.0 there (same ∙ before.1)
 
 pub few_over : (old new : Sides) (cells : List Cell) (k : ℕ) (cell : Cell) (kind : Kind) (payload : ℕ) → AreFew old cells → All (CellWithin old) cells → k < length cells → cell ≡ get_or cells k cell → read_items new ≡ read_items old → own_items new + own_item cell.kind ≡ own_items old + own_item kind → IsNewOver (held_of cell) old kind payload → AreFew new (set cells k (record cell { kind = kind; payload = payload }))
 few_over old new cells k cell kind payload few within lt here read own is_new =
@@ -165,12 +178,7 @@ few_over old new cells k cell kind payload few within lt here read own is_new =
     let sum : sum_by own_of (set cells k to) + own_of (get_or cells k cell) ≡ sum_by own_of cells + own_item kind = sum_by-set own_of cells k to cell lt in
     let one : own_of (get_or cells k cell) ≡ own_item cell.kind = subst (λ (c : Cell). own_of c ≡ own_item cell.kind) here refl in
     let long = length-set cells k to in
-    let other : (l : ℕ) (d : Cell) → l < length cells → (l ≡ k → ⊥) → (get_or cells l d).kind ≡ kinds.Address → kind ≡ kinds.Address → (get_or cells l d).payload ≡ payload → ⊥ = λ l d inside no there now same.
-    let w : CellWithin old (get_or cells l d) = All-get_or (CellWithin old) cells l d inside within in
-    let low : (get_or cells l d).payload < length old.places.items = subst (λ (x : Kind). IsWithin old x (get_or cells l d).payload) there w in
-    let of_old : payload < length old.places.items → (cell.kind ≡ kinds.Address) × (payload ≡ cell.payload) = subst (λ (x : Kind). IsNewOver (held_of cell) old x payload) now is_new in
-    let before = of_old (omega arith) in
-    apart_from cells k l cell d few.apart lt inside no here before.0 there (same ∙ before.1) in
+    let other : (l : ℕ) (d : Cell) → l < length cells → (l ≡ k → ⊥) → Apart (get_or cells l d) to = λ l d inside no. over_apart old cell (get_or cells l d) to (All-get_or (CellWithin old) cells l d inside within) is_new (apart_from cells k l cell d few.apart lt inside no here) in
     record {
       most = omega arith;
       read = omega arith;

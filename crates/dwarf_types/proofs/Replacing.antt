@@ -1,5 +1,5 @@
 -- A value in the place of another: one attribute of one entry changes, whatever the columns beside the cells are then.
-use Rattle.std.proofs.Common.{◌≡◌, ℕ, zero, suc, ◌+◌, ◌-◌, ◌<◌, ◌≤◌, List, [], ◌∷◌, map, length, drop, take, get_or, set, slice_get, Some, All, refl, ap, ap₂, subst, sym, ◌∙◌, arith}
+use Rattle.std.proofs.Common.{◌≡◌, ℕ, zero, suc, ◌+◌, ◌-◌, ◌<◌, ◌≤◌, List, [], ◌∷◌, map, length, drop, take, get_or, set, slice_get, Some, All, refl, ap, ap₂, sym, ◌∙◌, arith}
 use Rattle.std.specs.Prelude.{⊤}
 use Rattle.std.specs.List.{drop-map, take-map, zip}
 use Rattle.std.proofs.Math.ListN.{get_or-map}
@@ -14,11 +14,10 @@ use Rattle.dwarf_types.specs.declared.entry.Entry.{Entry}
 use Rattle.dwarf_types.specs.declared.entry.RawAttr.{RawAttr}
 use Rattle.dwarf_types.specs.declared.entry.RawEntry.{RawEntry}
 use Rattle.dwarf_types.specs.declared.sides.Kind.{Kind}
-use Rattle.dwarf_types.specs.declared.sides.Kind.TheVariants as kinds
 use Rattle.dwarf_types.specs.declared.sides.Sides.{Sides}
 use Rattle.dwarf_types.specs.declared.value.Value.{Value}
 use Rattle.dwarf_types.specs.Cells.{KeepsOthers, held_value}
-use Rattle.dwarf_types.specs.Columns.{AreEntries, AreFew, AreRaw, CellWithin, IsFlat, IsRaw, attr_of, cells_of, entries_of, entry_with, held_of, raw_attr_of, raw_entries_of, raw_entry_with, row}
+use Rattle.dwarf_types.specs.Columns.{AreEntries, AreFew, AreRaw, CellWithin, IsFlat, attr_of, cells_of, entries_of, entry_with, held_of, raw_attr_of, raw_entries_of, raw_entry_with, row}
 use Rattle.dwarf_types.proofs.Ends.{raw_cell_place, raw_flat, zip_long, zip_set, RawWithin}
 use Rattle.dwarf_types.proofs.Few.{apart_from}
 use Rattle.dwarf_types.proofs.Setting.{attr_stands, cell_place, row_set}
@@ -64,15 +63,29 @@ module _ {X A E : Type 0} (f g : X → A) (with_attrs : Head → List A → E) (
   row_over Within heads cells at i j h cell to e a flat is read this here same =
       let itself : A → A = λ x. x in
       let before : map (row f with_attrs cells) heads ≡ map (row itself with_attrs (map f cells)) heads = rows_mapped f with_attrs cells heads in
-      let then_ : map (row g with_attrs (set cells (h.first + j) to)) heads ≡ map (row itself with_attrs (map g (set cells (h.first + j) to))) heads = rows_mapped g with_attrs (set cells (h.first + j) to) heads in
+      let after : map (row g with_attrs (set cells (h.first + j) to)) heads ≡ map (row itself with_attrs (map g (set cells (h.first + j) to))) heads = rows_mapped g with_attrs (set cells (h.first + j) to) heads in
       let stands : slice_get (map (row itself with_attrs (map f cells)) heads) i ≡ Some e = ap (λ (es : List E). slice_get es i) (sym before) ∙ read in
       let it : f cell ≡ get_or (map f cells) (h.first + j) (f cell) = sym (get_or-map f cells (h.first + j) cell ∙ ap f (sym here)) in
       let written = row_set itself with_attrs attrs seen (λ (x : A). ⊤) heads (map f cells) at i j h (f cell) (g to) e a (flat_mapped Within f heads cells at flat) is stands this it in
       let all : map g (set cells (h.first + j) to) ≡ set (map f cells) (h.first + j) (g to) = maps_but f g cells (h.first + j) to same in
       let entry : E = with_attrs h (set (attrs e) j (g to)) in
-      (then_ ∙ ap (λ (xs : List A). map (row itself with_attrs xs) heads) all ∙ written.0 ∙ ap (λ (es : List E). set es i entry) (sym before), written.1, written.2)
+      (after ∙ ap (λ (xs : List A). map (row itself with_attrs xs) heads) all ∙ written.0 ∙ ap (λ (es : List E). set es i entry) (sym before), written.1, written.2)
 
 -- ---- the entries of cells
+
+abbrev value_of : Sides → Cell → Value
+value_of s c = held_value s c.kind c.form c.payload
+
+-- the value of another cell
+value_stays : (old new : Sides) (cells : List Cell) (k l : ℕ) (cell d : Cell) → All (CellWithin old) cells → AreFew old cells → KeepsOthers (held_of cell) old new → k < length cells → cell ≡ get_or cells k cell → l < length cells → (l ≡ k → ⊥) → value_of new (get_or cells l d) ≡ value_of old (get_or cells l d)
+value_stays old new cells k l cell d within few others lt here inside other =
+    let c : Cell = get_or cells l d in
+    others.value c.kind c.form c.payload (All-get_or (CellWithin old) cells l d inside within) (apart_from cells k l cell d few.apart lt inside other here)
+
+attr_stays : (old new : Sides) (c : Cell) → value_of new c ≡ value_of old c → attr_of new c ≡ attr_of old c
+attr_stays old new c same =
+    let with_value : Value → Attr = λ value. record { name = c.name; form = c.form; value = value } in
+    ap with_value same
 
 abbrev attrs_of : Entry → List Attr
 attrs_of e = e.attrs
@@ -97,10 +110,7 @@ pub entries_over : (old new : Sides) (heads : List Head) (cells : List Cell) (i 
 entries_over old new heads cells i j h cell kind payload e a all others is read this here =
     let to : Cell = record cell { kind = kind; payload = payload } in
     let lt : h.first + j < length cells = cell_there old heads cells i j h e all is read (slice_get_within e.attrs j a this) in
-    let same : (l : ℕ) (d : Cell) → l < length cells → (l ≡ h.first + j → ⊥) → attr_of new (get_or cells l d) ≡ attr_of old (get_or cells l d) = λ l d inside no.
-    let c : Cell = get_or cells l d in
-    let with_value : Value → Attr = λ value. record { name = c.name; form = c.form; value = value } in
-    ap with_value (others.value c.kind c.form c.payload (All-get_or (CellWithin old) cells l d inside all.flat.within) (apart_from cells (h.first + j) l cell d all.columns.apart lt inside no here)) in
+    let same : (l : ℕ) (d : Cell) → l < length cells → (l ≡ h.first + j → ⊥) → attr_of new (get_or cells l d) ≡ attr_of old (get_or cells l d) = λ l d inside other. attr_stays old new (get_or cells l d) (value_stays old new cells (h.first + j) l cell d all.flat.within all.columns others lt here inside other) in
     let written = row_over (attr_of old) (attr_of new) entry_with attrs_of (λ h xs. refl) (CellWithin old) heads cells (length cells) i j h cell to e a all.flat is read this here same in
     let attr : attr_of new to ≡ record a { value = held_value new kind cell.form payload } = ap (λ (x : Attr). record x { value = held_value new kind cell.form payload }) written.2 in
     let entry : entry_with h (set e.attrs j (attr_of new to)) ≡ record e { attrs = set e.attrs j (record a { value = held_value new kind cell.form payload }) } = ap₂ (λ (x : Entry) (y : Attr). record x { attrs = set e.attrs j y }) written.1 attr in
@@ -125,6 +135,14 @@ raw_attr_there s heads cells ends i j h cell e all is read lt here =
     let pair : was ≡ get_or (zip cells ends) (h.first + j) was = pair_there cells ends (h.first + j) cell all.raw.beside (raw_cell_there s heads cells ends i j h e all is read lt) here in
     attr_stands (raw_attr_of s) raw_entry_with raw_attrs (λ h xs. refl) (RawWithin s) heads (zip cells ends) (length cells) i j h was e (raw_flat s heads cells ends (length cells) all.raw) is read lt pair
 
+raw_attr_stays : (old new : Sides) (cells : List Cell) (ends : List ℕ) (l : ℕ) (d : Cell × ℕ) → length ends ≡ length cells → l < length cells → value_of new (get_or cells l d.0) ≡ value_of old (get_or cells l d.0) → raw_attr_of new (get_or (zip cells ends) l d) ≡ raw_attr_of old (get_or (zip cells ends) l d)
+raw_attr_stays old new cells ends l d beside lt same =
+    let c : Cell = get_or cells l d.0 in
+    let end : ℕ = get_or ends l d.1 in
+    let one : get_or (zip cells ends) l d ≡ (c, end) = get_or-zip cells ends l d lt (omega arith) in
+    let with_value : Value → RawAttr = λ value. record { name = c.name; form = c.form; end = end; value = value } in
+    ap (raw_attr_of new) one ∙ ap with_value same ∙ ap (raw_attr_of old) (sym one)
+
 pub raw_entries_over : (old new : Sides) (heads : List Head) (cells : List Cell) (ends : List ℕ) (i j : ℕ) (h : Head) (cell : Cell) (kind : Kind) (payload : ℕ) (e : RawEntry) (a : RawAttr) → AreRaw old heads cells ends → KeepsOthers (held_of cell) old new → h ≡ get_or heads i h → slice_get (raw_entries_of old heads cells ends) i ≡ Some e → slice_get e.attrs j ≡ Some a → cell ≡ get_or cells (h.first + j) cell
     → raw_entries_of new heads (set cells (h.first + j) (record cell { kind = kind; payload = payload })) ends ≡ set (raw_entries_of old heads cells ends) i (record e { attrs = set e.attrs j (record a { value = held_value new kind cell.form payload }) })
 raw_entries_over old new heads cells ends i j h cell kind payload e a all others is read this here =
@@ -136,14 +154,7 @@ raw_entries_over old new heads cells ends i j h cell kind payload e a all others
     let beside : length ends ≡ length cells = all.raw.beside in
     let lt : k < length cells = raw_cell_there old heads cells ends i j h e all is read (slice_get_within e.attrs j a this) in
     let pair : was ≡ get_or (zip cells ends) k was = pair_there cells ends k cell beside lt here in
-    let same : (l : ℕ) (d : Cell × ℕ) → l < length (zip cells ends) → (l ≡ k → ⊥) → raw_attr_of new (get_or (zip cells ends) l d) ≡ raw_attr_of old (get_or (zip cells ends) l d) = λ l d inside no.
-    let low : l < length cells = omega (arith, zip_long cells ends beside) in
-    let c : Cell = get_or cells l d.0 in
-    let end : ℕ = get_or ends l d.1 in
-    let one : get_or (zip cells ends) l d ≡ (c, end) = get_or-zip cells ends l d low (omega arith) in
-    let with_value : Value → RawAttr = λ value. record { name = c.name; form = c.form; end = end; value = value } in
-    let stays : raw_attr_of new (c, end) ≡ raw_attr_of old (c, end) = ap with_value (others.value c.kind c.form c.payload (All-get_or (CellWithin old) cells l d.0 low all.raw.flat.within) (apart_from cells k l cell d.0 all.columns.apart lt low no here)) in
-    ap (raw_attr_of new) one ∙ stays ∙ ap (raw_attr_of old) (sym one) in
+    let same : (l : ℕ) (d : Cell × ℕ) → l < length (zip cells ends) → (l ≡ k → ⊥) → raw_attr_of new (get_or (zip cells ends) l d) ≡ raw_attr_of old (get_or (zip cells ends) l d) = λ l d inside other. let low : l < length cells = omega (arith, zip_long cells ends beside) in raw_attr_stays old new cells ends l d beside low (value_stays old new cells k l cell d.0 all.raw.flat.within all.columns others lt here low other) in
     let written = row_over (raw_attr_of old) (raw_attr_of new) raw_entry_with raw_attrs (λ h xs. refl) (RawWithin old) heads (zip cells ends) (length cells) i j h was becomes e a (raw_flat old heads cells ends (length cells) all.raw) is read this pair same in
     let attr : raw_attr_of new becomes ≡ record a { value = held_value new kind cell.form payload } = ap (λ (x : RawAttr). record x { value = held_value new kind cell.form payload }) written.2 in
     let entry : raw_entry_with h (set e.attrs j (raw_attr_of new becomes)) ≡ record e { attrs = set e.attrs j (record a { value = held_value new kind cell.form payload }) } = ap₂ (λ (x : RawEntry) (y : RawAttr). record x { attrs = set e.attrs j y }) written.1 attr in

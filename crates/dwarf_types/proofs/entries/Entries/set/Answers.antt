@@ -1,7 +1,6 @@
-use Rattle.std.proofs.Common.{rules, ◌≡◌, ◌<◌, ◌+◌, ◌∙◌, arith, length, sym}
+use Rattle.std.proofs.Common.{rules, ◌+◌, arith, length}
 use Rattle.dwarf_types.specs.declared.columns.Cell.{Cell}
 use Rattle.dwarf_types.specs.declared.sides.Held.{Held}
-use Rattle.dwarf_types.specs.Cells.{MayHold, own_item, own_items}
 use Rattle.dwarf_types.specs.Columns.{CellWithin, attr_of}
 use Rattle.dwarf_types.proofs.Building.{entries_grow}
 use Rattle.dwarf_types.proofs.Few.{few_over, may_hold, room_own}

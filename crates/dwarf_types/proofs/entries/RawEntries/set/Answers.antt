@@ -1,7 +1,6 @@
-use Rattle.std.proofs.Common.{rules, ℕ, get_or, ◌≡◌, ◌<◌, ◌+◌, ◌∙◌, arith, length, sym}
+use Rattle.std.proofs.Common.{rules, ℕ, get_or, ◌+◌, arith, length}
 use Rattle.dwarf_types.specs.declared.columns.Cell.{Cell}
 use Rattle.dwarf_types.specs.declared.sides.Held.{Held}
-use Rattle.dwarf_types.specs.Cells.{MayHold, own_item, own_items}
 use Rattle.dwarf_types.specs.Columns.{CellWithin, raw_attr_of}
 use Rattle.dwarf_types.proofs.Building.{raw_entries_grow}
 use Rattle.dwarf_types.proofs.Ends.{raw_set}
