@@ -44,3 +44,7 @@ attrs_long sections context root [] before s y e = omega (arith, ap (λ (read : 
 attrs_long sections context root (field ∷ fields) before s y e =
     let b = bind_ok (attr_at sections context root field before.0 s) (λ attr. attrs_at sections context root fields (before.0 ++ attr.0.0 ∷ [], before.1 ++ option_to_list attr.0.1) attr.1) y e in
     omega (arith, attrs_long sections context root fields (before.0 ++ b.0.0.0 ∷ [], before.1 ++ option_to_list b.0.0.1) b.0.1 y b.2, length-append before.0 (b.0.0.0 ∷ []))
+
+-- one attribute more
+pub one_put : {X : Type 0} (xs : List X) (x : X) (i n : ℕ) → length xs ≡ i → i + 1 ≡ n → length (xs ++ x ∷ []) ≡ n
+one_put xs x i n few more = omega (arith, length-append xs (x ∷ []), few, more)

@@ -1,10 +1,12 @@
 //! The attributes of an entry.
 
-ghost use Rattle.std.specs.Prelude.{◌≡◌, ◌<◌, ◌++◌, not, length, Some, None, IfOk, IfSome, OnOk, nat_lt};
+ghost use Rattle.std.specs.Prelude.{◌≡◌, ◌<◌, ◌≤◌, ◌+◌, ◌++◌, not, length, Some, None, IfOk, IfSome, OnOk, nat_lt};
 ghost use Rattle.std.specs.Option.{option_to_list};
 ghost use Rattle.ds_base.specs.declared.fault.Kind.TheVariants.{BadIndex, BadOffset};
 ghost use Rattle.ds_base.specs.Reading.{Finds, Reads, ReadsUnlessFull, refuse_if};
 ghost use Rattle.ds_base.specs.Spot.{IsSmall, fault_at};
+ghost use Rattle.dwarf_types.specs.declared.abbrev.TheConstants.{MOST_FIELDS};
+ghost use Rattle.dwarf_types.specs.declared.entry.TheConstants.{MOST_ENTRIES};
 ghost use Rattle.dwarf_types.specs.Put.{value_read};
 ghost use Rattle.dwarf_types.specs.SectionBytes.{bytes_in};
 ghost use Rattle.dwarf_types.specs.declared.value.Value.TheVariants.{Ref};
@@ -48,6 +50,8 @@ pub(crate) fn read_attrs<'a>(
 ) -> Result<(), ReadError>
     requires unit { context.unit < ANY_UNIT }
     requires small { IsSmall cursor.old }
+    requires room { length built.old.entries < MOST_ENTRIES }
+    requires few { length built.old.attrs + length fields.now ≤ MOST_FIELDS }
     ensures read { ReadsUnlessFull (λ _. (built.new.attrs, references.new)) result cursor.new (attrs_at (bytes_in sections.now) context root fields.now (built.old.attrs, references.old) cursor.old) }
     ensures entries { built.new.entries ≡ built.old.entries }
 {

@@ -1,4 +1,4 @@
-use Rattle.std.proofs.Common.{◌≡◌, List, [], drop, true}
+use Rattle.std.proofs.Common.{◌≡◌, List, [], drop, length, true}
 use Rattle.ds_base.specs.Spot.{IsSmall}
 use Rattle.dwarf_types.specs.declared.entry.RawAttr.{RawAttr}
 use Rattle.dwarf_types.specs.SectionBytes.{bytes_in}
@@ -13,6 +13,7 @@ invariant-loop-field l =
     record {
       small : IsSmall l.cursor;
       entries : l.built.entries ≡ [];
+      count : length l.built.attrs ≡ l.field-index;
       attrs : List RawAttr;
       references : List Reference;
       alike : AreAlike l.built.attrs attrs;
