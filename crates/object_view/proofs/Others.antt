@@ -6,9 +6,11 @@ use Rattle.ds_base.specs.Reading.{◌>>=◌}
 use Rattle.dwarf_types.specs.declared.entry.Attr.{Attr}
 use Rattle.dwarf_types.specs.declared.entry.Entry.{Entry}
 use Rattle.dwarf_types.specs.declared.entry.RawAttr.{RawAttr}
+use Rattle.dwarf_types.specs.declared.put.NewValue.{NewValue}
 use Rattle.dwarf_types.specs.declared.value.Value.{Value}
 use Rattle.dwarf_types.specs.declared.value.Value.TheVariants as values
 use Rattle.dwarf_types.specs.Plain.{is_offset, is_plain}
+use Rattle.dwarf_types.specs.Put.{MayBecome}
 use Rattle.expr_resolve.specs.Context.{Context}
 use Rattle.unit_tree.specs.Targets.{target_in}
 use Rattle.object_view.specs.Attributes.{attr_by, attrs_by, each_of, entry_by, value_meant, with_value}
@@ -35,6 +37,11 @@ plain_meant s places a (values.Offset n) e = absurd (let no : ⊥ = cc in no)
 pub plain_alone : (value : Value) → is_plain value ≡ true → target_in value ≡ []
 plain_alone (values.Ref place) e = absurd (let no : ⊥ = cc in no)
 plain_alone value e = refl
+
+-- an offset, in whose place any value may be put
+pub offset_becomes : (value : Value) (new : NewValue) → is_offset value ≡ true → MayBecome value new
+offset_becomes (values.Offset n) new e = tt
+offset_becomes value new e = absurd (let no : ⊥ = cc in no)
 
 -- ---- entries
 

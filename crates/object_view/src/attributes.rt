@@ -1,6 +1,6 @@
 //! Addresses, references and expressions of `__debug_info`.
 
-ghost use Rattle.std.specs.Prelude.{◌≡◌, ◌<◌, ◌≤◌, ◌∷◌, ℕ, List, length, Some, IsSome, OnOk};
+ghost use Rattle.std.specs.Prelude.{◌≡◌, ◌<◌, ◌≤◌, ◌∷◌, ℕ, List, length, Some, IfOk, IsSome, OnOk};
 ghost use Rattle.std.specs.Slice.Iter.{iter_rest};
 ghost use Rattle.ds_base.specs.Reading.{Gives};
 ghost use Rattle.dwarf_types.specs.Seen.{raw_attr_seen};
@@ -8,7 +8,7 @@ ghost use Rattle.index_tables.specs.Tables.{address_place};
 ghost use Rattle.expr_resolve.specs.Context.{context_in};
 ghost use Rattle.unit_tree.specs.Targets.{target_in};
 ghost use Rattle.object_view.specs.Attributes;
-ghost use Rattle.object_view.specs.Changes.{understood_as};
+ghost use Rattle.object_view.specs.Changes.{MayBe, understood_as};
 ghost use Rattle.object_view.specs.Infos.{FitsInfo, IsReadyInfo, info_value};
 ghost use Rattle.object_view.specs.Numbers.{LeadTo, behind};
 ghost use Rattle.object_view.specs.Ready.{IsReady};
@@ -51,6 +51,7 @@ pub(crate) fn understand_value(
     requires numbers { LeadTo places (target_in (raw_attr_seen attr.now).value) (iter_rest numbers.old) }
     ensures exact { Gives (understood_as room.new.meant.ops (raw_attr_seen attr.now).value) result (info_value expressions.now places unit (raw_attr_seen attr.now)) }
     ensures taken { OnOk result (iter_rest numbers.new ≡ behind (target_in (raw_attr_seen attr.now).value) (iter_rest numbers.old)) }
+    ensures becomes { IfOk result (MayBe room.new.meant.ops (raw_attr_seen attr.now).value) }
 {
     match &attr.value {
         ValueRef::Address(stored) => {

@@ -1,6 +1,6 @@
 //! The entries of `__debug_info`, understood one after the other.
 
-ghost use Rattle.std.specs.Prelude.{◌≡◌, ◌<◌, ℕ, List, length, slice_get, slice_set, Some, OnOk};
+ghost use Rattle.std.specs.Prelude.{◌≡◌, ◌<◌, ℕ, List, length, slice_get, slice_set, Some, IfOk, OnOk};
 ghost use Rattle.std.specs.List.{All};
 ghost use Rattle.std.specs.Slice.Iter.{iter_rest};
 ghost use Rattle.ds_base.specs.Reading.{Gives};
@@ -8,7 +8,7 @@ ghost use Rattle.dwarf_types.specs.declared.entry.RawAttr.{RawAttr as ARawAttr};
 ghost use Rattle.dwarf_types.specs.declared.entry.RawEntry.{RawEntry as ARawEntry};
 ghost use Rattle.unit_tree.specs.Targets.{target_in, targets_in};
 ghost use Rattle.object_view.specs.Attributes.{raw_attr_by, raw_entry_by, raw_entries_by};
-ghost use Rattle.object_view.specs.Changes.{making, understood_as};
+ghost use Rattle.object_view.specs.Changes.{MayBe, making, understood_as};
 ghost use Rattle.object_view.specs.Infos.{FitsInfo, IsReadyInfo, info_value};
 ghost use Rattle.object_view.specs.Numbers.{AreNumbers, LeadTo, behind};
 ghost use Rattle.object_view.specs.Ready.{AllRawAttrs};
@@ -107,6 +107,7 @@ fn understood_at(
     ensures exact { (e : ARawEntry) (a : ARawAttr) → slice_get entries.now i ≡ Some e → slice_get e.attrs j ≡ Some a
         → Gives (understood_as room.new.meant.ops a.value) result (info_value expressions.now places e.unit a) }
     ensures taken { (e : ARawEntry) (a : ARawAttr) → slice_get entries.now i ≡ Some e → slice_get e.attrs j ≡ Some a → OnOk result (iter_rest numbers.new ≡ behind (target_in a.value) (iter_rest numbers.old)) }
+    ensures becomes { (e : ARawEntry) (a : ARawAttr) → slice_get entries.now i ≡ Some e → slice_get e.attrs j ≡ Some a → IfOk result (MayBe room.new.meant.ops a.value) }
 {
     let entry = entries.entry(i);
     if entry.is_plain(j) {
@@ -123,7 +124,8 @@ fn put(
     understood: Understood,
     ops: &Ops,
 ) -> Result<(), NoMemory>
-    requires { (e : ARawEntry) × (slice_get entries.old i ≡ Some e) × (j < length e.attrs) }
+    requires within { (e : ARawEntry) × (slice_get entries.old i ≡ Some e) × (j < length e.attrs) }
+    requires becomes { (e : ARawEntry) (a : ARawAttr) → slice_get entries.old i ≡ Some e → slice_get e.attrs j ≡ Some a → MayBe ops.now.ops a.value understood }
     ensures { (e : ARawEntry) (a : ARawAttr) → slice_get entries.old i ≡ Some e → slice_get e.attrs j ≡ Some a
         → OnOk result (entries.new ≡ slice_set entries.old i (record e { attrs = slice_set e.attrs j (record a { value = understood_as ops.now.ops a.value understood }) })) }
 {

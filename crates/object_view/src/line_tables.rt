@@ -1,10 +1,12 @@
 //! The line tables of units (DWARF 4 and 5, section 3.1.1, the statement list).
 
-ghost use Rattle.std.specs.Prelude.{◌≡◌, ◌<◌, ◌∷◌, ◌++◌, length, slice_get, slice_set, take, Some, IfOk, OnOk};
+ghost use Rattle.std.specs.Prelude.{◌≡◌, ◌<◌, ◌∷◌, ◌++◌, length, slice_get, slice_set, take, true, Some, IfOk, IfSome, OnOk};
 ghost use Rattle.std.specs.List.{All};
 ghost use Rattle.ds_base.specs.Reading.{Gives};
 ghost use Rattle.dwarf_types.specs.SectionBytes.{bytes_in};
+ghost use Rattle.dwarf_types.specs.Plain.{is_offset};
 ghost use Rattle.dwarf_types.specs.Seen.{attr_seen, value_seen};
+ghost use Rattle.dwarf_types.specs.declared.entry.Attr.{Attr as AnAttr};
 ghost use Rattle.dwarf_types.specs.declared.entry.Entry.{Entry as AnEntry};
 ghost use Rattle.object_view.specs.Attributes;
 ghost use Rattle.object_view.specs.Opened.{opened_seen};
@@ -257,7 +259,8 @@ fn mark_entry(entries: &mut Entries, i: usize) -> Result<(), NoMemory>
 /// Where the attribute stands by which a root names the unit's line table: its first stmt_list, if that is a section
 /// offset.
 fn mark_at(entry: &EntryRef) -> Option<usize>
-    ensures { IsMarkedAt entry.now result }
+    ensures marked { IsMarkedAt entry.now result }
+    ensures offset { IfSome result (λ j. (a : AnAttr) → slice_get entry.now.attrs j ≡ Some a → is_offset a.value ≡ true) }
 {
     if entry.parent().is_some() {
         return None;

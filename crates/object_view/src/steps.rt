@@ -1,13 +1,13 @@
 //! Steps over all attributes of an object, in document order.
 
-ghost use Rattle.std.specs.Prelude.{◌≡◌, ◌<◌, ℕ, false, length, slice_get, slice_set, Ok, Some, OnOk};
+ghost use Rattle.std.specs.Prelude.{◌≡◌, ◌<◌, ℕ, false, length, slice_get, slice_set, Ok, Some, IfOk, OnOk};
 ghost use Rattle.std.specs.List.{All};
 ghost use Rattle.ds_base.specs.Reading.{Gives};
 ghost use Rattle.dwarf_types.specs.declared.entry.Attr.{Attr as AnAttr};
 ghost use Rattle.dwarf_types.specs.declared.entry.Entry.{Entry as AnEntry};
 ghost use Rattle.dwarf_types.specs.Plain.{is_offset};
 ghost use Rattle.object_view.specs.Attributes.{attr_by, entry_by, entries_by, with_value};
-ghost use Rattle.object_view.specs.Changes.{after, making};
+ghost use Rattle.object_view.specs.Changes.{ChangesOffset, after, making};
 ghost use Rattle.object_view.specs.Ready.{AllAttrs};
 
 use crate::expressions::ExprRoom;
@@ -27,12 +27,12 @@ pub(crate) enum Changed {
 
 /// What a step makes of the attributes of an object.
 pub(crate) trait Step {
-    ghost use Rattle.std.specs.Prelude.{ℕ, Result};
+    ghost use Rattle.std.specs.Prelude.{ℕ, IfOk, Result};
     ghost use Rattle.ds_base.specs.declared.fault.Fault.{Fault as AFault};
     ghost use Rattle.dwarf_types.specs.Seen.{attr_seen};
     ghost use Rattle.dwarf_types.specs.declared.entry.Attr.{Attr as AnAttr};
     ghost use Rattle.dwarf_types.specs.declared.value.Value.{Value};
-    ghost use Rattle.object_view.specs.Changes.{after};
+    ghost use Rattle.object_view.specs.Changes.{ChangesOffset, after};
 
     /// What must hold where the step is taken.
     ghost ready: { Self → Type 0 };
@@ -53,7 +53,8 @@ pub(crate) trait Step {
     ) -> Result<Changed, ReadError>
         requires ready { ready self.now }
         requires fits { fits self.now unit (attr_seen attr.now) }
-        ensures { Gives (after (attr_seen attr.now).value) result (meant self.now unit (attr_seen attr.now)) };
+        ensures exact { Gives (after (attr_seen attr.now).value) result (meant self.now unit (attr_seen attr.now)) }
+        ensures offset { IfOk result (ChangesOffset (attr_seen attr.now).value) };
 }
 
 /// Takes a step over all entries, in place. Only offsets mean something else than they say.
@@ -132,8 +133,9 @@ fn changed_at<S: Step>(
     requires ready { S.ready step.now }
     requires within { (e : AnEntry) × (slice_get entries.now i ≡ Some e) × (j < length e.attrs) }
     requires fits { (e : AnEntry) (a : AnAttr) → slice_get entries.now i ≡ Some e → slice_get e.attrs j ≡ Some a → S.fits step.now e.unit a }
-    ensures { (e : AnEntry) (a : AnAttr) → slice_get entries.now i ≡ Some e → slice_get e.attrs j ≡ Some a
+    ensures exact { (e : AnEntry) (a : AnAttr) → slice_get entries.now i ≡ Some e → slice_get e.attrs j ≡ Some a
         → Gives (after a.value) result (S.meant step.now e.unit a) }
+    ensures offset { (e : AnEntry) (a : AnAttr) → slice_get entries.now i ≡ Some e → slice_get e.attrs j ≡ Some a → IfOk result (ChangesOffset a.value) }
 {
     let entry = entries.entry(i);
     step.change(alloc, entry.unit(), &entry.attr(j), room)
@@ -141,7 +143,8 @@ fn changed_at<S: Step>(
 
 /// Another value for an attribute.
 fn put(entries: &mut Entries, i: usize, j: usize, changed: &Changed) -> Result<(), NoMemory>
-    requires { (e : AnEntry) × (slice_get entries.old i ≡ Some e) × (j < length e.attrs) }
+    requires within { (e : AnEntry) × (slice_get entries.old i ≡ Some e) × (j < length e.attrs) }
+    requires offset { (e : AnEntry) (a : AnAttr) → slice_get entries.old i ≡ Some e → slice_get e.attrs j ≡ Some a → ChangesOffset a.value changed.now }
     ensures { (e : AnEntry) (a : AnAttr) → slice_get entries.old i ≡ Some e → slice_get e.attrs j ≡ Some a
         → OnOk result (entries.new ≡ slice_set entries.old i (record e { attrs = slice_set e.attrs j (with_value a (after a.value changed.now)) })) }
 {
