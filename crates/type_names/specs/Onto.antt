@@ -6,6 +6,7 @@ use Rattle.type_names.specs.declared.spell.SpellError.TheVariants as errors
 use Rattle.type_names.specs.declared.spell.Types.{Types}
 use Rattle.type_names.specs.Children.{IsTableFrom}
 use Rattle.type_names.specs.Entries.{Text}
+use Rattle.type_names.specs.Objects.{ReferToEntries}
 use Rattle.type_names.specs.Spell.{spelled_within}
 use Rattle.type_names.specs.Tree.{is_marked}
 
@@ -24,6 +25,7 @@ Writes (Err errors.NoMemory) new told = Unit {0}
 pub record AreTypes (types : Types) : Type 0 where
   pub few : length types.entries.now ≤ 2 ^ 24
   pub parents : ParentsStandBefore types.entries.now
+  pub refer : ReferToEntries types.entries.now
   pub table : IsTableFrom types.entries.now types.children.now.first.items types.children.now.next.items 0
   pub open_len : length types.may_open.now ≡ length types.entries.now
 

@@ -7,7 +7,7 @@ ghost use Rattle.dwarf_types.specs.Tree.{ParentsStandBefore};
 ghost use Rattle.type_names.specs.Children.{IsTableFrom};
 ghost use Rattle.type_names.specs.HeadRows.{AreRows};
 ghost use Rattle.type_names.specs.Heads.{derived_name, may_be_derived, is_common, is_head, is_in_head, is_in_named_head, is_named_head, is_pooled};
-ghost use Rattle.type_names.specs.Objects.{AreInUnits, object_of};
+ghost use Rattle.type_names.specs.Objects.{AreInUnits, ReferToEntries, object_of};
 ghost use Rattle.type_names.specs.Onto.{AreTypes, Writes};
 ghost use Rattle.type_names.specs.Paths.{is_overloaded, piece_text};
 ghost use Rattle.type_names.specs.Pooled.{AreNames, text_if};
@@ -56,6 +56,7 @@ fn names_of(alloc: Global, seen: &Analysis, live: &BitRow) -> Result<TypeNames, 
     requires few { length seen.now.entries ≤ 2 ^ 24 }
     requires units { AreInUnits seen.now }
     requires parents { ParentsStandBefore seen.now.entries }
+    requires refer { ReferToEntries seen.now.entries }
     requires live { length live.now ≡ length seen.now.entries }
     ensures { IfOk result (λ names. AreNames (object_of seen.now live.now) names) }
 {
@@ -88,6 +89,7 @@ fn derived_of(
     requires live { length live.now ≡ length seen.now.entries }
     requires units { AreInUnits seen.now }
     requires parents { ParentsStandBefore seen.now.entries }
+    requires refer { ReferToEntries seen.now.entries }
     requires rows { AreRows seen.now.entries rows.now }
     requires named { IsRow (is_named_head (object_of seen.now live.now)) (length seen.now.entries) named.now }
     requires table { IsTableFrom seen.now.entries children.now.first.items children.now.next.items 0 }
@@ -194,6 +196,7 @@ fn may_be_derived(seen: &Analysis, live: &BitRow, rows: &HeadRows, k: u32, entry
 /// Spells a type, where it can be spelled.
 fn spell(types: &Types, k: u32, out: &mut Vec<u8>) -> Result<bool, NoMemory>
     requires types { AreTypes types.now }
+    requires place { k < length types.now.entries.now }
     requires empty { out.old.items ≡ [] }
     ensures { IfOk result (λ there. text_if there out.new.items ≡ spelling (is_marked types.now.may_open.now) types.now.entries.now k) }
 {
@@ -319,6 +322,7 @@ fn spelled_of(
 ) -> Result<TextTable, NoMemory>
     requires few { length seen.now.entries ≤ 2 ^ 24 }
     requires parents { ParentsStandBefore seen.now.entries }
+    requires refer { ReferToEntries seen.now.entries }
     requires in_heads { IsRow (is_in_head (object_of seen.now live.now)) (length seen.now.entries) in_heads.now }
     requires derived { AreTexts derived.now (derived_name (object_of seen.now live.now)) (length seen.now.entries) }
     requires table { IsTableFrom seen.now.entries children.now.first.items children.now.next.items 0 }

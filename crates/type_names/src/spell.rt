@@ -9,6 +9,7 @@ ghost use Rattle.dwarf_types.specs.Seen.{value_seen};
 ghost use Rattle.dwarf_types.specs.Tree.{ParentsStandBefore};
 ghost use Rattle.type_names.specs.Children.{has_tag, next_listed};
 ghost use Rattle.type_names.specs.Entries.{is_made_up, own_name};
+ghost use Rattle.type_names.specs.Objects.{LeadsAmong, RefersAmong};
 ghost use Rattle.type_names.specs.Onto.{AreTypes, Writes, onto, spelled_in};
 ghost use Rattle.type_names.specs.Spell.{◌&◌, all_of, bound_in, count_in, made_by, named_by, number_in, parameter_in, parameters_in, qualified_name, scope_name, spelled_by, spelled_target, subrange_in, subranges_in, type_in};
 ghost use Rattle.type_names.specs.Tree.{above, numbers_above};
@@ -90,10 +91,11 @@ pub(crate) fn write_type(
     k: u32,
     out: &mut Vec<u8>,
 ) -> Result<(), SpellError>
-    requires { AreTypes types.now }
+    requires types { AreTypes types.now }
+    requires place { k < length types.now.entries.now }
     ensures { Writes result out.new.items (onto out.old.items (spelled_in types.now levels k)) }
 {
-    if levels == 0 || k as usize >= types.entries.len() || !types.may_open.get(k) {
+    if levels == 0 || !types.may_open.get(k) {
         return Err(SpellError::Cannot);
     }
     write_entry(types, levels - 1, k, &types.entries.entry(k as usize), out)
@@ -281,7 +283,8 @@ fn write_made(
     entry: &EntryRef,
     out: &mut Vec<u8>,
 ) -> Result<(), SpellError>
-    requires { AreTypes types.now }
+    requires types { AreTypes types.now }
+    requires refers { RefersAmong (length types.now.entries.now) entry.now }
     ensures { Writes result out.new.items (onto out.old.items (made_by entry.now.tag & type_in (spelled_in types.now levels) entry.now)) }
 {
     write_made_by(entry.tag(), out)?;
@@ -313,7 +316,8 @@ fn write_member_pointer(
     entry: &EntryRef,
     out: &mut Vec<u8>,
 ) -> Result<(), SpellError>
-    requires { AreTypes types.now }
+    requires types { AreTypes types.now }
+    requires refers { RefersAmong (length types.now.entries.now) entry.now }
     ensures { Writes result out.new.items (onto out.old.items (Some (codes "m") & (spelled_target (spelled_in types.now levels) (value_of DW_AT_containing_type entry.now) & (Some (codes ",") & type_in (spelled_in types.now levels) entry.now)))) }
 {
     write(out, b"m")?;
@@ -330,7 +334,8 @@ fn write_type_after(
     entry: &EntryRef,
     out: &mut Vec<u8>,
 ) -> Result<(), SpellError>
-    requires { AreTypes types.now }
+    requires types { AreTypes types.now }
+    requires refers { RefersAmong (length types.now.entries.now) entry.now }
     ensures { Writes result out.new.items (onto out.old.items (Some text.now & type_in (spelled_in types.now levels) entry.now)) }
 {
     write(out, text)?;
@@ -346,7 +351,8 @@ fn write_target(
     value: Option<ValueRef>,
     out: &mut Vec<u8>,
 ) -> Result<(), SpellError>
-    requires { AreTypes types.now }
+    requires types { AreTypes types.now }
+    requires leads { LeadsAmong (length types.now.entries.now) (option_map value_seen value) }
     ensures { Writes result out.new.items (onto out.old.items (spelled_target (spelled_in types.now levels) (option_map value_seen value.entry))) }
 {
     match value {
@@ -367,6 +373,7 @@ fn write_array(
 ) -> Result<(), SpellError>
     requires types { AreTypes types.now }
     requires array { has_tag types.now.entries.now DW_TAG_array_type k ≡ true }
+    requires refers { RefersAmong (length types.now.entries.now) entry.now }
     ensures { Writes result out.new.items (onto out.old.items (Some (codes "[") & (subranges_in types.now.entries.now k & (Some (codes "]") & type_in (spelled_in types.now levels) entry.now)))) }
 {
     write(out, b"[")?;
@@ -479,6 +486,7 @@ fn write_subroutine(
 ) -> Result<(), SpellError>
     requires types { AreTypes types.now }
     requires place { k < length types.now.entries.now }
+    requires refers { RefersAmong (length types.now.entries.now) entry.now }
     ensures { Writes result out.new.items (onto out.old.items (Some (codes "(") & (parameters_in (spelled_in types.now levels) types.now.entries.now k & (Some (codes ")") & type_in (spelled_in types.now levels) entry.now)))) }
 {
     write(out, b"(")?;
@@ -514,7 +522,8 @@ fn write_parameter(
     entry: &EntryRef,
     out: &mut Vec<u8>,
 ) -> Result<(), SpellError>
-    requires { AreTypes types.now }
+    requires types { AreTypes types.now }
+    requires refers { RefersAmong (length types.now.entries.now) entry.now }
     ensures { Writes result out.new.items (onto out.old.items (parameter_in (spelled_in types.now levels) entry.now)) }
 {
     if entry.tag() == DW_TAG_formal_parameter {
@@ -534,7 +543,8 @@ fn write_listed(
     entry: &EntryRef,
     out: &mut Vec<u8>,
 ) -> Result<(), SpellError>
-    requires { AreTypes types.now }
+    requires types { AreTypes types.now }
+    requires refers { RefersAmong (length types.now.entries.now) entry.now }
     ensures { Writes result out.new.items (onto out.old.items (type_in (spelled_in types.now levels) entry.now & Some (codes ";"))) }
 {
     write_target(types, levels, value_of(entry, DW_AT_type), out)?;
