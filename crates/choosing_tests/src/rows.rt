@@ -16,8 +16,8 @@ use ds_base::dwarf::{
 };
 use ds_base::{List, NoMemory};
 use dwarf_types::{
-    Addr, Analysis, Builder, Entries, InUnit, InnerOpRef, LocationList, MOST_ENTRIES, NewValue, Ops,
-    OutFrames, Place, RawValue, Span, ValueRef,
+    Addr, Analysis, Builder, Entries, InUnit, InnerOpRef, LocationList, MOST_ENTRIES, NewValue,
+    Ops, OutFrames, Place, RawValue, Span, ValueRef,
 };
 use std::alloc::Global;
 use std::process::Abort;
@@ -275,7 +275,10 @@ fn set_list(rt: &impl Abort, alloc: Global, entries: &mut Entries, i: usize, j: 
 /// Puts a value into attribute `j` of entry `i`, where there is one.
 fn set(rt: &impl Abort, entries: &mut Entries, i: usize, j: usize, value: NewValue) {
     if has_attr(entries, i, j) {
-        assert!(rt; may_stand(entries, i, j, &value), "a value that may stand there");
+        assert!(rt;
+            may_stand(entries, i, j, &value),
+            "a value that may stand there"
+        );
         entries.set(i, j, value).expect(rt, "memory");
     }
 }
