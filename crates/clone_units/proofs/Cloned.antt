@@ -1,12 +1,14 @@
 -- What is cloned by the root of a unit's nodes is the unit of the linked graph.
 use Rattle.std.proofs.Common.{◌≡◌, ℕ, ◌+◌, ◌-◌, ◌<◌, Bool, true, false, cond, eqb, List, [], ◌∷◌, ◌++◌, length, map, get_or, slice_get, Option, Some, None, is_some, inl, inr, refl, sym, ap, subst, ◌∙◌, arith}
 use Rattle.std.proofs.Math.Path.{fun_ext}
-use Rattle.std.specs.List.{All, cons_option, filter_map}
+use Rattle.std.specs.List.{All, cons_option, filter_map, zip}
 use Rattle.std.specs.Option.{option_and_then, option_map}
 use Rattle.std.proofs.lemmas.Bool.{and_parts, eqb-false, eqb-true, ne_eqb}
 use Rattle.std.proofs.lemmas.List.Elements.{All-filter, All-head, All-tail, filter_passes}
 use Rattle.std.proofs.lemmas.Option.{get_or_from_slice_get, same_Some, slice_get-get_or, slice_get-map, slice_get_cases, slice_get_within}
 use Rattle.std.proofs.lemmas.List.{length-map}
+use Rattle.std.proofs.lemmas.List.FromFn.{length-enumerate_from}
+use Rattle.std.proofs.lemmas.Slice.Zip.{get_or-zip, length-zip}
 use Rattle.clone_values.specs.Images.{image_at}
 use Rattle.dwarf_types.specs.declared.address.Span.{Span}
 use Rattle.dwarf_types.specs.declared.analysis.Analysis.{Analysis}
@@ -20,7 +22,7 @@ use Rattle.dwarf_types.specs.declared.shape.Shape.{Shape}
 use Rattle.dwarf_types.specs.declared.shape.ShapeUnit.{ShapeUnit}
 use Rattle.dwarf_types.specs.LinkedGraph.{closing, code_of_unit, node_of, unit_written}
 use Rattle.dwarf_types.specs.LinkedShape.{marks_in, objects_in, origin_of, plain_in}
-use Rattle.dwarf_types.specs.LinkedUnits.{Object, Source, kept_entries, numbered, parent_node}
+use Rattle.dwarf_types.specs.LinkedUnits.{Object, Source, kept_entries, node_number, numbered, parent_node}
 use Rattle.dwarf_types.specs.LinkedValues.{attrs_written}
 use Rattle.link_graph.specs.Graph.{IsShape, graph_in, image_of}
 use Rattle.link_graph.proofs.Gathered.{All-enumerate}
@@ -138,6 +140,20 @@ module _ (all : List Analysis) (shape : Shape) (n : ℕ) (unit : ShapeUnit) (is 
   pub plain_there : slice_get shape.plain i ≡ Some (plain_in o)
   plain_there = ap (λ (rows : List (List (Option ℕ))). slice_get rows i) is.plain ∙ slice_get-map plain_in objects i ∙ ap (option_map plain_in) from.is.at
 
+  pub object_within : i < length all
+  object_within = slice_get_within all i o.seen parts.analysis
+
+  -- each entry has a place in both rows of its object
+  pub plain_long : length (plain_in o) ≡ length o.seen.entries
+  plain_long = omega (arith, length-map (numbered o) (λ (e : ℕ × Entry). node_number o e.1.unit e.0), length-enumerate_from 0 o.seen.entries)
+
+  pub images_long : length images_there.0 ≡ length o.seen.entries
+  images_long =
+      let row = images_there.0 in
+      let both : get_or (zip all shape.images) i (o.seen, row) ≡ (o.seen, row) =
+      get_or-zip all shape.images i (o.seen, row) object_within (omega (arith, object_within, is.rows)) ∙ cc (get_or_from_slice_get all i o.seen o.seen parts.analysis, get_or_from_slice_get shape.images i row row images_there.1) in
+      subst (λ (x : Analysis × List (Option Target)). length x.1 ≡ length x.0.entries) both (is.images i (o.seen, row) (omega (arith, object_within, length-zip all shape.images, is.rows)))
+
   kept_is : o.kept ≡ map is_some (plain_in o)
   kept_is = same_Some o.kept (map is_some (plain_in o)) (sym parts.marked ∙ slice_get-map (map is_some) shape.plain i ∙ ap (option_map (map is_some)) plain_there)
 
@@ -165,9 +181,6 @@ module _ (all : List Analysis) (shape : Shape) (n : ℕ) (unit : ShapeUnit) (is 
 
   has_root : 0 < length unit.nodes
   has_root = omega (arith, ap length origins, length-map (kept_entries o u) (origin_of i o u), eqb-false (length (kept_entries o u)) 0 from.is.some)
-
-  pub object_within : i < length all
-  object_within = slice_get_within all i o.seen parts.analysis
 
   pub its_object : object_of shape n ≡ Some i
   its_object =

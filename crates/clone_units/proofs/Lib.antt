@@ -1,4 +1,5 @@
 pub mod Each
+pub mod Named
 pub mod Pieces
 pub mod Spans
 pub mod SpansInOrder

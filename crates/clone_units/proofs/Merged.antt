@@ -1,9 +1,11 @@
 -- The unit of merged entries, as it is read of a shape.
-use Rattle.std.proofs.Common.{◌≡◌, ◌⊎◌, ℕ, ◌-◌, Bool, true, false, cond, eqb, List, [], ◌∷◌, get_or, slice_get, Option, Some, None, inl, inr, refl, sym, ap, subst, ◌∙◌, arith}
-use Rattle.std.specs.List.{All, cons_option, filter_map, flat_map}
+use Rattle.std.proofs.Common.{◌≡◌, ◌⊎◌, ℕ, ◌-◌, Bool, true, false, cond, eqb, List, [], ◌∷◌, length, get_or, slice_get, Option, Some, None, inl, inr, refl, sym, ap, subst, ◌∙◌, arith}
+use Rattle.std.specs.List.{All, cons_option, filter_map, flat_map, zip}
 use Rattle.std.specs.Option.{option_and_then, option_map}
 use Rattle.std.proofs.lemmas.List.Elements.{All-head, All-tail}
 use Rattle.std.proofs.lemmas.Option.{get_or_from_slice_get, same_Some, slice_get-get_or, slice_get_within}
+use Rattle.std.proofs.lemmas.Slice.Zip.{get_or-zip, length-zip}
+use Rattle.clone_values.specs.Images.{NamesAmong}
 use Rattle.ds_base.specs.FirstUse.{once}
 use Rattle.dwarf_types.specs.declared.analysis.Analysis.{Analysis}
 use Rattle.dwarf_types.specs.declared.entry.Entry.{Entry}
@@ -20,6 +22,7 @@ use Rattle.clone_units.specs.Nodes.{number_of_object}
 use Rattle.clone_units.specs.Sourced.{ArePooled, IsPooled, image_in}
 use Rattle.clone_units.specs.Units.{AreThere, Holds, IsUnitIn, object_of}
 use Rattle.clone_units.proofs.Cloned.{its_object}
+use Rattle.clone_units.proofs.Named.{names_among}
 use Rattle.clone_units.proofs.Placed.{IsBehind, IsFirst, placed}
 use Rattle.clone_units.proofs.Rooted.{Reads}
 
@@ -117,6 +120,15 @@ module _ (seen : List Analysis) (shape : Shape) (n : ℕ) (nodes : List Origin) 
         number = number;
       }))
 
+  -- each entry has a place in the row of its object
+  row_long : (object : ℕ) (own : Analysis) (row : List (Option Target)) → slice_get holds.all object ≡ Some own → slice_get shape.images object ≡ Some row → length row ≡ length own.entries
+  row_long object own row at there =
+      let rows = shape.images in
+      let within = slice_get_within holds.all object own at in
+      let both : get_or (zip holds.all rows) object (own, row) ≡ (own, row) =
+      get_or-zip holds.all rows object (own, row) within (omega (arith, within, holds.is_shape.rows)) ∙ cc (get_or_from_slice_get holds.all object own own at, get_or_from_slice_get rows object row row there) in
+      subst (λ (x : Analysis × List (Option Target)). length x.1 ≡ length x.0.entries) both (holds.is_shape.images object (own, row) (omega (arith, within, length-zip holds.all rows, holds.is_shape.rows)))
+
   pooled_at : (origin : Origin) → source_of seen origin ≡ source_of holds.all origin → (source : Source) → source_of holds.all origin ≡ Some source → IsPooled seen shape.images origin
   pooled_at origin same source at =
       let is = source_is holds.all origin source at in
@@ -127,6 +139,7 @@ module _ (seen : List Analysis) (shape : Shape) (n : ℕ) (nodes : List Origin) 
         source = source;
         stands = same ∙ at;
         row = omega (arith, within, holds.is_shape.rows);
+        among = λ row there. subst (λ (count : ℕ). NamesAmong count source.entry) (sym (row_long source.object source.seen row is.own there)) (names_among source.seen sound origin.entry source.entry is.stands);
         unit = slice_get_within source.seen.units source.entry.unit entry.unit entry.its_unit;
       }
 

@@ -7,7 +7,7 @@ use Rattle.std.proofs.lemmas.Cmp.{and_equiv, nat_list_eq_equiv, on_equiv}
 use Rattle.std.proofs.lemmas.Option.{same_Some, slice_get_cases}
 use Rattle.std.specs.Cmp.{IsEquivalence}
 use Rattle.clone_values.specs.Files.{number_in}
-use Rattle.clone_values.specs.Images.{image_at}
+use Rattle.clone_values.specs.Images.{NamesAmong, image_at}
 use Rattle.dwarf_types.specs.declared.analysis.Analysis.{Analysis}
 use Rattle.dwarf_types.specs.declared.entry.InUnit.{InUnit}
 use Rattle.dwarf_types.specs.declared.graph.Node.{Node}
@@ -45,6 +45,10 @@ module _ (all : List Analysis) (images : List (List (Option Target))) (origin : 
 
   pub has_row : source.object < length images
   has_row = subst (λ (s : Source). s.object < length images) its_source pooled.row
+
+  pub has_names : (row : List (Option Target)) → slice_get images source.object ≡ Some row → NamesAmong (length row) source.entry
+  has_names row there =
+      subst (λ (s : Source). NamesAmong (length row) s.entry) its_source (pooled.among row (ap (λ (s : Source). slice_get images s.object) its_source ∙ there))
 
   unit_there : (unit : InUnit) × (slice_get source.seen.units source.entry.unit ≡ Some unit)
   unit_there = elim (slice_get_cases source.seen.units source.entry.unit).1 [

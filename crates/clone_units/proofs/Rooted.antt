@@ -14,7 +14,7 @@ use Rattle.dwarf_types.specs.Sound.{IsSound}
 use Rattle.link_graph.specs.Graph.{IsShape}
 use Rattle.clone_units.specs.Nodes.{IsEntryOf, number_of_object}
 use Rattle.clone_units.specs.Units.{Holds, IsUnitIn, IsUnitOf, object_of}
-use Rattle.clone_units.proofs.Cloned.{all_entries, cloned, images_there, o, rooted}
+use Rattle.clone_units.proofs.Cloned.{all_entries, cloned, images_long, images_there, o, plain_long, rooted}
 use Rattle.clone_units.proofs.Placed.{IsBehind, IsFirst, placed}
 
 -- the nodes of a unit as they are read
@@ -70,6 +70,8 @@ module _ (seen : List Analysis) (shape : Shape) (n : ℕ) (nodes : List Origin) 
     pub its_plain : slice_get shape.plain object ≡ Some plain
     pub images : List (Option Target)
     pub its_images : slice_get shape.images object ≡ Some images
+    pub plain_long : length plain ≡ length own.entries
+    pub images_long : length images ≡ length own.entries
     pub entries : All (IsEntryOf own) nodes
     pub done : (it : OutUnit) → IsUnitOf own images plain root.entry nodes it → IsUnitIn seen shape n it
 
@@ -89,6 +91,8 @@ module _ (seen : List Analysis) (shape : Shape) (n : ℕ) (nodes : List Origin) 
         its_plain = h.plain;
         images = (images_there holds.all shape n r.unit holds.is_shape r.at (behind holds.all holds.is_shape)).0;
         its_images = h.images;
+        plain_long = plain_long holds.all shape n r.unit holds.is_shape r.at (behind holds.all holds.is_shape);
+        images_long = images_long holds.all shape n r.unit holds.is_shape r.at (behind holds.all holds.is_shape);
         entries = subst (All (IsEntryOf own.seen)) (sym r.same) (all_entries holds.all shape n r.unit holds.is_shape r.at (behind holds.all holds.is_shape));
         done = λ it of all is there.
             let h' = rooted all shape n r.unit is r.at (behind all is) seen there root object first_of number in
@@ -120,6 +124,12 @@ module _ (seen : List Analysis) (shape : Shape) (n : ℕ) (nodes : List Origin) 
 
     pub entries_of : All (IsEntryOf own) nodes
     entries_of = subst (λ (a : Analysis). All (IsEntryOf a) nodes) own_is h.entries
+
+    pub plain_of : (plain : List (Option ℕ)) → slice_get shape.plain object ≡ Some plain → length plain ≡ length own.entries
+    plain_of plain its_plain = ap length (same_Some plain h.plain (sym its_plain ∙ h.its_plain)) ∙ h.plain_long ∙ ap (λ (a : Analysis). length a.entries) own_is
+
+    pub images_of : (images : List (Option Target)) → slice_get shape.images object ≡ Some images → length images ≡ length own.entries
+    images_of images its_images = ap length (same_Some images h.images (sym its_images ∙ h.its_images)) ∙ h.images_long ∙ ap (λ (a : Analysis). length a.entries) own_is
 
     pub done_of : (images : List (Option Target)) (plain : List (Option ℕ)) (it : OutUnit) → slice_get shape.images object ≡ Some images → slice_get shape.plain object ≡ Some plain
         → IsUnitOf own images plain root.entry nodes it → IsUnitIn seen shape n it

@@ -7,7 +7,7 @@ use Rattle.indexmap.specs.IndexSet.{IndexSet, insert_key}
 use Rattle.clone_units.specs.declared.source_files.FileRef.{FileRef}
 use Rattle.clone_units.specs.declared.source_files.FileUse.{FileUse}
 use Rattle.clone_units.specs.declared.entry_sources.SourceRef.{SourceRef}
-use Rattle.clone_values.specs.Images.{image_at}
+use Rattle.clone_values.specs.Images.{NamesAmong, image_at}
 use Rattle.dwarf_types.specs.declared.address.Span.{Span}
 use Rattle.dwarf_types.specs.declared.analysis.Analysis.{Analysis}
 use Rattle.dwarf_types.specs.declared.entry.Attr.{Attr}
@@ -90,6 +90,7 @@ pub record IsPooled (all : List Analysis) (images : List (List (Option Target)))
   pub source : Source
   pub stands : source_of all origin ≡ Some source
   pub row : source.object < length images
+  pub among : (row : List (Option Target)) → slice_get images source.object ≡ Some row → NamesAmong (length row) source.entry
   pub unit : source.entry.unit < length source.seen.units
 
 -- all nodes but the root, which comes first, stand for entries

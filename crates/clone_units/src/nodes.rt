@@ -1,6 +1,7 @@
 //! Nodes by the entries for which they stand.
 
-ghost use Rattle.std.specs.Prelude.{◌≡◌, ◌<◌, ◌++◌, Some, length, map, slice_get, IfOk, OnOk};
+ghost use Rattle.std.specs.Prelude.{◌≡◌, ◌<◌, ◌++◌, Some, All, length, map, slice_get, IfOk, OnOk};
+ghost use Rattle.clone_values.specs.Images.{NamesAmong};
 ghost use Rattle.clone_units.specs.Nodes.{IsEntryOf, node_at};
 ghost use Rattle.dwarf_types.specs.LinkedGraph.{closing};
 ghost use Rattle.dwarf_types.specs.WellRoots.{closing_pair};
@@ -24,7 +25,8 @@ pub(crate) fn node_of<'a>(
     origin: Origin,
     attrs: &mut Vec<OutAttrRef<'a>>,
 ) -> Result<NodeHead, NoMemory>
-    requires { IsEntryOf own.now origin }
+    requires stands { IsEntryOf own.now origin }
+    requires among { All (NamesAmong (length images.now)) own.now.entries }
     ensures { IfOk result (λ head. node_at own.now images.now spans.now origin ≡ Some (node_given head attrs.new.items)) }
 {
     let entry = entry_of(own, origin.entry);

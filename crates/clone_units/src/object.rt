@@ -3,6 +3,7 @@
 ghost use Rattle.std.specs.Prelude.{◌≡◌, ◌<◌, ◌++◌, Some, None, All, length, map, slice_get, IfOk, OnOk};
 ghost use Rattle.std.specs.List.{filter_map};
 ghost use Rattle.std.specs.Option.{option_copied};
+ghost use Rattle.clone_values.specs.Images.{NamesAmong};
 ghost use Rattle.clone_units.specs.Nodes.{IsEntryOf, node_at};
 ghost use Rattle.clone_units.specs.Units.{unit_with};
 ghost use Rattle.unit_source.specs.Given.{node_given};
@@ -29,17 +30,18 @@ pub struct ObjectClone<'a> {
 }
 
 impl<'a> Model for ObjectClone<'a> {
-    ghost use Rattle.std.specs.Prelude.{All};
+    ghost use Rattle.std.specs.Prelude.{All, length};
     ghost use Rattle.dwarf_types.specs.declared.graph.OutUnit.{OutUnit as AUnit};
 
     ghost Value = { AUnit };
 
     ghost use Rattle.clone_units.specs.Nodes.{IsEntryOf};
     ghost use Rattle.clone_units.specs.Units.{unit_with};
+    ghost use Rattle.clone_values.specs.Images.{NamesAmong};
 
     ghost view = { λ c. unit_with c.own.now c.images.now c.unit.now c.ranges c.origins.now };
 
-    ghost invariant = { λ c. All (IsEntryOf c.own.now) c.origins.now };
+    ghost invariant = { λ c. All (IsEntryOf c.own.now) c.origins.now × All (NamesAmong (length c.images.now)) c.own.now.entries };
 }
 
 impl<'a> ObjectClone<'a> {
@@ -50,7 +52,8 @@ impl<'a> ObjectClone<'a> {
         origins: &'a [Origin],
         ranges: List<Span>,
     ) -> ObjectClone<'a>
-        requires { All (IsEntryOf own.now) origins.now }
+        requires named { All (IsEntryOf own.now) origins.now }
+        requires among { All (NamesAmong (length images.now)) own.now.entries }
         ensures { result ≡ unit_with own.now images.now unit.now ranges origins.now }
     {
         ObjectClone {

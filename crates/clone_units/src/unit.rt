@@ -148,6 +148,7 @@ fn unit_of_entry<'a>(
 ) -> Result<ObjectClone<'a>, NoMemory>
     requires sound { IsSound own.now }
     requires inside { k < length own.now.entries }
+    requires images { length images.now ≡ length own.now.entries }
     requires named { All (IsEntryOf own.now) origins.now }
     ensures { IfOk result (IsUnitOf own.now images.now plain.now k origins.now) }
 {

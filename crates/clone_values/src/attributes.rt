@@ -1,9 +1,9 @@
 //! The attributes of an entry.
 
-ghost use Rattle.std.specs.Prelude.{◌≡◌, ◌==◌, ◌||◌, ◌&&◌, ◌++◌, ℕ, Option, Some, if◌then◌else◌, is_none, map, IfOk, OnOk};
+ghost use Rattle.std.specs.Prelude.{◌≡◌, ◌==◌, ◌||◌, ◌&&◌, ◌++◌, ℕ, Option, Some, if◌then◌else◌, is_none, length, map, IfOk, OnOk};
 ghost use Rattle.std.specs.Option.{option_map};
 ghost use Rattle.clone_values.specs.Files.{number_in, numbers_of};
-ghost use Rattle.clone_values.specs.Images.{image_at};
+ghost use Rattle.clone_values.specs.Images.{NamesAmong, ValueAmong, image_at};
 ghost use Rattle.dwarf_types.specs.declared.entry.Entry.{Entry};
 ghost use Rattle.dwarf_types.specs.declared.graph.Target.{Target as Node};
 ghost use Rattle.dwarf_types.specs.LinkedValues.{attr_written, attrs_written, file_written, value_written};
@@ -26,12 +26,12 @@ use unit_source::{OutAttrRef, OutValueRef};
 /// Puts what an entry says where it is written behind other attributes: its attributes in order, moved to the linked
 /// program, or dropped.
 ///
-/// `images` tells where references to each entry of the object lead, and `files` how the output unit numbers source
-/// files. A dropped attribute speaks of how the input was laid out, has an address that did not move, a section offset
-/// that leads to no table or list, a list with nothing left, a reference to an entry that is not written or a file that
-/// the output unit lacks, or is the length of code whose low_pc did not move. A root's own addresses are dropped, since
-/// its unit's ranges stand for them. Where memory runs out, `attrs` is left with what stood there and the first of the
-/// attributes to be put, and is good for nothing.
+/// `images` tells where references to each entry of the object lead, and the entry names no others; `files` tells how the
+/// output unit numbers source files. A dropped attribute speaks of how the input was laid out, has an address that did
+/// not move, a section offset that leads to no table or list, a list with nothing left, a reference to an entry that is
+/// not written or a file that the output unit lacks, or is the length of code whose low_pc did not move. A root's own
+/// addresses are dropped, since its unit's ranges stand for them. Where memory runs out, `attrs` is left with what stood
+/// there and the first of the attributes to be put, and is good for nothing.
 pub fn add_attrs<'a>(
     alloc: Global,
     images: &[Option<Target>],
@@ -39,6 +39,7 @@ pub fn add_attrs<'a>(
     entry: &EntryRef<'a>,
     attrs: &mut Vec<OutAttrRef<'a>>,
 ) -> Result<(), NoMemory>
+    requires among { NamesAmong (length images.now) entry.now }
     ensures { OnOk result (map attr_given attrs.new.items ≡ map attr_given attrs.old.items ++ attrs_written (image_at images.now) (numbers_of files.now) entry.now) }
 {
     for j in 0..entry.len() {
@@ -57,6 +58,7 @@ fn attr_written<'a>(
     entry: &EntryRef<'a>,
     attr: &AttrRef<'a>,
 ) -> Result<Option<OutAttrRef<'a>>, NoMemory>
+    requires among { ValueAmong (length images.now) (attr_seen attr.now).value }
     ensures { IfOk result (λ it. option_map attr_given it ≡ attr_written (image_at images.now) (numbers_of files.now) entry.now (attr_seen attr.now)) }
 {
     if is_left_out(entry, attr.name) {
@@ -79,6 +81,7 @@ fn said<'a>(
     entry: &EntryRef<'a>,
     attr: &AttrRef<'a>,
 ) -> Result<Option<OutValueRef<'a>>, NoMemory>
+    requires among { ValueAmong (length images.now) (attr_seen attr.now).value }
     ensures { IfOk result (λ it. option_map value_given it ≡ (if attr.now.name == DW_AT_decl_file then file_written (image_at images.now) (numbers_of files.now) entry.now (attr_seen attr.now) (attr_seen attr.now).value else value_written (image_at images.now) entry.now (attr_seen attr.now) (attr_seen attr.now).value)) }
 {
     match files {

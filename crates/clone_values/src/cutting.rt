@@ -1,8 +1,8 @@
 //! Expressions that are cut from their front.
 
-ghost use Rattle.std.specs.Prelude.{◌≡◌, ◌++◌, IfOk, OnOk, None};
+ghost use Rattle.std.specs.Prelude.{◌≡◌, ◌++◌, length, IfOk, OnOk, None};
 ghost use Rattle.clone_values.specs.Cut.{HasMoved, ended, with_part, with_plain};
-ghost use Rattle.clone_values.specs.Images.{image_at};
+ghost use Rattle.clone_values.specs.Images.{BaseAmong, image_at};
 ghost use Rattle.dwarf_types.specs.LinkedExpressions.{plain_part};
 ghost use Rattle.dwarf_types.specs.Seen.{inner_seen};
 
@@ -40,6 +40,7 @@ impl<P: Part> Cutting<P> {
         op: &InnerOpRef,
     ) -> Result<(), NoMemory>
         requires moved { HasMoved (inner_seen op.now).address }
+        requires among { BaseAmong (length images.now) op.now.base }
         ensures { OnOk result (self.new ≡ with_plain P.of_plain (plain_part (image_at images.now) (inner_seen op.now)) self.old) }
     {
         let Some(base) = op.base else {

@@ -1,9 +1,9 @@
 //! Expressions, part by part.
 
-ghost use Rattle.std.specs.Prelude.{◌≡◌, true, is_some, IfOk, OnOk};
-ghost use Rattle.std.specs.List.{list_all};
+ghost use Rattle.std.specs.Prelude.{◌≡◌, true, is_some, length, IfOk, OnOk};
+ghost use Rattle.std.specs.List.{All, list_all};
 ghost use Rattle.clone_values.specs.Cut.{is_nested, with_op};
-ghost use Rattle.clone_values.specs.Images.{image_at};
+ghost use Rattle.clone_values.specs.Images.{OpAmong, image_at};
 ghost use Rattle.dwarf_types.specs.LinkedExpressions.{outside, parts_of};
 ghost use Rattle.dwarf_types.specs.LinkedValues.{all_move};
 ghost use Rattle.dwarf_types.specs.Moves.{op_fields};
@@ -23,6 +23,7 @@ pub(crate) fn parts_of(
     ops: &OpsRef,
 ) -> Result<List<ExprPart>, NoMemory>
     requires moved { all_move ops.now ≡ true }
+    requires among { All (OpAmong (length images.now)) ops.now }
     ensures { IfOk result (λ parts. parts ≡ parts_of (image_at images.now) ops.now) }
 {
     let mut cutting = Cutting::behind(List::with_capacity(alloc, 1)?);
@@ -40,6 +41,7 @@ fn add_op(
     cutting: &mut Cutting<ExprPart>,
 ) -> Result<(), NoMemory>
     requires moved { list_all (λ place. is_some place.linked) (op_fields (op_seen op.now)) ≡ true }
+    requires among { OpAmong (length images.now) (op_seen op.now) }
     ensures { OnOk result (cutting.new ≡ with_op (image_at images.now) (operands_of op.now.code) (op_seen op.now) cutting.old) }
 {
     if is_nested(op.code) {

@@ -1,9 +1,9 @@
 //! Expressions that stand inside an entry value.
 
-ghost use Rattle.std.specs.Prelude.{◌≡◌, IfOk};
+ghost use Rattle.std.specs.Prelude.{◌≡◌, length, IfOk};
 ghost use Rattle.std.specs.List.{All};
 ghost use Rattle.clone_values.specs.Cut.{HasMoved};
-ghost use Rattle.clone_values.specs.Images.{image_at};
+ghost use Rattle.clone_values.specs.Images.{BaseAmong, image_at};
 ghost use Rattle.dwarf_types.specs.LinkedExpressions.{plain_parts};
 
 use crate::cutting::Cutting;
@@ -18,6 +18,7 @@ pub(crate) fn plain_parts(
     ops: &InnerOpsRef,
 ) -> Result<List<PlainPart>, NoMemory>
     requires moved { All (λ op. HasMoved op.address) ops.now }
+    requires among { All (λ op. BaseAmong (length images.now) op.base) ops.now }
     ensures { IfOk result (λ parts. parts ≡ plain_parts (image_at images.now) ops.now) }
 {
     let mut cutting = Cutting::behind(List::new(alloc));

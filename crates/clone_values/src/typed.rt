@@ -1,7 +1,7 @@
 //! An operation that names a base type.
 
-ghost use Rattle.std.specs.Prelude.{◌≡◌, drop, IfOk};
-ghost use Rattle.clone_values.specs.Images.{image_at};
+ghost use Rattle.std.specs.Prelude.{◌≡◌, Some, drop, length, IfOk};
+ghost use Rattle.clone_values.specs.Images.{BaseAmong, image_at};
 ghost use Rattle.dwarf_types.specs.declared.parts.PlainPart.TheVariants as plain;
 ghost use Rattle.dwarf_types.specs.LinkedExpressions.{base_node, before_base, behind_base};
 ghost use Rattle.dwarf_types.specs.Operations.{operands_of};
@@ -20,6 +20,7 @@ pub(crate) fn cut_typed(
     bytes: &[u8],
     base: Base,
 ) -> Result<PlainPart, NoMemory>
+    requires among { BaseAmong (length images.now) (Some base) }
     ensures { IfOk result (λ part. part ≡ plain.Typed code (before_base (operands_of code) (drop 1 bytes.now)) (base_node (image_at images.now) base) (behind_base (operands_of code) (drop 1 bytes.now))) }
 {
     let row = operands_after(code);

@@ -1,9 +1,9 @@
 //! Values of attributes, moved to the linked program.
 
-ghost use Rattle.std.specs.Prelude.{◌≡◌, ◌&&◌, not, Some, None, if◌then◌else◌, IfOk};
-ghost use Rattle.std.specs.List.{filter_map};
+ghost use Rattle.std.specs.Prelude.{◌≡◌, ◌<◌, ◌&&◌, not, Some, None, length, if◌then◌else◌, IfOk};
+ghost use Rattle.std.specs.List.{All, filter_map};
 ghost use Rattle.std.specs.Option.{option_map};
-ghost use Rattle.clone_values.specs.Images.{image_at};
+ghost use Rattle.clone_values.specs.Images.{OpAmong, ValueAmong, image_at};
 ghost use Rattle.dwarf_types.specs.declared.graph.OutValue.TheVariants as out;
 ghost use Rattle.dwarf_types.specs.LinkedExpressions.{parts_of};
 ghost use Rattle.dwarf_types.specs.Forms.{is_flag};
@@ -31,6 +31,7 @@ pub(crate) fn value_written<'a>(
     entry: &EntryRef<'a>,
     attr: &AttrRef<'a>,
 ) -> Result<Option<OutValueRef<'a>>, NoMemory>
+    requires among { ValueAmong (length images.now) (attr_seen attr.now).value }
     ensures { IfOk result (λ it. option_map value_given it ≡ value_written (image_at images.now) entry.now (attr_seen attr.now) (attr_seen attr.now).value) }
 {
     match &attr.value {
@@ -88,6 +89,7 @@ fn expression_written<'a>(
     images: &[Option<Target>],
     ops: &OpsRef<'a>,
 ) -> Result<Option<OutValueRef<'a>>, NoMemory>
+    requires among { All (OpAmong (length images.now)) ops.now }
     ensures { IfOk result (λ it. option_map value_given it ≡ (if all_move ops.now then Some (out.Expr (parts_of (image_at images.now) ops.now)) else None)) }
 {
     if !all_fields_moved(ops) {
@@ -99,6 +101,7 @@ fn expression_written<'a>(
 
 /// A reference, where its entry is written.
 fn reference_written<'a>(images: &[Option<Target>], k: u32) -> Option<OutValueRef<'a>>
+    requires { k < length images.now }
     ensures { option_map value_given result ≡ option_map (λ target. out.Ref target) (image_at images.now k) }
 {
     let target = image_at(images, k)?;
@@ -121,6 +124,7 @@ fn locations_written<'a>(
     images: &[Option<Target>],
     items: &LocationsRef<'a>,
 ) -> Result<Option<OutValueRef<'a>>, NoMemory>
+    requires among { All (λ item. All (OpAmong (length images.now)) item.ops) items.now }
     ensures { IfOk result (λ it. option_map value_given it ≡ unless_empty (λ list. out.Locations list) (filter_map (location_written (image_at images.now)) items.now)) }
 {
     let locations = items_written(alloc, images, items)?;
@@ -136,6 +140,7 @@ fn items_written(
     images: &[Option<Target>],
     items: &LocationsRef,
 ) -> Result<List<OutLocation>, NoMemory>
+    requires among { All (λ item. All (OpAmong (length images.now)) item.ops) items.now }
     ensures { IfOk result (λ locations. locations ≡ filter_map (location_written (image_at images.now)) items.now) }
 {
     let mut locations = List::with_capacity(alloc, items.len())?;
@@ -153,6 +158,7 @@ fn item_written(
     images: &[Option<Target>],
     item: &LocationRef,
 ) -> Result<Option<OutLocation>, NoMemory>
+    requires among { All (OpAmong (length images.now)) (location_seen item.now).ops }
     ensures { IfOk result (λ it. it ≡ location_written (image_at images.now) (location_seen item.now)) }
 {
     if !all_fields_moved(&item.ops) {

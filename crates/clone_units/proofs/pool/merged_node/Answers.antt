@@ -1,7 +1,7 @@
 use Rattle.std.proofs.Common.{map}
 use Rattle.unit_source.specs.Given.{attr_given}
 use Rattle.clone_units.specs.Sourced.{source_seen}
-use Rattle.clone_units.proofs.Pooled.{has_numbers, has_row, node_is}
+use Rattle.clone_units.proofs.Pooled.{has_names, has_numbers, has_row, node_is}
 use Rattle.clone_units.proofs.pool.merged_node.Goals as goal
 
 pub row_of-row-requires : goal.row_of-row-requires
@@ -10,6 +10,9 @@ row_of-row-requires c = has_row c.args.seen.now c.args.images.now c.args.origin 
 pub numbers_at-requires : goal.numbers_at-requires
 numbers_at-requires c =
     has_numbers c.args.seen.now c.args.images.now c.args.origin (source_seen c.in-Some.source) c.requires.pooled c.in-Some.ensures c.args.numbers.now c.requires.numbers.0 c.requires.numbers.1 c.unit-unit.result c.unit-unit.ensures
+
+pub add_attrs-requires : goal.add_attrs-requires
+add_attrs-requires c = record { among = has_names c.args.seen.now c.args.images.now c.args.origin (source_seen c.in-Some.source) c.requires.pooled c.in-Some.ensures c.row_of-row.result.now c.row_of-row.ensures }
 
 pub returns : goal.returns
 returns c files are =

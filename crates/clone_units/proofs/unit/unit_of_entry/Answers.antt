@@ -1,10 +1,13 @@
-use Rattle.std.proofs.Common.{◌≡◌, List, length, slice_get, Some, refl, sym, ap, subst, ◌∙◌, arith}
+use Rattle.std.proofs.Common.{◌≡◌, ℕ, List, length, slice_get, Some, refl, sym, ap, subst, ◌∙◌, arith}
+use Rattle.std.specs.List.{All}
 use Rattle.std.proofs.lemmas.Option.{slice_get_read, slice_get_within}
 use Rattle.dwarf_types.specs.declared.address.Span.{Span}
 use Rattle.dwarf_types.specs.declared.entry.InUnit.{InUnit}
 use Rattle.dwarf_types.specs.LinkedGraph.{code_of_unit}
+use Rattle.clone_values.specs.Images.{NamesAmong}
 use Rattle.clone_units.specs.Pieces.{object_in}
 use Rattle.clone_units.specs.Units.{unit_with}
+use Rattle.clone_units.proofs.Named.{all_among}
 use Rattle.clone_units.proofs.unit.unit_of_entry.Goals as goal
 
 pub bounds-as_slice-u : goal.bounds-as_slice-u
@@ -18,6 +21,9 @@ ranges_of-requires-clause-unit c =
     let within = slice_get_within c.args.own.now.units c.entry_of.result.unit e.unit e.its_unit in
     subst (λ (us : List InUnit). slice_get us c.unit-u.result ≡ Some c.index-as_slice-u.result) c.as_slice.ensures
     (slice_get_read c.as_slice.result.now _ c.unit-u.result c.index-as_slice-u.result refl (omega (arith, within, c.unit-u.ensures, ap length c.as_slice.ensures)) c.index-as_slice-u.is)
+
+pub new-requires-clause-among : goal.new-requires-clause-among
+new-requires-clause-among c = subst (λ (count : ℕ). All (NamesAmong count) c.args.own.now.entries) (sym c.requires.images) (all_among c.args.own.now c.requires.sound)
 
 pub returns : goal.returns
 returns c =
