@@ -1,5 +1,5 @@
 -- The pieces of a unit's code, as pairs of addresses in order.
-use Rattle.std.specs.Prelude.{ℕ, ◌<◌, ◌≤◌, ◌⊎◌, ◌==◌, ◌&&◌, Bool, false, List, [], ◌∷◌, map, Option, Some, is_some, if◌then◌else◌}
+use Rattle.std.specs.Prelude.{ℕ, ◌<◌, ◌≤◌, ◌⊎◌, ◌==◌, ◌&&◌, Bool, false, List, [], ◌∷◌, map, slice_get, Option, Some, None, is_some, if◌then◌else◌}
 use Rattle.std.specs.Option.{option_map, option_map_or}
 use Rattle.std.specs.Ordering.{nat_cmp, ordering_then}
 use Rattle.std.specs.declared.cmp.Ordering.{Ordering}
@@ -22,6 +22,14 @@ span_of pair = record { low = pair.0; high = pair.1 }
 -- a piece of unit u that is written, as a pair
 abbrev pub pair_in : Object → ℕ → CodeRange → Option (ℕ × ℕ)
 pair_in o u piece = option_map pair_of (piece_in o u piece)
+
+-- entry k is marked
+abbrev pub is_marked : List Bool → ℕ → Bool
+is_marked marks k = option_map_or (λ b. b) (slice_get marks k) false
+
+-- a piece whose subprogram is marked as written, as a pair
+abbrev pub written_pair : List Bool → CodeRange → Option (ℕ × ℕ)
+written_pair marks piece = if is_marked marks piece.entry then Some (pair_of piece.span) else None
 
 -- by the low end, and then by the high one
 abbrev pub pair_cmp : ℕ × ℕ → ℕ × ℕ → Ordering

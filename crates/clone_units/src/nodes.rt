@@ -10,7 +10,7 @@ ghost use Rattle.unit_source.specs.Given.{attr_given, node_given};
 use clone_values::{Files, add_attrs};
 use ds_base::dwarf::{DW_AT_low_pc, DW_AT_ranges};
 use ds_base::{List, NoMemory};
-use dwarf_types::{Analysis, EntryRef, Origin, Span, Target};
+use dwarf_types::{Analysis, EntryRef, InUnit, Origin, Span, Target};
 use std::alloc::Global;
 use unit_source::{NodeHead, OutAttrRef, OutValueRef};
 
@@ -61,6 +61,14 @@ pub(crate) fn entry_of(seen: &Analysis, k: u32) -> EntryRef<'_>
     ensures { slice_get seen.now.entries k ≡ Some result }
 {
     seen.entries.entry(k as usize)
+}
+
+/// Unit `u` of an object.
+pub(crate) fn unit_of(seen: &Analysis, u: u32) -> &InUnit
+    requires { u < length seen.now.units }
+    ensures { slice_get seen.now.units u ≡ Some result.now }
+{
+    &seen.units.as_slice()[u as usize]
 }
 
 /// Ends the attributes of a root whose unit has code.

@@ -1,16 +1,17 @@
 //! The addresses of a unit's code.
 
-ghost use Rattle.std.specs.Prelude.{◌≡◌, ◌≤◌, ℕ, true, false, nat_lt, None, Option, Some, is_some, length, map, slice_get, IfOk};
-ghost use Rattle.std.specs.List.{filter_map};
+ghost use Rattle.std.specs.Prelude.{◌≡◌, ◌≤◌, ◌<◌, ℕ, true, false, nat_lt, None, Option, is_some, length, map, IfOk};
+ghost use Rattle.std.specs.List.{All, filter_map};
 ghost use Rattle.std.specs.List.Sorted.{IsNonDecreasingBy, IsPartitionPoint, IsPermutation, IsSorted};
-ghost use Rattle.std.specs.Option.{option_map, option_map_or};
-ghost use Rattle.clone_units.specs.Pieces.{IsOutside, object_in, once_behind, pair_cmp, pair_in, same_pair};
+ghost use Rattle.std.specs.Option.{option_map_or};
+ghost use Rattle.clone_units.specs.Pieces.{IsOutside, is_marked, object_in, once_behind, pair_cmp, pair_in, same_pair, written_pair};
 ghost use Rattle.dwarf_types.specs.declared.analysis.CodeRange.{CodeRange as Piece};
 ghost use Rattle.dwarf_types.specs.LinkedGraph.{code_of_unit};
 ghost use Rattle.dwarf_types.specs.Sound.{IsSound};
 
+use crate::nodes::unit_of;
 use ds_base::{List, NoMemory};
-use dwarf_types::{Analysis, CodeRange, InUnit, Span};
+use dwarf_types::{Analysis, CodeRange, Span};
 use std::alloc::Global;
 
 /// The pieces of the code of unit `u`'s subprograms that are written, in order and each once.
@@ -19,13 +20,13 @@ pub(crate) fn ranges_of(
     seen: &Analysis,
     plain: &[Option<u32>],
     u: u32,
-    unit: &InUnit,
 ) -> Result<List<Span>, NoMemory>
     requires sound { IsSound seen.now }
-    requires unit { slice_get seen.now.units u ≡ Some unit.now }
+    requires unit { u < length seen.now.units }
+    requires plain { length plain.now ≡ length seen.now.entries }
     ensures { IfOk result (λ spans. spans ≡ code_of_unit (object_in seen.now plain.now) u) }
 {
-    let mut pairs = pairs_of(alloc, seen, plain, u, unit)?;
+    let mut pairs = pairs_of(alloc, seen, plain, u)?;
     sort_pairs(&mut pairs);
     let spans = distinct_spans(alloc, &pairs)?;
     Ok(spans)
@@ -45,31 +46,44 @@ fn pairs_of(
     seen: &Analysis,
     plain: &[Option<u32>],
     u: u32,
-    unit: &InUnit,
 ) -> Result<Vec<(u64, u64)>, NoMemory>
     requires sound { IsSound seen.now }
-    requires unit { slice_get seen.now.units u ≡ Some unit.now }
+    requires unit { u < length seen.now.units }
+    requires plain { length plain.now ≡ length seen.now.entries }
     ensures { IfOk result (λ pairs. pairs.items ≡ filter_map (pair_in (object_in seen.now plain.now) u) seen.now.code) }
 {
+    let unit = unit_of(seen, u);
     let first = u64::from(unit.first);
     let end = first + u64::from(unit.count);
     let pieces = pieces_within(seen.code.as_slice(), first, end);
+    let pairs = written_pairs(alloc, plain, pieces)?;
+    Ok(pairs)
+}
+
+/// The pieces whose subprograms are written, as pairs.
+fn written_pairs(
+    alloc: Global,
+    plain: &[Option<u32>],
+    pieces: &[CodeRange],
+) -> Result<Vec<(u64, u64)>, NoMemory>
+    requires { All (λ piece. piece.entry < length plain.now) pieces.now }
+    ensures { IfOk result (λ pairs. pairs.items ≡ filter_map (written_pair (map is_some plain.now)) pieces.now) }
+{
     let mut pairs = Vec::new(alloc);
     for piece in pieces {
-        if let Some(pair) = pair_in(seen, plain, u, piece) {
+        if let Some(pair) = written_pair(plain, piece) {
             pairs.push(pair)?;
         }
     }
     Ok(pairs)
 }
 
-/// A piece, where its subprogram is one of unit `u` and is written.
-#[tactic(auto, using(crate::proofs::Pieces::pair_by))]
-fn pair_in(seen: &Analysis, plain: &[Option<u32>], u: u32, piece: &CodeRange) -> Option<(u64, u64)>
-    ensures { result ≡ pair_in (object_in seen.now plain.now) u piece.now }
+/// A piece, where its subprogram is written.
+fn written_pair(plain: &[Option<u32>], piece: &CodeRange) -> Option<(u64, u64)>
+    requires { piece.now.entry < length plain.now }
+    ensures { result ≡ written_pair (map is_some plain.now) piece.now }
 {
-    let unit = unit_of(seen, piece.entry)?;
-    if unit != u || !is_written(plain, piece.entry) {
+    if !is_written(plain, piece.entry) {
         return None;
     }
     Some((piece.span.low, piece.span.high))
@@ -77,26 +91,17 @@ fn pair_in(seen: &Analysis, plain: &[Option<u32>], u: u32, piece: &CodeRange) ->
 
 /// Whether an entry has a node.
 fn is_written(plain: &[Option<u32>], entry: u32) -> bool
-    ensures { result ≡ option_map_or (λ b. b) (slice_get (map is_some plain.now) entry) false }
+    requires { entry < length plain.now }
+    ensures { result ≡ is_marked (map is_some plain.now) entry }
 {
-    match plain.get(entry as usize) {
-        Some(node) => node.is_some(),
-        None => false,
-    }
-}
-
-/// The number of the unit of an entry, if there is that entry.
-fn unit_of(seen: &Analysis, entry: u32) -> Option<u32>
-    ensures { result ≡ option_map (λ e. e.unit) (slice_get seen.now.entries entry) }
-{
-    let entry = seen.entries.get(entry as usize)?;
-    Some(entry.unit())
+    plain[entry as usize].is_some()
 }
 
 /// The pieces of subprograms whose numbers are `first` or more, and below `end`.
 fn pieces_within(code: &[CodeRange], first: u64, end: u64) -> &[CodeRange]
     requires { IsNonDecreasingBy (λ piece. piece.entry) code.now }
-    ensures { (f : Piece → Option (ℕ × ℕ)) → ((piece : Piece) → IsOutside first end piece → f piece ≡ None) → filter_map f result.now ≡ filter_map f code.now }
+    ensures only { All (λ piece. (first ≤ piece.entry) × (piece.entry < end)) result.now }
+    ensures same { (f : Piece → Option (ℕ × ℕ)) → ((piece : Piece) → IsOutside first end piece → f piece ≡ None) → filter_map f result.now ≡ filter_map f code.now }
 {
     let rest = &code[count_below(code, first)..];
     &rest[..count_below(rest, end)]

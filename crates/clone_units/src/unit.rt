@@ -8,7 +8,7 @@ ghost use Rattle.clone_units.specs.Nodes.{IsEntryOf, number_of_object};
 ghost use Rattle.clone_units.specs.Units.{Holds, IsUnitIn, IsUnitOf, object_of};
 ghost use Rattle.dwarf_types.specs.Sound.{IsSound};
 
-use crate::nodes::{entry_of, row_of};
+use crate::nodes::{entry_of, row_of, unit_of};
 use crate::object::ObjectClone;
 use crate::pool::PoolClone;
 use crate::ranges::ranges_of;
@@ -149,11 +149,11 @@ fn unit_of_entry<'a>(
     requires sound { IsSound own.now }
     requires inside { k < length own.now.entries }
     requires images { length images.now ≡ length own.now.entries }
+    requires plain { length plain.now ≡ length own.now.entries }
     requires named { All (IsEntryOf own.now) origins.now }
     ensures { IfOk result (IsUnitOf own.now images.now plain.now k origins.now) }
 {
     let u = entry_of(own, k).unit();
-    let unit = &own.units.as_slice()[u as usize];
-    let ranges = ranges_of(alloc, own, plain, u, unit)?;
-    Ok(ObjectClone::new(own, images, unit, origins, ranges))
+    let ranges = ranges_of(alloc, own, plain, u)?;
+    Ok(ObjectClone::new(own, images, unit_of(own, u), origins, ranges))
 }
