@@ -52,6 +52,10 @@ abbrev pub with_named : List SourceFile → Option SourceFile → List SourceFil
 with_named files None = files
 with_named files (Some file) = insert_key same_file files file
 
+-- the unit of a use is there
+abbrev pub IsUseIn : List Analysis → FileUse → Type 0
+IsUseIn all named = (seen : Analysis) × (slice_get all named.object ≡ Some seen) × (named.unit < length seen.units)
+
 -- putting the file of a use, if there is one, leaves the files as they are
 abbrev pub IsPut : List Analysis → Option FileUse → List SourceFile → Type 0
 IsPut all last files = with_named files (option_and_then (file_of_use all) last) ≡ files
@@ -84,6 +88,12 @@ numbers_of_all files all = map (numbers_in files) all
 -- where a reference leads, by the rows of all objects
 abbrev pub image_in : List (List (Option Target)) → ℕ → ℕ → Option Target
 image_in images object k = option_and_then (λ row. image_at row k) (slice_get images object)
+
+-- the entry of a node is there, and its unit
+pub record IsSourced (all : List Analysis) (origin : Origin) : Type 0 where
+  pub source : Source
+  pub stands : source_of all origin ≡ Some source
+  pub unit : source.entry.unit < length source.seen.units
 
 -- the entry of a node is there, with what its references and its source file need
 pub record IsPooled (all : List Analysis) (images : List (List (Option Target))) (origin : Origin) : Type 0 where

@@ -55,6 +55,14 @@ pub(crate) fn row_of<T: Drop>(rows: &[List<T>], object: usize) -> &[T]
     rows[object].as_slice()
 }
 
+/// The analysis of an object.
+pub(crate) fn analysis_of(seen: &[Analysis], object: usize) -> &Analysis
+    requires { object < length seen.now }
+    ensures { slice_get seen.now object ≡ Some result.now }
+{
+    &seen[object]
+}
+
 /// Entry `k` of an object.
 pub(crate) fn entry_of(seen: &Analysis, k: u32) -> EntryRef<'_>
     requires { k < length seen.now.entries }

@@ -1,6 +1,6 @@
 //! The pool's unit: a root, the nodes of merged entries, and a line table with the files that they name.
 
-ghost use Rattle.std.specs.Prelude.{◌≡◌, ◌++◌, ◌∷◌, List as Listed, Some, All, map, slice_get, IfOk, OnOk};
+ghost use Rattle.std.specs.Prelude.{◌≡◌, ◌<◌, ◌++◌, ◌∷◌, List as Listed, Some, All, drop, length, map, slice_get, IfOk, OnOk};
 ghost use Rattle.std.specs.List.{filter_map};
 ghost use Rattle.clone_units.specs.Sourced.{ArePooled, IsMadeFor, IsPooled, files_seen, image_in, numbers_of_all, source_seen};
 ghost use Rattle.link_graph.specs.Graph.{files_of, pool_node, pool_root_node, pool_unit};
@@ -64,7 +64,7 @@ impl<'a> PoolClone<'a> {
         requires { ArePooled seen.now images.now origins.now }
         ensures { IfOk result (λ it. it ≡ pool_unit (image_in images.now) seen.now version origins.now) }
     {
-        let files = files_of(alloc, seen, origins)?;
+        let files = files_of(alloc, seen, below_root(origins))?;
         let numbers = numbers_of_all(alloc, &files, seen)?;
         let lines = table_of(alloc, version, &files)?;
         Ok(PoolClone {
@@ -121,6 +121,14 @@ impl<'a> UnitSource for PoolClone<'a> {
     }
 }
 
+/// The entries for which the nodes below the root stand.
+fn below_root(origins: &[Origin]) -> &[Origin]
+    requires { 0 < length origins.now }
+    ensures { result.now ≡ drop 1 origins.now }
+{
+    &origins[1..]
+}
+
 /// The root of the pool's unit: its name, its language, and its line table. They take the place of what is in `attrs`.
 fn root_node<'a>(attrs: &mut Vec<OutAttrRef<'a>>) -> Result<NodeHead, NoMemory>
     ensures { IfOk result (λ head. node_given head attrs.new.items ≡ pool_root_node) }
@@ -161,9 +169,7 @@ fn merged_node<'a>(
     requires numbers { (files : Listed SourceFile) × (numbers.now ≡ numbers_of_all files seen.now) }
     ensures { (files : Listed SourceFile) → numbers.now ≡ numbers_of_all files seen.now → IfOk result (λ head. pool_node (image_in images.now) seen.now files origin ≡ Some (node_given head attrs.new.items)) }
 {
-    let Some(source) = source_of(seen, origin) else {
-        unreachable!()
-    };
+    let source = source_of(seen, origin);
     let row = row_of(images, source.object);
     let unit = source.entry.unit();
     let files = Files::Others(numbers_at(numbers, source.object, unit));

@@ -4,9 +4,9 @@ ghost use Rattle.std.specs.Prelude.{◌≡◌, ◌<◌, ◌==◌, [], ◌∷◌,
 ghost use Rattle.std.proofs.Common.{ap, ◌∙◌};
 ghost use Rattle.std.proofs.lemmas.Bool.{and_parts};
 ghost use Rattle.std.specs.Cmp.Lexicographic.{bytes_decides};
-ghost use Rattle.std.specs.List.{flat_map};
+ghost use Rattle.std.specs.List.{All, flat_map};
 ghost use Rattle.std.specs.Option.{option_and_then, option_map, option_map_or};
-ghost use Rattle.clone_units.specs.Sourced.{IsPut, Names, file_of_use, file_seen, files_seen, uses_of, with_named};
+ghost use Rattle.clone_units.specs.Sourced.{IsPut, IsSourced, IsUseIn, Names, file_of_use, file_seen, files_seen, uses_of, with_named};
 ghost use Rattle.dwarf_types.specs.declared.entry.Attr.{Attr};
 ghost use Rattle.dwarf_types.specs.Moves.{value_of};
 ghost use Rattle.dwarf_types.specs.Seen.{attr_seen, value_seen};
@@ -16,6 +16,7 @@ ghost use Rattle.link_graph.specs.Graph.{files_of};
 ghost use Rattle.link_graph.specs.PoolFiles.{directory_in, directory_of_unit, file_at, file_in, files_named, listed_directory, listed_file, number_of, place_of_number, same_file, text_or_empty};
 
 use crate::entry_sources::{SourceRef, source_of};
+use crate::nodes::{analysis_of, unit_of};
 use ds_base::NoMemory;
 use ds_base::dwarf::{DW_AT_comp_dir, DW_AT_decl_file, DWARF_5};
 use dwarf_types::{Analysis, AttrRef, EntryRef, FileNameRef, InUnit, Origin, OutLines, ValueRef};
@@ -52,12 +53,13 @@ struct FileUse {
     number: u64,
 }
 
-/// The source files that the entries of nodes name, by first use.
+/// The source files that the entries of nodes name, by first use. Each node stands for an entry.
 pub(crate) fn files_of<'a>(
     alloc: Global,
     seen: &'a [Analysis],
     origins: &[Origin],
 ) -> Result<IndexSet<FileRef<'a>>, NoMemory>
+    requires { All (IsSourced seen.now) origins.now }
     ensures { IfOk result (λ files. files_seen files ≡ files_of seen.now origins.now) }
 {
     let mut files = IndexSet::new(alloc);
@@ -76,14 +78,12 @@ fn add_files<'a>(
     seen: &'a [Analysis],
     origin: Origin,
 ) -> Result<Option<FileUse>, NoMemory>
-    requires { IsPut seen.now last (files_seen files.old) }
+    requires sourced { IsSourced seen.now origin }
+    requires put { IsPut seen.now last (files_seen files.old) }
     ensures named { OnOk result (files_seen files.new ≡ insert_all same_file (files_seen files.old) (uses_of seen.now origin)) }
     ensures put { IfOk result (λ now. IsPut seen.now now (files_seen files.new)) }
 {
-    match source_of(seen, origin) {
-        Some(source) => add_files_named(files, last, seen, &source),
-        None => Ok(last),
-    }
+    add_files_named(files, last, seen, &source_of(seen, origin))
 }
 
 /// The same for an entry of an object.
@@ -94,6 +94,7 @@ fn add_files_named<'a>(
     source: &SourceRef<'a>,
 ) -> Result<Option<FileUse>, NoMemory>
     requires own { slice_get seen.now source.now.object ≡ Some source.now.seen.now }
+    requires unit { source.now.entry.unit < length source.now.seen.now.units }
     requires put { IsPut seen.now last (files_seen files.old) }
     ensures named { OnOk result (files_seen files.new ≡ insert_all same_file (files_seen files.old) (files_named source.now.seen.now source.now.entry)) }
     ensures put { IfOk result (λ now. IsPut seen.now now (files_seen files.new)) }
@@ -146,7 +147,8 @@ fn add_use<'a>(
     seen: &'a [Analysis],
     now: FileUse,
 ) -> Result<(), NoMemory>
-    requires { IsPut seen.now last (files_seen files.old) }
+    requires unit { IsUseIn seen.now now }
+    requires put { IsPut seen.now last (files_seen files.old) }
     ensures named { OnOk result (files_seen files.new ≡ with_named (files_seen files.old) (file_of_use seen.now now)) }
     ensures put { OnOk result (IsPut seen.now (Some now) (files_seen files.new)) }
 {
@@ -174,10 +176,10 @@ fn is_same(last: Option<FileUse>, now: FileUse) -> bool
 
 /// The file of a use, if the table has it.
 fn file_of_use(seen: &[Analysis], now: FileUse) -> Option<FileRef<'_>>
+    requires { IsUseIn seen.now now }
     ensures { option_map file_seen result ≡ file_of_use seen.now now }
 {
-    let own = seen.get(now.object)?;
-    file_in(own, now.unit, now.number)
+    file_in(analysis_of(seen, now.object), now.unit, now.number)
 }
 
 /// Puts a file last, unless it is there.
@@ -203,9 +205,10 @@ pub(crate) fn number_of<'a>(files: &IndexSet<FileRef<'a>>, file: FileRef<'a>) ->
 
 /// The file of a number in the table of unit `u`.
 fn file_in(seen: &Analysis, u: u32, n: u64) -> Option<FileRef<'_>>
+    requires { u < length seen.now.units }
     ensures { option_map file_seen result ≡ file_in seen.now u n }
 {
-    let unit = seen.units.get(u as usize)?;
+    let unit = unit_of(seen, u);
     let place = place_of_number(unit.version, n)?;
     file_at(seen, unit, place)
 }

@@ -8,7 +8,7 @@ ghost use Rattle.clone_units.specs.Nodes.{IsEntryOf, number_of_object};
 ghost use Rattle.clone_units.specs.Units.{Holds, IsUnitIn, IsUnitOf, object_of};
 ghost use Rattle.dwarf_types.specs.Sound.{IsSound};
 
-use crate::nodes::{entry_of, row_of, unit_of};
+use crate::nodes::{analysis_of, entry_of, row_of, unit_of};
 use crate::object::ObjectClone;
 use crate::pool::PoolClone;
 use crate::ranges::ranges_of;
@@ -69,14 +69,6 @@ fn unit_of_object<'a>(
         nodes,
     )?;
     Ok(made)
-}
-
-/// The analysis of an object.
-fn analysis_of(seen: &[Analysis], object: usize) -> &Analysis
-    requires { object < length seen.now }
-    ensures { slice_get seen.now object ≡ Some result.now }
-{
-    &seen[object]
 }
 
 /// The unit of merged entries.
