@@ -24,3 +24,4 @@ pub mod SpelledAnalysis
 pub mod Trees
 pub mod Trying
 pub mod Understood
+pub mod Versions

@@ -1,6 +1,6 @@
 //! The line tables of units (DWARF 4 and 5, section 3.1.1, the statement list).
 
-ghost use Rattle.std.specs.Prelude.{◌≡◌, ◌<◌, ◌∷◌, ◌++◌, length, slice_get, slice_set, take, true, Some, IfOk, IfSome, OnOk};
+ghost use Rattle.std.specs.Prelude.{◌≡◌, ◌<◌, ◌^◌, ◌∷◌, ◌++◌, length, slice_get, slice_set, take, true, Some, IfOk, IfSome, IsSome, OnOk};
 ghost use Rattle.std.specs.List.{All};
 ghost use Rattle.ds_base.specs.Reading.{Gives};
 ghost use Rattle.dwarf_types.specs.SectionBytes.{bytes_in};
@@ -8,6 +8,7 @@ ghost use Rattle.dwarf_types.specs.Plain.{is_offset};
 ghost use Rattle.dwarf_types.specs.Seen.{attr_seen, value_seen};
 ghost use Rattle.dwarf_types.specs.declared.entry.Attr.{Attr as AnAttr};
 ghost use Rattle.dwarf_types.specs.declared.entry.Entry.{Entry as AnEntry};
+ghost use Rattle.line_read.specs.Header.{version_of};
 ghost use Rattle.object_view.specs.Attributes;
 ghost use Rattle.object_view.specs.Opened.{opened_seen};
 ghost use Rattle.object_view.specs.Ready.{HasRoot, IsFirstList, IsLinesInside, IsMarkedAt, IsOpen};
@@ -17,10 +18,10 @@ use addr_map::AddrMap;
 use ds_base::dwarf::{DW_AT_comp_dir, DW_AT_stmt_list, DW_FORM_sec_offset, DWARF_5};
 use ds_base::{List, NoMemory, ReadError};
 use dwarf_types::{
-    AttrRef, Entries, EntryRef, FileNames, InUnit, NewValue, OutLines, Paths, RawLines,
+    AttrRef, Entries, EntryRef, FileNames, InUnit, NewValue, OutLines, Paths, RawLines, Sections,
     SharedTexts, ValueRef,
 };
-use line_read::{read_lines, table_version};
+use line_read::{operations_fill_the_program, read_lines, table_version};
 use moved_parts::move_lines;
 use std::alloc::Global;
 
@@ -108,43 +109,44 @@ fn lines_at(
         place as u32,
         version,
     )?;
-    let lines = lines_as(
-        alloc,
-        version,
-        table_version(&object.sections, place as u32),
-        dir,
-        lines,
-    )?;
+    // A table that was read tells its version.
+    operations_fill_the_program();
+    let table = version_told(&object.sections, place);
+    let lines = lines_as(alloc, version, table, dir, lines)?;
     Ok(move_lines(alloc, map, lines)?)
 }
 
-/// A line table of a version, as a unit of another has it that was compiled in a directory.
+/// The version that the table at a place tells, which was read.
+fn version_told(sections: &Sections, place: u64) -> u16
+    requires inside { place < length sections.now.line.now }
+    requires small { place < 2 ^ 32 }
+    requires told { IsSome (version_of (bytes_in sections.now) place) }
+    ensures { version_of (bytes_in sections.now) place ≡ Some result }
+{
+    match table_version(sections, place as u32) {
+        Some(version) => version,
+        None => unreachable!(),
+    }
+}
+
+/// A line table of a version, as a unit of another has it that was compiled in a directory. A table before version 5
+/// counts directories and files from 1.
 fn lines_as(
     alloc: Global,
     unit: u16,
-    table: Option<u16>,
+    table: u16,
     dir: &[u8],
     lines: RawLines,
 ) -> Result<RawLines, NoMemory>
-    ensures is { IfOk result (λ made. made ≡ Attributes.lines_as unit table dir.now lines) }
+    ensures is { IfOk result (λ made. made ≡ Attributes.lines_as unit (Some table) dir.now lines) }
 
     // Its sequences stay.
     ensures sequences { IfOk result (λ made. made.sequences ≡ lines.sequences) }
 {
-    if unit == DWARF_5 && is_older(table) {
+    if unit == DWARF_5 && table < DWARF_5 {
         counted_from_0(alloc, dir, lines)
     } else {
         Ok(lines)
-    }
-}
-
-/// Whether a table of this version counts directories and files from 1.
-fn is_older(version: Option<u16>) -> bool
-    ensures { result ≡ Attributes.is_older version }
-{
-    match version {
-        Some(version) => version < DWARF_5,
-        None => false,
     }
 }
 
