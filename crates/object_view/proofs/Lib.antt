@@ -5,6 +5,7 @@ pub mod EachOf
 pub mod FileBytes
 pub mod Fitting
 pub mod InPlace
+pub mod Inside
 pub mod Items
 pub mod Kept
 pub mod KnownTypes

@@ -9,10 +9,10 @@ ghost use Rattle.dwarf_types.specs.SectionBytes.{bytes_in};
 ghost use Rattle.reloc_table.specs.Table;
 ghost use Rattle.object_view.specs.Opened;
 ghost use Rattle.object_view.specs.Parts as spec;
-ghost use Rattle.object_view.specs.Seen.{AreParts};
+ghost use Rattle.object_view.specs.Seen.{AreParts, IsInside, LieInside};
 ghost use Rattle.object_view.specs.Sound.{AreSmall};
 
-use ds_base::{List, Part, ReadError, bytes_from};
+use ds_base::{List, Part, ReadError, cut};
 use dwarf_types::Sections;
 use macho_read::{Section, debug_part, is_debug, section_bytes};
 use reloc_table::is_part;
@@ -49,6 +49,7 @@ pub(crate) fn section_of(sections: &[Section], part: Part) -> Option<&Section>
 
 /// The bytes of a part of the file; a section that is not there has none.
 fn part_bytes<'a>(bytes: &'a [u8], sections: &[Section], part: Part) -> &'a [u8]
+    requires { IfSome (spec.section_of sections.now part) (IsInside bytes.now) }
     ensures is { result.now ≡ spec.part_bytes bytes.now sections.now part }
     ensures within { length result.now ≤ length bytes.now }
 {
@@ -58,25 +59,18 @@ fn part_bytes<'a>(bytes: &'a [u8], sections: &[Section], part: Part) -> &'a [u8]
     }
 }
 
-/// The bytes of a section, as far as the file has them.
+/// The bytes of a section.
 fn content_of<'a>(bytes: &'a [u8], section: &Section) -> &'a [u8]
+    requires { IsInside bytes.now section.now }
     ensures is { result.now ≡ spec.content_of bytes.now section.now }
     ensures within { length result.now ≤ length bytes.now }
 {
-    let start = section.offset as usize;
-    if bytes.len() < start {
-        return &[];
-    }
-    let rest = bytes_from(bytes, start);
-    if section.size < rest.len() as u64 {
-        &rest[..section.size as usize]
-    } else {
-        rest
-    }
+    cut(bytes, section.offset as usize, section.size as usize)
 }
 
-/// The bytes of all debug sections.
+/// The bytes of all debug sections, which were tried.
 pub(crate) fn sections_in<'a>(bytes: &'a [u8], sections: &[Section]) -> Sections<'a>
+    requires { LieInside bytes.now sections.now }
     ensures are { bytes_in result ≡ Opened.sections_in bytes.now sections.now }
     ensures small { length bytes.now < 2 ^ 32 → AreSmall (bytes_in result) }
 {
