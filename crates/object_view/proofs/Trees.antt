@@ -1,5 +1,5 @@
 -- Where the entries of spelled trees stand among those of an object, and where their units begin.
-use Rattle.std.proofs.Common.{◌≡◌, ◌+◌, ◌-◌, ◌<◌, ℕ, zero, suc, List, [], ◌∷◌, ◌++◌, length, slice_get, Option, Some, None, refl, sym, ap, subst, ◌∙◌, append_assoc, arith, inl, inr}
+use Rattle.std.proofs.Common.{◌≡◌, ◌+◌, ◌-◌, ◌<◌, ◌≤◌, ℕ, zero, suc, List, [], ◌∷◌, ◌++◌, length, slice_get, Option, Some, None, refl, sym, ap, subst, ◌∙◌, append_assoc, arith, inl, inr}
 use Rattle.std.specs.Prelude.{IfSome}
 use Rattle.std.specs.List.{All}
 use Rattle.std.specs.Option.{option_map_or}
@@ -12,6 +12,7 @@ use Rattle.unit_tree.specs.Spelling.{SpellsFields, SpellsUnit, SpellsUnits, Unit
 use Rattle.unit_tree.proofs.TreeLaws.{length_preorder}
 use Rattle.unit_tree.proofs.UnitLaws.{length_number}
 use Rattle.object_view.specs.Ready.{IsRooted}
+use Rattle.object_view.specs.Roots.{IsBehindHeader}
 use Rattle.object_view.specs.Spelled.{BeginsAt}
 use Rattle.object_view.specs.Units.{context_of, no_unit, unit_start}
 
@@ -88,14 +89,25 @@ module _ (all : List RawEntry) where
       subst (λ (v : ℕ). 4 + (2 + length bytes) ≡ header_size v) (sym is) (omega (arith, kind, width, four, all, behind, length-append h.front h.back, length-append others.front others.back))
 
   -- the root stands behind the header
-  root_place : (sections : SectionBytes) (t : UnitTree) (place : ℕ) (bytes : List ℕ) → SpellsUnit sections t place bytes → t.root.place - header_size t.version ≡ place
-  root_place sections t place bytes h =
+  root_at : (sections : SectionBytes) (t : UnitTree) (place : ℕ) (bytes : List ℕ) → SpellsUnit sections t place bytes → t.root.place ≡ place + header_size t.version
+  root_at sections t place bytes h =
       let header = h.spells.first in
       let there = h.spells.second.first.first.there in
       let two = length_number 2 _ header.front header.first in
       let fields = fields_length t.version t.offset header.back header.second in
       let all = ap (λ (b : List ℕ). length b) header.is in
       omega (arith, there, two, fields, all, length-append header.front header.back)
+
+  root_place : (sections : SectionBytes) (t : UnitTree) (place : ℕ) (bytes : List ℕ) → SpellsUnit sections t place bytes → t.root.place - header_size t.version ≡ place
+  root_place sections t place bytes h = let at = root_at sections t place bytes h in omega (arith, at)
+
+  units_behind : (sections : SectionBytes) (ts : List UnitTree) (unit number place : ℕ) (bytes : List ℕ) → SpellsUnits sections ts place bytes → StandFrom number (entries_of unit number ts) all → All (IsBehindHeader all) (in_units number ts)
+  units_behind sections [] unit number place bytes h stand = All-nil (IsBehindHeader all)
+  units_behind sections (t ∷ ts) unit number place bytes h stand =
+      let at = root_at sections t place h.front h.first in
+      let root : IsBehindHeader all (in_unit number t) = subst (λ (o : Option RawEntry). IfSome o (λ e. header_size t.version ≤ e.place)) (sym (tree_root t ts unit number stand)) (omega (arith, at)) in
+      All-cons (IsBehindHeader all) (in_unit number t) (in_units (number + 1 + size t.kids) ts) root
+      (units_behind sections ts (suc unit) (number + 1 + size t.kids) (place + length h.front) h.back h.second (trees_behind t ts unit number stand))
 
   unit_begins : (sections : SectionBytes) (ts : List UnitTree) (unit number place : ℕ) (bytes : List ℕ) → SpellsUnits sections ts place bytes → StandFrom number (entries_of unit number ts) all
       → (k : ℕ) → k < length ts → BeginsAt sections ts place bytes k (option_map_or (context_of all) (slice_get (in_units number ts) k) no_unit).start
@@ -131,6 +143,9 @@ module _ (all : List RawEntry) where
 
 pub trees_rooted : (ts : List UnitTree) → All (IsRooted (entries_of 0 0 ts)) (in_units 0 ts)
 trees_rooted ts = units_rooted (entries_of 0 0 ts) ts 0 0 (all_stand (entries_of 0 0 ts))
+
+pub headers_before : (sections : SectionBytes) (ts : List UnitTree) → SpellsUnits sections ts 0 sections.info → All (IsBehindHeader (entries_of 0 0 ts)) (in_units 0 ts)
+headers_before sections ts h = units_behind (entries_of 0 0 ts) sections ts 0 0 0 sections.info h (all_stand (entries_of 0 0 ts))
 
 -- a unit of an object begins where it is spelled
 pub begins : (sections : SectionBytes) (ts : List UnitTree) → SpellsUnits sections ts 0 sections.info → (unit : ℕ) → unit < length ts → BeginsAt sections ts 0 sections.info unit (unit_start (in_units 0 ts) (entries_of 0 0 ts) unit)

@@ -8,6 +8,7 @@ pub mod Numbers
 pub mod Opened
 pub mod Parts
 pub mod Ready
+pub mod Roots
 pub mod Seen
 pub mod Sound
 pub mod Spelled

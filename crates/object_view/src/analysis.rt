@@ -13,6 +13,7 @@ ghost use Rattle.object_view.specs.Analysis.{analysis_of};
 ghost use Rattle.object_view.specs.Numbers.{AreNumbers};
 ghost use Rattle.object_view.specs.Opened.{opened_seen};
 ghost use Rattle.object_view.specs.Ready.{AllAttrs, AllRawAttrs, AreOfUnits, HasRoot, IsListAttr, IsOpen, IsReadAttr, IsRooted, context_among};
+ghost use Rattle.object_view.specs.Roots.{IsBehindHeader};
 ghost use Rattle.object_view.specs.Spelled.{IsOfObject};
 ghost use Rattle.object_view.specs.Stages.{analysed, entries_analysed, finished, info_done, lists_meant, tables_in};
 ghost use Rattle.object_view.specs.Units;
@@ -79,6 +80,7 @@ fn analyse_units(
     requires raw { AreSoundUnits raw }
     requires inside { AreInside (bytes_in object.now.sections) raw }
     requires rooted { All (IsRooted raw.entries) raw.units }
+    requires behind { All (IsBehindHeader raw.entries) raw.units }
     requires numbers { AreNumbers (places_of raw.entries) raw.entries numbers.now }
     ensures { Gives (λ analysis. analysis) result (analysed (opened_seen object.now) map.now raw) }
 {

@@ -3,6 +3,7 @@
 ghost use Rattle.std.specs.Prelude.{◌≡◌, ◌<◌, ◌^◌, length, IfOk};
 ghost use Rattle.std.specs.List.{All};
 ghost use Rattle.object_view.specs.Ready.{HasRoot};
+ghost use Rattle.object_view.specs.Roots.{IsBehindHeader};
 ghost use Rattle.object_view.specs.Units;
 
 use ds_base::dwarf::DW_TAG_base_type;
@@ -60,7 +61,8 @@ pub(crate) fn unit_contexts(
     units: &[InUnit],
     entries: &RawEntries,
 ) -> Result<List<UnitContext>, NoMemory>
-    requires { All (HasRoot (length entries.now)) units.now }
+    requires roots { All (HasRoot (length entries.now)) units.now }
+    requires behind { All (IsBehindHeader entries.now) units.now }
     ensures { IfOk result (λ contexts. contexts ≡ Units.contexts_of entries.now units.now) }
 {
     let mut contexts = List::new(alloc);
@@ -72,15 +74,14 @@ pub(crate) fn unit_contexts(
 
 /// What the values of a unit are understood by: its version, and what its root tells.
 fn context_of(entries: &RawEntries, unit: &InUnit) -> UnitContext
-    requires { HasRoot (length entries.now) unit.now }
+    requires root { HasRoot (length entries.now) unit.now }
+    requires behind { IsBehindHeader entries.now unit.now }
     ensures { result ≡ Units.context_of entries.now unit.now }
 {
     let root = entries.entry(unit.first as usize);
     UnitContext {
         version: unit.version,
-        start: root
-            .place()
-            .saturating_sub(u32::from(header_size(unit.version))),
+        start: root.place() - u32::from(header_size(unit.version)),
         addr_base: bases_of(&root).addresses,
     }
 }

@@ -8,12 +8,13 @@ use Rattle.unit_tree.specs.Unit.{units_of}
 use Rattle.unit_tree.proofs.UnitLaws.{units_spelled}
 use Rattle.object_view.specs.Opened.{Opened, opened_of, opened_seen}
 use Rattle.object_view.specs.Ready.{IsRooted}
+use Rattle.object_view.specs.Roots.{IsBehindHeader}
 use Rattle.object_view.proofs.Assembling.{opened_gives}
 use Rattle.object_view.proofs.FileBytes.{AreFileBytes, abbrev_bytes, info_bytes}
 use Rattle.object_view.proofs.RawValues.{raw_plain}
 use Rattle.object_view.proofs.SpelledAnalysis.{gives_spelled}
 use Rattle.object_view.proofs.SoundAnalysis.{gives_sound}
-use Rattle.object_view.proofs.Trees.{trees_rooted}
+use Rattle.object_view.proofs.Trees.{headers_before, trees_rooted}
 use Rattle.object_view.proofs.analysis.analyse.Goals as goal
 
 pub returns-clause-exact : goal.returns-clause-exact
@@ -60,3 +61,10 @@ analyse_units-requires-clause-rooted c =
     let small = c.in_ok-opened.ensures.small c.requires in
     let k = known c.args.bytes.now c.args.cpu o c.in_ok-raw.raw (λ i. let h = c.type_inv.bytes i in omega (arith, h)) c.in_ok-opened.ensures.exact small.info c.in_ok-raw.ensures.exact in
     subst (λ (r : RawUnits). All (IsRooted r.entries) r.units) (sym k.spelled.is) (trees_rooted k.spelled.trees)
+
+pub analyse_units-requires-clause-behind : goal.analyse_units-requires-clause-behind
+analyse_units-requires-clause-behind c =
+    let o = opened_seen c.in_ok-opened.opened in
+    let small = c.in_ok-opened.ensures.small c.requires in
+    let k = known c.args.bytes.now c.args.cpu o c.in_ok-raw.raw (λ i. let h = c.type_inv.bytes i in omega (arith, h)) c.in_ok-opened.ensures.exact small.info c.in_ok-raw.ensures.exact in
+    subst (λ (r : RawUnits). All (IsBehindHeader r.entries) r.units) (sym k.spelled.is) (headers_before o.sections k.spelled.trees k.spelled.spells.spells)

@@ -13,8 +13,8 @@ analyse_entries-requires-clause-order c = rw (c.as_slice-2.ensures, c.in_ok-type
 pub analyse_entries-requires-clause-few : goal.analyse_entries-requires-clause-few
 analyse_entries-requires-clause-few c = omega (arith, c.requires.raw.few)
 
-pub unit_contexts-requires : goal.unit_contexts-requires
-unit_contexts-requires c = rw c.as_slice.ensures (have_roots c.args.raw.units _ c.requires.raw.units)
+pub unit_contexts-requires-clause-roots : goal.unit_contexts-requires-clause-roots
+unit_contexts-requires-clause-roots c = rw c.as_slice.ensures (have_roots c.args.raw.units _ c.requires.raw.units)
 
 pub analyse_entries-requires-clause-roots : goal.analyse_entries-requires-clause-roots
 analyse_entries-requires-clause-roots c = have_roots c.args.raw.units _ c.requires.raw.units
@@ -28,3 +28,6 @@ returns c =
 
 pub analyse_entries-requires-clause-rooted : goal.analyse_entries-requires-clause-rooted
 analyse_entries-requires-clause-rooted c = c.requires.rooted
+
+pub unit_contexts-requires-clause-behind : goal.unit_contexts-requires-clause-behind
+unit_contexts-requires-clause-behind c = rw c.as_slice.ensures c.requires.behind
