@@ -1,15 +1,21 @@
 //! The bundle of the program, byte by byte (mach-o/loader.h, mach-o/nlist.h; DWARF 4).
 
-use ds_base::{Bytes, NoMemory};
+use ds_base::Bytes;
 use std::alloc::Global;
+use std::process::Abort;
 
 /// Parts of a file, one after the other.
-fn joined(alloc: Global, parts: &[&[u8]]) -> Result<Bytes, NoMemory> {
+pub(crate) fn joined(rt: &impl Abort, alloc: Global, parts: &[&[u8]]) -> Bytes {
     let mut bytes = Bytes::new(alloc);
+    add(rt, &mut bytes, parts);
+    bytes
+}
+
+/// Puts parts behind the others.
+fn add(rt: &impl Abort, bytes: &mut Bytes, parts: &[&[u8]]) {
     for part in parts {
-        bytes.extend(part)?;
+        bytes.extend(part).expect(rt, "memory");
     }
-    Ok(bytes)
 }
 
 /// The commands, symbols and strings of the image, of 727 bytes: the UUID, the symbols, and two segments.
@@ -72,14 +78,12 @@ const SECTIONS: &[&[u8]] = &[
 ];
 
 /// The image of the program, of 4258 bytes.
-pub(crate) fn image(alloc: Global) -> Result<Bytes, NoMemory> {
-    let mut image = joined(alloc, FRONT)?;
+pub(crate) fn image(rt: &impl Abort, alloc: Global) -> Bytes {
+    let mut image = joined(rt, alloc, FRONT);
     // from 727 on, up to 4096
-    image.extend(&[0; 3369])?;
-    for section in SECTIONS {
-        image.extend(section)?;
-    }
-    Ok(image)
+    add(rt, &mut image, &[&[0; 3369]]);
+    add(rt, &mut image, SECTIONS);
+    image
 }
 
 /// The property list of `a.out`, as dsymutil writes it.

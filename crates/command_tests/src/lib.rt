@@ -1,4 +1,4 @@
-//! Tests of links by the command, over files in memory: the bundle, statuses and messages.
+//! Tests of links by the command, over files in memory whose calls fail: the bundle, statuses and messages.
 //!
 //! Layer: top. The crate has no code of its own.
 #![tactic(auto)]
@@ -6,8 +6,6 @@
 #[cfg(test)]
 mod bytes;
 #[cfg(test)]
-mod main_object;
-#[cfg(test)]
-mod program;
+mod inputs;
 #[cfg(test)]
 mod tests;
