@@ -1,23 +1,32 @@
 //! Symbols of a program (mach-o/stab.h), and its debug map or the fault.
 
 use crate::parts::{fault, same, same_bytes};
-use crate::sample::{file_with, image_in};
-use ds_base::macho::{N_EXT, N_FUN, N_GSYM, N_OSO, N_SECT, N_SO};
+use crate::sample::{add, image_in, joined};
 use ds_base::{Kind, List, Part};
-use macho_read::Symbols;
 use stab_map::{MapError, MapObject, debug_map};
 use std::alloc::Global;
 use std::process::Abort;
 
-/// Puts a symbol of the first section last.
-fn put(rt: &impl Abort, symbols: &mut Symbols, name: &[u8], kind: u8, value: u64) {
-    assert!(rt; name.len() <= 16);
-    symbols.push(name, kind, 1, 0, value).expect(rt, "memory");
-}
+/// The front of a program for arm64 with one section. The command of the symbol table stands behind it, and the symbols
+/// behind that, at 0xd0.
+#[rattlefmt::skip]
+const FRONT: &[&[u8]] = &[
+    // magic, cputype, cpusubtype, filetype, ncmds, sizeofcmds, flags, reserved
+    b"\xcf\xfa\xed\xfe\x0c\0\0\x01\0\0\0\0\x02\0\0\0\x02\0\0\0\xb0\0\0\0\0\0\0\0\0\0\0\0",
+    // cmd, cmdsize, segname
+    b"\x19\0\0\0\x98\0\0\0__TEXT\0\0\0\0\0\0\0\0\0\0",
+    // vmaddr, vmsize, fileoff, filesize
+    b"\0\0\0\0\x01\0\0\0\0\x40\0\0\0\0\0\0\0\0\0\0\0\0\0\0\0\0\0\0\0\0\0\0",
+    // maxprot, initprot, nsects, flags
+    b"\x05\0\0\0\x05\0\0\0\x01\0\0\0\0\0\0\0",
+    // sectname, segname, addr, size, and offset, align, reloff, nreloc, flags, reserved1 to 3
+    b"__text\0\0\0\0\0\0\0\0\0\0__TEXT\0\0\0\0\0\0\0\0\0\0\x50\x3f\0\0\x01\0\0\0\x2a\0\0\0\0\0\0\0\0\0\0\0\x04\0\0\0\0\0\0\0\0\0\0\0\0\x04\0\x80\0\0\0\0\0\0\0\0\0\0\0\0",
+];
 
-/// The map of a file with these symbols.
-fn map_of(rt: &impl Abort, alloc: Global, symbols: Symbols) -> Result<List<MapObject>, MapError> {
-    let file = file_with(rt, alloc, symbols);
+/// The map of the program with this command, these symbols and strings.
+fn map_of(rt: &impl Abort, alloc: Global, parts: &[&[u8]]) -> Result<List<MapObject>, MapError> {
+    let mut file = joined(rt, alloc, FRONT);
+    add(rt, &mut file, parts);
     let image = image_in(rt, alloc, file.as_slice());
     debug_map(alloc, &image)
 }
@@ -51,15 +60,23 @@ fn assert_object(rt: &impl Abort, object: &MapObject) {
     assert_entry(rt, object, 1, b"_c", 0x1_0000_8010, None);
 }
 
+/// N_OSO, N_FUN and its end, N_GSYM, and the symbol of the variable.
+#[rattlefmt::skip]
+const OBJECT: &[&[u8]] = &[
+    // cmd, cmdsize, symoff, nsyms, stroff, strsize
+    b"\x02\0\0\0\x18\0\0\0\xd0\0\0\0\x05\0\0\0\x20\x01\0\0\x13\0\0\0",
+    // n_strx, n_type, n_sect, n_desc, n_value
+    b"\x01\0\0\0\x66\0\x01\0\0\0\0\0\0\0\0\0",
+    b"\x0a\0\0\0\x24\x01\0\0\x50\x3f\0\0\x01\0\0\0",
+    b"\0\0\0\0\x24\0\0\0\x2a\0\0\0\0\0\0\0",
+    b"\x10\0\0\0\x20\0\0\0\0\0\0\0\0\0\0\0",
+    b"\x10\0\0\0\x0f\x01\0\0\x10\x80\0\0\x01\0\0\0",
+    b"\0/tmp/m.o\0_main\0_c\0",
+];
+
 #[test]
 fn an_object_has_its_functions_and_variables(rt: HostRuntime) {
-    let mut symbols = Symbols::new(rt.alloc());
-    put(&rt, &mut symbols, b"/tmp/m.o", N_OSO, 0);
-    put(&rt, &mut symbols, b"_main", N_FUN, 0x1_0000_3f50);
-    put(&rt, &mut symbols, b"", N_FUN, 0x2a);
-    put(&rt, &mut symbols, b"_c", N_GSYM, 0);
-    put(&rt, &mut symbols, b"_c", N_SECT | N_EXT, 0x1_0000_8010);
-    let map = map_of(&rt, rt.alloc(), symbols).expect(&rt, "a map");
+    let map = map_of(&rt, rt.alloc(), OBJECT).expect(&rt, "a map");
     assert_object(&rt, only_object(&rt, &map));
 }
 
@@ -70,39 +87,56 @@ fn assert_member(rt: &impl Abort, object: &MapObject, archive: &[u8], name: &[u8
     same(rt, "an archive and a member", found, (archive, name));
 }
 
+/// N_OSO of a member, and N_SO.
+#[rattlefmt::skip]
+const MEMBER: &[&[u8]] = &[
+    b"\x02\0\0\0\x18\0\0\0\xd0\0\0\0\x02\0\0\0\xf0\0\0\0\x08\0\0\0",
+    b"\x01\0\0\0\x66\0\x01\0\0\0\0\0\0\0\0\0",
+    b"\0\0\0\0\x64\x01\0\0\0\0\0\0\0\0\0\0",
+    b"\0l.a(x)\0",
+];
+
 #[test]
 fn an_object_in_an_archive_is_a_member(rt: HostRuntime) {
-    let mut symbols = Symbols::new(rt.alloc());
-    put(&rt, &mut symbols, b"l.a(x)", N_OSO, 0);
-    put(&rt, &mut symbols, b"", N_SO, 0);
-    let map = map_of(&rt, rt.alloc(), symbols).expect(&rt, "a map");
+    let map = map_of(&rt, rt.alloc(), MEMBER).expect(&rt, "a map");
     assert_member(&rt, only_object(&rt, &map), b"l.a", b"x");
 }
 
-/// A file with these symbols has no map, for this fault.
-fn assert_refused(rt: &impl Abort, alloc: Global, symbols: Symbols, kind: Kind, place: u64) {
+/// The program with these symbols has no map, for this fault.
+fn assert_refused(rt: &impl Abort, alloc: Global, parts: &[&[u8]], kind: Kind, place: u64) {
     let want = MapError::Faulty(fault(kind, Part::Map, place));
-    same(rt, "a map", map_of(rt, alloc, symbols).err(), Some(want));
+    same(rt, "a map", map_of(rt, alloc, parts).err(), Some(want));
 }
+
+/// N_SO twice, N_OSO, N_FUN, and N_SO in the place of the function's end.
+#[rattlefmt::skip]
+const ENDLESS: &[&[u8]] = &[
+    b"\x02\0\0\0\x18\0\0\0\xd0\0\0\0\x05\0\0\0\x20\x01\0\0\x17\0\0\0",
+    b"\x01\0\0\0\x64\0\0\0\0\0\0\0\0\0\0\0",
+    b"\x07\0\0\0\x64\0\0\0\0\0\0\0\0\0\0\0",
+    b"\x0b\0\0\0\x66\0\x01\0\0\0\0\0\0\0\0\0",
+    b"\x14\0\0\0\x24\x01\0\0\0\0\0\0\0\0\0\0",
+    b"\0\0\0\0\x64\x01\0\0\0\0\0\0\0\0\0\0",
+    b"\0/tmp/\0m.c\0/tmp/m.o\0_f\0",
+];
 
 #[test]
 fn a_function_has_its_size_behind_it(rt: HostRuntime) {
-    let mut symbols = Symbols::new(rt.alloc());
-    put(&rt, &mut symbols, b"/tmp/", N_SO, 0);
-    put(&rt, &mut symbols, b"m.c", N_SO, 0);
-    put(&rt, &mut symbols, b"/tmp/m.o", N_OSO, 0);
-    put(&rt, &mut symbols, b"_f", N_FUN, 0);
-    put(&rt, &mut symbols, b"", N_SO, 0);
-    assert_refused(&rt, rt.alloc(), symbols, Kind::BadStab, 3);
+    assert_refused(&rt, rt.alloc(), ENDLESS, Kind::BadStab, 3);
 }
 
-/// The function behind it has no size, which would be told of a later symbol.
+/// N_SO, N_OSO whose path is no text, and N_FUN, whose end is missing, which would be told of a later symbol.
+#[rattlefmt::skip]
+const NO_TEXT: &[&[u8]] = &[
+    b"\x02\0\0\0\x18\0\0\0\xd0\0\0\0\x04\0\0\0\x10\x01\0\0\x0a\0\0\0",
+    b"\x01\0\0\0\x64\0\0\0\0\0\0\0\0\0\0\0",
+    b"\x05\0\0\0\x66\0\x01\0\0\0\0\0\0\0\0\0",
+    b"\x07\0\0\0\x24\x01\0\0\0\0\0\0\0\0\0\0",
+    b"\0\0\0\0\x64\x01\0\0\0\0\0\0\0\0\0\0",
+    b"\0m.c\0\xff\0_f\0",
+];
+
 #[test]
 fn the_path_of_an_object_is_text(rt: HostRuntime) {
-    let mut symbols = Symbols::new(rt.alloc());
-    put(&rt, &mut symbols, b"m.c", N_SO, 0);
-    put(&rt, &mut symbols, b"\xff", N_OSO, 0);
-    put(&rt, &mut symbols, b"_f", N_FUN, 0);
-    put(&rt, &mut symbols, b"", N_SO, 0);
-    assert_refused(&rt, rt.alloc(), symbols, Kind::BadPath, 1);
+    assert_refused(&rt, rt.alloc(), NO_TEXT, Kind::BadPath, 1);
 }

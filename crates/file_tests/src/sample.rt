@@ -1,16 +1,9 @@
 //! The object that the tables are about, and where its parts stand (mach-o/loader.h, mach-o/reloc.h, mach-o/nlist.h).
 
-ghost use Rattle.std.specs.Prelude.{◌≡◌, ◌<◌, ◌^◌};
-ghost use Rattle.std.specs.List.{All};
 ghost use Rattle.macho_read.specs.Sound.{IsSound};
 
-use ds_base::dwarf::{DW_AT_low_pc, DW_TAG_compile_unit, DW_TAG_subprogram};
-use ds_base::macho::{CPU_TYPE_ARM64, N_EXT, N_SECT, N_UNDF};
-use ds_base::{Bytes, List, put_bytes};
-use dwarf_types::{Node, OutAttr, OutUnit, OutValue};
-use macho_read::{Image, Symbols, read_image};
-use reloc_table::Reloc;
-use sample_objects::{ObjectSpec, is_within_limits, object};
+use ds_base::{Bytes, put_bytes};
+use macho_read::{Image, read_image};
 use std::alloc::Global;
 use std::process::Abort;
 
@@ -36,83 +29,61 @@ pub(crate) const SECOND_SYMBOL: usize = FIRST_RELOC + 2 * 8 + 16;
 /// The end of the file, behind 7 bytes of strings.
 pub(crate) const END: usize = SECOND_SYMBOL + 16 + 7;
 
-/// An entry with an address.
-fn entry(rt: &impl Abort, alloc: Global, parent: Option<u32>, tag: u16, address: u64) -> Node {
-    let mut attrs = List::new(alloc);
-    let attr = OutAttr {
-        name: DW_AT_low_pc,
-        value: OutValue::Address(address),
-    };
-    attrs.push(attr).expect(rt, "memory");
-    Node { parent, tag, attrs }
+/// The file of an arm64 object with a unit of two entries, whose addresses stand at 12 and at 21 of `__debug_info` and are
+/// relocated, and with two symbols: `_a` at 0x20 of `__text`, and `_c` of 8 bytes, which is common.
+#[rattlefmt::skip]
+const OBJECT: &[&[u8]] = &[
+    // magic, cputype, cpusubtype, filetype, ncmds, sizeofcmds, flags, reserved
+    b"\xcf\xfa\xed\xfe\x0c\0\0\x01\0\0\0\0\x01\0\0\0\x02\0\0\0\x50\x01\0\0\0\0\0\0\0\0\0\0",
+    // cmd, cmdsize, segname
+    b"\x19\0\0\0\x38\x01\0\0\0\0\0\0\0\0\0\0\0\0\0\0\0\0\0\0",
+    // vmaddr, vmsize, fileoff, filesize
+    b"\0\0\0\0\0\0\0\0\0\0\x01\0\0\0\0\0\x70\x01\0\0\0\0\0\0\x2d\0\0\0\0\0\0\0",
+    // maxprot, initprot, nsects, flags
+    b"\x07\0\0\0\x07\0\0\0\x03\0\0\0\0\0\0\0",
+    // sectname, segname, addr, size, and offset, align, reloff, nreloc, flags, reserved1 to 3
+    b"__text\0\0\0\0\0\0\0\0\0\0__TEXT\0\0\0\0\0\0\0\0\0\0\0\0\0\0\0\0\0\0\0\0\x01\0\0\0\0\0\0\0\0\0\0\0\0\0\0\0\0\0\0\0\0\0\0\0\0\0\0\0\0\0\0\0\0\0\0\0\0\0",
+    b"__debug_abbrev\0\0__DWARF\0\0\0\0\0\0\0\0\0\0\0\0\0\0\0\0\0\x0f\0\0\0\0\0\0\0\x70\x01\0\0\0\0\0\0\0\0\0\0\0\0\0\0\0\0\0\x02\0\0\0\0\0\0\0\0\0\0\0\0",
+    b"__debug_info\0\0\0\0__DWARF\0\0\0\0\0\0\0\0\0\0\0\0\0\0\0\0\0\x1e\0\0\0\0\0\0\0\x7f\x01\0\0\0\0\0\0\x9d\x01\0\0\x02\0\0\0\0\0\0\x02\0\0\0\0\0\0\0\0\0\0\0\0",
+    // cmd, cmdsize, symoff, nsyms, stroff, strsize
+    b"\x02\0\0\0\x18\0\0\0\xad\x01\0\0\x02\0\0\0\xcd\x01\0\0\x07\0\0\0",
+    // abbreviations: a unit and a function, each with low_pc
+    b"\x01\x11\x01\x11\x01\0\0",
+    b"\x02\x2e\0\x11\x01\0\0",
+    b"\0",
+    // unit_length, version, debug_abbrev_offset, address_size
+    b"\x1a\0\0\0\x04\0\0\0\0\0\x08",
+    // code, low_pc
+    b"\x01\0\0\0\0\0\0\0\0",
+    b"\x02\x08\0\0\0\0\0\0\0",
+    b"\0",
+    // r_address, and section 1, length 8: of the second address and of the first
+    b"\x15\0\0\0\x01\0\0\x06",
+    b"\x0c\0\0\0\x01\0\0\x06",
+    // n_strx, n_type, n_sect, n_desc, n_value
+    b"\x01\0\0\0\x0f\x01\0\0\x20\0\0\0\0\0\0\0",
+    b"\x04\0\0\0\x01\0\0\0\x08\0\0\0\0\0\0\0",
+    // strings
+    b"\0_a\0_c\0",
+];
+
+/// Parts of a file, one after the other.
+pub(crate) fn joined(rt: &impl Abort, alloc: Global, parts: &[&[u8]]) -> Bytes {
+    let mut bytes = Bytes::new(alloc);
+    add(rt, &mut bytes, parts);
+    bytes
 }
 
-/// A unit of two entries, whose addresses stand at 12 and at 21.
-fn unit(rt: &impl Abort, alloc: Global) -> OutUnit {
-    let mut nodes = List::new(alloc);
-    let root = entry(rt, alloc, None, DW_TAG_compile_unit, 0);
-    let function = entry(rt, alloc, Some(0), DW_TAG_subprogram, 8);
-    nodes.push(root).expect(rt, "memory");
-    nodes.push(function).expect(rt, "memory");
-    OutUnit {
-        version: 4,
-        nodes,
-        lines: None,
-        ranges: List::new(alloc),
+/// Puts parts behind the others.
+pub(crate) fn add(rt: &impl Abort, bytes: &mut Bytes, parts: &[&[u8]]) {
+    for part in parts {
+        bytes.extend(part).expect(rt, "memory");
     }
 }
 
-/// A relocation that counts from `__text`.
-fn reloc(place: u32) -> Reloc
-    ensures { result.symbol ≡ 1 }
-{
-    Reloc {
-        place,
-        symbol: 1,
-        outer: false,
-    }
-}
-
-/// The relocations of the second address and of the first.
-fn relocs(rt: &impl Abort, alloc: Global) -> List<Reloc>
-    ensures { All (λ r. r.symbol < 2 ^ 24) result }
-{
-    let mut relocs = List::new(alloc);
-    relocs.push(reloc(21)).expect(rt, "memory");
-    relocs.push(reloc(12)).expect(rt, "memory");
-    relocs
-}
-
-/// The file of an object, whose unit is short enough for it.
-fn file_of(rt: &impl Abort, alloc: Global, spec: &ObjectSpec) -> Bytes
-    requires { All (λ r. r.symbol < 2 ^ 24) spec.now.relocs }
-{
-    let within = is_within_limits(alloc, &spec.unit).expect(rt, "memory");
-    assert!(rt; within);
-    object(alloc, spec).expect(rt, "memory for a file")
-}
-
-/// The file of an arm64 object of the unit, with these symbols.
-pub(crate) fn file_with(rt: &impl Abort, alloc: Global, symbols: Symbols) -> Bytes {
-    let spec = ObjectSpec {
-        cpu: CPU_TYPE_ARM64,
-        unit: unit(rt, alloc),
-        symbols,
-        relocs: relocs(rt, alloc),
-    };
-    file_of(rt, alloc, &spec)
-}
-
-/// The file of the object with two symbols: `_a` at 0x20 of `__text`, and `_c` of 8 bytes, which is common.
+/// The file of the object.
 pub(crate) fn file(rt: &impl Abort, alloc: Global) -> Bytes {
-    let mut symbols = Symbols::new(alloc);
-    symbols
-        .push(b"_a", N_SECT | N_EXT, 1, 0, 0x20)
-        .expect(rt, "memory");
-    symbols
-        .push(b"_c", N_UNDF | N_EXT, 0, 0, 8)
-        .expect(rt, "memory");
-    file_with(rt, alloc, symbols)
+    joined(rt, alloc, OBJECT)
 }
 
 /// Puts other bytes into a file, from a place on.
