@@ -7,6 +7,8 @@
 #[cfg(test)]
 mod objects;
 #[cfg(test)]
+mod parts;
+#[cfg(test)]
 mod tests_names;
 #[cfg(test)]
 mod tests_workers;

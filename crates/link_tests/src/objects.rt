@@ -1,32 +1,27 @@
 //! Links whose objects were let go.
 
+use crate::parts::link_given;
 use ds_files::OpenGate;
-use link_core::{Options, link_objects};
-use sample_objects::generated;
+use link_core::{Linked, Options};
+use std::process::Abort;
 
-// The file type is MH_DSYM, 10.
+/// Two objects are counted, without entries, and the file type is MH_DSYM, 10.
+fn has_no_entries(rt: &impl Abort, linked: &Linked) {
+    let found = (
+        linked.counts.objects,
+        linked.counts.entries,
+        linked.image.get(12).copied(),
+    );
+    assert!(rt; found == (2, 0, Some(10)));
+}
+
 #[test]
 fn objects_that_are_left_away_have_no_entries(rt: HostRuntime) {
-    let alloc = rt.alloc();
-    let made = generated(alloc, 2).expect(&rt, "a program");
-    assert_eq!(rt; made.objects.len(), 2);
     let options = Options {
         odr: false,
         workers: 1,
     };
-    let linked = link_objects(
-        &rt,
-        alloc,
-        &made.program,
-        "a.out",
-        made.objects.as_slice(),
-        &[],
-        &[None, None],
-        &options,
-        &OpenGate::new(),
-    )
-    .expect(&rt, "a bundle");
-    assert_eq!(rt; linked.counts.objects, 2);
-    assert_eq!(rt; linked.counts.entries, 0);
-    assert_eq!(rt; linked.image.get(12).copied(), Some(10));
+    let gate = OpenGate::new();
+    let linked = link_given(&rt, rt.alloc(), &[], &[None, None], &options, &gate);
+    has_no_entries(&rt, &linked.expect(&rt, "a bundle"));
 }

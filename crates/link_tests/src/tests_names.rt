@@ -3,11 +3,12 @@
 ghost use Rattle.std.specs.Prelude.{◌≡◌, ◌<◌, length, IfOk, IfSome};
 ghost use Rattle.std.specs.List.{All};
 
+use crate::parts::link_own;
 use ds_base::NoMemory;
 use ds_files::OpenGate;
-use link_core::{Options, link_objects};
-use sample_objects::generated;
+use link_core::{Linked, Options};
 use std::alloc::Global;
+use std::process::Abort;
 use type_pool::ClosedPool;
 
 /// The numbers of so many files.
@@ -33,32 +34,24 @@ fn filled(closed: &ClosedPool) -> u64 {
     filled
 }
 
-// Each path has one cell, unless its names are crowded.
+/// Each path has one cell, unless its names are crowded.
+fn each_has_a_cell(rt: &impl Abort, linked: &Linked) {
+    assert_eq!(rt; filled(&linked.closed), linked.counts.names);
+}
+
 #[test]
-fn no_name_of_a_generated_program_is_crowded(rt: HostRuntime) -> Result<(), NoMemory> {
-    let alloc = rt.alloc();
-    let made = generated(alloc, 40)?;
-    let source = numbers_below(alloc, 40)?;
-    assert!(rt; made.objects.len() == 40);
-    assert!(rt; made.files.len() == 40);
+fn no_name_of_a_generated_program_is_crowded(rt: HostRuntime) {
+    let source = numbers_below(rt.alloc(), 40).expect(&rt, "memory");
     let options = Options {
         odr: true,
         workers: 4,
     };
-    let linked = link_objects(
+    let linked = link_own(
         &rt,
-        alloc,
-        &made.program,
-        "g",
-        made.objects.as_slice(),
-        made.files.as_slice(),
+        rt.alloc(),
         source.as_slice(),
         &options,
         &OpenGate::new(),
     );
-    match linked {
-        Ok(linked) => assert_eq!(rt; filled(&linked.closed), linked.counts.names),
-        Err(_) => panic!(rt; "not linked"),
-    }
-    Ok(())
+    each_has_a_cell(&rt, &linked.expect(&rt, "a bundle"));
 }

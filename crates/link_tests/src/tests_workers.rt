@@ -1,9 +1,9 @@
 //! Links by several threads.
 
-use ds_base::{Bytes, Fault, Kind, List, NoMemory, Part};
-use ds_files::{Gate, MemoryFiles, MemorySink, OpenGate};
-use link_cli::link_main;
-use link_core::{Options, Refusal, Status, link_files, link_objects};
+use crate::parts::{link_given, told};
+use ds_base::{Bytes, Fault, Kind, Part};
+use ds_files::{Gate, OpenGate};
+use link_core::{Linked, Options, Refusal, link_files};
 use sample_objects::{Generated, generated};
 use std::alloc::Global;
 use std::hint::spin_loop;
@@ -57,25 +57,6 @@ impl Gate for Holds {
     }
 }
 
-/// What is told of a generated program of so many objects, linked by so many threads behind a gate.
-fn told<R: Threads + Abort + Sync, G: Gate + Sync>(
-    rt: &R,
-    alloc: Global,
-    count: &str,
-    workers: &str,
-    gate: &G,
-) -> Result<MemorySink, NoMemory> {
-    let mut words = Vec::new(alloc);
-    for word in ["--generate", count, "-j", workers, "g"] {
-        words.push(String::from_str(alloc, word)?)?;
-    }
-    let mut files = MemoryFiles::new(alloc, List::new(alloc));
-    let mut messages = MemorySink::new(alloc, 1024, List::new(alloc))?;
-    let status = link_main(rt, alloc, words.as_slice(), &mut files, &mut messages, gate);
-    assert!(rt; status == Status::Done);
-    Ok(messages)
-}
-
 /// Expects that the other item passed while the one was held.
 fn expect_shared<R: Abort>(rt: &R, gate: &Holds) {
     let phase = gate.phase;
@@ -89,40 +70,29 @@ fn expect_shared<R: Abort>(rt: &R, gate: &Holds) {
 /// In a phase two workers have the first two items beside each other.
 fn shares_phase<R: Threads + Abort + Sync>(rt: &R, alloc: Global, phase: u32) {
     let gate = Holds::new(phase, 0, 1);
-    assert!(rt; told(rt, alloc, "2", "2", &gate).is_ok());
+    drop(told(rt, alloc, "2", "2", &gate));
     expect_shared(rt, &gate);
 }
 
 /// Whether a generated program of two objects is linked by two threads behind a gate, so that files go once they are read.
-fn links_files<R: Threads + Sync, G: Gate + Sync>(
+fn links_files<R: Threads + Abort + Sync, G: Gate + Sync>(
     rt: &R,
     alloc: Global,
     odr: bool,
     gate: &G,
 ) -> bool {
-    let Ok(made) = generated(alloc, 2) else {
-        return false;
-    };
+    let made = generated(alloc, 2).expect(rt, "a program");
+    assert!(rt; made.objects.len() == 2 && made.files.len() == 2);
     let Generated {
         program,
         objects,
         files,
     } = made;
-    if objects.len() != 2 || files.len() != 2 {
-        return false;
-    }
     let source = [Some(0), Some(1)];
     let options = Options { odr, workers: 2 };
+    let objects = objects.as_slice();
     link_files(
-        rt,
-        alloc,
-        &program,
-        "a.out",
-        objects.as_slice(),
-        files,
-        &source,
-        &options,
-        gate,
+        rt, alloc, &program, "a.out", objects, files, &source, &options, gate,
     )
     .is_ok()
 }
@@ -134,50 +104,52 @@ fn shares_files_phase<R: Threads + Abort + Sync>(rt: &R, alloc: Global, odr: boo
     expect_shared(rt, &gate);
 }
 
+/// A link is refused so.
+fn is_refused(rt: &impl Abort, linked: Result<Linked, Refusal>, want: Refusal) {
+    match linked {
+        Ok(_) => panic!(rt; "linked"),
+        Err(refusal) => assert!(rt; refusal == want),
+    }
+}
+
 // Objects 2 and 4 are empty files. The second is read once the fourth is.
 #[test]
 fn the_first_object_with_a_fault_is_told_whoever_met_it(rt: HostRuntime) {
-    let alloc = rt.alloc();
-    let made = generated(alloc, 4).expect(&rt, "a program");
-    assert_eq!(rt; made.objects.len(), 4);
     let options = Options {
         odr: true,
         workers: 8,
     };
     let gate = Holds::new(0, 1, 3);
-    let linked = link_objects(
-        &rt,
-        alloc,
-        &made.program,
-        "a.out",
-        made.objects.as_slice(),
-        &[Bytes::new(alloc)],
-        &[None, Some(0), None, Some(0)],
-        &options,
-        &gate,
-    );
+    let files = [Bytes::new(rt.alloc())];
+    let source = [None, Some(0), None, Some(0)];
+    let linked = link_given(&rt, rt.alloc(), &files, &source, &options, &gate);
     expect_shared(&rt, &gate);
     let fault = Fault {
         kind: Kind::Truncated,
         section: Part::Header,
         place: 0,
     };
-    match linked {
-        Ok(_) => panic!(rt; "linked"),
-        Err(refusal) => assert!(rt; refusal == Refusal::Faulty { file: 2, fault }),
-    }
+    is_refused(&rt, linked, Refusal::Faulty { file: 2, fault });
 }
 
+/// So many threads tell this.
+fn tell<R: Threads + Abort + Sync>(rt: &R, alloc: Global, workers: &str, want: &[u8]) {
+    let seen = told(rt, alloc, "4", workers, &OpenGate::new());
+    assert!(rt; seen.text() == want);
+}
+
+const WANT: &[u8] = b"objects 4\nentries 7212\n";
+
 #[test]
-fn workers_change_nothing_that_is_told(rt: HostRuntime) -> Result<(), NoMemory> {
-    let alloc = rt.alloc();
-    let one = told(&rt, alloc, "4", "1", &OpenGate::new())?;
-    let two = told(&rt, alloc, "4", "2", &OpenGate::new())?;
-    let many = told(&rt, alloc, "4", "16", &OpenGate::new())?;
-    assert!(rt; one.text().starts_with(b"objects 4\nentries 7212\n"));
-    assert!(rt; two.text() == one.text());
-    assert!(rt; many.text() == one.text());
-    Ok(())
+fn workers_change_nothing_that_is_told(rt: HostRuntime) {
+    let one = told(&rt, rt.alloc(), "4", "1", &OpenGate::new());
+    begins(&rt, one.text(), WANT);
+    tell(&rt, rt.alloc(), "2", one.text());
+    tell(&rt, rt.alloc(), "16", one.text());
+}
+
+fn begins(rt: &impl Abort, text: &[u8], front: &[u8]) {
+    assert!(rt; text.starts_with(front));
 }
 
 #[test]
