@@ -36,7 +36,19 @@ fn put_draft(
     emit_draft(draft, outside, room);
 }
 
-// A draft of a unit has these abbreviations, and with what stands outside these bytes.
+// What is wanted of a draft: its abbreviations, its bytes with what stands outside, how many texts it has, and its lists
+// and the places of its nodes, where they are looked at.
+#[derive(Clone, Copy)]
+struct Want<'a> {
+    table: &'a [u8],
+    info: &'a [u8],
+    texts: usize,
+    ranges: Option<&'a [u8]>,
+    locations: Option<&'a [u8]>,
+    places: Option<&'a [u32]>,
+}
+
+// A unit is drafted so.
 fn is_drafted(
     rt: &impl Abort,
     alloc: Global,
@@ -44,18 +56,26 @@ fn is_drafted(
     unit: &OutUnit,
     outside: &Outside,
     room: &mut [u8],
-    table: &[u8],
-    info: &[u8],
-) -> Draft {
+    want: Want,
+) {
     let draft = draft_unit(alloc, unit, number).expect(rt, "a draft");
     put_draft(rt, &draft, number, unit, outside, room);
-    same(rt, "the unit", &*room, info);
-    same_bytes(rt, "its abbreviations", &draft.table, table);
-    draft
+    same(rt, "the unit", &*room, want.info);
+    has_parts(rt, &draft, want);
 }
 
-fn are_places(rt: &impl Abort, draft: &Draft, want: &[u32]) {
-    same(rt, "its places", draft.places.as_slice(), want);
+fn has_parts(rt: &impl Abort, draft: &Draft, want: Want) {
+    same_bytes(rt, "its abbreviations", &draft.table, want.table);
+    same(rt, "its texts", draft.names.len(), want.texts);
+    if let Some(ranges) = want.ranges {
+        same_bytes(rt, "its range lists", &draft.ranges, ranges);
+    }
+    if let Some(locations) = want.locations {
+        same_bytes(rt, "its location lists", &draft.locations, locations);
+    }
+    if let Some(places) = want.places {
+        same(rt, "its places", draft.places.as_slice(), places);
+    }
 }
 
 // ---- units
@@ -203,39 +223,22 @@ const RANGES_4: [u8; 32] = [
     0, 0, 0, 0, 0, 0, 0, 0,  0, 0, 0, 0, 0, 0, 0, 0,
 ];
 
-// Its lists, places, texts, lines and code.
-fn has_parts_4(rt: &impl Abort, draft: &Draft) {
-    same_bytes(rt, "its range lists", &draft.ranges, &RANGES_4);
-    are_places(rt, draft, &[11, 30]);
-    same(
-        rt,
-        "its second text",
-        draft.names.get(1),
-        Some(b"main".as_slice()),
-    );
-    same(rt, "bytes of lines", draft.lines.len(), 0);
-    same(rt, "ranges of code", draft.code.len(), 1);
-}
-
 #[test]
 fn a_unit_of_one_function_is_drafted(rt: HostRuntime) {
-    let alloc = rt.alloc();
-    let unit = unit(&rt, alloc, 4);
+    let unit = unit(&rt, rt.alloc(), 4);
     let outside = Outside {
         texts: &[0, 4],
         ..ended(48)
     };
-    let draft = is_drafted(
-        &rt,
-        alloc,
-        0,
-        &unit,
-        &outside,
-        &mut [0; 48],
-        &TABLE,
-        &INFO_4,
-    );
-    has_parts_4(&rt, &draft);
+    let want = Want {
+        table: &TABLE,
+        info: &INFO_4,
+        texts: 2,
+        ranges: Some(&RANGES_4),
+        locations: None,
+        places: Some(&[11, 30]),
+    };
+    is_drafted(&rt, rt.alloc(), 0, &unit, &outside, &mut [0; 48], want);
 }
 
 // Such a unit of version 5.
@@ -253,26 +256,22 @@ const RANGES_5: [u8; 18] = [6,  0x50, 0x3f, 0, 0, 1, 0, 0, 0,  0x7a, 0x3f, 0, 0,
 
 #[test]
 fn a_unit_of_version_5_is_drafted(rt: HostRuntime) {
-    let alloc = rt.alloc();
-    let unit = unit(&rt, alloc, 5);
+    let unit = unit(&rt, rt.alloc(), 5);
     let outside = Outside {
         ranges: 12,
         locations: 12,
         texts: &[0, 4],
         ..ended(49)
     };
-    let draft = is_drafted(
-        &rt,
-        alloc,
-        0,
-        &unit,
-        &outside,
-        &mut [0; 49],
-        &TABLE,
-        &INFO_5,
-    );
-    same_bytes(&rt, "its range lists", &draft.ranges, &RANGES_5);
-    are_places(&rt, &draft, &[12, 31]);
+    let want = Want {
+        table: &TABLE,
+        info: &INFO_5,
+        texts: 2,
+        ranges: Some(&RANGES_5),
+        locations: None,
+        places: Some(&[12, 31]),
+    };
+    is_drafted(&rt, rt.alloc(), 0, &unit, &outside, &mut [0; 49], want);
 }
 
 // The abbreviations of a unit of a base type and a variable.
@@ -325,16 +324,13 @@ fn a_unit_names_entries_texts_and_lists(rt: HostRuntime) {
         units: units.as_slice(),
         ..ended(0x15a)
     };
-    let draft = is_drafted(
-        &rt,
-        alloc,
-        1,
-        &unit,
-        &outside,
-        &mut [0; 42],
-        &TABLE_OF_TYPES,
-        &INFO_OF_TYPES,
-    );
-    same_bytes(&rt, "its location lists", &draft.locations, &LOCATIONS);
-    same(&rt, "its texts", draft.names.len(), 1);
+    let want = Want {
+        table: &TABLE_OF_TYPES,
+        info: &INFO_OF_TYPES,
+        texts: 1,
+        ranges: None,
+        locations: Some(&LOCATIONS),
+        places: None,
+    };
+    is_drafted(&rt, alloc, 1, &unit, &outside, &mut [0; 42], want);
 }
