@@ -55,19 +55,8 @@ pub(crate) fn link_own<R: Threads + Abort + Sync, G: Gate + Sync>(
     requires workers { (1 ≤ options.now.workers) × (options.now.workers ≤ 64) }
 {
     let made = generated(alloc, source.len() as u32).expect(rt, "a program");
-    assert!(rt; made.objects.len() == source.len() && made.files.len() == source.len());
-    let (objects, files) = (made.objects.as_slice(), made.files.as_slice());
-    link_objects(
-        rt,
-        alloc,
-        &made.program,
-        "a.out",
-        objects,
-        files,
-        source,
-        options,
-        gate,
-    )
+    assert!(rt; made.files.len() == source.len());
+    link_given(rt, alloc, made.files.as_slice(), source, options, gate)
 }
 
 /// The words of a command.
