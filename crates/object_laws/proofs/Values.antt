@@ -36,7 +36,6 @@ use Rattle.moved_parts.specs.Places.{place_of}
 use Rattle.moved_parts.specs.Spans.{spans_moved}
 use Rattle.unit_tree.specs.declared.meaning.Meaning.{Meaning}
 use Rattle.unit_tree.specs.declared.meaning.Meaning.TheVariants as meanings
-use Rattle.unit_tree.specs.Meaning as meaning_of
 use Rattle.unit_tree.specs.Meaning.{is_address_index, table_of}
 use Rattle.linked_laws.specs.Spellable.{IsSpellableLocation, IsSpellableOp, IsSpellablePlace, IsSpellableValue, is_lines}
 use Rattle.object_view.specs.Attributes.{address_named, dangling, each_of, field_address, is_too_long, item_meant, item_moved, lines_value, locations_by_role, locations_meant, locations_read, number_at, ranges_by_role, ranges_meant, ranges_read, section_offset, unnamed, value_meant}
@@ -121,11 +120,11 @@ if_is false x y z e = inr (refl, e)
 -- only DW_AT_ranges leads to a range list
 ranges_name : (name : ℕ) → table_of name ≡ meanings.RangeList → name ≡ DW_AT_ranges
 unfolding table_of
-ranges_name name e = elim (if_is (name == DW_AT_stmt_list) meanings.LineTable (if name == DW_AT_ranges then meanings.RangeList else if meaning_of.has_locations name then meanings.LocationList else meanings.Other) meanings.RangeList e) [
+ranges_name name e = elim (if_is (name == DW_AT_stmt_list) meanings.LineTable (if name == DW_AT_ranges then meanings.RangeList else if has_locations name then meanings.LocationList else meanings.Other) meanings.RangeList e) [
   | inl line ↦ absurd cc
-  | inr w ↦ elim (if_is (name == DW_AT_ranges) meanings.RangeList (if meaning_of.has_locations name then meanings.LocationList else meanings.Other) meanings.RangeList w.1) [
+  | inr w ↦ elim (if_is (name == DW_AT_ranges) meanings.RangeList (if has_locations name then meanings.LocationList else meanings.Other) meanings.RangeList w.1) [
     | inl range ↦ eqb-true name DW_AT_ranges range.0
-    | inr v ↦ elim (if_is (meaning_of.has_locations name) meanings.LocationList meanings.Other meanings.RangeList v.1) [
+    | inr v ↦ elim (if_is (has_locations name) meanings.LocationList meanings.Other meanings.RangeList v.1) [
       | inl list ↦ absurd cc
       | inr other ↦ absurd cc
     ]
@@ -135,11 +134,11 @@ ranges_name name e = elim (if_is (name == DW_AT_stmt_list) meanings.LineTable (i
 -- only some attributes lead to a location list
 locations_name : (name : ℕ) → table_of name ≡ meanings.LocationList → IsTrue (has_locations name)
 unfolding table_of
-locations_name name e = elim (if_is (name == DW_AT_stmt_list) meanings.LineTable (if name == DW_AT_ranges then meanings.RangeList else if meaning_of.has_locations name then meanings.LocationList else meanings.Other) meanings.LocationList e) [
+locations_name name e = elim (if_is (name == DW_AT_stmt_list) meanings.LineTable (if name == DW_AT_ranges then meanings.RangeList else if has_locations name then meanings.LocationList else meanings.Other) meanings.LocationList e) [
   | inl line ↦ absurd cc
-  | inr w ↦ elim (if_is (name == DW_AT_ranges) meanings.RangeList (if meaning_of.has_locations name then meanings.LocationList else meanings.Other) meanings.LocationList w.1) [
+  | inr w ↦ elim (if_is (name == DW_AT_ranges) meanings.RangeList (if has_locations name then meanings.LocationList else meanings.Other) meanings.LocationList w.1) [
     | inl range ↦ absurd cc
-    | inr v ↦ elim (if_is (meaning_of.has_locations name) meanings.LocationList meanings.Other meanings.LocationList v.1) [
+    | inr v ↦ elim (if_is (has_locations name) meanings.LocationList meanings.Other meanings.LocationList v.1) [
       | inl list ↦ list.0
       | inr other ↦ absurd cc
     ]

@@ -16,6 +16,7 @@ use Rattle.dwarf_types.specs.declared.entry.RawEntry.{RawEntry}
 use Rattle.dwarf_types.specs.SectionBytes.{SectionBytes}
 use Rattle.dwarf_types.specs.declared.value.Value.{Value}
 use Rattle.dwarf_types.specs.declared.value.Value.TheVariants as values
+use Rattle.dwarf_types.specs.WellValues.{has_locations}
 use Rattle.form_value.specs.Reading.{value_at}
 use Rattle.index_tables.specs.declared.bases.Bases.{Bases}
 use Rattle.index_tables.specs.Bases.{base_in, base_said, bases_in}
@@ -25,7 +26,7 @@ use Rattle.unit_tree.specs.declared.meaning.Meaning.TheVariants.{InUnit, InObjec
 use Rattle.unit_tree.specs.declared.reference.Reference.{Reference}
 use Rattle.unit_tree.specs.Attribute.{Described, attr_at, attrs_at, has_attr, meant_at, names_lines, text_named, address_named, list_named, value_meant_at}
 use Rattle.unit_tree.specs.Entry.{Parsed, entry_at}
-use Rattle.unit_tree.specs.Meaning.{has_locations, meaning_of, table_of}
+use Rattle.unit_tree.specs.Meaning.{meaning_of, table_of}
 use Rattle.unit_tree.specs.Spelling.{Names, NamesAddress, NamesList, NamesText, Node, entry_of}
 use Rattle.unit_tree.proofs.AttrLaws.{text_taken, address_taken, list_taken}
 use Rattle.unit_tree.proofs.Steps.{entry_steps}

@@ -1,14 +1,9 @@
 -- What a number means that is a reference, a section offset or an index (DWARF 4, section 7.5.4; DWARF 5, section 7.5.5), by its form and its attribute.
 use Rattle.std.specs.Prelude.{ℕ, ◌==◌, ◌||◌, Bool, if◌then◌else◌}
-use Rattle.ds_base.specs.declared.dwarf.TheConstants.{DW_FORM_ref1, DW_FORM_ref2, DW_FORM_ref4, DW_FORM_ref8, DW_FORM_ref_udata, DW_FORM_ref_addr, DW_FORM_sec_offset, DW_FORM_strx, DW_FORM_strx1, DW_FORM_strx2, DW_FORM_strx3, DW_FORM_strx4, DW_FORM_addrx, DW_FORM_addrx1, DW_FORM_addrx2, DW_FORM_addrx3, DW_FORM_addrx4, DW_FORM_rnglistx, DW_FORM_loclistx, DW_AT_stmt_list, DW_AT_ranges, DW_AT_location, DW_AT_string_length, DW_AT_return_addr, DW_AT_data_member_location, DW_AT_frame_base, DW_AT_segment, DW_AT_static_link, DW_AT_use_location, DW_AT_vtable_elem_location}
+use Rattle.ds_base.specs.declared.dwarf.TheConstants.{DW_FORM_ref1, DW_FORM_ref2, DW_FORM_ref4, DW_FORM_ref8, DW_FORM_ref_udata, DW_FORM_ref_addr, DW_FORM_sec_offset, DW_FORM_strx, DW_FORM_strx1, DW_FORM_strx2, DW_FORM_strx3, DW_FORM_strx4, DW_FORM_addrx, DW_FORM_addrx1, DW_FORM_addrx2, DW_FORM_addrx3, DW_FORM_addrx4, DW_FORM_rnglistx, DW_FORM_loclistx, DW_AT_stmt_list, DW_AT_ranges}
+use Rattle.dwarf_types.specs.WellValues.{has_locations}
 use Rattle.unit_tree.specs.declared.meaning.Meaning.{Meaning}
 use Rattle.unit_tree.specs.declared.meaning.Meaning.TheVariants.{InUnit, InObject, LineTable, RangeList, LocationList, TextIndex, AddressIndex, RangeListIndex, LocationListIndex, Other}
-
--- an attribute that may have a location list
-abbrev pub has_locations : ℕ → Bool
-has_locations name =
-    name == DW_AT_location || (name == DW_AT_string_length || (name == DW_AT_return_addr || (name == DW_AT_data_member_location || (name == DW_AT_frame_base
-    || (name == DW_AT_segment || (name == DW_AT_static_link || (name == DW_AT_use_location || name == DW_AT_vtable_elem_location)))))))
 
 -- what a section offset leads to
 unfoldable pub table_of : ℕ → Meaning
