@@ -3,8 +3,8 @@ use Rattle.std.proofs.Common.{◌≡◌, ℕ, zero, suc, ◌+◌, ◌-◌, ◌*�
 use Rattle.std.specs.List.{flat_map, sum_by}
 use Rattle.std.proofs.lemmas.List.Sums.{sum_by_push}
 use Rattle.std.proofs.Math.Nat.{mul-add}
-use Rattle.std.proofs.lemmas.Bool.{ltb-false, le-ltb, eqb-true}
-use Rattle.std.proofs.lemmas.List.{take-append-drop, drop-take, drop-drop, length-take, flat_map_more, append-nil}
+use Rattle.std.proofs.lemmas.Bool.{ltb-false, eqb-true}
+use Rattle.std.proofs.lemmas.List.{take-append-drop, take-take, drop-take, drop-drop, length-take, flat_map_more, append-nil}
 use Rattle.std.proofs.Math.Seq.{take-length}
 use Rattle.ds_base.proofs.Passing.{bind_ok, passed, guard_ok, found_ok, ok_is}
 use Rattle.ds_base.proofs.Onward.{uleb_further}
@@ -27,13 +27,7 @@ use Rattle.dwarf_types.specs.declared.operands.Operands.TheVariants as operands
 use Rattle.dwarf_types.specs.Operations.{operands_of}
 use Rattle.expr_walk.specs.Length.{front_leb_len, respelled_len, plain_len, inner_len, op_len}
 use Rattle.expr_walk.specs.Reading.{naming, block_at, base_block_at, operands_at, bytes_up_to, is_outside, code_at, plain_from, plain_at, all_at, expression_of, placed_from, inner_of, entry_value_from, op_from, op_at, address_in, base_in, alone, is_placed_below}
-
--- t stands at least so many bytes behind first, and not behind its end
-pub record Ahead (first : Spot) (low : ℕ) (t : Spot) : Type 0 where
-  pub count : ℕ
-  pub is : t ≡ after first count
-  pub some : low ≤ count
-  pub inside : count ≤ first.end - first.place
+use Rattle.expr_walk.specs.Steps.{Ahead}
 
 -- a fault stands between first and its end
 pub record Inside (first : Spot) (f : Fault) : Type 0 where
@@ -175,24 +169,41 @@ cuts_bind : {A B : Type 0} (items : Items B) (first : Spot) (r : Result (A × Sp
 cuts_bind items first (Ok p) f k next = next p refl k
 cuts_bind items first (Err e) f k next = k
 
-pub up_to_is : (first t : Spot) (a : Ahead first 1 t) → bytes_up_to t.place first ≡ Ok (take a.count (rest first))
-unfolding bytes_up_to bytes_at
+ahead_within : (first t : Spot) → Ahead first 1 t → (first.place ≤ t.place) × (t.place ≤ first.end)
+ahead_within first t a =
+    let place : t.place ≡ first.place + a.count = ap (λ (u : Spot). u.place) a.is in
+    (omega (arith, place), omega (arith, place, a.some, a.inside))
+
+pub up_to_is : (first t : Spot) (a : Ahead first 1 t) → bytes_up_to first t.place ≡ take a.count (rest first)
+unfolding bytes_up_to
 up_to_is first t a =
     let place : t.place - first.place ≡ a.count = omega (arith, ap (λ (u : Spot). u.place) a.is) in
-    rw (place, le-ltb (first.end - first.place) a.count a.inside) refl
+    ap (λ (n : ℕ). take n (drop first.place first.bytes)) place ∙ sym (take-take a.count (first.end - first.place) (drop first.place first.bytes) a.inside)
+
+-- where the operands of an operation end
+pub operands_end : (row : Operands) (first s t : Spot) (named : Named) → Ahead first 1 s → operands_at row first s ≡ Ok (named, t) → (first.place ≤ t.place) × (t.place ≤ first.end)
+operands_end row first s t named a e = ahead_within first t (subst (Keeps first 1) e (operands_keep row first 1 s a))
+
+-- where the bytes behind their length end
+pub block_end : (first s t : Spot) (len : ℕ × Spot) (bytes : List ℕ) → Ahead first 1 s → uleb_at s ≡ Ok len → bytes_at len.0 len.1 ≡ Ok (bytes, t) → (first.place ≤ t.place) × (t.place ≤ first.end)
+block_end first s t len bytes a number e =
+    let b : Ahead first 1 len.1 = subst (Keeps first 1) number (uleb_keeps first 1 s a) in
+    ahead_within first t (subst (Keeps first 1) e (bytes_keep first 1 len.0 len.1 b))
 
 -- what holds the bytes up to a spot
 holds_up_to : {A : Type 0} (items : Items A) (made : List ℕ → A) (first t : Spot) (a : Ahead first 1 t) → ((bytes : List ℕ) → items.bytes (made bytes) ≡ bytes)
-    → ((bytes : List ℕ) → length bytes ≤ a.count → items.len (made bytes) ≤ items.most * a.count) → Cuts items first (bytes_up_to t.place first >>= λ bytes. Ok (made bytes, t))
+    → ((bytes : List ℕ) → length bytes ≤ a.count → items.len (made bytes) ≤ items.most * a.count) → Takes items first (made (bytes_up_to first t.place)) t
 holds_up_to items made first t a is short =
-    subst (λ (r : Result (List ℕ) Fault). Cuts items first (r >>= λ bytes. Ok (made bytes, t))) (sym (up_to_is first t a)) (record {
+    let bytes : List ℕ = bytes_up_to first t.place in
+    let up_to = up_to_is first t a in
+    record {
       count = a.count;
       is = a.is;
       some = a.some;
       inside = a.inside;
-      holds = is (take a.count (rest first));
-      short = short (take a.count (rest first)) (omega (arith, length-take a.count (rest first)));
-    })
+      holds = is bytes ∙ up_to;
+      short = short bytes (omega (arith, ap length up_to, length-take a.count (rest first)));
+    }
 
 -- ---- lengths in the output
 
@@ -245,7 +256,7 @@ pub record Coded (version : ℕ) (s : Spot) (c : (ℕ × Operands) × Spot) : Ty
 plain_from_cuts : (first : Spot) (code : ℕ) (row : Operands) (s : Spot) → operands_of code ≡ Some row → Ahead first 1 s → Cuts plain_items first (plain_from first code row s)
 unfolding plain_from
 plain_from_cuts first code row s known a =
-    cuts_bind plain_items first (operands_at row first s) (λ named. bytes_up_to named.1.place first >>= λ bytes. Ok (record { code = code; bytes = bytes; address = address_in named.0; base = base_in named.0 }, named.1))
+    cuts_bind plain_items first (operands_at row first s) (λ named. Ok (record { code = code; bytes = bytes_up_to first named.1.place; address = address_in named.0; base = base_in named.0 }, named.1))
     (operands_keep row first 1 s a)
     (λ named e b. holds_up_to plain_items (λ bytes. record { code = code; bytes = bytes; address = address_in named.0; base = base_in named.0 }) first named.1 b (λ bytes. refl)
     (λ bytes le. subst (λ (o : Option Operands). plain_len o bytes ≤ 5 * b.count) (sym known) (plain_short row first s named e a b bytes le)))
@@ -351,7 +362,7 @@ bytes_fit n s p e =
     (omega (arith, len, length-take n (rest s), length_rest s), ap (λ (q : List ℕ × Spot). q.1.place) (sym g.1), omega (arith, len, length-take n (rest s)))
 
 inner_cuts : (first : Spot) (code : ℕ) (len : ℕ × Spot) (inside : List ℕ × Spot) (r : Result (List PlainOp) Fault) → Placed len.1.place (length inside.0) r → bytes_at len.0 len.1 ≡ Ok inside → operands_of code ≡ Some operands.Expression → Ahead first 1 len.1 → Ahead first 1 inside.1
-    → Cuts op_items first (r >>= λ inner. bytes_up_to inside.1.place first >>= λ bytes. Ok (record { code = code; bytes = bytes; address = None; base = None; inner = inner }, inside.1))
+    → Cuts op_items first (r >>= λ inner. Ok (record { code = code; bytes = bytes_up_to first inside.1.place; address = None; base = None; inner = inner }, inside.1))
 inner_cuts first code len inside (Ok inner) few e known a b =
     let place : len.1.place ≡ first.place + a.count = ap (λ (u : Spot). u.place) a.is in
     let end : inside.1.place ≡ first.place + b.count = ap (λ (u : Spot). u.place) b.is in
@@ -406,10 +417,10 @@ module _ (version : ℕ) where
   unfolding entry_value_from
   entry_value_cuts part first code s known a =
       cuts_bind op_items first (uleb_at s)
-      (λ len. bytes_at len.0 len.1 >>= λ inside. inner_of version inside.0 part len.1.place >>= λ inner. bytes_up_to inside.1.place first >>= λ bytes. Ok (record { code = code; bytes = bytes; address = None; base = None; inner = inner }, inside.1))
+      (λ len. bytes_at len.0 len.1 >>= λ inside. inner_of version inside.0 part len.1.place >>= λ inner. Ok (record { code = code; bytes = bytes_up_to first inside.1.place; address = None; base = None; inner = inner }, inside.1))
       (uleb_keeps first 1 s a)
       (λ len e b. cuts_bind op_items first (bytes_at len.0 len.1)
-      (λ inside. inner_of version inside.0 part len.1.place >>= λ inner. bytes_up_to inside.1.place first >>= λ bytes. Ok (record { code = code; bytes = bytes; address = None; base = None; inner = inner }, inside.1))
+      (λ inside. inner_of version inside.0 part len.1.place >>= λ inner. Ok (record { code = code; bytes = bytes_up_to first inside.1.place; address = None; base = None; inner = inner }, inside.1))
       (bytes_keep first 1 len.0 len.1 b)
       (λ inside i c. inner_cuts first code len inside (inner_of version inside.0 part len.1.place) (inner_placed inside.0 part len.1.place) i known b c))
 

@@ -15,7 +15,7 @@ use Rattle.dwarf_types.specs.declared.operands.Named.{Named}
 use Rattle.dwarf_types.specs.declared.operands.Named.TheVariants.{Nothing, Address, BaseType, Index}
 use Rattle.dwarf_types.specs.Operations.{operands_of}
 use Rattle.ds_base.proofs.FaultKinds.{FaultsAre, ok_kinds, err_kinds, bind_kinds, either_kinds, found_kinds, refuse_kinds, bytes_kinds, number_kinds, uleb_kinds, sleb_kinds}
-use Rattle.expr_walk.specs.Reading.{all_at, alone, base_block_at, block_at, bytes_up_to, code_at, entry_value_from, expression_of, inner_of, is_outside, naming, op_at, op_from, operands_at, placed_from, plain_at, plain_from, walk_of}
+use Rattle.expr_walk.specs.Reading.{all_at, alone, base_block_at, block_at, code_at, entry_value_from, expression_of, inner_of, is_outside, naming, op_at, op_from, operands_at, placed_from, plain_at, plain_from, walk_of}
 
 abbrev pub IsOne : Kind → Type 0
 IsOne = Contains (kinds.Truncated ∷ kinds.LebTooWide ∷ kinds.UnknownOp ∷ kinds.OpOutsideProfile ∷ [])
@@ -71,14 +71,10 @@ operands_kinds operands.Index first s = naming_kinds (λ index. Index index) (ul
 operands_kinds operands.Expression first s = err_kinds IsOne (fault_at first kinds.OpOutsideProfile) outside
 operands_kinds operands.Outside first s = err_kinds IsOne (fault_at first kinds.OpOutsideProfile) outside
 
-up_to_kinds : (end : ℕ) (s : Spot) → FaultsAre IsOne (bytes_up_to end s)
-unfolding bytes_up_to
-up_to_kinds end s = bind_kinds IsOne (bytes_at (end - s.place) s) _ (bytes (end - s.place) s) (λ b. ok_kinds IsOne _)
-
 plain_from_kinds : (first : Spot) (code : ℕ) (row : Operands) (s : Spot) → FaultsAre IsOne (plain_from first code row s)
 unfolding plain_from
 plain_from_kinds first code row s =
-    bind_kinds IsOne (operands_at row first s) _ (operands_kinds row first s) (λ named. bind_kinds IsOne (bytes_up_to named.1.place first) _ (up_to_kinds named.1.place first) (λ b. ok_kinds IsOne _))
+    bind_kinds IsOne (operands_at row first s) _ (operands_kinds row first s) (λ named. ok_kinds IsOne _)
 
 all_kinds : {A : Type 0} (read : Spot → Result (A × Spot) Fault) → ((s : Spot) → FaultsAre IsOne (read s)) → (left : ℕ) (before : List A) (s : Spot) → FaultsAre IsOne (all_at read left before s)
 all_kinds read h zero before s = err_kinds IsOne (fault_at s kinds.Truncated) cut
@@ -115,8 +111,7 @@ module _ (version : ℕ) where
   entry_value_kinds part first code s =
       bind_kinds IsOne (uleb_at s) _ (uleb s) (λ len.
       bind_kinds IsOne (bytes_at len.0 len.1) _ (bytes len.0 len.1) (λ inside.
-      bind_kinds IsOne (inner_of version inside.0 part len.1.place) _ (inner_kinds inside.0 part len.1.place) (λ inner.
-      bind_kinds IsOne (bytes_up_to inside.1.place first) _ (up_to_kinds inside.1.place first) (λ b. ok_kinds IsOne _))))
+      bind_kinds IsOne (inner_of version inside.0 part len.1.place) _ (inner_kinds inside.0 part len.1.place) (λ inner. ok_kinds IsOne _)))
 
   op_from_kinds : (part : Part) (first : Spot) (code : ℕ) (row : Operands) (s : Spot) → FaultsAre IsOne (op_from version part first code row s)
   unfolding op_from

@@ -22,7 +22,8 @@ use Rattle.dwarf_types.specs.Operations.{operands_of}
 use Rattle.expr_walk.specs.Reading.{naming, block_at, base_block_at, operands_at, bytes_up_to, is_outside, code_at, plain_from, plain_at, all_at, expression_of, placed_from, inner_of, entry_value_from, op_from, op_at, walk_of, address_in, base_in, alone}
 use Rattle.dwarf_types.specs.SpelledOperands.{SpellsBlock, SpellsOperands}
 use Rattle.expr_walk.specs.Spelling.{IsPlain, Each, IsEntryValue, IsOp, an_entry_value, alone_it_is, SpellsExpression}
-use Rattle.expr_walk.proofs.Cuts.{Ahead, Keeps, Takes, Cuts, Items, plain_items, op_items, front, code_is, code_keeps, operands_keep, bytes_keep, uleb_keeps, up_to_is, with_row, plain_cuts, op_cuts, expression_whole}
+use Rattle.expr_walk.specs.Steps.{Ahead}
+use Rattle.expr_walk.proofs.Cuts.{Keeps, Takes, Cuts, Items, plain_items, op_items, front, code_is, code_keeps, operands_keep, bytes_keep, uleb_keeps, up_to_is, with_row, plain_cuts, op_cuts, expression_whole}
 
 -- ---- operands
 
@@ -73,10 +74,10 @@ code_reads version s t code row number known allowed = rw (number, known, allowe
 held : {A : Type 0} (items : Items A) (s t : Spot) (a : A) → Takes items s a t → items.bytes a ++ rest t ≡ rest s
 held items s t a c = ap₂ (λ (xs : List ℕ) (u : Spot). xs ++ rest u) c.holds c.is ∙ front s c.count c.inside
 
-up_to_bytes : (s t : Spot) (bytes : List ℕ) → Ahead s 1 t → rest s ≡ bytes ++ rest t → bytes_up_to t.place s ≡ Ok bytes
+up_to_bytes : (s t : Spot) (bytes : List ℕ) → Ahead s 1 t → rest s ≡ bytes ++ rest t → bytes_up_to s t.place ≡ bytes
 up_to_bytes s t bytes a parts =
     let whole : take a.count (rest s) ++ rest t ≡ rest s = ap (λ (u : Spot). take a.count (rest s) ++ rest u) a.is ∙ front s a.count a.inside in
-    up_to_is s t a ∙ ap (λ (xs : List ℕ). Ok xs) (append_cancel_right (take a.count (rest s)) bytes (rest t) (whole ∙ parts))
+    up_to_is s t a ∙ append_cancel_right (take a.count (rest s)) bytes (rest t) (whole ∙ parts)
 
 abbrev made : ℕ → List ℕ → Named → PlainOp
 made code bytes named = record { code = code; bytes = bytes; address = address_in named; base = base_in named }
@@ -91,9 +92,8 @@ record PlainParts (first : Spot) (code : ℕ) (row : Operands) (s : Spot) (op : 
 plain_parts : (first : Spot) (code : ℕ) (row : Operands) (s : Spot) (op : PlainOp) (t : Spot) → plain_from first code row s ≡ Ok (op, t) → PlainParts first code row s op t
 unfolding plain_from
 plain_parts first code row s op t e =
-    let b = bind_ok (operands_at row first s) (λ named. bytes_up_to named.1.place first >>= λ bytes. Ok (made code bytes named.0, named.1)) (op, t) e in
-    let d = bind_ok (bytes_up_to b.0.1.place first) (λ bytes. Ok (made code bytes b.0.0, b.0.1)) (op, t) b.2 in
-    subst (λ (p : PlainOp × Spot). PlainParts first code row s p.0 p.1) (ok_is (made code d.0 b.0.0, b.0.1) (op, t) d.2) (record { named = b.0.0; reads = b.1; code_is = refl; address = refl; base = refl })
+    let b = bind_ok (operands_at row first s) (λ named. Ok (made code (bytes_up_to first named.1.place) named.0, named.1)) (op, t) e in
+    subst (λ (p : PlainOp × Spot). PlainParts first code row s p.0 p.1) (ok_is (made code (bytes_up_to first b.0.1.place) b.0.0, b.0.1) (op, t) b.2) (record { named = b.0.0; reads = b.1; code_is = refl; address = refl; base = refl })
 
 Each-push : {A : Type 0} (P : A → Type 0) (xs : List A) (x : A) → Each P xs → P x → Each P (xs ++ x ∷ [])
 Each-push P [] x each one = (one, tt)
@@ -264,13 +264,12 @@ module _ (version : ℕ) where
   entry_parts : (part : Part) (first : Spot) (code : ℕ) (s : Spot) (op : Op) (t : Spot) → entry_value_from version part first code s ≡ Ok (op, t) → EntryParts version part s op t code
   unfolding entry_value_from inner_of
   entry_parts part first code s op t e =
-      let l = bind_ok (uleb_at s) (λ len. bytes_at len.0 len.1 >>= λ inside. inner_of version inside.0 part len.1.place >>= λ inner. bytes_up_to inside.1.place first >>= λ bytes. Ok (nested code bytes inner, inside.1)) (op, t) e in
+      let l = bind_ok (uleb_at s) (λ len. bytes_at len.0 len.1 >>= λ inside. inner_of version inside.0 part len.1.place >>= λ inner. Ok (nested code (bytes_up_to first inside.1.place) inner, inside.1)) (op, t) e in
       let len : ℕ × Spot = l.0 in
-      let i = bind_ok (bytes_at len.0 len.1) (λ inside. inner_of version inside.0 part len.1.place >>= λ inner. bytes_up_to inside.1.place first >>= λ bytes. Ok (nested code bytes inner, inside.1)) (op, t) l.2 in
+      let i = bind_ok (bytes_at len.0 len.1) (λ inside. inner_of version inside.0 part len.1.place >>= λ inner. Ok (nested code (bytes_up_to first inside.1.place) inner, inside.1)) (op, t) l.2 in
       let inside : List ℕ × Spot = i.0 in
-      let n = bind_ok (inner_of version inside.0 part len.1.place) (λ inner. bytes_up_to inside.1.place first >>= λ bytes. Ok (nested code bytes inner, inside.1)) (op, t) i.2 in
-      let b = bind_ok (bytes_up_to inside.1.place first) (λ bytes. Ok (nested code bytes n.0, inside.1)) (op, t) n.2 in
-      subst (λ (p : Op × Spot). EntryParts version part s p.0 p.1 code) (ok_is (nested code b.0 n.0, inside.1) (op, t) b.2) (record {
+      let n = bind_ok (inner_of version inside.0 part len.1.place) (λ inner. Ok (nested code (bytes_up_to first inside.1.place) inner, inside.1)) (op, t) i.2 in
+      subst (λ (p : Op × Spot). EntryParts version part s p.0 p.1 code) (ok_is (nested code (bytes_up_to first inside.1.place) n.0, inside.1) (op, t) n.2) (record {
         inside = inside.0;
         block = block_of s len inside l.1 i.1;
         inner = placed_ok len.1.place (expression_of (plain_at version) part inside.0) n.0 n.1;

@@ -1,5 +1,5 @@
 -- Reading an expression (DWARF 4 and 5, section 7.7.1) of a unit of a version: its operations, or the first fault.
-use Rattle.std.specs.Prelude.{ℕ, zero, suc, ◌+◌, ◌-◌, ◌^◌, ◌<◌, ◌==◌, min, Bool, false, not, List, [], ◌∷◌, ◌++◌, length, Option, Some, None, Result, Ok, Err, if◌then◌else◌}
+use Rattle.std.specs.Prelude.{ℕ, zero, suc, ◌+◌, ◌-◌, ◌^◌, ◌<◌, ◌==◌, min, Bool, false, not, List, [], ◌∷◌, ◌++◌, length, Option, Some, None, Result, Ok, Err, slice_range, if◌then◌else◌}
 use Rattle.ds_base.specs.declared.fault.Fault.{Fault}
 use Rattle.ds_base.specs.declared.fault.Kind.TheVariants as kinds
 use Rattle.ds_base.specs.declared.fault.Part.{Part}
@@ -72,11 +72,9 @@ base_in (Address n) = None
 base_in (Index n) = None
 base_in (BaseType n) = Some (base_of n)
 
--- the bytes up to a place
-unfoldable pub bytes_up_to : ℕ → Spot → Result (List ℕ) Fault
-bytes_up_to end s = do
-  bytes ← bytes_at (end - s.place) s
-  Ok bytes.0
+-- the bytes from a spot up to a place
+unfoldable pub bytes_up_to : Spot → ℕ → List ℕ
+bytes_up_to s end = slice_range s.bytes s.place end
 
 -- in version 5 alone a unit has a table of addresses, of which an operation may name one
 abbrev pub is_outside : ℕ → Operands → Bool
@@ -95,8 +93,7 @@ code_at version s = do
 unfoldable pub plain_from : Spot → ℕ → Operands → Spot → Result (PlainOp × Spot) Fault
 plain_from first code row s = do
   named ← operands_at row first s
-  bytes ← bytes_up_to named.1.place first
-  Ok (record { code = code; bytes = bytes; address = address_in named.0; base = base_in named.0 }, named.1)
+  Ok (record { code = code; bytes = bytes_up_to first named.1.place; address = address_in named.0; base = base_in named.0 }, named.1)
 
 -- an operation that is no entry value
 unfoldable pub plain_at : ℕ → Spot → Result (PlainOp × Spot) Fault
@@ -128,8 +125,7 @@ entry_value_from version part first code s = do
   len ← uleb_at s
   inside ← bytes_at len.0 len.1
   inner ← inner_of version inside.0 part len.1.place
-  bytes ← bytes_up_to inside.1.place first
-  Ok (record { code = code; bytes = bytes; address = None; base = None; inner = inner }, inside.1)
+  Ok (record { code = code; bytes = bytes_up_to first inside.1.place; address = None; base = None; inner = inner }, inside.1)
 
 -- an operation with none inside
 abbrev pub alone : PlainOp → Op

@@ -1,10 +1,17 @@
--- Stations between the code and the definitions: operations that are read and put behind others.
-use Rattle.std.specs.Prelude.{List, [], ◌∷◌, ◌++◌, Result, Ok}
+-- Stations between the code and the definitions: how far a cursor stands behind another one, and operations that are read and put behind others.
+use Rattle.std.specs.Prelude.{◌≡◌, ℕ, ◌-◌, ◌≤◌, List, [], ◌∷◌, ◌++◌, Result, Ok}
 use Rattle.ds_base.specs.declared.fault.Fault.{Fault}
-use Rattle.ds_base.specs.Spot.{Spot}
+use Rattle.ds_base.specs.Spot.{Spot, after}
 use Rattle.ds_base.specs.Reading.{◌>>=◌}
 use Rattle.dwarf_types.specs.declared.expr.Op.{Op}
 use Rattle.dwarf_types.specs.Gathered.{Gathered}
+
+-- t stands at least so many bytes behind first, and not behind its end
+pub record Ahead (first : Spot) (low : ℕ) (t : Spot) : Type 0 where
+  pub count : ℕ
+  pub is : t ≡ after first count
+  pub some : low ≤ count
+  pub inside : count ≤ first.end - first.place
 
 -- an operation that is read, behind others
 abbrev pub behind : List Op → Result (Op × Spot) Fault → Result (Gathered × Spot) Fault

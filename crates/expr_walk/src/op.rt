@@ -1,10 +1,10 @@
 //! One operation of an expression.
 
-ghost use Rattle.std.specs.Prelude.{◌≡◌, []};
-ghost use Rattle.ds_base.specs.Reading.{Finds, Reads, ReadsUnlessFull};
+ghost use Rattle.std.specs.Prelude.{◌≡◌, ◌≤◌, []};
+ghost use Rattle.ds_base.specs.Reading.{Reads, ReadsUnlessFull};
 ghost use Rattle.dwarf_types.specs.Seen.{inner_seen};
 ghost use Rattle.expr_walk.specs.Reading.{bytes_up_to, block_at, base_block_at, operands_at, address_in, base_of, base_in, is_outside, code_at, plain_from, plain_at, entry_value_from, op_from, op_at};
-ghost use Rattle.expr_walk.specs.Steps.{behind};
+ghost use Rattle.expr_walk.specs.Steps.{Ahead, behind};
 
 use crate::expression::read_inner;
 use ds_base::dwarf::DWARF_5;
@@ -38,7 +38,8 @@ fn read_op_behind<'a>(
     operands: Operands,
     ops: &mut Ops,
 ) -> Result<(), ReadError>
-    requires { ops.old.inner ≡ [] }
+    requires ahead { Ahead first.now 1 cursor.old }
+    requires none { ops.old.inner ≡ [] }
     ensures { ReadsUnlessFull (λ _. ops.new) result cursor.new (behind ops.old.ops (op_from version part first.now code operands cursor.old)) }
 {
     match operands {
@@ -61,7 +62,8 @@ fn read_entry_value<'a>(
     code: u8,
     ops: &mut Ops,
 ) -> Result<(), ReadError>
-    requires { ops.old.inner ≡ [] }
+    requires ahead { Ahead first.now 1 cursor.old }
+    requires none { ops.old.inner ≡ [] }
     ensures { ReadsUnlessFull (λ _. ops.new) result cursor.new (behind ops.old.ops (entry_value_from version part first.now code cursor.old)) }
 {
     let len = cursor.uleb()?;
@@ -69,10 +71,9 @@ fn read_entry_value<'a>(
     let inside = cursor.skip(len)?;
     let end = cursor.place();
     read_inner(inside, part, place, version, ops)?;
-    let bytes = read_up_to(end, first)?;
     ops.push(&InnerOpRef {
         code,
-        bytes,
+        bytes: bytes_up_to(first, end),
         address: None,
         base: None,
     })?;
@@ -126,25 +127,30 @@ fn read_plain_behind<'a>(
     code: u8,
     operands: Operands,
 ) -> Result<InnerOpRef<'a>, Fault>
+    requires { Ahead first.now 1 cursor.old }
     ensures { Reads inner_seen result cursor.new (plain_from first.now code operands cursor.old) }
 {
     let named = read_operands(cursor, operands, first)?;
-    let bytes = read_up_to(cursor.place(), first)?;
     Ok(InnerOpRef {
         code,
-        bytes,
+        bytes: bytes_up_to(first, cursor.place()),
         address: address_named(named),
         base: base_named(named),
     })
 }
 
-/// The bytes up to a place.
-#[tactic(auto, unfolding(crate::specs::Reading::bytes_up_to))]
-fn read_up_to<'a>(end: u64, first: &Cursor<'a>) -> Result<&'a [u8], Fault>
-    ensures { Finds (λ bytes. bytes.now) result (bytes_up_to end first.now) }
+/// The bytes from where a cursor stands up to a place.
+#[tactic(auto, unfolding(crate::specs::Reading::bytes_up_to, ds_base::specs::Reading::bytes_at))]
+fn bytes_up_to<'a>(first: &Cursor<'a>, end: u64) -> &'a [u8]
+    requires behind { first.now.place ≤ end }
+    requires inside { end ≤ first.now.end }
+    ensures { result.now ≡ bytes_up_to first.now end }
 {
     let mut from = first.fork();
-    from.skip(end.saturating_sub(first.place()))
+    match from.skip(end - first.place()) {
+        Ok(bytes) => bytes,
+        Err(_) => unreachable!(),
+    }
 }
 
 /// The operands of the operation that begins at `first`, and what they name.
