@@ -26,8 +26,8 @@ use Rattle.dwarf_types.specs.declared.operands.Operands.{Operands}
 use Rattle.dwarf_types.specs.declared.operands.Operands.TheVariants as operands
 use Rattle.dwarf_types.specs.Operations.{operands_of}
 use Rattle.expr_walk.specs.Length.{front_leb_len, respelled_len, plain_len, inner_len, op_len}
-use Rattle.expr_walk.specs.Reading.{naming, block_at, base_block_at, operands_at, bytes_up_to, is_outside, code_at, plain_from, plain_at, all_at, expression_of, placed_from, inner_of, entry_value_from, op_from, op_at, address_in, base_in, alone, is_placed_below}
-use Rattle.expr_walk.specs.Steps.{Ahead}
+use Rattle.expr_walk.specs.Reading.{naming, block_at, base_block_at, operands_at, bytes_up_to, is_outside, code_at, plain_from, plain_at, all_at, expression_of, placed_from, inner_of, entry_value_from, op_from, op_at, address_in, base_in, alone}
+use Rattle.expr_walk.specs.Steps.{Ahead, is_placed_below}
 
 -- a fault stands between first and its end
 pub record Inside (first : Spot) (f : Fault) : Type 0 where

@@ -1,10 +1,8 @@
 -- Reading an expression (DWARF 4 and 5, section 7.7.1) of a unit of a version: its operations, or the first fault.
-use Rattle.std.specs.Prelude.{ℕ, zero, suc, ◌+◌, ◌-◌, ◌^◌, ◌<◌, ◌==◌, min, Bool, false, not, List, [], ◌∷◌, ◌++◌, length, Option, Some, None, Result, Ok, Err, slice_range, if◌then◌else◌}
+use Rattle.std.specs.Prelude.{ℕ, zero, suc, ◌+◌, ◌-◌, ◌^◌, ◌==◌, min, Bool, false, not, List, [], ◌∷◌, ◌++◌, length, Option, Some, None, Result, Ok, Err, slice_range, if◌then◌else◌}
 use Rattle.ds_base.specs.declared.fault.Fault.{Fault}
 use Rattle.ds_base.specs.declared.fault.Kind.TheVariants as kinds
 use Rattle.ds_base.specs.declared.fault.Part.{Part}
-use Rattle.ds_base.specs.declared.fault.ReadError.{ReadError}
-use Rattle.ds_base.specs.declared.fault.ReadError.TheVariants as errors
 use Rattle.ds_base.specs.Spot.{Spot, fault_at, start}
 use Rattle.ds_base.specs.Reading.{◌>>=◌, refuse_if, or_fault, bytes_at, number_at, uleb_at, sleb_at}
 use Rattle.dwarf_types.specs.declared.address.Addr.TheVariants as addresses
@@ -145,12 +143,3 @@ op_at version part s = do
 -- the operations of an expression whose first byte stands at a place of a part, in a unit of a version
 unfoldable pub walk_of : List ℕ → Part → ℕ → ℕ → Result (List Op) Fault
 walk_of bytes part first version = placed_from first (expression_of (op_at version part) part bytes)
-
--- the same of a refusal
-abbrev pub error_from : ℕ → ReadError → ReadError
-error_from first (errors.Faulty f) = errors.Faulty (record f { place = first + f.place })
-error_from first errors.NoMemory = errors.NoMemory
-
-abbrev pub is_placed_below : ℕ → ReadError → Type 0
-is_placed_below limit (errors.Faulty f) = f.place < limit
-is_placed_below limit errors.NoMemory = Unit {0}

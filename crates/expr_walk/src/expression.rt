@@ -4,7 +4,8 @@ ghost use Rattle.std.specs.Prelude.{◌≡◌, ◌+◌, ◌-◌, ◌*◌, ◌^�
 ghost use Rattle.std.specs.List.{flat_map};
 ghost use Rattle.ds_base.specs.Reading.{Gives};
 ghost use Rattle.expr_walk.specs.Length.{ops_len};
-ghost use Rattle.expr_walk.specs.Reading.{plain_at, op_at, expression_of, inner_of, walk_of, error_from, is_placed_below};
+ghost use Rattle.expr_walk.specs.Reading.{plain_at, op_at, expression_of, inner_of, walk_of};
+ghost use Rattle.expr_walk.specs.Steps.{error_from, is_placed_below};
 
 use crate::op::{read_op, read_plain_op};
 use ds_base::{Cursor, Fault, Part, ReadError};
