@@ -9,6 +9,7 @@ use Rattle.ds_base.specs.declared.fault.ReadError.TheVariants as errors
 use Rattle.ds_base.proofs.Passing.{ok_is}
 use Rattle.ds_base.proofs.Refusals.{Refused}
 use Rattle.dwarf_types.specs.declared.expr.Op.{Op}
+use Rattle.dwarf_types.specs.declared.expr.PlainOp.{PlainOp}
 use Rattle.dwarf_types.specs.Gathered.{Gathered}
 use Rattle.ds_base.specs.Reading.{◌>>=◌}
 use Rattle.ds_base.proofs.Walking.{drop_one}
@@ -52,6 +53,10 @@ told_more {A = A} len meant first all out j place x y t lt here is =
 pub told_ends : {A : Type 0} (len : A → ℕ) (meant : ℕ → A → Result A Fault) (first : ℕ) (all out : List A) (j place : ℕ) (x : A) → Told len meant first all out j place → j < length all → x ≡ get_or all j x → place + len x ≤ first + sum_by len all
 told_ends len meant first all out j place x t lt here =
     omega (arith, t.stands, ap len here, sum_by_more len all j x lt, sum_by-take-le len all (j + 1))
+
+-- an operation that will stand inside the next one
+abbrev pub put_inside : Gathered → PlainOp → Gathered
+put_inside gathered op = record gathered { inner = gathered.inner ++ op ∷ [] }
 
 -- the next operation is put behind the others, as what it becomes
 put_of : (meant : ℕ → Op → Result Op Fault) (first : ℕ) (all out : List Op) (k place : ℕ) (op : Op) (r : Result Op Fault) (after : Gathered) → Told op_size meant first all out k place → k < length all → op ≡ get_or all k op → meant place op ≡ r → put_behind out r ≡ Ok after

@@ -1,16 +1,16 @@
 //! Operations, one after the other.
 
-ghost use Rattle.std.specs.Prelude.{◌≡◌, ◌+◌, ◌++◌, ◌^◌, ◌<◌, ◌≤◌, [], ◌∷◌, length, OnOk};
+ghost use Rattle.std.specs.Prelude.{◌≡◌, ◌+◌, ◌^◌, ◌<◌, ◌≤◌, [], length, OnOk};
 ghost use Rattle.std.specs.List.{All, sum_by};
 ghost use Rattle.ds_base.specs.Reading.{Gives};
 ghost use Rattle.dwarf_types.specs.Seen.{inner_seen, op_seen};
 ghost use Rattle.expr_resolve.specs.Context.{context_in};
 ghost use Rattle.expr_resolve.specs.Steps.{IsCut, IsPlainCut, IsSoundContext, put_behind, with_meaning};
-ghost use Rattle.expr_resolve.specs.Expressions.{each_from, inner_start, op_meant, op_size, outer_part, plain_meant, plain_size, with_inner};
+ghost use Rattle.expr_resolve.specs.Expressions.{each_from, inner_start, op_meant, op_size, outer_part, plain_meant, plain_size};
 
 use crate::context::ExprContext;
 use crate::operand::{Meaning, meaning_of};
-use ds_base::{NoMemory, ReadError};
+use ds_base::ReadError;
 use dwarf_types::{InnerOpRef, InnerOpsRef, OpRef, Ops, OpsRef};
 
 /// Puts what the operations of an expression become, one behind the other. `first` is the place of its first byte.
@@ -53,57 +53,32 @@ fn resolve_op(
     let meaning = meaning_of(context, place, &outer)?;
     let first = inner_first(place, op);
     resolve_inner(context, first, &op.inner, ops)?;
-    push(&outer, &meaning, ops)?;
+    ops.push(&with_meaning(&outer, &meaning))?;
     Ok(())
 }
 
-/// Puts an operation behind the others, as what it becomes. Those that were put with `push_inner` stand inside it.
-fn push(op: &InnerOpRef<'_>, meaning: &Meaning, ops: &mut Ops) -> Result<(), NoMemory>
-    ensures { OnOk result (ops.new ≡ record { ops = ops.old.ops ++ with_inner (with_meaning (inner_seen op.now) meaning.now) ops.old.inner ∷ []; inner = [] }) }
+/// An operation, as what it becomes.
+fn with_meaning<'a>(op: &InnerOpRef<'a>, meaning: &'a Meaning) -> InnerOpRef<'a>
+    ensures { inner_seen result ≡ with_meaning (inner_seen op.now) meaning.now }
 {
     match meaning {
-        Meaning::Stands { address, base } => ops.push(&InnerOpRef {
+        Meaning::Stands { address, base } => InnerOpRef {
             code: op.code,
             bytes: op.bytes,
             address: *address,
             base: *base,
-        }),
+        },
         Meaning::Holds {
             code,
             bytes,
             address,
             base,
-        } => ops.push(&InnerOpRef {
+        } => InnerOpRef {
             code: *code,
             bytes,
             address: *address,
             base: *base,
-        }),
-    }
-}
-
-/// Puts an operation behind those that will stand inside the next one, as what it becomes.
-fn push_inner(op: &InnerOpRef<'_>, meaning: &Meaning, ops: &mut Ops) -> Result<(), NoMemory>
-    ensures { OnOk result (ops.new ≡ record ops.old { inner = ops.old.inner ++ with_meaning (inner_seen op.now) meaning.now ∷ [] }) }
-{
-    match meaning {
-        Meaning::Stands { address, base } => ops.push_inner(&InnerOpRef {
-            code: op.code,
-            bytes: op.bytes,
-            address: *address,
-            base: *base,
-        }),
-        Meaning::Holds {
-            code,
-            bytes,
-            address,
-            base,
-        } => ops.push_inner(&InnerOpRef {
-            code: *code,
-            bytes,
-            address: *address,
-            base: *base,
-        }),
+        },
     }
 }
 
@@ -158,7 +133,7 @@ fn resolve_inner(
     for j in 0..stored.len() {
         let op = stored.op(j);
         let meaning = meaning_of(context, place, &op)?;
-        push_inner(&op, &meaning, ops)?;
+        ops.push_inner(&with_meaning(&op, &meaning))?;
         place += op.bytes.len() as u64;
     }
     Ok(())

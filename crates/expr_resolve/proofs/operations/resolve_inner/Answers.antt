@@ -4,7 +4,7 @@ use Rattle.dwarf_types.specs.Seen.{inner_seen}
 use Rattle.expr_resolve.specs.Context.{context_in}
 use Rattle.expr_resolve.specs.Steps.{IsPlainCut, with_meaning}
 use Rattle.expr_resolve.specs.Expressions.{plain_meant, plain_size}
-use Rattle.expr_resolve.proofs.Each.{Told, all_at_place, told_ends, told_more}
+use Rattle.expr_resolve.proofs.Each.{Told, all_at_place, put_inside, told_ends, told_more}
 use Rattle.expr_resolve.proofs.operations.resolve_inner.Goals as goal
 
 pub meaning_of-requires-clause-operand : goal.meaning_of-requires-clause-operand
@@ -23,6 +23,6 @@ overflow_add-place c =
 pub loop-j-preserved : goal.loop-j-preserved
 loop-j-preserved c =
     let x = inner_seen c.op-op.result in
-    let put = c.in_ok-push_inner.ensures in
+    let put = c.in_ok-push_inner.ensures.ok ∙ ap (put_inside c.loop-j.ops) c.with_meaning.ensures in
     let told = told_more plain_size (plain_meant (context_in c.args.context.now)) c.args.first c.args.stored.now c.loop-j.ops.inner c.loop-j.j c.loop-j.place x (with_meaning x c.in_ok-meaning.meaning) c.loop-j.invariant.0 (omega arith) c.op-op.ensures c.in_ok-meaning.ensures in
     (subst (λ (g : Gathered). Told plain_size (plain_meant (context_in c.args.context.now)) c.args.first c.args.stored.now g.inner (c.loop-j.j + 1) (c.loop-j.place + plain_size x)) (sym put) told, ap (λ (g : Gathered). g.ops) put ∙ c.loop-j.invariant.1)
