@@ -14,10 +14,11 @@ use Rattle.dwarf_types.specs.declared.operands.Operands.{Operands}
 use Rattle.dwarf_types.specs.declared.operands.Operands.TheVariants as operands
 use Rattle.dwarf_types.specs.Operations.{operands_of, has_no_operands}
 use Rattle.dwarf_types.specs.SectionBytes.{SectionBytes}
+use Rattle.dwarf_types.specs.LinkedExpressions.{outside}
 use Rattle.expr_walk.specs.Length.{inner_len, op_len, plain_len}
 use Rattle.index_tables.specs.Tables.{address_count, address_place, is_address_table, is_described, is_table, length_of}
 use Rattle.expr_resolve.specs.Context.{Context}
-use Rattle.expr_resolve.specs.Expressions.{entry_of, held, holding, index_in, named_by, names_entry, operand_meant, outer_part, with_inner}
+use Rattle.expr_resolve.specs.Expressions.{entry_of, held, holding, index_in, named_by, names_entry, operand_meant, with_inner}
 
 -- ---- entries lie in their section
 
@@ -150,14 +151,14 @@ same_len (Some operands.Expression) op meant bytes inner = ap (λ (n : ℕ). 1 +
 same_len other op meant bytes inner = ap (plain_len other) bytes
 
 op_meant_len : (s : Context) (place : ℕ) (op : Op) (base : Option Base) (inner : List PlainOp) (entry : Option ℕ) → named_by s op.code op.address ≡ entry → inner_len inner ≡ inner_len op.inner
-    → op_len (operands_of (operand_meant s place (outer_part op) base entry).code) (with_inner (operand_meant s place (outer_part op) base entry) inner) ≡ op_len (operands_of op.code) op
-op_meant_len s place op base inner None is lengths = same_len (operands_of op.code) op (with_inner (operand_meant s place (outer_part op) base None) inner) refl lengths
+    → op_len (operands_of (operand_meant s place (outside op) base entry).code) (with_inner (operand_meant s place (outside op) base entry) inner) ≡ op_len (operands_of op.code) op
+op_meant_len s place op base inner None is lengths = same_len (operands_of op.code) op (with_inner (operand_meant s place (outside op) base None) inner) refl lengths
 op_meant_len s place op base inner (Some at) is lengths =
     let n = named_of (names_entry op.code) (entry_of s op.address) at is in
     let inside = found_ends s (index_in op.address) at n.1 in
     let eight : suc (length (take 8 (drop at s.sections.addr))) ≡ 9 = omega (arith, inside, length-take 8 (drop at s.sections.addr), length-drop at s.sections.addr) in
-    holding_op_len (op.code == DW_OP_addrx) (with_inner (operand_meant s place (outer_part op) base (Some at)) inner) ∙ eight ∙ sym (ap (λ (o : Option Operands). op_len o op) (index_row op.code n.0))
+    holding_op_len (op.code == DW_OP_addrx) (with_inner (operand_meant s place (outside op) base (Some at)) inner) ∙ eight ∙ sym (ap (λ (o : Option Operands). op_len o op) (index_row op.code n.0))
 
 pub outer_len : (s : Context) (place : ℕ) (op : Op) (base : Option Base) (inner : List PlainOp) → inner_len inner ≡ inner_len op.inner
-    → op_len (operands_of (operand_meant s place (outer_part op) base (named_by s op.code op.address)).code) (with_inner (operand_meant s place (outer_part op) base (named_by s op.code op.address)) inner) ≡ op_len (operands_of op.code) op
+    → op_len (operands_of (operand_meant s place (outside op) base (named_by s op.code op.address)).code) (with_inner (operand_meant s place (outside op) base (named_by s op.code op.address)) inner) ≡ op_len (operands_of op.code) op
 outer_len s place op base inner lengths = op_meant_len s place op base inner (named_by s op.code op.address) refl lengths

@@ -17,9 +17,10 @@ use Rattle.dwarf_types.specs.Live.{base_in, op_bases}
 use Rattle.ds_base.proofs.Passing.{bind_ok, found_ok, ok_is}
 use Rattle.expr_walk.specs.Length.{op_len, ops_len, plain_len}
 use Rattle.dwarf_types.specs.Operations.{operands_of}
+use Rattle.dwarf_types.specs.LinkedExpressions.{outside}
 use Rattle.expr_resolve.specs.declared.context.BaseType.{BaseType}
 use Rattle.expr_resolve.specs.Context.{Context}
-use Rattle.expr_resolve.specs.Expressions.{base_meant, base_named, each_from, fault_in, inner_start, is_conversion, named_by, op_meant, op_size, operand_meant, outer_part, plain_meant, plain_size, with_inner}
+use Rattle.expr_resolve.specs.Expressions.{base_meant, base_named, each_from, fault_in, inner_start, is_conversion, named_by, op_meant, op_size, operand_meant, plain_meant, plain_size, with_inner}
 use Rattle.expr_resolve.specs.Sound.{IsKnown, NameKnown}
 use Rattle.expr_resolve.proofs.Entries.{operand_base, operand_len, outer_len}
 
@@ -115,9 +116,9 @@ OpKnown s op = All (IsKnown s) (op_bases op)
 
 op_known : (s : Context) (place : ℕ) (op meant : Op) → op_meant s place op ≡ Ok meant → OpKnown s meant
 op_known s place op meant e =
-    let outer = bind_ok (plain_meant s place (outer_part op)) _ meant e in
+    let outer = bind_ok (plain_meant s place (outside op)) _ meant e in
     let inner = bind_ok (each_from plain_size (plain_meant s) (inner_start place op) op.inner) _ meant outer.2 in
-    let own = plain_known s place (outer_part op) outer.0 outer.1 in
+    let own = plain_known s place (outside op) outer.0 outer.1 in
     let others = each_kept (λ (m : PlainOp). Knows s m.base) plain_size (plain_meant s) (plain_known s) (inner_start place op) op.inner inner.0 inner.1 in
     let named : List (Option Base) = map (λ m. m.base) inner.0 in
     let all : All (Knows s) (outer.0.base ∷ named) = All-cons (Knows s) outer.0.base named own (All-map (Knows s) (λ (m : PlainOp). m.base) inner.0 others) in
@@ -128,12 +129,12 @@ op_length op = op_len (operands_of op.code) op
 
 op_same_length : (s : Context) (place : ℕ) (op meant : Op) → op_meant s place op ≡ Ok meant → op_length meant ≡ op_length op
 op_same_length s place op meant e =
-    let outer = bind_ok (plain_meant s place (outer_part op)) _ meant e in
+    let outer = bind_ok (plain_meant s place (outside op)) _ meant e in
     let inner = bind_ok (each_from plain_size (plain_meant s) (inner_start place op) op.inner) _ meant outer.2 in
     let base = bind_ok (base_meant s place op.code op.base) _ outer.0 outer.1 in
     let lengths = each_sum plain_length plain_size (plain_meant s) (plain_same_length s) (inner_start place op) op.inner inner.0 inner.1 in
     ap op_length (sym (ok_is (with_inner outer.0 inner.0) meant inner.2))
-    ∙ ap (λ (m : PlainOp). op_length (with_inner m inner.0)) (sym (ok_is (operand_meant s place (outer_part op) base.0 (named_by s op.code op.address)) outer.0 base.2))
+    ∙ ap (λ (m : PlainOp). op_length (with_inner m inner.0)) (sym (ok_is (operand_meant s place (outside op) base.0 (named_by s op.code op.address)) outer.0 base.2))
     ∙ outer_len s place op base.0 inner.0 lengths
 
 -- ---- all operations

@@ -9,11 +9,12 @@ use Rattle.ds_base.specs.Reading.{◌>>=◌, or_fault, refuse_if}
 use Rattle.dwarf_types.specs.declared.expr.Base.{Base}
 use Rattle.dwarf_types.specs.declared.expr.Op.{Op}
 use Rattle.dwarf_types.specs.declared.expr.PlainOp.{PlainOp}
+use Rattle.dwarf_types.specs.LinkedExpressions.{outside}
 use Rattle.ds_base.proofs.FaultKinds.{FaultsAre, ok_kinds, err_kinds, bind_kinds, refuse_kinds, either_kinds, found_kinds}
 use Rattle.expr_walk.specs.Reading.{walk_of}
 use Rattle.expr_walk.proofs.Refused.{walk_faults}
 use Rattle.expr_resolve.specs.Context.{Context}
-use Rattle.expr_resolve.specs.Expressions.{base_meant, base_named, branches_over, branches_tried, each_from, expression_of, fault_in, indices_tried, inner_start, inner_tried, is_lost, op_indexed, op_meant, op_size, outer_part, plain_branches_over, plain_indexed, plain_meant, plain_size}
+use Rattle.expr_resolve.specs.Expressions.{base_meant, base_named, branches_over, branches_tried, each_from, expression_of, fault_in, indices_tried, inner_start, inner_tried, is_lost, op_indexed, op_meant, op_size, plain_branches_over, plain_indexed, plain_meant, plain_size}
 
 abbrev walks : List Kind
 walks = kinds.Truncated ∷ kinds.LebTooWide ∷ kinds.UnknownOp ∷ kinds.OpOutsideProfile ∷ []
@@ -52,7 +53,7 @@ each_kinds len meant h place (x ∷ xs) =
 
 op_kinds : (s : Context) (place : ℕ) (op : Op) → FaultsAre IsOne (op_meant s place op)
 op_kinds s place op =
-    bind_kinds IsOne (plain_meant s place (outer_part op)) _ (plain_kinds s place (outer_part op)) (λ outer.
+    bind_kinds IsOne (plain_meant s place (outside op)) _ (plain_kinds s place (outside op)) (λ outer.
     bind_kinds IsOne (each_from plain_size (plain_meant s) (inner_start place op) op.inner) _ (each_kinds plain_size (plain_meant s) (plain_kinds s) (inner_start place op) op.inner) (λ inner. ok_kinds IsOne _))
 
 plain_index_kinds : (s : Context) (place : ℕ) (op : PlainOp) → FaultsAre IsOne (plain_indexed s place op)
@@ -60,7 +61,7 @@ plain_index_kinds s place op = refuse_kinds IsOne (is_lost s op.code op.address)
 
 index_kinds : (s : Context) (place : ℕ) (op : Op) → FaultsAre IsOne (op_indexed s place op)
 index_kinds s place op =
-    bind_kinds IsOne (plain_indexed s place (outer_part op)) _ (plain_index_kinds s place (outer_part op)) (λ u.
+    bind_kinds IsOne (plain_indexed s place (outside op)) _ (plain_index_kinds s place (outside op)) (λ u.
     bind_kinds IsOne (each_from plain_size (plain_indexed s) (inner_start place op) op.inner) _ (each_kinds plain_size (plain_indexed s) (plain_index_kinds s) (inner_start place op) op.inner) (λ v. ok_kinds IsOne _))
 
 indices_kinds : (s : Context) (first : ℕ) (ops : List Op) → FaultsAre IsOne (indices_tried s first ops)

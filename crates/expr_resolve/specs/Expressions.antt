@@ -19,6 +19,7 @@ use Rattle.index_tables.specs.Tables.{address_place, stored}
 use Rattle.reloc_table.specs.Address.{address_of, reloc_at}
 use Rattle.expr_walk.specs.Length.{op_len, plain_len}
 use Rattle.expr_walk.specs.Reading.{walk_of}
+use Rattle.dwarf_types.specs.LinkedExpressions.{outside}
 use Rattle.dwarf_types.specs.Operations.{operands_of}
 use Rattle.moved_parts.specs.Places.{place_of}
 use Rattle.expr_resolve.specs.Context.{Context}
@@ -128,17 +129,14 @@ op_size op = length op.bytes
 abbrev pub inner_start : ℕ → Op → ℕ
 inner_start place op = place + length op.bytes - sum_by plain_size op.inner
 
--- an operation without those inside, and with others
-abbrev pub outer_part : Op → PlainOp
-outer_part op = record { code = op.code; bytes = op.bytes; address = op.address; base = op.base }
-
+-- an operation with others inside
 abbrev pub with_inner : PlainOp → List PlainOp → Op
 with_inner op inner = record { code = op.code; bytes = op.bytes; address = op.address; base = op.base; inner = inner }
 
 -- an operation that begins at a place: first its own operands, then those of the operations inside
 abbrev pub op_meant : Context → ℕ → Op → Result Op Fault
 op_meant s place op = do
-  outer ← plain_meant s place (outer_part op)
+  outer ← plain_meant s place (outside op)
   inner ← each_from plain_size (plain_meant s) (inner_start place op) op.inner
   Ok (with_inner outer inner)
 
@@ -151,7 +149,7 @@ plain_indexed s place op = refuse_if (is_lost s op.code op.address) (fault_in s 
 -- the same of an operation and of those inside
 abbrev pub op_indexed : Context → ℕ → Op → Result (Unit {0}) Fault
 op_indexed s place op = do
-  _ ← plain_indexed s place (outer_part op)
+  _ ← plain_indexed s place (outside op)
   _ ← each_from plain_size (plain_indexed s) (inner_start place op) op.inner
   Ok tt
 

@@ -3,10 +3,11 @@
 ghost use Rattle.std.specs.Prelude.{◌≡◌, ◌+◌, ◌^◌, ◌<◌, ◌≤◌, [], length, OnOk};
 ghost use Rattle.std.specs.List.{All, sum_by};
 ghost use Rattle.ds_base.specs.Reading.{Gives};
+ghost use Rattle.dwarf_types.specs.LinkedExpressions.{outside};
 ghost use Rattle.dwarf_types.specs.Seen.{inner_seen, op_seen};
 ghost use Rattle.expr_resolve.specs.Context.{context_in};
 ghost use Rattle.expr_resolve.specs.Steps.{IsCut, IsPlainCut, IsSoundContext, put_behind, with_meaning};
-ghost use Rattle.expr_resolve.specs.Expressions.{each_from, inner_start, op_meant, op_size, outer_part, plain_meant, plain_size};
+ghost use Rattle.expr_resolve.specs.Expressions.{each_from, inner_start, op_meant, op_size, plain_meant, plain_size};
 
 use crate::context::ExprContext;
 use crate::operand::{Meaning, meaning_of};
@@ -84,7 +85,7 @@ fn with_meaning<'a>(op: &InnerOpRef<'a>, meaning: &'a Meaning) -> InnerOpRef<'a>
 
 /// An operation without those inside.
 pub(crate) fn outer_part<'a>(op: &OpRef<'a>) -> InnerOpRef<'a>
-    ensures { inner_seen result ≡ outer_part (op_seen op.now) }
+    ensures { inner_seen result ≡ outside (op_seen op.now) }
 {
     InnerOpRef {
         code: op.code,

@@ -1,17 +1,17 @@
 -- The length of an expression in the output, where each base type operand is spelled in four bytes, and an address or a constant that stood in a table stands in the operation.
-use Rattle.std.specs.Prelude.{ℕ, ◌+◌, ◌-◌, List, [], ◌∷◌, length, drop, Option, Some, nat_lt, if◌then◌else◌}
+use Rattle.std.specs.Prelude.{ℕ, ◌+◌, ◌-◌, List, length, drop, Option, Some}
 use Rattle.std.specs.List.{sum_by}
 use Rattle.ds_base.specs.Leb.{uleb_len_of}
 use Rattle.dwarf_types.specs.declared.expr.Op.{Op}
 use Rattle.dwarf_types.specs.declared.expr.PlainOp.{PlainOp}
 use Rattle.dwarf_types.specs.declared.operands.Operands.{Operands}
 use Rattle.dwarf_types.specs.declared.operands.Operands.TheVariants.{Expression, BaseBlock, UlebBase, ByteBase, Base, Index}
+use Rattle.dwarf_types.specs.LinkedExpressions.{front_leb}
 use Rattle.dwarf_types.specs.Operations.{operands_of}
 
--- the length of the LEB number at the front of some bytes: up to the first byte below 128 and with it
+-- the length of the LEB number at the front of some bytes
 abbrev pub front_leb_len : List ℕ → ℕ
-front_leb_len [] = 0
-front_leb_len (b ∷ bytes) = if nat_lt b 128 then 1 else 1 + front_leb_len bytes
+front_leb_len bytes = length (front_leb bytes)
 
 -- the length of the bytes with four in place of the LEB number that stands at a place of them
 abbrev pub respelled_len : List ℕ → ℕ → ℕ

@@ -21,6 +21,7 @@ use Rattle.dwarf_types.specs.declared.operands.Operands.TheVariants as operands
 use Rattle.dwarf_types.specs.Operations.{has_no_operands, operands_of}
 use Rattle.dwarf_types.specs.Spelled.{AreBytes}
 use Rattle.dwarf_types.specs.SpelledOperands.{SpellsOperands}
+use Rattle.dwarf_types.specs.LinkedExpressions.{outside}
 use Rattle.byteorder.specs.Endian.{little_number}
 use Rattle.reloc_table.specs.Address.{address_of}
 use Rattle.addr_map.specs.Sound.{IsSound as IsSoundMap}
@@ -28,7 +29,7 @@ use Rattle.expr_walk.specs.Reading.{base_in, base_of}
 use Rattle.expr_walk.specs.Spelling.{Each, IsOp, IsPlain, an_entry_value, alone_it_is}
 use Rattle.expr_resolve.specs.declared.context.BaseType.{BaseType as ContextBase}
 use Rattle.expr_resolve.specs.Context.{Context}
-use Rattle.expr_resolve.specs.Expressions.{base_meant, base_named, each_from, entry_of, fault_in, held, holds_address, index_in, indices_tried, inner_start, is_conversion, is_lost, named_by, names_entry, op_indexed, op_meant, op_size, operand_meant, operand_place, outer_part, plain_indexed, plain_meant, plain_size, with_inner}
+use Rattle.expr_resolve.specs.Expressions.{base_meant, base_named, each_from, entry_of, fault_in, held, holds_address, index_in, indices_tried, inner_start, is_conversion, is_lost, named_by, names_entry, op_indexed, op_meant, op_size, operand_meant, operand_place, plain_indexed, plain_meant, plain_size, with_inner}
 use Rattle.expr_resolve.proofs.Entries.{addr_row, const8u_row, found_ends, index_row, named_of}
 use Rattle.linked_laws.specs.Spellable.{MayName}
 use Rattle.object_laws.proofs.ExpressionEntries.{held_is, index_names, index_no_base, index_spelled, place_fits}
@@ -134,7 +135,7 @@ IsFound s op = is_lost s op.code op.address ≡ false
 
 -- those that an operation names, and the operations inside
 abbrev pub AreFound : Context → Op → Type 0
-AreFound s op = IsFound s (outer_part op) × Each (IsFound s) op.inner
+AreFound s op = IsFound s (outside op) × Each (IsFound s) op.inner
 
 not_refused : (b : Bool) (f : Fault) (u : Unit {0}) → refuse_if b f ≡ Ok u → b ≡ false
 not_refused true f u e = absurd cc
@@ -145,9 +146,9 @@ plain_found s place op u e = not_refused (is_lost s op.code op.address) (fault_i
 
 op_found : (s : Context) (place : ℕ) (op : Op) (u : Unit {0}) → op_indexed s place op ≡ Ok u → AreFound s op
 op_found s place op u e =
-    let outer = bind_ok (plain_indexed s place (outer_part op)) _ u e in
+    let outer = bind_ok (plain_indexed s place (outside op)) _ u e in
     let inner = bind_ok (each_from plain_size (plain_indexed s) (inner_start place op) op.inner) _ u outer.2 in
-    (plain_found s place (outer_part op) outer.0 outer.1, each_tried (IsFound s) plain_size (plain_indexed s) (plain_found s) (inner_start place op) op.inner inner.0 inner.1)
+    (plain_found s place (outside op) outer.0 outer.1, each_tried (IsFound s) plain_size (plain_indexed s) (plain_found s) (inner_start place op) op.inner inner.0 inner.1)
 
 pub ops_found : (s : Context) (first : ℕ) (ops : List Op) (u : Unit {0}) → indices_tried s first ops ≡ Ok u → Each (AreFound s) ops
 ops_found s first ops u e =
@@ -210,15 +211,15 @@ module _ (s : Context) (sound : IsSoundMap s.map) (table : AreBytes s.sections.a
 
   op_meant_by : (place : ℕ) (op meant : Op) → IsOp s.version op → AreFound s op → op_meant s place op ≡ Ok meant → IsMeantOp meant
   op_meant_by place op meant (an_entry_value w) found e =
-      let outer = bind_ok (plain_meant s place (outer_part op)) _ meant e in
+      let outer = bind_ok (plain_meant s place (outside op)) _ meant e in
       let inner = bind_ok (each_from plain_size (plain_meant s) (inner_start place op) op.inner) _ meant outer.2 in
       subst IsMeantOp (ok_is (with_inner outer.0 inner.0) meant inner.2)
-      (meant_entry (plain_nested place (outer_part op) outer.0 outer.1 w.known)
+      (meant_entry (plain_nested place (outside op) outer.0 outer.1 w.known)
       (each_gives IsFine IsMeant plain_size (plain_meant s) plain_is (inner_start place op) op.inner inner.0 (both_each (IsPlain s.version) (IsFound s) op.inner w.each found.1) inner.1))
   op_meant_by place op meant (alone_it_is w) found e =
-      let outer = bind_ok (plain_meant s place (outer_part op)) _ meant e in
+      let outer = bind_ok (plain_meant s place (outside op)) _ meant e in
       let inner = bind_ok (each_from plain_size (plain_meant s) (inner_start place op) op.inner) _ meant outer.2 in
-      subst IsMeantOp (ok_is (with_inner outer.0 inner.0) meant inner.2) (meant_other (plain_is place (outer_part op) outer.0 (w.plain, found.0) outer.1))
+      subst IsMeantOp (ok_is (with_inner outer.0 inner.0) meant inner.2) (meant_other (plain_is place (outside op) outer.0 (w.plain, found.0) outer.1))
 
   pub ops_meant : (first : ℕ) (ops meant : List Op) → Each (IsOp s.version) ops → Each (AreFound s) ops → each_from op_size (op_meant s) first ops ≡ Ok meant → All IsMeantOp meant
   ops_meant first ops meant each found e =

@@ -12,11 +12,12 @@ use Rattle.dwarf_types.specs.declared.expr.Base.TheVariants as bases
 use Rattle.dwarf_types.specs.declared.expr.Op.{Op}
 use Rattle.dwarf_types.specs.declared.expr.PlainOp.{PlainOp}
 use Rattle.dwarf_types.specs.Live.{base_in, op_bases}
+use Rattle.dwarf_types.specs.LinkedExpressions.{outside}
 use Rattle.ds_base.proofs.Passing.{bind_ok, found_ok, ok_is}
 use Rattle.expr_walk.specs.Reading.{walk_of}
 use Rattle.expr_resolve.specs.declared.context.BaseType.{BaseType}
 use Rattle.expr_resolve.specs.Context.{Context}
-use Rattle.expr_resolve.specs.Expressions.{base_meant, base_named, branches_tried, each_from, expression_of, fault_in, indices_tried, inner_start, is_conversion, named_by, op_meant, op_size, operand_meant, outer_part, plain_meant, plain_size, with_inner}
+use Rattle.expr_resolve.specs.Expressions.{base_meant, base_named, branches_tried, each_from, expression_of, fault_in, indices_tried, inner_start, is_conversion, named_by, op_meant, op_size, operand_meant, plain_meant, plain_size, with_inner}
 use Rattle.object_view.proofs.Names.{all_filtered, each_from_all}
 
 -- a base type of a unit among some
@@ -90,10 +91,10 @@ mapped_known s (o ∷ inner) h = All-cons (IsKnownBase s.bases s.unit) o.base (m
 
 op_known : (s : Context) (place : ℕ) (op meant : Op) → op_meant s place op ≡ Ok meant → IsKnownOp s.bases s.unit meant
 op_known s place op meant e =
-    let outer = bind_ok (plain_meant s place (outer_part op)) (λ outer. each_from plain_size (plain_meant s) (inner_start place op) op.inner >>= λ inner. Ok (with_inner outer inner)) meant e in
+    let outer = bind_ok (plain_meant s place (outside op)) (λ outer. each_from plain_size (plain_meant s) (inner_start place op) op.inner >>= λ inner. Ok (with_inner outer inner)) meant e in
     let inner = bind_ok (each_from plain_size (plain_meant s) (inner_start place op) op.inner) (λ inner. Ok (with_inner outer.0 inner)) meant outer.2 in
     let inside = each_from_all plain_size (plain_meant s) (λ (o : PlainOp). IsKnownBase s.bases s.unit o.base) (λ p x y is. plain_known s p x y is) (inner_start place op) op.inner inner.0 inner.1 in
-    let all = All-cons (IsKnownBase s.bases s.unit) outer.0.base (map (λ (o : PlainOp). o.base) inner.0) (plain_known s place (outer_part op) outer.0 outer.1) (mapped_known s inner.0 inside) in
+    let all = All-cons (IsKnownBase s.bases s.unit) outer.0.base (map (λ (o : PlainOp). o.base) inner.0) (plain_known s place (outside op) outer.0 outer.1) (mapped_known s inner.0 inside) in
     subst (IsKnownOp s.bases s.unit) (ok_is (with_inner outer.0 inner.0) meant inner.2) (all_filtered (IsTypeOf s.bases s.unit) base_in (outer.0.base ∷ map (λ (o : PlainOp). o.base) inner.0) all)
 
 -- each operation that an expression means
