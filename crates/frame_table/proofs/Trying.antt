@@ -34,14 +34,24 @@ before es l = with_entries l.stop (es ++ l.entries)
 abbrev pub Behind : List ℕ → ℕ → List FrameEntry → ℕ → Type 0
 Behind bytes left es place = entries_of bytes ≡ before es (entries_from (suc left) bytes place)
 
-pub read_more : (bytes : List ℕ) (i : ℕ) (es : List FrameEntry) (place : ℕ) (e : FrameEntry) → i < length bytes → (place ≡ length bytes → ⊥) → entry_at bytes place ≡ Ok e
-    → Behind bytes (length bytes - i) es place → Behind bytes (length bytes - (i + 1)) (es ++ e ∷ []) e.end
-read_more bytes i es place e lt inside is so_far =
-    let left : length bytes - i ≡ suc (length bytes - (i + 1)) = omega arith in
-    let more : Listing = entries_from (suc (length bytes - (i + 1))) bytes e.end in
-    so_far ∙ ap (λ (k : ℕ). before es (entries_from (suc k) bytes place)) left
-    ∙ rw (ne_eqb place (length bytes) inside, is) refl
-    ∙ ap (with_entries more.stop) (sym (append_assoc es (e ∷ []) more.entries))
+-- the count is no less than the bytes that are left
+pub record Goes (bytes : List ℕ) (es : List FrameEntry) (place : ℕ) : Type 0 where
+  pub left : ℕ
+  pub enough : length bytes - place ≤ left
+  pub is : Behind bytes left es place
+
+pub read_more : (bytes : List ℕ) (es : List FrameEntry) (place : ℕ) (e : FrameEntry) → place < length bytes → place < e.end → entry_at bytes place ≡ Ok e
+    → Goes bytes es place → Goes bytes (es ++ e ∷ []) e.end
+read_more bytes es place e lt further is g =
+    let turn : g.left ≡ suc (g.left - 1) = omega (arith, g.enough, lt) in
+    let more : Listing = entries_from (suc (g.left - 1)) bytes e.end in
+    record {
+      left = g.left - 1;
+      enough = omega (arith, g.enough, lt, further);
+      is = g.is ∙ ap (λ (k : ℕ). before es (entries_from (suc k) bytes place)) turn
+          ∙ rw (ne_eqb place (length bytes) (λ end. omega (arith, lt, end)), is) refl
+          ∙ ap (with_entries more.stop) (sym (append_assoc es (e ∷ []) more.entries));
+    }
 
 -- the next entry's length or id is faulty
 pub read_fault : (bytes : List ℕ) (left : ℕ) (es : List FrameEntry) (place : ℕ) (f : Fault) → (place ≡ length bytes → ⊥) → entry_at bytes place ≡ Err f

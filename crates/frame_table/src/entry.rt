@@ -47,10 +47,8 @@ pub(crate) fn read_entries(alloc: Global, bytes: &[u8]) -> Result<Entries, NoMem
 {
     let mut list = Vec::new(alloc);
     let mut place = 0;
-    for _ in 0..bytes.len() {
-        if place == bytes.len() as u64 {
-            return Ok(Entries { list, stop: None });
-        }
+    let end = bytes.len() as u64;
+    while place < end {
         match read_entry(bytes, place) {
             Ok(entry) => {
                 list.push(entry)?;

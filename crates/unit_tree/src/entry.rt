@@ -161,18 +161,11 @@ fn read_children<'a>(
     ensures read { ReadsUnlessFull (λ _. parsed_seen parsed.new) result cursor.new (children_at (bytes_in sections.now) context table.now (cursor.old.end - cursor.old.place) (parsed_seen parsed.old, lists.old) cursor.old) }
     ensures ready { OnOk result (IsReady parsed.new) }
 {
-    let left = cursor.left();
-    for _ in 0..left {
-        if are_closed(lists) {
-            return Ok(());
-        }
+    while !are_closed(lists) {
         if cursor.left() == 0 {
             return Err(ReadError::Faulty(cursor.fault(Kind::UnclosedSiblings)));
         }
         read_child(cursor, sections, context, table, parsed, lists)?;
-    }
-    if !are_closed(lists) {
-        return Err(ReadError::Faulty(cursor.fault(Kind::UnclosedSiblings)));
     }
     Ok(())
 }
