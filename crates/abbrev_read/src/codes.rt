@@ -1,7 +1,7 @@
 //! The codes of the declarations so far, so that one which stands twice is found at once.
 
 ghost use Rattle.std.specs.Prelude.{◌≡◌, ◌<◌, ◌||◌, ℕ, false, not, nat_eq, IfOk, OnOk};
-ghost use Rattle.abbrev_read.specs.Codes.{has_code};
+ghost use Rattle.abbrev_read.specs.Run.{has_code};
 
 use ds_base::NoMemory;
 use std::alloc::Global;

@@ -1,6 +1,7 @@
 use Rattle.std.proofs.Common.{◌≡◌, ◌-◌, ℕ}
-use Rattle.abbrev_read.specs.Codes.{has_code, is_declared}
+use Rattle.abbrev_read.specs.Codes.{is_declared}
 use Rattle.abbrev_read.specs.Reading.{declarations_at, table_at}
+use Rattle.abbrev_read.specs.Run.{has_code}
 use Rattle.abbrev_read.proofs.table.read_table.Given as goal
 
 abbrev pub invariant-loop : goal.invariant-loop
