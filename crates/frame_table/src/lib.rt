@@ -6,7 +6,7 @@
 //! first fault. Three laws say what the definition does: no byte of a section that is read is left out
 //! ([`entries_fill_the_section`]), and no FDE ([`each_fde_has_its_frame`]), and the faults are of the kinds that
 //! [`kinds_of_frame_faults`] names. What stands in a CIE is kept as bytes, and so are call frame instructions.
-//! Addresses stay the object's: `addr_map` moves them.
+//! Addresses stay the object's: `moved_parts` moves them by the map of `addr_map`.
 #![tactic(auto)]
 
 mod description;

@@ -4,8 +4,8 @@
 //! crate's one call. It gives `locations_of` the sections (`specs/Reading.antt`), or the first fault in the order of the
 //! list's items. The items are those of `list_items`, each span with an expression behind it; no byte of a list that is
 //! read is left out ([`items_fill_a_location_list`]), and faults are of the kinds that [`kinds_of_location_faults`]
-//! names. Spans keep the object's addresses: `addr_map` moves them. Expressions are kept as bytes: `expr_walk` reads
-//! their operations.
+//! names. Spans keep the object's addresses: `moved_parts` moves them by the map of `addr_map`. Expressions are kept as
+//! bytes: `expr_walk` reads their operations.
 #![tactic(auto)]
 
 mod laws;
