@@ -1,6 +1,6 @@
 //! The cursor: items from the front of some bytes, or the first fault.
 
-ghost use Rattle.std.specs.Prelude.{◌≡◌, ◌≤◌, ◌-◌, ◌<◌, length, IfSome, IfOk};
+ghost use Rattle.std.specs.Prelude.{◌≡◌, ◌≤◌, ◌-◌, ◌<◌, length, Ok, IfSome, IfOk};
 ghost use Rattle.ds_base.specs.Spot.{Spot, fault_at};
 ghost use Rattle.ds_base.specs.Reading.{Moves, bytes_at, number_at, placed_text_at, text_at, uleb_at, sleb_at, index_below};
 
@@ -231,7 +231,8 @@ impl<'a> Cursor<'a> {
     /// ends there, the place is at fault.
     #[tactic(auto, unfolding(crate::specs::Reading::placed_text_at))]
     pub fn placed_text<'s>(&mut self, section: &'s [u8]) -> Result<(u32, &'s [u8]), Fault>
-        ensures { Moves (λ text. text.1.now) result self.old self.new (placed_text_at section.now self.old) }
+        ensures text { Moves (λ text. text.1.now) result self.old self.new (placed_text_at section.now self.old) }
+        ensures place { IfOk result (λ text. number_at 4 self.old ≡ Ok (text.0, self.new)) }
     {
         let mut next = self.fork();
         let place = next.u32()?;
