@@ -15,7 +15,7 @@ use Rattle.macho_read.specs.Records.{segment_of, section_of, symtab_of, uuid_of}
 
 -- the greatest place behind the last address of a segment
 abbrev pub last_end : ℕ
-last_end = 18446744065119617024
+last_end = 0xfffffffe00000000
 
 -- the command at a place of the file
 abbrev pub bad_command : ℕ → Fault
