@@ -1,10 +1,10 @@
 -- The first symbol of a name, found in a table of the names.
-use Rattle.std.proofs.Common.{◌≡◌, ℕ, suc, ◌+◌, ◌-◌, ◌≤◌, ◌&&◌, not, Bool, true, false, cond, List, [], ◌∷◌, length, drop, get_or, slice_get, Option, Some, None, refl, sym, ap, ◌∙◌, arith}
+use Rattle.std.proofs.Common.{◌≡◌, ℕ, suc, ◌+◌, ◌-◌, ◌<◌, ◌≤◌, ◌&&◌, not, Bool, true, false, cond, List, [], ◌∷◌, length, drop, get_or, slice_get, Option, Some, None, refl, sym, ap, ◌∙◌, arith}
 use Rattle.std.specs.Option.{option_map}
 use Rattle.std.specs.List.{enumerate_from, find}
 use Rattle.std.specs.Str.{bytes_eq}
 use Rattle.std.proofs.lemmas.List.{drop_more}
-use Rattle.std.proofs.lemmas.Option.{some_pair_parts}
+use Rattle.std.proofs.lemmas.Option.{slice_get_within, some_pair_parts}
 use Rattle.macho_read.specs.declared.image.Symbol.{Symbol}
 use Rattle.macho_read.specs.Standings.{is_stab}
 use Rattle.addr_map.specs.Entries.{has_name}
@@ -60,12 +60,10 @@ found_whole p symbols (Some (j, t)) i s is index symbol =
     cc
 
 -- and so there is one
-pub found_there : (p : ℕ × Symbol → Bool) (symbols : List Symbol) (found : Option (ℕ × Symbol)) (i : ℕ) → found ≡ find p (enumerate_from 0 symbols) → Some i ≡ option_map (λ s. s.0) found
-    → None ≡ slice_get symbols i → ⊥
-found_there p symbols None i is index symbol = cc
-found_there p symbols (Some (j, t)) i is index symbol =
+pub found_within : (p : ℕ × Symbol → Bool) (symbols : List Symbol) (found : Option (ℕ × Symbol)) (i : ℕ) → found ≡ find p (enumerate_from 0 symbols) → Some i ≡ option_map (λ s. s.0) found → i < length symbols
+found_within p symbols None i is index = absurd cc
+found_within p symbols (Some (j, t)) i is index =
     let rest = symbol_from p 0 symbols j t (sym is) in
     let same : i ≡ j = cc in
     let place : rest.0 ≡ i = omega (arith, rest.1) in
-    let one : None ≡ Some t = symbol ∙ ap (slice_get symbols) (sym place) ∙ rest.2 in
-    cc
+    slice_get_within symbols i t (ap (slice_get symbols) (sym place) ∙ rest.2)

@@ -49,9 +49,9 @@ next_among section start places = reduce min (filter_map (above section start) p
 abbrev pub in_64_bits : ℕ → Option ℕ
 in_64_bits n = if nat_lt n (2 ^ 64) then Some n else None
 
--- the section of an ordinal, which counts from 1, if it is there
+-- the section of an ordinal, which counts from 1
 abbrev pub section_of : Image → ℕ → Option Section
-section_of image ordinal = if ordinal == 0 then None else slice_get image.sections (ordinal - 1)
+section_of image ordinal = slice_get image.sections (ordinal - 1)
 
 -- the address behind it
 abbrev pub section_end : Image → ℕ → Option ℕ

@@ -1,6 +1,6 @@
 //! What an entry of the debug map gives.
 
-ghost use Rattle.std.specs.Prelude.{◌≡◌, ℕ, List as Listed};
+ghost use Rattle.std.specs.Prelude.{◌≡◌, ◌≤◌, ℕ, List as Listed, length};
 ghost use Rattle.std.specs.List.Sorted.{IsPermutation, IsSorted};
 ghost use Rattle.std.specs.Option.{option_and_then, option_map};
 ghost use Rattle.macho_read.specs.Seen.{symbol_seen};
@@ -57,8 +57,7 @@ fn find_named<'a>(
     ensures { option_map (λ s. (s.0, symbol_seen s.1)) result ≡ named image.now name.now }
 {
     let index = *symbols.get(&TextKey { text: name })?;
-    let symbol = image.symbols.get(index as usize)?;
-    Some((index, symbol))
+    Some((index, image.symbols.symbol(index as usize)))
 }
 
 /// The range of an entry from the symbol `start` of a section, unless it or its linked range would pass 2^64 - 1.
@@ -69,6 +68,8 @@ fn find_range(
     section: u8,
     start: u64,
 ) -> Option<MapRange>
+    requires from_one { 1 ≤ section }
+    requires there { section ≤ length image.now.sections }
     requires same { IsPermutation (places_of image.now) places.now }
     requires order { IsSorted place_cmp places.now }
     ensures { result ≡ option_and_then (λ end. range_from entry.now.linked start end) (end_of image.now entry.now.size section start) }
@@ -90,6 +91,8 @@ fn find_end(
     section: u8,
     start: u64,
 ) -> Option<u64>
+    requires from_one { 1 ≤ section }
+    requires there { section ≤ length image.now.sections }
     requires same { IsPermutation (places_of image.now) places.now }
     requires order { IsSorted place_cmp places.now }
     ensures { result ≡ end_of image.now size section start }
@@ -103,13 +106,12 @@ fn find_end(
     }
 }
 
-/// The address behind a section, unless it passes 2^64 - 1, or the section isn't there. The ordinal counts from 1.
+/// The address behind the section of an ordinal, which counts from 1, unless it passes 2^64 - 1.
 fn find_section_end(image: &Image, ordinal: u8) -> Option<u64>
+    requires from_one { 1 ≤ ordinal }
+    requires there { ordinal ≤ length image.now.sections }
     ensures { result ≡ section_end image.now ordinal }
 {
-    if ordinal == 0 {
-        return None;
-    }
-    let section = image.sections.get(usize::from(ordinal) - 1)?;
+    let section = &image.sections.as_slice()[usize::from(ordinal) - 1];
     section.addr.checked_add(section.size)
 }
