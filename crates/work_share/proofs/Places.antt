@@ -16,12 +16,12 @@ use Rattle.work_share.specs.Worked.{items_of, InPlaces, InOrder}
 use Rattle.work_share.proofs.Totals.{times-append, times_other}
 
 module _ {A : Type 0} where
-  pub get_set_same : (xs : List A) (i : ℕ) (a : A) → i < length xs → slice_get (set xs i a) i ≡ Some a
+  get_set_same : (xs : List A) (i : ℕ) (a : A) → i < length xs → slice_get (set xs i a) i ≡ Some a
   get_set_same [] i a lt = absurd (omega arith)
   get_set_same (x ∷ xs) zero a lt = refl
   get_set_same (x ∷ xs) (suc i) a lt = get_set_same xs i a (omega arith)
 
-  pub get_set_other : (xs : List A) (i j : ℕ) (a : A) → j ≢ i → slice_get (set xs i a) j ≡ slice_get xs j
+  get_set_other : (xs : List A) (i j : ℕ) (a : A) → j ≢ i → slice_get (set xs i a) j ≡ slice_get xs j
   get_set_other [] i j a ne = refl
   get_set_other (x ∷ xs) zero zero a ne = absurd (ne refl)
   get_set_other (x ∷ xs) zero (suc j) a ne = refl
@@ -36,7 +36,7 @@ module _ {A : Type 0} where
   none_left taken [] e = append-nil taken
   none_left taken (x ∷ xs) e = absurd (omega arith)
 
-  pub none_there : (n k : ℕ) (a : A) → slice_get (replicate n None) k ≡ Some (Some a) → ⊥
+  none_there : (n k : ℕ) (a : A) → slice_get (replicate n None) k ≡ Some (Some a) → ⊥
   none_there zero k a e = absurd (cc)
   none_there (suc n) zero a e = absurd (cc)
   none_there (suc n) (suc k) a e = none_there n k a e

@@ -23,8 +23,8 @@ pub fn in_order<O: Drop>(alloc: Global, count: u32, done: Vec<Done<O>>) -> Resul
     Ok(List::from_vec(outs))
 }
 
-// Each result in the place of its item.
-fn in_places<O: Drop>(
+/// The results, each in the place of its item, among so many places.
+pub(crate) fn in_places<O: Drop>(
     alloc: Global,
     count: u32,
     done: Vec<Done<O>>,
@@ -39,7 +39,8 @@ fn in_places<O: Drop>(
     Ok(slots)
 }
 
-pub(crate) fn places<O: Drop>(alloc: Global, count: u32) -> Result<Vec<Option<O>>, NoMemory>
+/// So many empty places.
+fn places<O: Drop>(alloc: Global, count: u32) -> Result<Vec<Option<O>>, NoMemory>
     ensures { IfOk result (λ slots. slots.items ≡ replicate count None) }
 {
     let mut slots = Vec::with_capacity(alloc, count as usize)?;

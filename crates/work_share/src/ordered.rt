@@ -6,7 +6,7 @@ ghost use Rattle.work_share.specs.Results.{GivesAll};
 
 use crate::done::Done;
 use crate::job::Job;
-use crate::order::places;
+use crate::order::in_places;
 use crate::workers::each;
 use ds_base::{List, NoMemory};
 use ds_files::Gate;
@@ -87,11 +87,7 @@ fn by_items<J: Job>(
     requires given { All (IsGiven (J.gives job.now) count) done }
     ensures { IfOk result (λ outs. GivesAll (J.gives job.now) count outs) }
 {
-    let mut slots = places(alloc, count)?;
-    let mut left = done;
-    while let Some(one) = left.pop() {
-        slots[one.item as usize] = Some(one.out);
-    }
+    let slots = in_places(alloc, count, done.into_vec())?;
     let mut outs = Vec::with_capacity(alloc, slots.len())?;
     for slot in slots {
         let out = result_of(job, slot, outs.len() as u32);
