@@ -1,4 +1,3 @@
-pub mod FaultNumbers
 pub mod Items
 pub mod Lending
 pub mod LendingBytes

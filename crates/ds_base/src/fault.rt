@@ -162,68 +162,6 @@ pub enum Kind {
     BadOutput,
 }
 
-impl Kind {
-    ghost use Rattle.std.specs.Prelude.{◌≡◌};
-    ghost use Rattle.ds_base.specs.FaultNumbers.{number_of};
-
-    /// The kind's number in docs/PROFILE.md, "Faults", from 1.
-    pub fn number(self) -> u8
-        ensures { result ≡ number_of self }
-    {
-        match self {
-            Kind::Truncated => 1,
-            Kind::LebTooWide => 2,
-            Kind::NotMachO => 3,
-            Kind::WrongCpu => 4,
-            Kind::BadFileType => 5,
-            Kind::BadCommand => 6,
-            Kind::AlreadyLinked => 7,
-            Kind::BadSection => 8,
-            Kind::CompressedSection => 9,
-            Kind::BadSymbols => 10,
-            Kind::NotArchive => 11,
-            Kind::BadMember => 12,
-            Kind::NoMember => 13,
-            Kind::BadStab => 14,
-            Kind::BadPath => 15,
-            Kind::RelocKind => 16,
-            Kind::RelocPlace => 17,
-            Kind::RelocSymbol => 18,
-            Kind::RelocOverlap => 19,
-            Kind::BadAbbrev => 20,
-            Kind::DuplicateCode => 21,
-            Kind::LimitAttributes => 22,
-            Kind::UnsupportedVersion => 23,
-            Kind::BadUnit => 24,
-            Kind::SplitUnit => 25,
-            Kind::UnknownCode => 26,
-            Kind::UnclosedSiblings => 27,
-            Kind::LimitDepth => 28,
-            Kind::LimitEntries => 29,
-            Kind::UnknownForm => 30,
-            Kind::FormOutsideProfile => 31,
-            Kind::BadOffset => 32,
-            Kind::BadReference => 33,
-            Kind::UnknownOp => 34,
-            Kind::OpOutsideProfile => 35,
-            Kind::BranchOverRewrite => 36,
-            Kind::BadOperandType => 37,
-            Kind::LongExpression => 38,
-            Kind::LineVersion => 39,
-            Kind::BadLineHeader => 40,
-            Kind::VliwLine => 41,
-            Kind::BadLineOp => 42,
-            Kind::LineBackwards => 43,
-            Kind::BadList => 44,
-            Kind::BadFrame => 45,
-            Kind::BadIndex => 46,
-            Kind::BadEntryFormat => 47,
-            Kind::UnknownListEntry => 48,
-            Kind::BadOutput => 49,
-        }
-    }
-}
-
 /// The one fault of a file's content.
 ///
 /// `place` is an offset in the part's bytes, or an index, as the part says; both count from 0.

@@ -97,10 +97,3 @@ fn items_are_emitted_one_behind_the_other(rt: HostRuntime) {
     let want = b"\x2a\x34\x12\x78\x56\x34\x12\x01\x02\x03\x04\x05\x06\x07\x08k\xee";
     same(&rt, "the room", room.as_slice(), want.as_slice());
 }
-
-#[test]
-fn kinds_have_their_numbers(rt: HostRuntime) {
-    same(&rt, "the first", Kind::Truncated.number(), 1);
-    same(&rt, "one between", Kind::RelocOverlap.number(), 19);
-    same(&rt, "the last", Kind::BadOutput.number(), 49);
-}
