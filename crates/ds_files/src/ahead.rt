@@ -47,8 +47,8 @@ impl Ahead {
 /// Files that are to be asked for next, in the order of their names: the first of them, which have at most `most` bytes
 /// together, fetched by at most `workers` threads. Once they are kept ([`Files::keep`]) they are read quickly.
 ///
-/// This is a hint, and nothing else comes of it. Whatever can't be fetched is read when it is asked for. With fewer than
-/// two workers or two names nothing is fetched. Work for which no thread can be started is done in the caller's.
+/// This is a hint, and nothing else comes of it. Whatever can't be fetched is read when it is asked for. Without a worker,
+/// or with fewer than two names, nothing is fetched. Work for which no thread can be started is done in the caller's.
 pub fn fetch_ahead<R: Threads + Sync, F: Files + Sync>(
     rt: &R,
     alloc: Global,
@@ -57,7 +57,7 @@ pub fn fetch_ahead<R: Threads + Sync, F: Files + Sync>(
     most: u64,
     files: &F,
 ) -> Ahead {
-    if workers < 2 || names.len() < 2 {
+    if workers == 0 || names.len() < 2 {
         return Ahead::new();
     }
     match fetched(rt, alloc, workers, names, most, files) {

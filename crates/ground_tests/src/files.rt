@@ -115,15 +115,20 @@ fn removes<R: Abort + rt::Files>(rt: &R, name: &str) {
     assert!(rt; remove_file(rt, name).is_ok());
 }
 
-/// Files are replaced, the first over a longer one, and read ahead: the eight bytes of the first two are as many as may be
-/// kept.
-fn reads_ahead<R: Abort + Threads + Sync, F: Files + Sync>(rt: &R, alloc: Global, files: &mut F) {
+/// Files are replaced, the first over a longer one, and read ahead by so many workers: the eight bytes of the first two are
+/// as many as may be kept.
+fn reads_ahead<R: Abort + Threads + Sync, F: Files + Sync>(
+    rt: &R,
+    alloc: Global,
+    workers: u32,
+    files: &mut F,
+) {
     puts(rt, alloc, files, "first", b"longer one", Ok(()));
     puts(rt, alloc, files, "first", b"abcdef", Ok(()));
     puts(rt, alloc, files, "second", b"gh", Ok(()));
     puts(rt, alloc, files, "third", b"i", Ok(()));
     let names = ["first", "none", "second", "third"];
-    let ahead = fetch_ahead(rt, alloc, 2, &names, 8, files);
+    let ahead = fetch_ahead(rt, alloc, workers, &names, 8, files);
     files.keep(ahead);
 }
 
@@ -140,10 +145,12 @@ fn gives_once<F: Files>(rt: &impl Abort, alloc: Global, files: &mut F) {
 #[test]
 fn files_that_were_read_ahead_are_answered_as_others(rt: HostRuntime) {
     let alloc = rt.alloc();
-    let mut files = HostFiles::new(&rt);
-    reads_ahead(&rt, alloc, &mut files);
-    removes(&rt, "first");
-    removes(&rt, "second");
-    removes(&rt, "third");
-    gives_once(&rt, alloc, &mut files);
+    for workers in [1, 2] {
+        let mut files = HostFiles::new(&rt);
+        reads_ahead(&rt, alloc, workers, &mut files);
+        removes(&rt, "first");
+        removes(&rt, "second");
+        removes(&rt, "third");
+        gives_once(&rt, alloc, &mut files);
+    }
 }
