@@ -26,7 +26,7 @@ least_word words cell = slice_index words (least_at cell)
 
 -- the least word of a cell at which nobody bid
 abbrev pub no_bid : ℕ
-no_bid = 18446744073709551615
+no_bid = 0xffffffffffffffff
 
 -- the words of a table at which nobody stepped
 pub record AreEmpty (cells : ℕ) (words : List ℕ) : Type 0 where
