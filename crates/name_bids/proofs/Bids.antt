@@ -10,7 +10,8 @@ use Rattle.type_pool.specs.Standing.{probes}
 use Rattle.type_pool.specs.Views.{bidden, given_half, kept_half, united}
 use Rattle.type_pool.proofs.PairLists.{has_either, has_left, has_right}
 use Rattle.type_pool.proofs.Places.{others_on, stands_on}
-use Rattle.name_bids.specs.Bids.{HasBid, IsNotedAt, IsNotedCrowded, first_cell}
+use Rattle.name_bids.specs.Bids.{HasBid, IsNotedAt, IsNotedCrowded}
+use Rattle.name_bids.specs.Tables.{first_cell}
 
 module _ (names : List Named) (cells : ℕ) where
   -- what notes show, more notes show

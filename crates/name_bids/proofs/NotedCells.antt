@@ -21,9 +21,10 @@ use Rattle.type_pool.specs.Standing.{IsIn, probes}
 use Rattle.type_pool.specs.Views.{bidden}
 use Rattle.type_pool.proofs.Places.{not_behind_others, others_on, stands_on}
 use Rattle.name_bids.specs.declared.bidding.ObjectCells.{ObjectCells}
-use Rattle.name_bids.specs.Bids.{IsNotedAt, first_cell}
+use Rattle.name_bids.specs.Bids.{IsNotedAt}
 use Rattle.name_bids.specs.Noting.{AreCellsFrom, AreCellsOf, AreJoined, AreNoted, IsNotedIn, IsOneOf, IsPlacedAt, IsWithin, cell_in, cells_in}
 use Rattle.name_bids.specs.Reading.{AreCells, IsCellOf}
+use Rattle.name_bids.specs.Tables.{first_cell}
 use Rattle.name_bids.proofs.Bids.{crowded_on, noted_on}
 
 -- the cell at which a name was placed, as the notes show behind its bid

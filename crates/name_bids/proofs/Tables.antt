@@ -10,13 +10,12 @@ use Rattle.type_names.specs.Names.{Named}
 use Rattle.type_names.specs.Start.{start_of}
 use Rattle.type_pool.specs.declared.view.View.{View}
 use Rattle.type_pool.specs.Ends.{Closes}
-use Rattle.type_pool.specs.Keeping.{no_bid}
 use Rattle.type_pool.specs.Pairs.{Has, times}
-use Rattle.type_pool.specs.Standing.{EqualNamesShareACell, IsIn, probes}
+use Rattle.type_pool.specs.Standing.{EqualNamesShareACell, IsIn, no_bid, probes}
 use Rattle.type_pool.proofs.Places.{equal_names_share, others_on, stands_on}
 use Rattle.type_pool.proofs.Words.{is_word}
-use Rattle.name_bids.specs.Bids.{HasBid, IsNotedAt, IsNotedCrowded, first_cell}
-use Rattle.name_bids.specs.Tables.{IsAt, IsLeftOver, IsTable, cell_count}
+use Rattle.name_bids.specs.Bids.{HasBid, IsNotedAt, IsNotedCrowded}
+use Rattle.name_bids.specs.Tables.{IsAt, IsLeftOver, IsTable, cell_count, first_cell}
 
 -- what stands in a list of pairs so often stands in it
 has_one : (a b : ℕ) (xs : List (ℕ × ℕ)) → 1 ≤ times a b xs → Has xs a b

@@ -12,7 +12,7 @@ use Rattle.type_pool.specs.declared.table.Pool.{Pool}
 use Rattle.type_pool.specs.declared.view.View.{View}
 use Rattle.pool_core.specs.declared.state.PoolState.{PoolState}
 use Rattle.type_pool.specs.Ends.{Closes}
-use Rattle.type_pool.specs.Keeping.{no_bid}
+use Rattle.type_pool.specs.Standing.{no_bid}
 use Rattle.type_pool.specs.Views as pool_views
 use Rattle.work_share.specs.declared.counter.Tasks.{Tasks}
 use Rattle.work_share.specs.declared.counter.TaskSeat.{TaskSeat}

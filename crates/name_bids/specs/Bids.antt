@@ -1,17 +1,13 @@
 -- What is bid for the names of a book at the cells of a shared table.
 use Rattle.std.specs.Prelude.{◌≡◌, ℕ, ◌+◌, ◌<◌, ◌≤◌, ◌⊎◌, List, length}
-use Rattle.odr_names.specs.Book.{SamePath, bid_at, path_at}
+use Rattle.odr_names.specs.Book.{SamePath, bid_at}
 use Rattle.odr_names.specs.Stretches.{object_at}
 use Rattle.type_names.specs.Names.{Named}
-use Rattle.type_names.specs.Start.{start_of}
 use Rattle.type_pool.specs.declared.view.View.{View}
 use Rattle.type_pool.specs.Pairs.{Has}
 use Rattle.type_pool.specs.Standing.{IsCrowded, StandsAt}
 use Rattle.work_share.specs.Numbers.{times}
-
--- the cell at which the search for a name begins
-abbrev pub first_cell : List Named → ℕ → ℕ → ℕ
-first_cell names x cells = start_of (path_at names x) cells
+use Rattle.name_bids.specs.Tables.{first_cell}
 
 -- the name stands at the cell, as the notes show
 abbrev pub IsNotedAt : List Named → ℕ → List (ℕ × ℕ) → ℕ → ℕ → Type 0

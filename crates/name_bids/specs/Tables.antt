@@ -1,16 +1,19 @@
 -- The closed table of a book: where each name stands, and the least bid of each path.
 use Rattle.std.specs.Prelude.{◌≡◌, ℕ, ◌*◌, ◌^◌, ◌<◌, ◌⊎◌, List, length, max, min, slice_index}
-use Rattle.odr_names.specs.Book.{SamePath, bid_at}
+use Rattle.odr_names.specs.Book.{SamePath, bid_at, path_at}
 use Rattle.odr_names.specs.Winners.{IsWinner}
 use Rattle.pool_core.specs.declared.state.PoolState.{PoolState}
 use Rattle.type_names.specs.Names.{Named}
-use Rattle.type_pool.specs.Keeping.{no_bid}
-use Rattle.type_pool.specs.Standing.{IsCrowdedIn, IsIn, StandsIn}
-use Rattle.name_bids.specs.Bids.{first_cell}
+use Rattle.type_names.specs.Start.{start_of}
+use Rattle.type_pool.specs.Standing.{IsCrowdedIn, IsIn, StandsIn, no_bid}
 
 -- how many cells a table has for so many names: twice as many, at least 64 and at most 2^24
 abbrev pub cell_count : ℕ → ℕ
 cell_count names = min (max (2 * names) 64) (2 ^ 24)
+
+-- the cell at which the search for a name begins
+abbrev pub first_cell : List Named → ℕ → ℕ → ℕ
+first_cell names x cells = start_of (path_at names x) cells
 
 -- the name stands at the cell of a closed table
 abbrev pub IsAt : List Named → List ℕ → ℕ → ℕ → Type 0

@@ -14,7 +14,8 @@ use Rattle.type_pool.specs.declared.view.View.{View}
 use Rattle.type_pool.specs.declared.rule.Size.{Size}
 use Rattle.type_pool.specs.Pairs.{Has, times}
 use Rattle.type_pool.specs.Views.{first_view}
-use Rattle.type_pool.specs.Keeping.{AreEmpty, Fits, IsBid, is_word_of, Keeps, Kept, least_at, least_word, name_at, name_word, no_bid, total}
+use Rattle.type_pool.specs.Keeping.{AreEmpty, Fits, IsBid, is_word_of, Keeps, Kept, least_at, least_word, name_at, name_word, total}
+use Rattle.type_pool.specs.Standing.{no_bid}
 use Rattle.type_pool.specs.Ends.{Closes}
 use Rattle.type_pool.proofs.Totals.{two_of}
 use Rattle.type_pool.proofs.Words.{length-cells_run, length-least_run, no_word}

@@ -7,7 +7,8 @@ use Rattle.pool_core.specs.Machine.{IsLeast}
 use Rattle.type_pool.specs.declared.view.View.{View}
 use Rattle.type_pool.specs.declared.rule.Size.{Size}
 use Rattle.type_pool.specs.Pairs.{Has, HasOneEach, times}
-use Rattle.type_pool.specs.Keeping.{Fits, IsBid, IsPlayed, is_word_of, Keeps, least_word, name_word, no_bid, total}
+use Rattle.type_pool.specs.Keeping.{Fits, IsBid, IsPlayed, is_word_of, Keeps, least_word, name_word, total}
+use Rattle.type_pool.specs.Standing.{no_bid}
 use Rattle.type_pool.proofs.Words.{played_as}
 use Rattle.type_pool.proofs.Totals.{total-set}
 use native.Mathlib.Decide.{ℕ_discrete}

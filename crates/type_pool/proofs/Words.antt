@@ -9,7 +9,8 @@ use Rattle.pool_core.specs.Machine.{cells_after, cells_run, least_after, least_r
 use Rattle.pool_core.proofs.Runs.{length-cells_after, length-least_after}
 use Rattle.type_pool.specs.declared.view.View.{View}
 use Rattle.type_pool.specs.Pairs.{times}
-use Rattle.type_pool.specs.Keeping.{bids_of, IsPlayed, is_word_of, least_at, least_word, name_at, name_word, no_bid, puts_of, total}
+use Rattle.type_pool.specs.Keeping.{bids_of, IsPlayed, is_word_of, least_at, least_word, name_at, name_word, puts_of, total}
+use Rattle.type_pool.specs.Standing.{no_bid}
 
 -- a name's word and a least word are different ones, and so are those of two cells
 pub name_here : (words : List ℕ) (cell word : ℕ) → name_at cell < length words → name_word (set words (name_at cell) word) cell ≡ word

@@ -5,9 +5,9 @@ use Rattle.pool_core.specs.declared.state.Step.{Step}
 use Rattle.pool_core.specs.Machine.{cells_run, IsLeast, least_run}
 use Rattle.type_pool.specs.declared.closed.Found.{Found}
 use Rattle.type_pool.specs.declared.view.View.{View}
-use Rattle.type_pool.specs.Keeping.{bids_of, is_word_of, no_bid, puts_of}
+use Rattle.type_pool.specs.Keeping.{bids_of, is_word_of, puts_of}
 use Rattle.type_pool.specs.Pairs.{Has, times}
-use Rattle.type_pool.specs.Standing.{IsIn, StandsIn}
+use Rattle.type_pool.specs.Standing.{IsIn, no_bid, StandsIn}
 
 -- the words of the plain machine after a list of its steps, from empty cells: exactly what the view has put and bid, each once
 pub record IsRun (cells : ℕ) (v : View) (state : PoolState) : Type 0 where

@@ -9,6 +9,7 @@ use Rattle.pool_core.specs.Machine.{cells_run, IsLeast, least_run}
 use Rattle.type_pool.specs.declared.view.View.{View}
 use Rattle.type_pool.specs.declared.rule.Size.{Size}
 use Rattle.type_pool.specs.Pairs.{Has, times}
+use Rattle.type_pool.specs.Standing.{no_bid}
 use Rattle.type_pool.specs.Views.{all_shares}
 
 -- each cell has two words side by side: that of the name in it, and its least word
@@ -23,10 +24,6 @@ name_word words cell = slice_index words (name_at cell)
 
 abbrev pub least_word : List ℕ → ℕ → ℕ
 least_word words cell = slice_index words (least_at cell)
-
--- the least word of a cell at which nobody bid
-abbrev pub no_bid : ℕ
-no_bid = 0xffffffffffffffff
 
 -- the words of a table at which nobody stepped
 pub record AreEmpty (cells : ℕ) (words : List ℕ) : Type 0 where

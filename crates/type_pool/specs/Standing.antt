@@ -9,6 +9,10 @@ probes = 64
 abbrev pub probe : ℕ → ℕ → ℕ → ℕ
 probe start cells turn = (start + turn) % cells
 
+-- the least word of a cell at which nobody bid
+abbrev pub no_bid : ℕ
+no_bid = 0xffffffffffffffff
+
 -- the name stands in the cell of a closed table
 abbrev pub IsIn : List ℕ → ℕ → ℕ → Type 0
 IsIn words cell name = slice_index words cell ≡ name + 1

@@ -1,5 +1,6 @@
 use Rattle.std.proofs.Common.{◌≡◌, ◌+◌, ◌∷◌, ◌++◌, [], ℕ, arith, subst}
-use Rattle.type_pool.specs.Keeping.{AreEmpty, no_bid}
+use Rattle.type_pool.specs.Keeping.{AreEmpty}
+use Rattle.type_pool.specs.Standing.{no_bid}
 use Rattle.type_pool.proofs.Bounds.{empty_more}
 use Rattle.type_pool.proofs.make.put_cells.Goals as goal
 
