@@ -14,7 +14,9 @@ use Rattle.type_pool.specs.declared.view.View.{View}
 use Rattle.type_pool.specs.declared.rule.Size.{Size}
 use Rattle.type_pool.specs.Pairs.{Has, times}
 use Rattle.type_pool.specs.Views.{first_view}
-use Rattle.type_pool.specs.Keeping.{AreEmpty, Fits, IsBid, is_word_of, Keeps, Kept, least_at, least_word, name_at, name_word, total}
+use Rattle.std.specs.List.{sum_by}
+use Rattle.std.proofs.lemmas.List.Sums.{sum_by-cons}
+use Rattle.type_pool.specs.Keeping.{AreEmpty, Fits, IsBid, is_word_of, Keeps, Kept, least_at, least_word, name_at, name_word}
 use Rattle.type_pool.specs.Standing.{no_bid}
 use Rattle.type_pool.specs.Ends.{Closes}
 use Rattle.type_pool.proofs.Totals.{two_of}
@@ -57,19 +59,19 @@ opens k words empty =
     }
 
 -- a sum to which one view alone adds
-none_at_all : (f : View → ℕ) (l : List View) → ((j : ℕ) (u : View) → get_elem? l j ≡ some u → f u ≡ 0) → total f l ≡ 0
+none_at_all : (f : View → ℕ) (l : List View) → ((j : ℕ) (u : View) → get_elem? l j ≡ some u → f u ≡ 0) → sum_by f l ≡ 0
 none_at_all f [] each = refl
-none_at_all f (u ∷ l) each = let first = each 0 u refl in let rest = none_at_all f l (λ j v at. each (suc j) v at) in omega arith
+none_at_all f (u ∷ l) each = omega (arith, each 0 u refl, none_at_all f l (λ j v at. each (suc j) v at), sum_by-cons f u l)
 
-only_one : (f : View → ℕ) (l : List View) (id : ℕ) (v : View) → get_elem? l id ≡ some v → ((j : ℕ) (u : View) → j ≢ id → get_elem? l j ≡ some u → f u ≡ 0) → total f l ≡ f v
+only_one : (f : View → ℕ) (l : List View) (id : ℕ) (v : View) → get_elem? l id ≡ some v → ((j : ℕ) (u : View) → j ≢ id → get_elem? l j ≡ some u → f u ≡ 0) → sum_by f l ≡ f v
 only_one f [] id v at others = absurd (some-ne-none v (sym at))
 only_one f (u ∷ l) zero v at others =
     let rest = none_at_all f l (λ j w there. (let apart : suc j ≢ 0 = λ same. omega arith in others (suc j) w apart there)) in
-    omega (arith, ap f (some-injective u v at))
+    omega (arith, ap f (some-injective u v at), rest, sum_by-cons f u l)
 only_one f (u ∷ l) (suc id) v at others =
     let first = (let apart : 0 ≢ suc id = λ same. omega arith in others 0 u apart refl) in
     let rest = only_one f l id v at (λ j w off there. others (suc j) w (λ same. off (omega arith)) there) in
-    omega arith
+    omega (arith, first, rest, sum_by-cons f u l)
 
 -- a seat with every share knows all that was done
 pub closes : (k : Size) (words : List ℕ) (views : List View) (id : ℕ) (v : View) (state : PoolState) → Keeps k words views → get_elem? views id ≡ some v → v.share ≡ 64

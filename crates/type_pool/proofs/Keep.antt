@@ -18,7 +18,8 @@ use Rattle.type_pool.specs.Keeping.{Fits, IsBid, is_word_of, Keeps, Kept, least_
 use Rattle.type_pool.specs.Standing.{no_bid}
 use Rattle.type_pool.specs.Told.{looked, Sitting, tried, underbid, weighed}
 use Rattle.type_pool.proofs.PairLists.{has_either, has_left, has_right, times-append}
-use Rattle.type_pool.proofs.Totals.{total-append, total-set}
+use Rattle.std.proofs.lemmas.List.Sums.{sum_by-append}
+use Rattle.type_pool.proofs.Totals.{total-set}
 use Rattle.type_pool.proofs.Words.{is_word, least_else, least_here, least_stays, name_else, name_here, name_stays, no_word, played_as, played_bid, played_name}
 use Rattle.type_pool.proofs.Moves.{bid_after, bid_before, inside_list, moved, one_each, same_least, still_fits, watched, Watches}
 
@@ -216,7 +217,7 @@ splits k id v shared s rule at =
     let begins : Fits k.cells s.words given = record { idle = λ none. absurd (omega arith); notes = old.notes; bids = λ c number has. absurd has } in
     record {
       wide = rule.wide;
-      shares = (let t = total-set (λ (u : View). u.share) s.views id v kept at in let more = total-append (λ (u : View). u.share) front (given ∷ []) in let all = rule.shares in omega arith);
+      shares = (let t = total-set (λ (u : View). u.share) s.views id v kept at in let more = sum_by-append (λ (u : View). u.share) front (given ∷ []) in let all = rule.shares in omega arith);
       each = λ j u here. ⊎_elim
           (λ (in_front : get_elem? front j ≡ some u). ⊎_elim
           (λ (t : (j ≡ id) × (kept ≡ u)). subst (Fits k.cells s.words) t.1 keeps_on)
@@ -233,11 +234,11 @@ splits k id v shared s rule at =
           (at_snoc front given bid.1 bid.0 bid.2))
           (rule.least c near);
       played = played_as k.cells s.words s.views (front ++ given ∷ [])
-          (λ a b. (let t = total-set (λ (u : View). times a b u.puts) s.views id v kept at in let more = total-append (λ (u : View). times a b u.puts) front (given ∷ []) in omega arith))
-          (λ a b. (let t = total-set (λ (u : View). times a b u.bids) s.views id v kept at in let more = total-append (λ (u : View). times a b u.bids) front (given ∷ []) in omega arith)) rule.played;
+          (λ a b. (let t = total-set (λ (u : View). times a b u.puts) s.views id v kept at in let more = sum_by-append (λ (u : View). times a b u.puts) front (given ∷ []) in omega arith))
+          (λ a b. (let t = total-set (λ (u : View). times a b u.bids) s.views id v kept at in let more = sum_by-append (λ (u : View). times a b u.bids) front (given ∷ []) in omega arith)) rule.played;
       puts = λ c n.
           let t = total-set (λ (u : View). times c n u.puts) s.views id v kept at in
-          let more = total-append (λ (u : View). times c n u.puts) front (given ∷ []) in
+          let more = sum_by-append (λ (u : View). times c n u.puts) front (given ∷ []) in
           let is = rule.puts c n in
           omega arith;
     }

@@ -7,7 +7,8 @@ use Rattle.pool_core.specs.Machine.{IsLeast}
 use Rattle.type_pool.specs.declared.view.View.{View}
 use Rattle.type_pool.specs.declared.rule.Size.{Size}
 use Rattle.type_pool.specs.Pairs.{Has, HasOneEach, times}
-use Rattle.type_pool.specs.Keeping.{Fits, IsBid, IsPlayed, is_word_of, Keeps, least_word, name_word, total}
+use Rattle.std.specs.List.{sum_by}
+use Rattle.type_pool.specs.Keeping.{Fits, IsBid, IsPlayed, is_word_of, Keeps, least_word, name_word}
 use Rattle.type_pool.specs.Standing.{no_bid}
 use Rattle.type_pool.proofs.Words.{played_as}
 use Rattle.type_pool.proofs.Totals.{total-set}
@@ -70,7 +71,7 @@ pub moved : (k : Size) (words next : List ℕ) (views : List View) (id : ℕ) (v
     → ((cell : ℕ) → cell < k.cells → name_word next cell ≤ k.names)
     → ((cell : ℕ) → cell < k.cells → IsLeast no_bid (IsBid (set views id w) cell) (least_word next cell))
     → IsPlayed k.cells next (set views id w)
-    → ((cell name : ℕ) → total (λ (u : View). times cell name u.puts) (set views id w) ≡ is_word_of name (name_word next cell))
+    → ((cell name : ℕ) → sum_by (λ (u : View). times cell name u.puts) (set views id w) ≡ is_word_of name (name_word next cell))
     → Keeps k next (set views id w)
 moved k words next views id v w rule at long share stays fits named least played puts = record {
   wide = long ∙ rule.wide;

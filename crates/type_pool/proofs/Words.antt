@@ -9,7 +9,8 @@ use Rattle.pool_core.specs.Machine.{cells_after, cells_run, least_after, least_r
 use Rattle.pool_core.proofs.Runs.{length-cells_after, length-least_after}
 use Rattle.type_pool.specs.declared.view.View.{View}
 use Rattle.type_pool.specs.Pairs.{times}
-use Rattle.type_pool.specs.Keeping.{bids_of, IsPlayed, is_word_of, least_at, least_word, name_at, name_word, puts_of, total}
+use Rattle.std.specs.List.{sum_by}
+use Rattle.type_pool.specs.Keeping.{bids_of, IsPlayed, is_word_of, least_at, least_word, name_at, name_word, puts_of}
 use Rattle.type_pool.specs.Standing.{no_bid}
 
 -- a name's word and a least word are different ones, and so are those of two cells
@@ -60,10 +61,10 @@ times-bids_push a b (Intern seat cell name ∷ steps) more = times-bids_push a b
 times-bids_push a b (Lower seat cell number ∷ steps) more = let rest = times-bids_push a b steps more in omega arith
 
 abbrev pub puts_total : List View → ℕ → ℕ → ℕ
-puts_total views a b = total (λ (v : View). times a b v.puts) views
+puts_total views a b = sum_by (λ (v : View). times a b v.puts) views
 
 abbrev pub bids_total : List View → ℕ → ℕ → ℕ
-bids_total views a b = total (λ (v : View). times a b v.bids) views
+bids_total views a b = sum_by (λ (v : View). times a b v.bids) views
 
 -- seats that together put and bid the same
 pub played_as : (cells : ℕ) (words : List ℕ) (views after : List View) → ((a b : ℕ) → puts_total after a b ≡ puts_total views a b) → ((a b : ℕ) → bids_total after a b ≡ bids_total views a b)

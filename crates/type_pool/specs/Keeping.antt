@@ -1,5 +1,6 @@
 -- What holds of the table between any two steps: of its words and of what all seats know.
 use Rattle.std.specs.Prelude.{◌≡◌, ℕ, ◌+◌, ◌*◌, ◌<◌, ◌≤◌, ◌==◌, List, [], ◌∷◌, length, if◌then◌else◌, replicate, slice_index}
+use Rattle.std.specs.List.{sum_by}
 use mathlib.Core.Option.{some}
 use lib.ListN.{get_elem?}
 use Rattle.atomic_table.specs.Table.{State}
@@ -31,11 +32,6 @@ pub record AreEmpty (cells : ℕ) (words : List ℕ) : Type 0 where
   pub names : (cell : ℕ) → cell < cells → name_word words cell ≡ 0
   pub least : (cell : ℕ) → cell < cells → least_word words cell ≡ no_bid
 
--- a number of each view, added up
-abbrev pub total : (View → ℕ) → List View → ℕ
-total f [] = 0
-total f (v ∷ views) = f v + total f views
-
 -- some seat bid the number at the cell
 abbrev pub IsBid : List View → ℕ → ℕ → Type 0
 IsBid views cell number = (id : ℕ) × (v : View) × (get_elem? views id ≡ some v) × Has v.bids cell number
@@ -66,12 +62,12 @@ pub record IsPlayed (cells : ℕ) (words : List ℕ) (views : List View) : Type 
   pub steps : List Step
   pub names : (cell : ℕ) → cell < cells → name_word words cell ≡ slice_index (cells_run (replicate cells 0) steps) cell
   pub least : (cell : ℕ) → cell < cells → least_word words cell ≡ slice_index (least_run (replicate cells no_bid) steps) cell
-  pub puts : (cell name : ℕ) → times cell name (puts_of steps) ≡ total (λ v. times cell name v.puts) views
-  pub bids : (cell number : ℕ) → times cell number (bids_of steps) ≡ total (λ v. times cell number v.bids) views
+  pub puts : (cell name : ℕ) → times cell name (puts_of steps) ≡ sum_by (λ v. times cell name v.puts) views
+  pub bids : (cell number : ℕ) → times cell number (bids_of steps) ≡ sum_by (λ v. times cell number v.bids) views
 
 pub record Keeps (k : Size) (words : List ℕ) (views : List View) : Type 0 where
   pub wide : length words ≡ 2 * k.cells
-  pub shares : total (λ v. v.share) views ≡ all_shares
+  pub shares : sum_by (λ v. v.share) views ≡ all_shares
   pub each : (id : ℕ) (v : View) → get_elem? views id ≡ some v → Fits k.cells words v
   -- a cell is empty, or holds a name of the book
   pub named : (cell : ℕ) → cell < k.cells → name_word words cell ≤ k.names
@@ -79,7 +75,7 @@ pub record Keeps (k : Size) (words : List ℕ) (views : List View) : Type 0 wher
   pub least : (cell : ℕ) → cell < k.cells → IsLeast no_bid (IsBid views cell) (least_word words cell)
   pub played : IsPlayed k.cells words views
   -- the filled cells with their names are what all seats put, each once
-  pub puts : (cell name : ℕ) → total (λ v. times cell name v.puts) views ≡ is_word_of name (name_word words cell)
+  pub puts : (cell name : ℕ) → sum_by (λ v. times cell name v.puts) views ≡ is_word_of name (name_word words cell)
 
 abbrev pub Kept : Size → State (Unit {0}) View → Type 0
 Kept k s = Keeps k s.words s.views

@@ -12,10 +12,12 @@ use Rattle.atomic_table.specs.Table.{State, Me, step, Allows, Splits, Joins, kee
 use Rattle.atomic_table.proofs.Lists.{at_set, at_snoc, set_again, set_else}
 use Rattle.work_share.specs.declared.view.TaskView.{TaskView}
 use Rattle.work_share.specs.Numbers.{times, once_below, above, left}
-use Rattle.work_share.specs.Counter.{drew, stopped, kept_half, given_half, united, nobody, total, live, Fits, Rule, Sound}
+use Rattle.work_share.specs.Counter.{drew, stopped, kept_half, given_half, united, nobody, live, Fits, Rule, Sound}
 use Rattle.work_share.specs.Fair.{IsFair, Keeps}
 use Rattle.work_share.specs.Steps.{drawing, looking}
-use Rattle.work_share.proofs.Totals.{total_set, total_push, part_le, total_alone, times-append, times_other, below_yes, below_is, below_le, below_more, above_le, few_below, comes_nearer}
+use Rattle.std.specs.List.{sum_by}
+use Rattle.std.proofs.lemmas.List.Sums.{sum_by_push}
+use Rattle.work_share.proofs.Totals.{total_set, part_le, total_alone, times-append, times_other, below_yes, below_is, below_le, below_more, above_le, few_below, comes_nearer}
 
 some_kept : (o : Option ℕ) → is_some o ≡ true → (k : ℕ) × (o ≡ Some k)
 some_kept None e = absurd (true≢false (sym e))
@@ -69,7 +71,7 @@ module _ (count : ℕ) (words : List ℕ) (views : List TaskView) (id : ℕ) (v 
   abbrev pub Ends : Type 0
   Ends = ((next < count) × (w.kept ≡ None)) ⊎ ((count ≤ next) × (w.kept ≡ Some next))
 
-  lives : v.kept ≡ None → w.share ≡ v.share → 1 ≤ v.share → Ends → total live (set views id w) + (next + 1 - count) ≤ 64
+  lives : v.kept ≡ None → w.share ≡ v.share → 1 ≤ v.share → Ends → sum_by live (set views id w) + (next + 1 - count) ≤ 64
   lives going share some_share (inl e) =
       let was : live v ≡ v.share = ap (λ o. cond (is_some o) 0 v.share) going in
       let is : live w ≡ w.share = ap (λ o. cond (is_some o) 0 w.share) e.1 in
@@ -104,11 +106,11 @@ module _ (count : ℕ) (words : List ℕ) (views : List TaskView) (id : ℕ) (v 
         drawn = λ x.
             let parts : times x w.drawn ≡ times x v.drawn + times x (next ∷ []) = ap (times x) drawn ∙ times-append x v.drawn (next ∷ []) in
             let sums = total_set (λ u. times x u.drawn) views id v w at in
-            let goal : total (λ u. times x u.drawn) (set views id w) ≡ once_below x (next + 1) = omega (arith, parts, sums, rule.drawn x, below_more x next) in
+            let goal : sum_by (λ u. times x u.drawn) (set views id w) ≡ once_below x (next + 1) = omega (arith, parts, sums, rule.drawn x, below_more x next) in
             goal ∙ ap (once_below x) (sym word);
         shares = omega (arith, total_set (λ u. u.share) views id v w at, share, rule.shares);
         each = λ j u e. subst (λ n. Fits count n u) (sym word) (⊎_elim (λ t. subst (λ y. Fits count (next + 1) y) t.1 fits) (λ t. later count next u (rule.each j u t.1)) (at_set views id j w u e));
-        few = subst (λ n. total live (set views id w) + (n - count) ≤ 64) (sym word) (lives going share some_share ends);
+        few = subst (λ n. sum_by live (set views id w) + (n - count) ≤ 64) (sym word) (lives going share some_share ends);
       }
 
 -- a number that is passed on below 2 ^ 64
@@ -166,13 +168,13 @@ splits count id v two s rule at =
     let fits_r : Fits count (slice_index s.words 0) r = record { spent = λ z. absurd (omega arith); kept = mine.kept; ended = λ x le h. absurd (omega arith) } in
     record {
       wide = rule.wide;
-      drawn = λ x. let push = total_push (λ u. times x u.drawn) (set s.views id l) r in let sums = total_set (λ u. times x u.drawn) s.views id v l at in omega (arith, push, sums, rule.drawn x);
-      shares = let push = total_push (λ u. u.share) (set s.views id l) r in let sums = total_set (λ u. u.share) s.views id v l at in omega (arith, push, sums, rule.shares);
+      drawn = λ x. let push = sum_by_push (λ u. times x u.drawn) (set s.views id l) r in let sums = total_set (λ u. times x u.drawn) s.views id v l at in omega (arith, push, sums, rule.drawn x);
+      shares = let push = sum_by_push (λ u. u.share) (set s.views id l) r in let sums = total_set (λ u. u.share) s.views id v l at in omega (arith, push, sums, rule.shares);
       each = λ j u e. ⊎_elim
           (λ old. ⊎_elim (λ t. subst (λ y. Fits count (slice_index s.words 0) y) t.1 fits_l) (λ t. rule.each j u t.1) (at_set s.views id j l u old))
           (λ is. subst (λ y. Fits count (slice_index s.words 0) y) is fits_r)
           (at_snoc (set s.views id l) r u j e);
-      few = let push = total_push live (set s.views id l) r in let sums = total_set live s.views id v l at in omega (arith, push, sums, live_halves v, rule.few);
+      few = let push = sum_by_push live (set s.views id l) r in let sums = total_set live s.views id v l at in omega (arith, push, sums, live_halves v, rule.few);
     }
 
 live_united : (v w : TaskView) → live (united v w) ≤ live v + live w

@@ -1,50 +1,52 @@
 -- Sums over views, and how often a number stands in a list.
 use Rattle.std.proofs.Common.{◌≡◌, ◌≢◌, ℕ, zero, suc, ◌+◌, ◌<◌, ◌≤◌, true, cond, List, [], ◌∷◌, ◌++◌, length, set, sym, refl, ap, subst, ◌∙◌, arith}
 use Rattle.std.specs.Prelude.{nat_eq}
+use Rattle.std.specs.List.{sum_by}
+use Rattle.std.proofs.lemmas.List.Sums.{sum_by-cons}
 use Rattle.std.proofs.lemmas.Bool.{lt-ltb, le-ltb, ne_eqb, cases_lt, cases_eq}
 use mathlib.Core.Option.{some, some-injective, some-ne-none}
 use mathlib.Core.Logic.{⊎_elim}
 use lib.ListN.{get_elem?}
 use Rattle.work_share.specs.declared.view.TaskView.{TaskView}
 use Rattle.work_share.specs.Numbers.{times, once_below, above, left}
-use Rattle.work_share.specs.Counter.{total}
 
 module _ (f : TaskView → ℕ) where
-  pub total_set : (vs : List TaskView) (id : ℕ) (v w : TaskView) → get_elem? vs id ≡ some v → total f (set vs id w) + f v ≡ total f vs + f w
+  pub total_set : (vs : List TaskView) (id : ℕ) (v w : TaskView) → get_elem? vs id ≡ some v → sum_by f (set vs id w) + f v ≡ sum_by f vs + f w
   total_set [] id v w e = absurd (some-ne-none v (sym e))
-  total_set (x ∷ xs) zero v w e = let same : f x ≡ f v = ap f (some-injective x v e) in omega (arith, same)
-  total_set (x ∷ xs) (suc id) v w e = let rest = total_set xs id v w e in omega (arith, rest)
+  total_set (x ∷ xs) zero v w e = let same : f x ≡ f v = ap f (some-injective x v e) in omega (arith, same, sum_by-cons f w xs, sum_by-cons f x xs)
+  total_set (x ∷ xs) (suc id) v w e = let rest = total_set xs id v w e in omega (arith, rest, sum_by-cons f x (set xs id w), sum_by-cons f x xs)
 
-  pub total_push : (vs : List TaskView) (w : TaskView) → total f (vs ++ w ∷ []) ≡ total f vs + f w
-  total_push [] w = omega arith
-  total_push (x ∷ xs) w = omega (arith, total_push xs w)
-
-  pub part_le : (vs : List TaskView) (id : ℕ) (v : TaskView) → get_elem? vs id ≡ some v → f v ≤ total f vs
+  pub part_le : (vs : List TaskView) (id : ℕ) (v : TaskView) → get_elem? vs id ≡ some v → f v ≤ sum_by f vs
   part_le [] id v e = absurd (some-ne-none v (sym e))
-  part_le (x ∷ xs) zero v e = let same : f x ≡ f v = ap f (some-injective x v e) in omega (arith, same)
-  part_le (x ∷ xs) (suc id) v e = omega (arith, part_le xs id v e)
+  part_le (x ∷ xs) zero v e = let same : f x ≡ f v = ap f (some-injective x v e) in omega (arith, same, sum_by-cons f x xs)
+  part_le (x ∷ xs) (suc id) v e = omega (arith, part_le xs id v e, sum_by-cons f x xs)
 
 -- where g is 0, f is 0 too
 module _ (f g : TaskView → ℕ) where
-  pub total_none : (vs : List TaskView) → total g vs ≡ 0 → ((j : ℕ) (u : TaskView) → get_elem? vs j ≡ some u → g u ≡ 0 → f u ≡ 0) → total f vs ≡ 0
+  pub total_none : (vs : List TaskView) → sum_by g vs ≡ 0 → ((j : ℕ) (u : TaskView) → get_elem? vs j ≡ some u → g u ≡ 0 → f u ≡ 0) → sum_by f vs ≡ 0
   total_none [] e zeros = refl
-  total_none (x ∷ xs) e zeros = let one : f x ≡ 0 = zeros 0 x refl (omega arith) in let rest : total f xs ≡ 0 = total_none xs (omega arith) (λ j u at. zeros (suc j) u at) in omega arith
+  total_none (x ∷ xs) e zeros =
+      let gs = sum_by-cons g x xs in
+      let one : f x ≡ 0 = zeros 0 x refl (omega (arith, gs, e)) in
+      let rest : sum_by f xs ≡ 0 = total_none xs (omega (arith, gs, e)) (λ j u at. zeros (suc j) u at) in
+      omega (arith, sum_by-cons f x xs, one, rest)
 
   -- one view has all of g, so all of f
-  pub total_alone : (vs : List TaskView) (id : ℕ) (v : TaskView) → get_elem? vs id ≡ some v → total g vs ≡ g v
-      → ((j : ℕ) (u : TaskView) → get_elem? vs j ≡ some u → g u ≡ 0 → f u ≡ 0) → total f vs ≡ f v
+  pub total_alone : (vs : List TaskView) (id : ℕ) (v : TaskView) → get_elem? vs id ≡ some v → sum_by g vs ≡ g v
+      → ((j : ℕ) (u : TaskView) → get_elem? vs j ≡ some u → g u ≡ 0 → f u ≡ 0) → sum_by f vs ≡ f v
   total_alone [] id v e all zeros = absurd (some-ne-none v (sym e))
   total_alone (x ∷ xs) zero v e all zeros =
       let same : x ≡ v = some-injective x v e in
       let gs : g x ≡ g v = ap g same in
       let fs : f x ≡ f v = ap f same in
-      let rest : total f xs ≡ 0 = total_none xs (omega arith) (λ j u at. zeros (suc j) u at) in
-      omega arith
+      let rest : sum_by f xs ≡ 0 = total_none xs (omega (arith, gs, all, sum_by-cons g x xs)) (λ j u at. zeros (suc j) u at) in
+      omega (arith, fs, rest, sum_by-cons f x xs)
   total_alone (x ∷ xs) (suc id) v e all zeros =
-      let part : g v ≤ total g xs = part_le g xs id v e in
-      let one : f x ≡ 0 = zeros 0 x refl (omega arith) in
-      let rest : total f xs ≡ f v = total_alone xs id v e (omega arith) (λ j u at. zeros (suc j) u at) in
-      omega arith
+      let part : g v ≤ sum_by g xs = part_le g xs id v e in
+      let both = sum_by-cons g x xs in
+      let one : f x ≡ 0 = zeros 0 x refl (omega (arith, part, both, all)) in
+      let rest : sum_by f xs ≡ f v = total_alone xs id v e (omega (arith, part, both, all)) (λ j u at. zeros (suc j) u at) in
+      omega (arith, one, rest, sum_by-cons f x xs)
 
 pub times-append : (x : ℕ) (xs ys : List ℕ) → times x (xs ++ ys) ≡ times x xs + times x ys
 times-append x [] ys = omega arith

@@ -1,5 +1,6 @@
 -- A counter: one word, which is the next number, and the views of its seats.
 use Rattle.std.specs.Prelude.{◌≡◌, ℕ, ◌+◌, ◌-◌, ◌/◌, ◌<◌, ◌≤◌, cond, true, List, [], ◌∷◌, ◌++◌, length, slice_index, is_some, None, Some}
+use Rattle.std.specs.List.{sum_by}
 use Rattle.std.specs.Option.{option_or}
 use mathlib.Core.Option.{some}
 use lib.ListN.{get_elem?}
@@ -34,11 +35,6 @@ united v w = record { count = v.count; share = v.share + w.share; drawn = v.draw
 abbrev pub nobody : TaskView
 nobody = record { count = 0; share = 0; drawn = []; kept = None }
 
--- the sum of f over all views
-abbrev pub total : (TaskView → ℕ) → List TaskView → ℕ
-total f [] = 0
-total f (v ∷ vs) = f v + total f vs
-
 -- the share with which a seat may still draw a number at or above the count
 abbrev pub live : TaskView → ℕ
 live v = cond (is_some v.kept) 0 v.share
@@ -53,10 +49,10 @@ pub record Fits (count next : ℕ) (v : TaskView) : Type 0 where
 -- count costs one that could still draw.
 pub record Rule (count : ℕ) (words : List ℕ) (views : List TaskView) : Type 0 where
   pub wide : length words ≡ 1
-  pub drawn : (x : ℕ) → total (λ v. times x v.drawn) views ≡ once_below x (slice_index words 0)
-  pub shares : total (λ v. v.share) views ≡ 64
+  pub drawn : (x : ℕ) → sum_by (λ v. times x v.drawn) views ≡ once_below x (slice_index words 0)
+  pub shares : sum_by (λ v. v.share) views ≡ 64
   pub each : (id : ℕ) (v : TaskView) → get_elem? views id ≡ some v → Fits count (slice_index words 0) v
-  pub few : total live views + (slice_index words 0 - count) ≤ 64
+  pub few : sum_by live views + (slice_index words 0 - count) ≤ 64
 
 abbrev pub Sound : {S : Type 0} → ℕ → State S TaskView → Type 0
 Sound count s = Rule count s.words s.views
