@@ -16,7 +16,8 @@ use Rattle.type_pool.specs.Pairs.{Has, times}
 use Rattle.type_pool.specs.Views.{first_view}
 use Rattle.std.specs.List.{sum_by}
 use Rattle.std.proofs.lemmas.List.Sums.{sum_by-cons}
-use Rattle.type_pool.specs.Keeping.{AreEmpty, Fits, IsBid, is_word_of, Keeps, Kept, least_at, least_word, name_at, name_word}
+use Rattle.type_pool.specs.Keeping.{AreEmpty, Fits, IsBid, is_word_of, Keeps, Kept}
+use Rattle.type_pool.specs.Words.{least_at, least_word, name_at, name_word}
 use Rattle.type_pool.specs.Standing.{no_bid}
 use Rattle.type_pool.specs.Ends.{Closes}
 use Rattle.type_pool.proofs.Totals.{two_of}

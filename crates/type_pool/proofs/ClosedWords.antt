@@ -5,7 +5,8 @@ use mathlib.Core.Option.{some}
 use lib.ListN.{get_elem?}
 use Rattle.type_pool.specs.declared.view.View.{View}
 use Rattle.type_pool.specs.declared.rule.Size.{Size}
-use Rattle.type_pool.specs.Keeping.{Keeps, least_at, least_word, name_at, name_word}
+use Rattle.type_pool.specs.Keeping.{Keeps}
+use Rattle.type_pool.specs.Words.{least_at, least_word, name_at, name_word}
 use Rattle.type_pool.specs.Ends.{Closes}
 use Rattle.type_pool.specs.ClosedWords.{AreOfTable, ClosedTable, least_words, name_words, state_of}
 use Rattle.type_pool.proofs.Bounds.{closes}

@@ -14,7 +14,8 @@ use Rattle.type_pool.specs.declared.view.View.{View}
 use Rattle.type_pool.specs.declared.rule.Size.{Size}
 use Rattle.type_pool.specs.Pairs.{Has, HasOneEach, times}
 use Rattle.type_pool.specs.Views.{bidden, given_half, kept_half, noted, put, spent, united}
-use Rattle.type_pool.specs.Keeping.{Fits, IsBid, is_word_of, Keeps, Kept, least_at, least_word, name_at, name_word}
+use Rattle.type_pool.specs.Keeping.{Fits, IsBid, is_word_of, Keeps, Kept}
+use Rattle.type_pool.specs.Words.{least_at, least_word, name_at, name_word}
 use Rattle.type_pool.specs.Standing.{no_bid}
 use Rattle.type_pool.specs.Told.{looked, Sitting, tried, underbid, weighed}
 use Rattle.type_pool.proofs.PairLists.{has_either, has_left, has_right, times-append}

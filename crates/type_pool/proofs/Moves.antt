@@ -8,7 +8,8 @@ use Rattle.type_pool.specs.declared.view.View.{View}
 use Rattle.type_pool.specs.declared.rule.Size.{Size}
 use Rattle.type_pool.specs.Pairs.{Has, HasOneEach, times}
 use Rattle.std.specs.List.{sum_by}
-use Rattle.type_pool.specs.Keeping.{Fits, IsBid, IsPlayed, is_word_of, Keeps, least_word, name_word}
+use Rattle.type_pool.specs.Keeping.{Fits, IsBid, IsPlayed, is_word_of, Keeps}
+use Rattle.type_pool.specs.Words.{least_word, name_word}
 use Rattle.type_pool.specs.Standing.{no_bid}
 use Rattle.type_pool.proofs.Words.{played_as}
 use Rattle.type_pool.proofs.Totals.{total-set}

@@ -10,7 +10,8 @@ use Rattle.pool_core.proofs.Runs.{length-cells_after, length-least_after}
 use Rattle.type_pool.specs.declared.view.View.{View}
 use Rattle.type_pool.specs.Pairs.{times}
 use Rattle.std.specs.List.{sum_by}
-use Rattle.type_pool.specs.Keeping.{bids_of, IsPlayed, is_word_of, least_at, least_word, name_at, name_word, puts_of}
+use Rattle.type_pool.specs.Keeping.{bids_of, IsPlayed, is_word_of, puts_of}
+use Rattle.type_pool.specs.Words.{least_at, least_word, name_at, name_word}
 use Rattle.type_pool.specs.Standing.{no_bid}
 
 -- a name's word and a least word are different ones, and so are those of two cells

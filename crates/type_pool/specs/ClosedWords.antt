@@ -1,7 +1,7 @@
 -- The words of a closed table, where the two of each cell stand side by side.
 use Rattle.std.specs.Prelude.{◌≡◌, ℕ, ◌*◌, ◌^◌, ◌<◌, ◌≤◌, List, [], ◌∷◌, length}
 use Rattle.pool_core.specs.declared.state.PoolState.{PoolState}
-use Rattle.type_pool.specs.Keeping.{name_word}
+use Rattle.type_pool.specs.Words.{name_word}
 
 -- what contracts see of a closed table: its words, its cells, and the size of its books
 pub record ClosedTable : Type 0 where

@@ -12,19 +12,7 @@ use Rattle.type_pool.specs.declared.rule.Size.{Size}
 use Rattle.type_pool.specs.Pairs.{Has, times}
 use Rattle.type_pool.specs.Standing.{no_bid}
 use Rattle.type_pool.specs.Views.{all_shares}
-
--- each cell has two words side by side: that of the name in it, and its least word
-abbrev pub name_at : ℕ → ℕ
-name_at cell = 2 * cell
-
-abbrev pub least_at : ℕ → ℕ
-least_at cell = 2 * cell + 1
-
-abbrev pub name_word : List ℕ → ℕ → ℕ
-name_word words cell = slice_index words (name_at cell)
-
-abbrev pub least_word : List ℕ → ℕ → ℕ
-least_word words cell = slice_index words (least_at cell)
+use Rattle.type_pool.specs.Words.{least_word, name_word}
 
 -- the words of a table at which nobody stepped
 pub record AreEmpty (cells : ℕ) (words : List ℕ) : Type 0 where

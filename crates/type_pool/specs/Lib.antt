@@ -1,5 +1,6 @@
 pub mod Pairs
 pub mod Views
+pub mod Words
 pub mod Keeping
 pub mod Told
 pub mod Seats

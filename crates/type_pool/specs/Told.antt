@@ -2,7 +2,7 @@
 use Rattle.std.specs.Prelude.{◌≡◌, ℕ, ◌-◌, ◌≤◌, ◌==◌, if◌then◌else◌}
 use Rattle.atomic_table.specs.Table.{Me, Step}
 use Rattle.type_pool.specs.declared.view.View.{View}
-use Rattle.type_pool.specs.Keeping.{least_at, name_at}
+use Rattle.type_pool.specs.Words.{least_at, name_at}
 use Rattle.type_pool.specs.Pairs.{HasOneEach}
 use Rattle.type_pool.specs.Views.{all_shares, bidden, noted, put}
 
