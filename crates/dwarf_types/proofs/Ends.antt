@@ -1,20 +1,19 @@
 -- Cells beside the places behind their values.
-use Rattle.std.proofs.Common.{◌≡◌, ℕ, zero, suc, ◌+◌, ◌-◌, ◌<◌, ◌≤◌, ◌||◌, List, [], ◌∷◌, ◌++◌, Bool, None, Some, map, length, drop, take, get_or, set, slice_get, All, cond, not, nat_lt, refl, ap, ap₂, sym, ◌∙◌, arith}
+use Rattle.std.proofs.Common.{◌≡◌, ℕ, zero, suc, ◌+◌, ◌-◌, ◌<◌, ◌≤◌, ◌||◌, List, [], ◌∷◌, ◌++◌, Bool, None, Some, map, length, drop, take, get_or, slice_get, All, cond, not, nat_lt, refl, ap, ap₂, sym, ◌∙◌, arith}
 use Rattle.std.specs.List.{list_any, position, prefix_len, zip}
-use Rattle.std.specs.Option.{option_map}
-use Rattle.std.proofs.lemmas.List.{get_or-map, length-drop, length-map, length-set, length_push}
+use Rattle.std.proofs.lemmas.List.{drop-drop, get_or-map, length-drop, length-map, length-take, length_push}
 use Rattle.std.proofs.lemmas.List.Elements.{All-cons, All-head, All-nil, All-tail}
-use Rattle.std.proofs.lemmas.Option.{slice_get-get_or, slice_get-map}
-use Rattle.std.proofs.lemmas.Slice.Zip.{get_or-zip, length-zip}
+use Rattle.std.proofs.lemmas.List.Sums.{sum_by-cons}
+use Rattle.std.proofs.lemmas.Slice.Zip.{length-zip}
 use Rattle.dwarf_types.specs.declared.columns.Cell.{Cell}
 use Rattle.dwarf_types.specs.declared.columns.Head.{Head}
+use Rattle.dwarf_types.specs.declared.entry.Attr.{Attr}
+use Rattle.dwarf_types.specs.declared.entry.Entry.{Entry}
 use Rattle.dwarf_types.specs.declared.entry.RawAttr.{RawAttr}
-use Rattle.dwarf_types.specs.declared.entry.RawEntry.{RawEntry}
 use Rattle.dwarf_types.specs.declared.sides.Sides.{Sides}
-use Rattle.dwarf_types.specs.Columns.{CellWithin, IsFlat, IsRaw, cells_of, raw_attr_of, raw_attrs_of, raw_entries_of, raw_entry_with, row}
-use Rattle.dwarf_types.specs.PlaceSteps.{places_of}
-use Rattle.dwarf_types.proofs.Heads.{flat_cell, row_read}
-use Rattle.dwarf_types.proofs.Setting.{cell_place, flat_set}
+use Rattle.dwarf_types.specs.Columns.{CellWithin, Follow, IsFlat, IsRaw, attr_of, cells_of, entries_of, entry_with, raw_attr_of, raw_entries_of, raw_entry_with, row}
+use Rattle.dwarf_types.specs.Raw.{attr_count, raw_attr, raw_entries, raw_entry}
+use Rattle.dwarf_types.proofs.Heads.{flat_cell, follow_over, row_read}
 
 -- ---- two lists side by side
 
@@ -48,12 +47,6 @@ module _ {X Y : Type 0} where
   zip_push [] (b ∷ ys) x y beside = absurd (omega arith)
   zip_push (a ∷ xs) [] x y beside = absurd (omega arith)
   zip_push (a ∷ xs) (b ∷ ys) x y beside = ap (λ (zs : List (X × Y)). (a, b) ∷ zs) (zip_push xs ys x y (omega arith))
-
-  pub zip_set : (xs : List X) (ys : List Y) (k : ℕ) (x : X) (d : Y) → zip (set xs k x) ys ≡ set (zip xs ys) k (x, get_or ys k d)
-  zip_set [] ys k x d = refl
-  zip_set (a ∷ xs) [] k x d = none_beside (set (a ∷ xs) k x)
-  zip_set (a ∷ xs) (b ∷ ys) zero x d = refl
-  zip_set (a ∷ xs) (b ∷ ys) (suc k) x d = ap (λ (zs : List (X × Y)). (a, b) ∷ zs) (zip_set xs ys k x d)
 
   all_beside : (P : X → Type 0) (xs : List X) (ys : List Y) → All P xs → All (λ (z : X × Y). P z.0) (zip xs ys)
   all_beside P [] ys all = All-nil (λ (z : X × Y). P z.0)
@@ -90,48 +83,77 @@ raw_flat s heads cells ends at r =
     let few : at ≤ length cells = r.flat.few in
     record { follow = r.flat.follow; few = omega (arith, zip_long cells ends r.beside); within = all_beside (CellWithin s) cells ends r.flat.within }
 
--- the attribute of a cell
-pub raw_attr_at : (s : Sides) (cells : List Cell) (ends : List ℕ) (j : ℕ) (c : Cell) (e : ℕ) → j < length cells → length ends ≡ length cells → slice_get (raw_attrs_of s cells ends) j ≡ Some (raw_attr_of s (get_or cells j c, get_or ends j e))
-raw_attr_at s cells ends j c e lt beside =
-    let within : j < length (zip cells ends) = omega (arith, zip_long cells ends beside) in
-    let pair : Cell × ℕ = (c, e) in
-    slice_get-map (raw_attr_of s) (zip cells ends) j ∙ ap (option_map (raw_attr_of s)) (slice_get-get_or (zip cells ends) j pair within ∙ ap Some (get_or-zip cells ends j pair lt (omega arith)))
-
 pub raw_push : (s : Sides) (heads : List Head) (cells : List Cell) (ends : List ℕ) (at : ℕ) (c : Cell) (e : ℕ) → CellWithin s c → IsRaw s heads cells ends at → IsRaw s heads (cells ++ c ∷ []) (ends ++ e ∷ []) at
 raw_push s heads cells ends at c e w r =
     let beside : length ends ≡ length cells = r.beside in
     record { flat = flat_cell (CellWithin s) heads cells at c w r.flat; beside = omega (arith, length_push cells c, length_push ends e) }
 
+-- ---- entries of cells, and the places behind their values
+
+abbrev attrs_of : Sides → List Cell → List Attr
+attrs_of s cells = map (attr_of s) cells
+
+attrs_beside : (s : Sides) (cells : List Cell) (ends : List ℕ) → map raw_attr (zip (attrs_of s cells) ends) ≡ map (raw_attr_of s) (zip cells ends)
+attrs_beside s [] ends = refl
+attrs_beside s (c ∷ cells) [] = refl
+attrs_beside s (c ∷ cells) (e ∷ ends) =
+    let pair : Cell × ℕ = (c, e) in
+    ap (λ (xs : List RawAttr). raw_attr_of s pair ∷ xs) (attrs_beside s cells ends)
+
 -- the entry of a head
-pub raw_row_read : (s : Sides) (heads : List Head) (cells : List Cell) (ends : List ℕ) (i : ℕ) (h : Head) → i < length heads → h ≡ get_or heads i h → slice_get (raw_entries_of s heads cells ends) i ≡ Some (raw_entry_with h (raw_attrs_of s (cells_of cells h) (cells_of ends h)))
+entry_beside : (s : Sides) (cells : List Cell) (ends : List ℕ) (h : Head) → raw_entry (entry_with h (attrs_of s (cells_of cells h))) (cells_of ends h) ≡ row (raw_attr_of s) raw_entry_with (zip cells ends) h
+entry_beside s cells ends h =
+    ap (raw_entry_with h) (attrs_beside s (cells_of cells h) (cells_of ends h) ∙ sym (ap (map (raw_attr_of s)) (cells_beside cells ends h)))
+
+pub raw_row_read : (s : Sides) (heads : List Head) (cells : List Cell) (ends : List ℕ) (i : ℕ) (h : Head) → i < length heads → h ≡ get_or heads i h → slice_get (raw_entries_of s heads cells ends) i ≡ Some (raw_entry (entry_with h (attrs_of s (cells_of cells h))) (cells_of ends h))
 raw_row_read s heads cells ends i h lt is =
-    row_read (RawWithin s) raw_entry_with (raw_attr_of s) heads (zip cells ends) i h lt is ∙ ap (λ (cs : List (Cell × ℕ)). Some (raw_entry_with h (map (raw_attr_of s) cs))) (cells_beside cells ends h)
+    row_read (RawWithin s) raw_entry_with (raw_attr_of s) heads (zip cells ends) i h lt is ∙ ap Some (sym (entry_beside s cells ends h))
+
+count_long : (s : Sides) (cells : List Cell) (h : Head) → h.first + h.count ≤ length cells → length (attrs_of s (cells_of cells h)) ≡ h.count
+count_long s cells h le = simp (length-map, length-take, length-drop) (omega arith)
+
+pub raw_rows : (s : Sides) (cells : List Cell) (ends : List ℕ) (at : ℕ) (heads : List Head) (end : ℕ) → Follow at heads end → end ≤ length cells → raw_entries (entries_of s heads cells) (drop at ends) ≡ raw_entries_of s heads cells ends
+raw_rows s cells ends at [] end f le = refl
+raw_rows s cells ends at (h ∷ heads) end f le =
+    let over = follow_over (h.first + h.count) heads end f.1 in
+    let begins : at ≡ h.first = f.0 in
+    let attrs : List Attr = attrs_of s (cells_of cells h) in
+    let long : length attrs ≡ h.count = count_long s cells h (omega arith) in
+    let here : take (length attrs) (drop at ends) ≡ cells_of ends h = ap₂ (λ (n k : ℕ). take n (drop k ends)) (omega (arith, long)) begins in
+    let behind : drop (length attrs) (drop at ends) ≡ drop (h.first + h.count) ends = drop-drop (length attrs) at ends ∙ ap (λ (n : ℕ). drop n ends) (omega (arith, long)) in
+    ap₂ ◌∷◌ (ap (raw_entry (entry_with h attrs)) here ∙ entry_beside s cells ends h) (ap (raw_entries (entries_of s heads cells)) behind ∙ raw_rows s cells ends (h.first + h.count) heads end f.1 le)
+
+-- ---- where the attributes of entries stand
+
+abbrev attrs_long : Entry → ℕ
+attrs_long e = length e.attrs
+
+pub counted : (s : Sides) (cells : List Cell) (at : ℕ) (heads : List Head) (end : ℕ) → Follow at heads end → end ≤ length cells → at + attr_count (entries_of s heads cells) ≡ end
+counted s cells at [] end f le = omega arith
+counted s cells at (h ∷ heads) end f le =
+    let over = follow_over (h.first + h.count) heads end f.1 in
+    let begins : at ≡ h.first = f.0 in
+    let long = count_long s cells h (omega arith) in
+    let later = counted s cells (h.first + h.count) heads end f.1 le in
+    omega (arith, long, sum_by-cons attrs_long (row (attr_of s) entry_with cells h) (entries_of s heads cells))
+
+-- an entry's first one is that of its head
+pub first_counted : (s : Sides) (cells : List Cell) (at : ℕ) (heads : List Head) (end i : ℕ) (d : Head) → Follow at heads end → end ≤ length cells → i < length heads → at + attr_count (take i (entries_of s heads cells)) ≡ (get_or heads i d).first
+first_counted s cells at [] end i d f le lt = absurd (omega arith)
+first_counted s cells at (h ∷ heads) end zero d f le lt =
+    let begins : at ≡ h.first = f.0 in
+    omega arith
+first_counted s cells at (h ∷ heads) end (suc i) d f le lt =
+    let over = follow_over (h.first + h.count) heads end f.1 in
+    let begins : at ≡ h.first = f.0 in
+    let long = count_long s cells h (omega arith) in
+    let later = first_counted s cells (h.first + h.count) heads end i d f.1 le (omega arith) in
+    omega (arith, long, later, sum_by-cons attrs_long (row (attr_of s) entry_with cells h) (take i (entries_of s heads cells)))
 
 -- an entry begins where its head says
-pub place_read : (s : Sides) (heads : List Head) (cells : List Cell) (ends : List ℕ) (i : ℕ) (h : Head) → i < length heads → h ≡ get_or heads i h → get_or (places_of (raw_entries_of s heads cells ends)) i 0 ≡ h.place
-place_read s heads cells ends i h lt is =
-    let entry : Head → RawEntry = row (raw_attr_of s) raw_entry_with (zip cells ends) in
-    get_or-map (λ (e : RawEntry). e.place) (raw_entries_of s heads cells ends) i (entry h) 0 (omega (arith, length-map heads entry))
-    ∙ ap (λ (e : RawEntry). e.place) (get_or-map entry heads i h (entry h) lt)
+pub place_read : (s : Sides) (heads : List Head) (cells : List Cell) (i : ℕ) (h : Head) → i < length heads → h ≡ get_or heads i h → get_or (map (λ (e : Entry). e.place) (entries_of s heads cells)) i 0 ≡ h.place
+place_read s heads cells i h lt is =
+    let entry : Head → Entry = row (attr_of s) entry_with cells in
+    get_or-map (λ (e : Entry). e.place) (entries_of s heads cells) i (entry h) 0 (omega (arith, length-map heads entry))
+    ∙ ap (λ (e : Entry). e.place) (get_or-map entry heads i h (entry h) lt)
     ∙ ap (λ (x : Head). x.place) (sym is)
-
--- as many as the cells
-pub raw_attrs_long : (s : Sides) (cells : List Cell) (ends : List ℕ) → length ends ≡ length cells → length (raw_attrs_of s cells ends) ≡ length cells
-raw_attrs_long s cells ends beside = simp length-map (zip_long cells ends beside)
-
--- ---- a cell that is written
-
-abbrev attrs_in : RawEntry → List RawAttr
-attrs_in e = e.attrs
-
--- where there is the attribute j of the entry i, there is its cell
-pub raw_cell_place : (s : Sides) (heads : List Head) (cells : List Cell) (ends : List ℕ) (at i j : ℕ) (h : Head) (e : RawEntry) → IsRaw s heads cells ends at → h ≡ get_or heads i h → slice_get (raw_entries_of s heads cells ends) i ≡ Some e → j < length e.attrs → h.first + j < length cells
-raw_cell_place s heads cells ends at i j h e r is read lt =
-    let there = cell_place (raw_attr_of s) raw_entry_with attrs_in (λ h xs. refl) (RawWithin s) heads (zip cells ends) at i j h e (raw_flat s heads cells ends at r) is read lt in
-    let below : j < h.count = there.1 in
-    let within : h.first + h.count ≤ length (zip cells ends) = there.2 in
-    omega (arith, zip_long cells ends r.beside)
-
-pub raw_set : (s : Sides) (heads : List Head) (cells : List Cell) (ends : List ℕ) (k : ℕ) (to : Cell) → CellWithin s to → IsRaw s heads cells ends (length cells) → IsRaw s heads (set cells k to) ends (length (set cells k to))
-raw_set s heads cells ends k to w r =
-    record { flat = flat_set (CellWithin s) heads cells k to w r.flat; beside = r.beside ∙ sym (length-set cells k to) }

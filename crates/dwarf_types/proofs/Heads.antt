@@ -1,31 +1,28 @@
 -- Heads whose cells follow one another, and what their entries are as columns grow.
-use Rattle.std.proofs.Common.{◌≡◌, ℕ, zero, suc, ◌+◌, ◌-◌, ◌<◌, ◌≤◌, ◌||◌, List, [], ◌∷◌, ◌++◌, Bool, true, false, cond, Option, Some, None, map, length, drop, get_or, slice_get, All, refl, ap, ap₂, sym, ◌∙◌, arith}
-use Rattle.std.specs.List.{find, list_any, position, position_or_len}
+use Rattle.std.proofs.Common.{◌≡◌, ℕ, zero, suc, ◌+◌, ◌-◌, ◌<◌, ◌≤◌, ◌||◌, List, [], ◌∷◌, ◌++◌, Bool, cond, not, nat_lt, Some, None, map, length, drop, get_or, slice_get, All, refl, ap, ap₂, subst, sym, ◌∙◌, arith}
+use Rattle.std.specs.List.{find, list_any, position, position_or_len, prefix_len}
 use Rattle.std.specs.Option.{option_map}
 use Rattle.std.proofs.lemmas.Grind.{common_steps}
-use Rattle.std.proofs.lemmas.List.{map_push, length-drop, length_push, take_all}
+use Rattle.std.proofs.lemmas.List.{map_push, length-drop, length-map, length_push, take_all}
 use Rattle.std.proofs.lemmas.List.Elements.{All-take, All-drop, All-head, All-tail, All-push, All-weaker}
 use Rattle.std.proofs.lemmas.List.Folds.{find_at}
+use Rattle.std.proofs.lemmas.List.Sums.{sum_by-cons}
 use Rattle.std.proofs.lemmas.Option.{get_or_from_slice_get, slice_get-get_or, slice_get-map, slice_get_past}
 use Rattle.dwarf_types.specs.declared.columns.Head.{Head}
 use Rattle.dwarf_types.specs.Cells.{Begins}
-use Rattle.dwarf_types.specs.Columns.{Follow, IsFlat, cells_of, row}
+use Rattle.dwarf_types.specs.Columns.{Follow, IsFlat, cell_count, cells_of, row}
 use Rattle.dwarf_types.proofs.Kept.{range_begins}
 
-pub follow_later : (at : ℕ) (heads : List Head) (end later : ℕ) → Follow at heads end → end ≤ later → Follow at heads later
-follow_later at [] end later f le = omega arith
-follow_later at (h ∷ heads) end later f le = (f.0, follow_later (h.first + h.count) heads end later f.1 le)
-
-follow_push : (at : ℕ) (heads : List Head) (h : Head) (end : ℕ) → Follow at heads h.first → h.first + h.count ≤ end → Follow at (heads ++ h ∷ []) end
+follow_push : (at : ℕ) (heads : List Head) (h : Head) (end : ℕ) → Follow at heads h.first → h.first + h.count ≡ end → Follow at (heads ++ h ∷ []) end
 follow_push at [] h end f le = (f, le)
 follow_push at (g ∷ heads) h end f le = (f.0, follow_push (g.first + g.count) heads h end f.1 le)
 
 -- no head begins before where they begin
-follow_over : (at : ℕ) (heads : List Head) (end : ℕ) → Follow at heads end → at ≤ end
-follow_over at [] end f = f
+pub follow_over : (at : ℕ) (heads : List Head) (end : ℕ) → Follow at heads end → at ≤ end
+follow_over at [] end f = omega arith
 follow_over at (h ∷ heads) end f =
     let over = follow_over (h.first + h.count) heads end f.1 in
-    let le : at ≤ h.first = f.0 in
+    let here : at ≡ h.first = f.0 in
     omega arith
 
 follow_within : (at : ℕ) (heads : List Head) (end i : ℕ) (d : Head) → Follow at heads end → i < length heads → (get_or heads i d).first + (get_or heads i d).count ≤ end
@@ -35,11 +32,21 @@ follow_within at (h ∷ heads) end (suc i) d f lt = follow_within (h.first + h.c
 
 pub follow_begins : (at : ℕ) (heads : List Head) (end i : ℕ) (d : Head) → Follow at heads end → i < length heads → at ≤ (get_or heads i d).first
 follow_begins at [] end i d f lt = absurd (omega arith)
-follow_begins at (h ∷ heads) end zero d f lt = f.0
+follow_begins at (h ∷ heads) end zero d f lt =
+    let here : at ≡ h.first = f.0 in
+    omega arith
 follow_begins at (h ∷ heads) end (suc i) d f lt =
     let later = follow_begins (h.first + h.count) heads end i d f.1 (omega arith) in
-    let le : at ≤ h.first = f.0 in
+    let here : at ≡ h.first = f.0 in
     omega arith
+
+-- they end behind all cells that they have
+pub follow_ends : (at : ℕ) (heads : List Head) (end : ℕ) → Follow at heads end → at + cell_count heads ≡ end
+follow_ends at [] end f = omega arith
+follow_ends at (h ∷ heads) end f =
+    let later = follow_ends (h.first + h.count) heads end f.1 in
+    let here : at ≡ h.first = f.0 in
+    omega (arith, later, sum_by-cons (λ (x : Head). x.count) h heads)
 
 pub head_read : {X : Type 0} (Within : X → Type 0) (heads : List Head) (cells : List X) (at i : ℕ) (h : Head) → IsFlat Within heads cells at → i < length heads → h ≡ get_or heads i h → h.first + h.count ≤ length cells
 head_read Within heads cells at i h f lt is =
@@ -97,11 +104,13 @@ flat_cell Within heads cells at c w f =
 
 pub flat_close : {X : Type 0} (Within : X → Type 0) (heads : List Head) (cells : List X) (at : ℕ) (h : Head) → h.first ≡ at → at + h.count ≡ length cells → IsFlat Within heads cells at → IsFlat Within (heads ++ h ∷ []) cells (length cells)
 flat_close Within heads cells at h first count f =
-    let ends : h.first + h.count ≤ length cells = omega arith in
+    let ends : h.first + h.count ≡ length cells = omega arith in
     record { follow = follow_push 0 heads h (length cells) (rw first f.follow) ends; few = omega arith; within = f.within }
 
-pub flat_whole : {X : Type 0} (Within : X → Type 0) (heads : List Head) (cells : List X) (at : ℕ) → IsFlat Within heads cells at → IsFlat Within heads cells (length cells)
-flat_whole Within heads cells at f = record { follow = follow_later 0 heads at (length cells) f.follow f.few; few = omega arith; within = f.within }
+pub flat_whole : {X : Type 0} (Within : X → Type 0) (heads : List Head) (cells : List X) (at : ℕ) → IsFlat Within heads cells at → IsFlat Within heads cells (cell_count heads)
+flat_whole Within heads cells at f =
+    let ends : at ≡ cell_count heads = omega (arith, follow_ends 0 heads at f.follow) in
+    subst (IsFlat Within heads cells) ends f
 
 -- ---- cells of a name
 
@@ -109,13 +118,12 @@ pub any_map : {A B : Type 0} (f : A → B) (p : B → Bool) (xs : List A) → li
 any_map f p [] = refl
 any_map f p (x ∷ xs) = ap (λ b. p (f x) || b) (any_map f p xs)
 
-cond_some : {A B : Type 0} (b : Bool) (f : A → B) (x : A) (o : Option A) → cond b (Some (f x)) (option_map f o) ≡ option_map f (cond b (Some x) o)
-cond_some true f x o = refl
-cond_some false f x o = refl
+prefix_map : {A B : Type 0} (f : A → B) (p : B → Bool) (xs : List A) → prefix_len p (map f xs) ≡ prefix_len (λ x. p (f x)) xs
+prefix_map f p [] = refl
+prefix_map f p (x ∷ xs) = ap (λ n. cond (p (f x)) (1 + n) 0) (prefix_map f p xs)
 
-find_map : {A B : Type 0} (f : A → B) (p : B → Bool) (xs : List A) → find p (map f xs) ≡ option_map f (find (λ x. p (f x)) xs)
-find_map f p [] = refl
-find_map {A} {B} f p (x ∷ xs) = ap (λ (o : Option B). cond (p (f x)) (Some (f x)) o) (find_map f p xs) ∙ cond_some (p (f x)) f x (find (λ y. p (f y)) xs)
+pub position_map : {A B : Type 0} (f : A → B) (p : B → Bool) (xs : List A) → position p (map f xs) ≡ position (λ x. p (f x)) xs
+position_map f p xs = ap₂ (λ i n. cond (nat_lt i n) (Some i) None) (prefix_map f (λ y. not (p y)) xs) (length-map xs f)
 
 -- what is found stands at the position of the first that passes
 at_position : {A : Type 0} (p : A → Bool) (xs : List A) (j : ℕ) → position p xs ≡ Some j → position_or_len p xs ≡ j
@@ -127,12 +135,8 @@ position_within p xs j e = grind (arith, common_steps)
 past_position : {A : Type 0} (p : A → Bool) (xs : List A) → position p xs ≡ None → length xs ≤ position_or_len p xs
 past_position p xs e = grind (arith, common_steps)
 
-pub find_there : {A B : Type 0} (f : A → B) (p : B → Bool) (xs : List A) (j : ℕ) → position (λ x. p (f x)) xs ≡ Some j → find p (map f xs) ≡ slice_get (map f xs) j
-find_there f p xs j e =
-    let here : find (λ x. p (f x)) xs ≡ slice_get xs j = find_at (λ x. p (f x)) xs ∙ ap (slice_get xs) (at_position (λ x. p (f x)) xs j e) in
-    find_map f p xs ∙ ap (option_map f) here ∙ sym (slice_get-map f xs j)
+pub find_there : {A : Type 0} (p : A → Bool) (xs : List A) (j : ℕ) → position p xs ≡ Some j → find p xs ≡ slice_get xs j
+find_there p xs j e = find_at p xs ∙ ap (slice_get xs) (at_position p xs j e)
 
-pub find_none : {A B : Type 0} (f : A → B) (p : B → Bool) (xs : List A) → position (λ x. p (f x)) xs ≡ None → find p (map f xs) ≡ None
-find_none f p xs e =
-    let none : find (λ x. p (f x)) xs ≡ None = find_at (λ x. p (f x)) xs ∙ slice_get_past xs (position_or_len (λ x. p (f x)) xs) (past_position (λ x. p (f x)) xs e) in
-    find_map f p xs ∙ ap (option_map f) none
+pub find_none : {A : Type 0} (p : A → Bool) (xs : List A) → position p xs ≡ None → find p xs ≡ None
+find_none p xs e = find_at p xs ∙ slice_get_past xs (position_or_len p xs) (past_position p xs e)

@@ -10,12 +10,12 @@ pub mod Kept
 pub mod Lengths
 pub mod LineRows
 pub mod Placing
-pub mod Plain
 pub mod PlainCells
 pub mod Readers
 pub mod Replacing
 pub mod Setting
 pub mod Texts
+pub mod WithEnds
 pub mod WorkedGraph
 pub mod WorkedLinked
 pub mod WorkedParts

@@ -1,5 +1,5 @@
 -- What the kind of a cell tells of its value, and its name of its attribute's.
-use Rattle.std.proofs.Common.{◌≡◌, ℕ, zero, suc, List, [], ◌∷◌, Bool, Some, map, length, slice_get, refl, sym, ap, ◌∙◌, arith}
+use Rattle.std.proofs.Common.{◌≡◌, ℕ, zero, suc, List, [], ◌∷◌, Bool, Some, map, slice_get, refl, sym, ap, ◌∙◌}
 use Rattle.std.specs.Prelude.{is_some}
 use Rattle.std.specs.List.{list_any}
 use Rattle.std.proofs.Math.Path.{fun_ext}
@@ -8,9 +8,8 @@ use Rattle.dwarf_types.specs.declared.sides.Kind.{Kind}
 use Rattle.dwarf_types.specs.declared.sides.Kind.TheVariants as kinds
 use Rattle.dwarf_types.specs.declared.sides.Sides.{Sides}
 use Rattle.dwarf_types.specs.declared.entry.Attr.{Attr}
-use Rattle.dwarf_types.specs.declared.entry.RawAttr.{RawAttr}
 use Rattle.dwarf_types.specs.Cells.{held_value}
-use Rattle.dwarf_types.specs.Columns.{attr_of, raw_attr_of, raw_attrs_of}
+use Rattle.dwarf_types.specs.Columns.{attr_of}
 use Rattle.dwarf_types.specs.declared.value.Value.{Value}
 use Rattle.dwarf_types.specs.Moves.{place_in}
 use Rattle.dwarf_types.specs.Plain.{holds_address, holds_offset, holds_plain, is_offset, is_plain}
@@ -99,13 +98,3 @@ named_at s (c ∷ cells) zero name a there is =
     let same : attr_of s c ≡ a = cc in
     sym own ∙ ap (λ (b : Attr). b.name) same
 named_at s (c ∷ cells) (suc j) name a there is = named_at s cells j name a there is
-
-pub raw_plain_at : (s : Sides) (cells : List Cell) (ends : List ℕ) (j : ℕ) (kind : Kind) (a : RawAttr) → length ends ≡ length cells → slice_get (map (λ (c : Cell). c.kind) cells) j ≡ Some kind → slice_get (raw_attrs_of s cells ends) j ≡ Some a → holds_plain kind ≡ is_plain a.value
-raw_plain_at s [] ends j kind a beside there is = absurd (let no : ⊥ = cc in no)
-raw_plain_at s (c ∷ cells) [] j kind a beside there is = absurd (omega arith)
-raw_plain_at s (c ∷ cells) (e ∷ ends) zero kind a beside there is =
-    let own : c.kind ≡ kind = cc in
-    let pair : Cell × ℕ = (c, e) in
-    let same : raw_attr_of s pair ≡ a = cc in
-    ap holds_plain (sym own) ∙ plain_held s c.kind c.form c.payload ∙ ap (λ (b : RawAttr). is_plain b.value) same
-raw_plain_at s (c ∷ cells) (e ∷ ends) (suc j) kind a beside there is = raw_plain_at s cells ends j kind a (omega arith) there is

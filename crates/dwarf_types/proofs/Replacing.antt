@@ -1,24 +1,20 @@
 -- A value in the place of another: one attribute of one entry changes, whatever the columns beside the cells are then.
 use Rattle.std.proofs.Common.{◌≡◌, ℕ, zero, suc, ◌+◌, ◌-◌, ◌<◌, ◌≤◌, List, [], ◌∷◌, map, length, drop, take, get_or, set, slice_get, Some, All, refl, ap, ap₂, sym, ◌∙◌, arith}
 use Rattle.std.specs.Prelude.{⊤}
-use Rattle.std.specs.List.{drop-map, take-map, zip}
+use Rattle.std.specs.List.{drop-map, take-map}
 use Rattle.std.proofs.Math.ListN.{get_or-map}
-use Rattle.std.proofs.lemmas.List.{get_or_default, length-map}
+use Rattle.std.proofs.lemmas.List.{length-map}
 use Rattle.std.proofs.lemmas.List.Elements.{All-cons, All-get_or, All-nil}
 use Rattle.std.proofs.lemmas.Option.{slice_get_within}
-use Rattle.std.proofs.lemmas.Slice.Zip.{get_or-zip}
 use Rattle.dwarf_types.specs.declared.columns.Cell.{Cell}
 use Rattle.dwarf_types.specs.declared.columns.Head.{Head}
 use Rattle.dwarf_types.specs.declared.entry.Attr.{Attr}
 use Rattle.dwarf_types.specs.declared.entry.Entry.{Entry}
-use Rattle.dwarf_types.specs.declared.entry.RawAttr.{RawAttr}
-use Rattle.dwarf_types.specs.declared.entry.RawEntry.{RawEntry}
 use Rattle.dwarf_types.specs.declared.sides.Kind.{Kind}
 use Rattle.dwarf_types.specs.declared.sides.Sides.{Sides}
 use Rattle.dwarf_types.specs.declared.value.Value.{Value}
 use Rattle.dwarf_types.specs.Cells.{KeepsOthers, held_value}
-use Rattle.dwarf_types.specs.Columns.{AreEntries, AreFew, AreRaw, CellWithin, IsFlat, attr_of, cells_of, entries_of, entry_with, held_of, raw_attr_of, raw_entries_of, raw_entry_with, row}
-use Rattle.dwarf_types.proofs.Ends.{raw_cell_place, raw_flat, zip_long, zip_set, RawWithin}
+use Rattle.dwarf_types.specs.Columns.{AreEntries, AreFew, CellWithin, IsFlat, attr_of, cell_count, cells_of, entries_of, entry_with, held_of, row}
 use Rattle.dwarf_types.proofs.Few.{apart_from}
 use Rattle.dwarf_types.proofs.Setting.{attr_stands, cell_place, row_set}
 
@@ -90,20 +86,17 @@ attr_stays old new c same =
 abbrev attrs_of : Entry → List Attr
 attrs_of e = e.attrs
 
-abbrev raw_attrs : RawEntry → List RawAttr
-raw_attrs e = e.attrs
-
 -- the cell of the attribute j of the entry i
 pub cell_there : (s : Sides) (heads : List Head) (cells : List Cell) (i j : ℕ) (h : Head) (e : Entry) → AreEntries s heads cells → h ≡ get_or heads i h → slice_get (entries_of s heads cells) i ≡ Some e → j < length e.attrs → h.first + j < length cells
 cell_there s heads cells i j h e all is read lt =
-    let there = cell_place (attr_of s) entry_with attrs_of (λ h xs. refl) (CellWithin s) heads cells (length cells) i j h e all.flat is read lt in
+    let there = cell_place (attr_of s) entry_with attrs_of (λ h xs. refl) (CellWithin s) heads cells (cell_count heads) i j h e all.flat is read lt in
     let below : j < h.count = there.1 in
     let within : h.first + h.count ≤ length cells = there.2 in
     omega arith
 
 pub attr_there : (s : Sides) (heads : List Head) (cells : List Cell) (i j : ℕ) (h : Head) (cell : Cell) (e : Entry) → AreEntries s heads cells → h ≡ get_or heads i h → slice_get (entries_of s heads cells) i ≡ Some e → j < length e.attrs → cell ≡ get_or cells (h.first + j) cell → slice_get e.attrs j ≡ Some (attr_of s cell)
 attr_there s heads cells i j h cell e all is read lt here =
-    attr_stands (attr_of s) entry_with attrs_of (λ h xs. refl) (CellWithin s) heads cells (length cells) i j h cell e all.flat is read lt here
+    attr_stands (attr_of s) entry_with attrs_of (λ h xs. refl) (CellWithin s) heads cells (cell_count heads) i j h cell e all.flat is read lt here
 
 pub entries_over : (old new : Sides) (heads : List Head) (cells : List Cell) (i j : ℕ) (h : Head) (cell : Cell) (kind : Kind) (payload : ℕ) (e : Entry) (a : Attr) → AreEntries old heads cells → KeepsOthers (held_of cell) old new → h ≡ get_or heads i h → slice_get (entries_of old heads cells) i ≡ Some e → slice_get e.attrs j ≡ Some a → cell ≡ get_or cells (h.first + j) cell
     → entries_of new heads (set cells (h.first + j) (record cell { kind = kind; payload = payload })) ≡ set (entries_of old heads cells) i (record e { attrs = set e.attrs j (record a { value = held_value new kind cell.form payload }) })
@@ -111,51 +104,7 @@ entries_over old new heads cells i j h cell kind payload e a all others is read 
     let to : Cell = record cell { kind = kind; payload = payload } in
     let lt : h.first + j < length cells = cell_there old heads cells i j h e all is read (slice_get_within e.attrs j a this) in
     let same : (l : ℕ) (d : Cell) → l < length cells → (l ≡ h.first + j → ⊥) → attr_of new (get_or cells l d) ≡ attr_of old (get_or cells l d) = λ l d inside other. attr_stays old new (get_or cells l d) (value_stays old new cells (h.first + j) l cell d all.flat.within all.columns others lt here inside other) in
-    let written = row_over (attr_of old) (attr_of new) entry_with attrs_of (λ h xs. refl) (CellWithin old) heads cells (length cells) i j h cell to e a all.flat is read this here same in
+    let written = row_over (attr_of old) (attr_of new) entry_with attrs_of (λ h xs. refl) (CellWithin old) heads cells (cell_count heads) i j h cell to e a all.flat is read this here same in
     let attr : attr_of new to ≡ record a { value = held_value new kind cell.form payload } = ap (λ (x : Attr). record x { value = held_value new kind cell.form payload }) written.2 in
     let entry : entry_with h (set e.attrs j (attr_of new to)) ≡ record e { attrs = set e.attrs j (record a { value = held_value new kind cell.form payload }) } = ap₂ (λ (x : Entry) (y : Attr). record x { attrs = set e.attrs j y }) written.1 attr in
     written.0 ∙ ap (set (entries_of old heads cells) i) entry
-
--- ---- the same as they are read
-
-pub raw_cell_there : (s : Sides) (heads : List Head) (cells : List Cell) (ends : List ℕ) (i j : ℕ) (h : Head) (e : RawEntry) → AreRaw s heads cells ends → h ≡ get_or heads i h → slice_get (raw_entries_of s heads cells ends) i ≡ Some e → j < length e.attrs → h.first + j < length cells
-raw_cell_there s heads cells ends i j h e all is read lt = raw_cell_place s heads cells ends (length cells) i j h e all.raw is read lt
-
--- a cell beside the place behind its value
-pair_there : (cells : List Cell) (ends : List ℕ) (k : ℕ) (cell : Cell) → length ends ≡ length cells → k < length cells → cell ≡ get_or cells k cell → ◌≡◌ {A = Cell × ℕ} (cell, get_or ends k 0) (get_or (zip cells ends) k (cell, get_or ends k 0))
-pair_there cells ends k cell beside lt here =
-    let own : ℕ = get_or ends k 0 in
-    let was : Cell × ℕ = (cell, own) in
-    let stays : own ≡ get_or ends k own = get_or_default ends k 0 own (omega arith) in
-    sym (get_or-zip cells ends k was lt (omega arith) ∙ ap₂ (λ (x : Cell) (y : ℕ). (x, y)) (sym here) (sym stays))
-
-pub raw_attr_there : (s : Sides) (heads : List Head) (cells : List Cell) (ends : List ℕ) (i j : ℕ) (h : Head) (cell : Cell) (e : RawEntry) → AreRaw s heads cells ends → h ≡ get_or heads i h → slice_get (raw_entries_of s heads cells ends) i ≡ Some e → j < length e.attrs → cell ≡ get_or cells (h.first + j) cell → slice_get e.attrs j ≡ Some (raw_attr_of s (cell, get_or ends (h.first + j) 0))
-raw_attr_there s heads cells ends i j h cell e all is read lt here =
-    let was : Cell × ℕ = (cell, get_or ends (h.first + j) 0) in
-    let pair : was ≡ get_or (zip cells ends) (h.first + j) was = pair_there cells ends (h.first + j) cell all.raw.beside (raw_cell_there s heads cells ends i j h e all is read lt) here in
-    attr_stands (raw_attr_of s) raw_entry_with raw_attrs (λ h xs. refl) (RawWithin s) heads (zip cells ends) (length cells) i j h was e (raw_flat s heads cells ends (length cells) all.raw) is read lt pair
-
-raw_attr_stays : (old new : Sides) (cells : List Cell) (ends : List ℕ) (l : ℕ) (d : Cell × ℕ) → length ends ≡ length cells → l < length cells → value_of new (get_or cells l d.0) ≡ value_of old (get_or cells l d.0) → raw_attr_of new (get_or (zip cells ends) l d) ≡ raw_attr_of old (get_or (zip cells ends) l d)
-raw_attr_stays old new cells ends l d beside lt same =
-    let c : Cell = get_or cells l d.0 in
-    let end : ℕ = get_or ends l d.1 in
-    let one : get_or (zip cells ends) l d ≡ (c, end) = get_or-zip cells ends l d lt (omega arith) in
-    let with_value : Value → RawAttr = λ value. record { name = c.name; form = c.form; end = end; value = value } in
-    ap (raw_attr_of new) one ∙ ap with_value same ∙ ap (raw_attr_of old) (sym one)
-
-pub raw_entries_over : (old new : Sides) (heads : List Head) (cells : List Cell) (ends : List ℕ) (i j : ℕ) (h : Head) (cell : Cell) (kind : Kind) (payload : ℕ) (e : RawEntry) (a : RawAttr) → AreRaw old heads cells ends → KeepsOthers (held_of cell) old new → h ≡ get_or heads i h → slice_get (raw_entries_of old heads cells ends) i ≡ Some e → slice_get e.attrs j ≡ Some a → cell ≡ get_or cells (h.first + j) cell
-    → raw_entries_of new heads (set cells (h.first + j) (record cell { kind = kind; payload = payload })) ends ≡ set (raw_entries_of old heads cells ends) i (record e { attrs = set e.attrs j (record a { value = held_value new kind cell.form payload }) })
-raw_entries_over old new heads cells ends i j h cell kind payload e a all others is read this here =
-    let k : ℕ = h.first + j in
-    let to : Cell = record cell { kind = kind; payload = payload } in
-    let own : ℕ = get_or ends k 0 in
-    let was : Cell × ℕ = (cell, own) in
-    let becomes : Cell × ℕ = (to, own) in
-    let beside : length ends ≡ length cells = all.raw.beside in
-    let lt : k < length cells = raw_cell_there old heads cells ends i j h e all is read (slice_get_within e.attrs j a this) in
-    let pair : was ≡ get_or (zip cells ends) k was = pair_there cells ends k cell beside lt here in
-    let same : (l : ℕ) (d : Cell × ℕ) → l < length (zip cells ends) → (l ≡ k → ⊥) → raw_attr_of new (get_or (zip cells ends) l d) ≡ raw_attr_of old (get_or (zip cells ends) l d) = λ l d inside other. let low : l < length cells = omega (arith, zip_long cells ends beside) in raw_attr_stays old new cells ends l d beside low (value_stays old new cells k l cell d.0 all.raw.flat.within all.columns others lt here low other) in
-    let written = row_over (raw_attr_of old) (raw_attr_of new) raw_entry_with raw_attrs (λ h xs. refl) (RawWithin old) heads (zip cells ends) (length cells) i j h was becomes e a (raw_flat old heads cells ends (length cells) all.raw) is read this pair same in
-    let attr : raw_attr_of new becomes ≡ record a { value = held_value new kind cell.form payload } = ap (λ (x : RawAttr). record x { value = held_value new kind cell.form payload }) written.2 in
-    let entry : raw_entry_with h (set e.attrs j (raw_attr_of new becomes)) ≡ record e { attrs = set e.attrs j (record a { value = held_value new kind cell.form payload }) } = ap₂ (λ (x : RawEntry) (y : RawAttr). record x { attrs = set e.attrs j y }) written.1 attr in
-    ap (λ (cs : List (Cell × ℕ)). map (row (raw_attr_of new) raw_entry_with cs) heads) (zip_set cells ends k to 0) ∙ written.0 ∙ ap (set (raw_entries_of old heads cells ends) i) entry

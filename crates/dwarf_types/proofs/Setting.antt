@@ -32,17 +32,17 @@ here_set : {X : Type 0} (cells : List X) (j : ℕ) (c : X) (h : Head) → cells_
 here_set cells j c h =
     ap (take (h.first + h.count - h.first)) (drop-set-add h.first cells j c) ∙ take_set (h.first + h.count - h.first) (drop h.first cells) j c
 
-pub flat_set : {X : Type 0} (Within : X → Type 0) (heads : List Head) (cells : List X) (k : ℕ) (to : X) → Within to → IsFlat Within heads cells (length cells) → IsFlat Within heads (set cells k to) (length (set cells k to))
-flat_set Within heads cells k to w f =
-    let len = length-set cells k to in
-    record { follow = subst (λ (n : ℕ). Follow 0 heads n) (sym len) f.follow; few = omega arith; within = All-set Within cells k to w f.within }
+pub flat_set : {X : Type 0} (Within : X → Type 0) (heads : List Head) (cells : List X) (at k : ℕ) (to : X) → Within to → IsFlat Within heads cells at → IsFlat Within heads (set cells k to) at
+flat_set Within heads cells at k to w f =
+    let few : at ≤ length cells = f.few in
+    record { follow = f.follow; few = omega (arith, length-set cells k to); within = All-set Within cells k to w f.within }
 
 -- what an entry is made of, and how its attributes are seen again
 module _ {X A E : Type 0} (f : X → A) (with_attrs : Head → List A → E) (attrs : E → List A) (seen : (h : Head) (xs : List A) → attrs (with_attrs h xs) ≡ xs) where
   rows_past : (cells : List X) (k : ℕ) (c : X) (at : ℕ) (heads : List Head) (end : ℕ) → Follow at heads end → k < at → map (row f with_attrs (set cells k c)) heads ≡ map (row f with_attrs cells) heads
   rows_past cells k c at [] end follow lt = refl
   rows_past cells k c at (h ∷ heads) end follow lt =
-      let le : at ≤ h.first = follow.0 in
+      let here : at ≡ h.first = follow.0 in
       let same = past_same cells k c h (omega arith) in
       ap₂ ◌∷◌ (ap (λ (cs : List X). with_attrs h (map f cs)) same) (rows_past cells k c (h.first + h.count) heads end follow.1 (omega arith))
 

@@ -24,9 +24,6 @@ attr_of s c = record { name = c.name; form = c.form; value = held_value s c.kind
 abbrev pub raw_attr_of : Sides → Cell × ℕ → RawAttr
 raw_attr_of s c = record { name = c.0.name; form = c.0.form; end = c.1; value = held_value s c.0.kind c.0.form c.0.payload }
 
-abbrev pub raw_attrs_of : Sides → List Cell → List ℕ → List RawAttr
-raw_attrs_of s cells ends = map (raw_attr_of s) (zip cells ends)
-
 -- a cell's payload lies in its column
 abbrev pub CellWithin : Sides → Cell → Type 0
 CellWithin s c = IsWithin s c.kind c.payload
@@ -63,8 +60,12 @@ built_of s heads cells ends open_from = record { entries = raw_entries_of s head
 
 -- the cells of the heads follow one another, from one place up to another
 abbrev pub Follow : ℕ → List Head → ℕ → Type 0
-Follow at [] end = at ≤ end
-Follow at (h ∷ heads) end = (at ≤ h.first) × Follow (h.first + h.count) heads end
+Follow at [] end = at ≡ end
+Follow at (h ∷ heads) end = (at ≡ h.first) × Follow (h.first + h.count) heads end
+
+-- how many cells they have
+abbrev pub cell_count : List Head → ℕ
+cell_count heads = sum_by (λ h. h.count) heads
 
 -- the heads have the cells before a place, and each cell lies in its column
 pub record IsFlat {X : Type 0} (Within : X → Type 0) (heads : List Head) (cells : List X) (open_from : ℕ) : Type 0 where
@@ -97,12 +98,7 @@ pub record AreFew (s : Sides) (cells : List Cell) : Type 0 where
 -- ---- what is held of entries
 
 pub record AreEntries (s : Sides) (heads : List Head) (cells : List Cell) : Type 0 where
-  pub flat : IsFlat (CellWithin s) heads cells (length cells)
-  pub columns : AreFew s cells
-
--- as they are read
-pub record AreRaw (s : Sides) (heads : List Head) (cells : List Cell) (ends : List ℕ) : Type 0 where
-  pub raw : IsRaw s heads cells ends (length cells)
+  pub flat : IsFlat (CellWithin s) heads cells (cell_count heads)
   pub columns : AreFew s cells
 
 -- as they are put: each head has few cells, so 32 bits hold their places

@@ -10,7 +10,7 @@ ghost use Rattle.dwarf_types.specs.Put.{value_read};
 use crate::columns::{Cell, Head, NO_PARENT, cells_from, cells_in, has_name};
 use crate::entries::RawEntries;
 use crate::entry::MOST_ENTRIES;
-use crate::entry_ref::RawEntryRef;
+use crate::entry_ref::{EntryRef, RawEntryRef};
 use crate::put::RawValue;
 use crate::sides::Sides;
 use ds_base::NoMemory;
@@ -85,7 +85,7 @@ impl Builder {
         let head = self.heads[i];
         let cells = cells_in(&self.cells, &head);
         let ends = cells_in(&self.ends, &head);
-        Some(RawEntryRef::new(&self.sides, cells, ends, head))
+        Some(RawEntryRef::new(EntryRef::new(&self.sides, cells, head), ends))
     }
 
     /// Whether an attribute of the next entry has the name.

@@ -1,14 +1,14 @@
 //! Entries in document order, as they are read and as they are understood.
 
-ghost use Rattle.std.specs.Prelude.{◌≡◌, ◌<◌, [], length, map, take, slice_get, slice_index_or, slice_set, Some, OnOk, OnErr};
+ghost use Rattle.std.specs.Prelude.{◌≡◌, ◌+◌, ◌<◌, ◌≤◌, [], drop, length, map, take, slice_get, slice_index_or, slice_set, Some, OnOk, OnErr};
 ghost use Rattle.dwarf_types.specs.declared.entry.Attr.{Attr as AnAttr};
 ghost use Rattle.dwarf_types.specs.declared.entry.Entry.{Entry as AnEntry};
 ghost use Rattle.dwarf_types.specs.declared.entry.RawAttr.{RawAttr as ARawAttr};
 ghost use Rattle.dwarf_types.specs.declared.entry.RawEntry.{RawEntry as ARawEntry};
-ghost use Rattle.dwarf_types.specs.Columns.{AreRaw, raw_entries_of};
+ghost use Rattle.dwarf_types.specs.Columns.{AreEntries, entries_of, raw_entries_of};
 ghost use Rattle.dwarf_types.specs.PlaceSteps.{places_of};
 ghost use Rattle.dwarf_types.specs.Put.{MayBecome, value_put};
-ghost use Rattle.dwarf_types.specs.Raw.{attr_of, entry_of};
+ghost use Rattle.dwarf_types.specs.Raw.{attr_count, entry_of};
 
 use crate::columns::{Cell, Head, cells_in};
 use crate::entry_ref::{EntryRef, RawEntryRef};
@@ -46,15 +46,13 @@ impl Model for Entries {
 /// The entries of an object as they are read, which contracts see as the list of them.
 #[derive(Drop)]
 pub struct RawEntries {
-    heads: Vec<Head>,
-    cells: Vec<Cell>,
-    /// Of each cell, the place behind its value.
+    entries: Entries,
+    /// Of each attribute, entry by entry, the place behind its value.
     ends: Vec<u32>,
-    sides: Sides,
 }
 
 impl Model for RawEntries {
-    ghost use Rattle.std.specs.Prelude.{List};
+    ghost use Rattle.std.specs.Prelude.{◌≤◌, List, length};
     ghost use Rattle.std.specs.Coded.{coded_list};
     ghost use Rattle.dwarf_types.specs.declared.entry.RawEntry.{RawEntry as ARawEntry};
     ghost use Rattle.dwarf_types.specs.contracts.entry.RawEntry.{the_row};
@@ -63,11 +61,11 @@ impl Model for RawEntries {
 
     ghost coded = { coded_list the_row.coded };
 
-    ghost use Rattle.dwarf_types.specs.Columns.{AreRaw, raw_entries_of};
+    ghost use Rattle.dwarf_types.specs.Raw.{attr_count, raw_entries};
 
-    ghost view = { λ e. raw_entries_of e.sides e.heads.items e.cells.items e.ends.items };
+    ghost view = { λ e. raw_entries e.entries e.ends.items };
 
-    ghost invariant = { λ e. AreRaw e.sides e.heads.items e.cells.items e.ends.items };
+    ghost invariant = { λ e. attr_count e.entries ≤ length e.ends.items };
 }
 
 impl Entries {
@@ -79,6 +77,18 @@ impl Entries {
             heads: Vec::new(alloc),
             cells: Vec::new(alloc),
             sides: Sides::new(alloc),
+        }
+    }
+
+    /// The entries of columns.
+    fn from_columns(heads: Vec<Head>, cells: Vec<Cell>, sides: Sides) -> Entries
+        requires { AreEntries sides heads.items cells.items }
+        ensures { result ≡ entries_of sides heads.items cells.items }
+    {
+        Entries {
+            heads,
+            cells,
+            sides,
         }
     }
 
@@ -109,6 +119,22 @@ impl Entries {
         EntryRef::new(&self.sides, cells_in(&self.cells, &head), head)
     }
 
+    /// How many attributes the entries before that of a number have.
+    fn attrs_before(&self, i: usize) -> usize
+        requires { i < length self.now }
+        ensures { result ≡ attr_count (take i self.now) }
+    {
+        self.heads[i].first as usize
+    }
+
+    /// The place in `__debug_info` of the entry of a number.
+    fn place_of(&self, i: usize) -> u32
+        requires { i < length self.now }
+        ensures { result ≡ slice_index_or (map (λ e. e.place) self.now) i 0 }
+    {
+        self.heads[i].place
+    }
+
     /// Another value for the attribute at place `j` of entry `i`.
     pub fn set(&mut self, i: usize, j: usize, value: NewValue<'_>) -> Result<(), NoMemory>
         requires stands { (e : AnEntry) × (slice_get self.old i ≡ Some e) × (j < length e.attrs) }
@@ -133,14 +159,13 @@ impl RawEntries {
         ends: Vec<u32>,
         sides: Sides,
     ) -> RawEntries
-        requires { AreRaw sides heads.items cells.items ends.items }
+        requires entries { AreEntries sides heads.items cells.items }
+        requires beside { length ends.items ≡ length cells.items }
         ensures { result ≡ raw_entries_of sides heads.items cells.items ends.items }
     {
         RawEntries {
-            heads,
-            cells,
+            entries: Entries::from_columns(heads, cells, sides),
             ends,
-            sides,
         }
     }
 
@@ -148,14 +173,14 @@ impl RawEntries {
     pub fn len(&self) -> usize
         ensures { result ≡ length self.now }
     {
-        self.heads.len()
+        self.entries.len()
     }
 
     /// The entry of a number, or `None` behind the last.
     pub fn get(&self, i: usize) -> Option<RawEntryRef<'_>>
         ensures { result ≡ slice_get self.now i }
     {
-        if i >= self.heads.len() {
+        if i >= self.len() {
             return None;
         }
         Some(self.entry(i))
@@ -167,10 +192,9 @@ impl RawEntries {
         ensures stands { slice_get self.now i ≡ Some result }
         ensures item { result ≡ slice_index_or self.now i result }
     {
-        let head = self.heads[i];
-        let cells = cells_in(&self.cells, &head);
-        let ends = cells_in(&self.ends, &head);
-        RawEntryRef::new(&self.sides, cells, ends, head)
+        let entry = self.entries.entry(i);
+        let ends = ends_in(&self.ends, self.entries.attrs_before(i), entry.len());
+        RawEntryRef::new(entry, ends)
     }
 
     /// The place in `__debug_info` of the entry of a number.
@@ -178,7 +202,7 @@ impl RawEntries {
         requires { i < length self.now }
         ensures { result ≡ slice_index_or (places_of self.now) i 0 }
     {
-        self.heads[i].place
+        self.entries.place_of(i)
     }
 
     /// Another value for the attribute at place `j` of entry `i`.
@@ -189,10 +213,7 @@ impl RawEntries {
             → OnOk result (self.new ≡ slice_set self.old i (record e { attrs = slice_set e.attrs j (record a { value = value_put value.entry }) })) }
         ensures unchanged { OnErr result (self.new ≡ self.old) }
     {
-        let k = self.heads[i].first as usize + j;
-        let cell = self.cells[k];
-        let held = self.sides.store_over(cell.held(), value)?;
-        self.cells[k] = with_value(cell, held);
+        self.entries.set(i, j, value)?;
         Ok(())
     }
 
@@ -200,18 +221,17 @@ impl RawEntries {
     pub fn into_entries(self) -> Entries
         ensures { result ≡ map entry_of self }
     {
-        let RawEntries {
-            heads,
-            cells,
-            sides,
-            ..
-        } = self;
-        Entries {
-            heads,
-            cells,
-            sides,
-        }
+        let RawEntries { entries, .. } = self;
+        entries
     }
+}
+
+/// So many places from one on.
+fn ends_in(ends: &[u32], first: usize, count: usize) -> &[u32]
+    requires { first + count ≤ length ends.now }
+    ensures { result.now ≡ take count (drop first ends.now) }
+{
+    &ends[first..first + count]
 }
 
 /// Another value in a cell.

@@ -2,12 +2,13 @@
 
 ghost use Rattle.std.specs.Prelude.{◌≡◌, ◌<◌, ◌==◌, All, length, map, slice_get, slice_index_or, is_some, Some};
 ghost use Rattle.std.specs.Option.{option_map};
-ghost use Rattle.std.specs.List.{find, list_any};
+ghost use Rattle.std.specs.List.{find, list_any, position};
 ghost use Rattle.dwarf_types.specs.declared.entry.Attr.{Attr as AnAttr};
 ghost use Rattle.dwarf_types.specs.declared.entry.RawAttr.{RawAttr as ARawAttr};
-ghost use Rattle.dwarf_types.specs.Columns.{CellWithin, attr_of, entry_with, raw_attr_of, raw_attrs_of, raw_entry_with};
+ghost use Rattle.dwarf_types.specs.Columns.{CellWithin, attr_of, entry_with};
 ghost use Rattle.dwarf_types.specs.Moves.{place_in};
 ghost use Rattle.dwarf_types.specs.Plain.{is_offset, is_plain};
+ghost use Rattle.dwarf_types.specs.Raw.{raw_entry};
 ghost use Rattle.dwarf_types.specs.Seen.{attr_seen, raw_attr_seen};
 
 use crate::columns::{
@@ -128,26 +129,30 @@ impl<'a> EntryRef<'a> {
     pub fn find(&self, name: u16) -> Option<AttrRef<'a>>
         ensures { option_map attr_seen result ≡ find (λ a. a.name == name) self.now.attrs }
     {
-        match first_named(self.cells, name) {
+        match self.index_of(name) {
             Some(j) => Some(self.attr(j)),
             None => None,
         }
+    }
+
+    /// The place of its first attribute of a name, counted from 0.
+    fn index_of(&self, name: u16) -> Option<usize>
+        ensures { result ≡ position (λ a. a.name == name) self.now.attrs }
+    {
+        first_named(self.cells, name)
     }
 }
 
 /// An entry as it is read, where it stands, which contracts see as the entry.
 #[derive(Drop)]
 pub struct RawEntryRef<'a> {
-    sides: &'a Sides,
-    /// Its own.
-    cells: &'a [Cell],
-    /// Of each cell, the place behind its value.
+    entry: EntryRef<'a>,
+    /// Of each attribute, the place behind its value.
     ends: &'a [u32],
-    head: Head,
 }
 
 impl<'a> Model for RawEntryRef<'a> {
-    ghost use Rattle.std.specs.Prelude.{◌≡◌, All, length};
+    ghost use Rattle.std.specs.Prelude.{◌≡◌, length};
     ghost use Rattle.dwarf_types.specs.declared.entry.RawEntry.{RawEntry as ARawEntry};
     ghost use Rattle.dwarf_types.specs.contracts.entry.RawEntry.{the_row};
 
@@ -155,65 +160,54 @@ impl<'a> Model for RawEntryRef<'a> {
 
     ghost coded = { the_row.coded };
 
-    ghost use Rattle.dwarf_types.specs.Columns.{CellWithin, raw_attrs_of, raw_entry_with};
+    ghost use Rattle.dwarf_types.specs.Raw.{raw_entry};
 
-    ghost view = { λ e. raw_entry_with e.head (raw_attrs_of e.sides.now e.cells.now e.ends.now) };
+    ghost view = { λ e. raw_entry e.entry e.ends.now };
 
-    ghost invariant = { λ e. All (CellWithin e.sides.now) e.cells.now × (length e.ends.now ≡ length e.cells.now) };
+    ghost invariant = { λ e. length e.ends.now ≡ length e.entry.attrs };
 }
 
 impl<'a> RawEntryRef<'a> {
-    pub(crate) fn new(
-        sides: &'a Sides,
-        cells: &'a [Cell],
-        ends: &'a [u32],
-        head: Head,
-    ) -> RawEntryRef<'a>
-        requires within { All (CellWithin sides.now) cells.now }
-        requires beside { length ends.now ≡ length cells.now }
-        ensures { result ≡ raw_entry_with head (raw_attrs_of sides.now cells.now ends.now) }
+    pub(crate) fn new(entry: EntryRef<'a>, ends: &'a [u32]) -> RawEntryRef<'a>
+        requires { length ends.now ≡ length entry.attrs }
+        ensures { result ≡ raw_entry entry.entry ends.now }
     {
-        RawEntryRef {
-            sides,
-            cells,
-            ends,
-            head,
-        }
+        RawEntryRef { entry, ends }
     }
 
     /// The `DW_TAG` number.
     pub fn tag(&self) -> u16
         ensures { result ≡ self.now.tag }
     {
-        self.head.tag
+        self.entry.tag()
     }
 
     /// The number of its unit in the object, counted from 0.
     pub fn unit(&self) -> u32
         ensures { result ≡ self.now.unit }
     {
-        self.head.unit
+        self.entry.unit()
     }
 
     /// The place of its first byte in `__debug_info`.
     pub fn place(&self) -> u32
         ensures { result ≡ self.now.place }
     {
-        self.head.place
+        self.entry.place()
     }
 
     /// The number of its parent among the object's entries, counted from 0; none at the root of a unit.
     pub fn parent(&self) -> Option<u32>
         ensures { result ≡ self.now.parent }
     {
-        self.head.parent()
+        self.entry.parent()
     }
 
     /// How many attributes it has.
     pub fn len(&self) -> usize
         ensures { result ≡ length self.now.attrs }
     {
-        self.cells.len()
+        self.entry.len()
     }
 
     /// Its attribute at a place, counted from 0.
@@ -222,7 +216,13 @@ impl<'a> RawEntryRef<'a> {
         ensures stands { slice_get self.now.attrs j ≡ Some (raw_attr_seen result) }
         ensures item { raw_attr_seen result ≡ slice_index_or self.now.attrs j (raw_attr_seen result) }
     {
-        raw_attr_in(self.sides, self.cells[j], self.ends[j])
+        let attr = self.entry.attr(j);
+        RawAttrRef {
+            name: attr.name,
+            form: attr.form,
+            end: self.ends[j],
+            value: attr.value,
+        }
     }
 
     /// Whether its attribute at a place, counted from 0, is a text or a number, which mean the same wherever they stand.
@@ -230,30 +230,16 @@ impl<'a> RawEntryRef<'a> {
         requires { j < length self.now.attrs }
         ensures { (a : ARawAttr) → slice_get self.now.attrs j ≡ Some a → result ≡ is_plain a.value }
     {
-        is_plain(kind_at(self.cells, j))
+        self.entry.is_plain(j)
     }
 
     /// Its first attribute of a name.
     pub fn find(&self, name: u16) -> Option<RawAttrRef<'a>>
         ensures { option_map raw_attr_seen result ≡ find (λ a. a.name == name) self.now.attrs }
     {
-        match first_named(self.cells, name) {
+        match self.entry.index_of(name) {
             Some(j) => Some(self.attr(j)),
             None => None,
         }
-    }
-}
-
-/// The attribute of a cell as it is read, where `end` is the place behind its value.
-fn raw_attr_in<'a>(sides: &'a Sides, cell: Cell, end: u32) -> RawAttrRef<'a>
-    requires { CellWithin sides.now cell }
-    ensures { raw_attr_seen result ≡ raw_attr_of sides.now (cell, end) }
-{
-    let attr = attr_in(sides, cell);
-    RawAttrRef {
-        name: attr.name,
-        form: attr.form,
-        end,
-        value: attr.value,
     }
 }

@@ -15,4 +15,4 @@ cells_in-ends-requires c =
 pub returns : goal.returns
 returns c =
     let read = raw_row_read c.self.inside.sides c.self.inside.heads.items c.self.inside.cells.items c.self.inside.ends.items c.args.i c.index.result.now (omega arith) c.index.ensures in
-    rw (← c.self.view_is, c.new.ensures, c.cells_in-cells.ensures, c.cells_in-ends.ensures, c.deref.ensures.value, c.deref-2.ensures.value) (sym read)
+    rw (← c.self.view_is, c.new-2.ensures, c.new.ensures, c.cells_in-cells.ensures, c.cells_in-ends.ensures, c.deref.ensures.value, c.deref-2.ensures.value) (sym read)

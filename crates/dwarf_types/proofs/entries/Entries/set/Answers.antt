@@ -1,7 +1,7 @@
-use Rattle.std.proofs.Common.{rules, ◌+◌, arith, length}
+use Rattle.std.proofs.Common.{rules, ◌+◌, arith}
 use Rattle.dwarf_types.specs.declared.columns.Cell.{Cell}
 use Rattle.dwarf_types.specs.declared.sides.Held.{Held}
-use Rattle.dwarf_types.specs.Columns.{CellWithin, attr_of}
+use Rattle.dwarf_types.specs.Columns.{CellWithin, attr_of, cell_count}
 use Rattle.dwarf_types.proofs.Building.{entries_grow}
 use Rattle.dwarf_types.proofs.Few.{few_over, may_hold, room_own}
 use Rattle.dwarf_types.proofs.Heads.{flat_as}
@@ -66,7 +66,7 @@ invariant_of-self-2 c =
     let put = rw c.held.ensures at c.in_ok-held.ensures.few in
     let others = c.store_over.ensures.others in
     rw c.with_value.ensures (record {
-      flat = flat_set (CellWithin new) heads cells (c.index.result.now.first + c.args.j) (record cell { kind = held.kind; payload = held.payload }) c.in_ok-held.ensures.within (flat_as (CellWithin old) (CellWithin new) (λ (x : Cell) w. others.within x.kind x.payload w) heads cells (length cells) c.self.invariant.flat);
+      flat = flat_set (CellWithin new) heads cells (cell_count heads) (c.index.result.now.first + c.args.j) (record cell { kind = held.kind; payload = held.payload }) c.in_ok-held.ensures.within (flat_as (CellWithin old) (CellWithin new) (λ (x : Cell) w. others.within x.kind x.payload w) heads cells (cell_count heads) c.self.invariant.flat);
       columns = few_over old new cells (c.index.result.now.first + c.args.j) cell held.kind held.payload c.self.invariant.columns c.self.invariant.flat.within lt c.index-2.ensures put.0 put.1 put.2;
     })
 

@@ -1,9 +1,8 @@
-use Rattle.std.proofs.Common.{◌<◌, length, refl}
-use Rattle.std.proofs.lemmas.List.{length-map}
-use Rattle.dwarf_types.proofs.Ends.{place_read}
+use Rattle.dwarf_types.proofs.WithEnds.{raw_long, raw_places}
 use Rattle.dwarf_types.proofs.entries.RawEntries.place_of.Goals as goal
 
+pub place_of-requires : goal.place_of-requires
+place_of-requires c = rw (← c.self.view_is, raw_long c.self.inside.entries c.self.inside.ends.items) at c.requires
+
 pub returns : goal.returns
-returns c =
-    let lt : c.args.i < length c.self.inside.heads.items = rw (← c.self.view_is, length-map) at c.requires in
-    rw (← c.self.view_is, place_read c.self.inside.sides c.self.inside.heads.items c.self.inside.cells.items c.self.inside.ends.items c.args.i c.index.result.now lt c.index.ensures) refl
+returns c = rw (← c.self.view_is, raw_places c.self.inside.entries c.self.inside.ends.items) c.place_of.ensures

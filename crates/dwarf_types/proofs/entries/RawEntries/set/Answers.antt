@@ -1,82 +1,45 @@
-use Rattle.std.proofs.Common.{rules, ℕ, get_or, ◌+◌, arith, length}
-use Rattle.dwarf_types.specs.declared.columns.Cell.{Cell}
-use Rattle.dwarf_types.specs.declared.sides.Held.{Held}
-use Rattle.dwarf_types.specs.Columns.{CellWithin, raw_attr_of}
-use Rattle.dwarf_types.proofs.Building.{raw_entries_grow}
-use Rattle.dwarf_types.proofs.Ends.{raw_set}
-use Rattle.dwarf_types.proofs.Few.{few_over, may_hold, room_own}
-use Rattle.dwarf_types.proofs.Heads.{flat_as}
-use Rattle.dwarf_types.proofs.Replacing.{raw_attr_there, raw_cell_there, raw_entries_over}
-use Rattle.std.proofs.lemmas.List.Elements.{All-get_or}
+use Rattle.std.proofs.Common.{◌<◌, List, ap, arith, get_or, length, set, ◌∙◌}
+use Rattle.std.proofs.lemmas.List.{length-set}
+use Rattle.std.proofs.lemmas.Option.{slice_get_within}
+use Rattle.dwarf_types.specs.declared.entry.Attr.{Attr}
+use Rattle.dwarf_types.specs.declared.entry.Entry.{Entry}
+use Rattle.dwarf_types.specs.Put.{value_put}
+use Rattle.dwarf_types.specs.Raw.{raw_attr, raw_entries, raw_entry}
+use Rattle.dwarf_types.proofs.WithEnds.{attr_with, count_same, own_ends, own_long, raw_at, raw_from, there_is, written}
 use Rattle.dwarf_types.proofs.entries.RawEntries.set.Goals as goal
 
-pub overflow_add-k : goal.overflow_add-k
-overflow_add-k c =
+pub set-requires-clause-stands : goal.set-requires-clause-stands
+set-requires-clause-stands c =
     let read = rw (← c.self.view_is) at c.requires.stands.1 in
-    let lt = raw_cell_there c.self.inside.sides c.self.inside.heads.items c.self.inside.cells.items c.self.inside.ends.items c.args.i c.args.j c.index.result.now c.requires.stands.0 c.self.invariant c.index.ensures read c.requires.stands.2 in
-    omega arith
+    let from = raw_from c.self.inside.entries c.self.inside.ends.items c.args.i c.requires.stands.0 read in
+    (from.0, from.1, omega (arith, from.2, c.requires.stands.2))
 
-pub index-requires-2 : goal.index-requires-2
-index-requires-2 c =
-    let read = rw (← c.self.view_is) at c.requires.stands.1 in
-    let lt = raw_cell_there c.self.inside.sides c.self.inside.heads.items c.self.inside.cells.items c.self.inside.ends.items c.args.i c.args.j c.index.result.now c.requires.stands.0 c.self.invariant c.index.ensures read c.requires.stands.2 in
-    omega arith
-
-pub store_over-requires-clause-within : goal.store_over-requires-clause-within
-store_over-requires-clause-within c =
-    let read = rw (← c.self.view_is) at c.requires.stands.1 in
-    let lt = raw_cell_there c.self.inside.sides c.self.inside.heads.items c.self.inside.cells.items c.self.inside.ends.items c.args.i c.args.j c.index.result.now c.requires.stands.0 c.self.invariant c.index.ensures read c.requires.stands.2 in
-    let within = All-get_or (CellWithin c.self.inside.sides) c.self.inside.cells.items (c.index.result.now.first + c.args.j) c.index-2.result.now lt c.self.invariant.raw.flat.within in
-    rw (c.held.ensures) (rw (← c.index-2.ensures) at within)
-
-pub store_over-requires-clause-becomes : goal.store_over-requires-clause-becomes
-store_over-requires-clause-becomes c =
-    let cell : Cell = c.index-2.result.now in
-    let read = rw (← c.self.view_is) at c.requires.stands.1 in
-    let pair : Cell × ℕ = (cell, get_or c.self.inside.ends.items (c.index.result.now.first + c.args.j) 0) in
-    let there = raw_attr_there c.self.inside.sides c.self.inside.heads.items c.self.inside.cells.items c.self.inside.ends.items c.args.i c.args.j c.index.result.now cell c.requires.stands.0 c.self.invariant c.index.ensures read c.requires.stands.2 c.index-2.ensures in
-    rw c.held.ensures (may_hold c.self.inside.sides cell.kind cell.form cell.payload c.args.value (c.requires.becomes c.requires.stands.0 (raw_attr_of c.self.inside.sides pair) c.requires.stands.1 there))
-
-pub store_over-requires-clause-room : goal.store_over-requires-clause-room
-store_over-requires-clause-room c =
-    let read = rw (← c.self.view_is) at c.requires.stands.1 in
-    let lt = raw_cell_there c.self.inside.sides c.self.inside.heads.items c.self.inside.cells.items c.self.inside.ends.items c.args.i c.args.j c.index.result.now c.requires.stands.0 c.self.invariant c.index.ensures read c.requires.stands.2 in
-    rw c.held.ensures (room_own c.self.inside.sides c.self.inside.cells.items (c.index.result.now.first + c.args.j) c.index-2.result.now c.self.invariant.columns lt c.index-2.ensures)
-
-pub returns-in_err-held-clause-unchanged : goal.returns-in_err-held-clause-unchanged
-returns-in_err-held-clause-unchanged c =
-    let kept = raw_entries_grow _ _ _ _ _ _ c.in_err-held.ensures.unchanged c.self.invariant.raw in
-    search rules
-
-pub index_mut-requires : goal.index_mut-requires
-index_mut-requires c =
-    let read = rw (← c.self.view_is) at c.requires.stands.1 in
-    let lt = raw_cell_there c.self.inside.sides c.self.inside.heads.items c.self.inside.cells.items c.self.inside.ends.items c.args.i c.args.j c.index.result.now c.requires.stands.0 c.self.invariant c.index.ensures read c.requires.stands.2 in
-    omega arith
+pub set-requires-clause-becomes : goal.set-requires-clause-becomes
+set-requires-clause-becomes c e a is has =
+    let entries = c.self.inside.entries in
+    let ends = c.self.inside.ends.items in
+    let own = own_ends entries ends c.args.i e in
+    let there = raw_at entries ends c.args.i e is in
+    let within : c.args.j < length e.attrs = slice_get_within e.attrs c.args.j a has in
+    let attr = attr_with e.attrs own c.args.j a 0 (omega (arith, within, own_long entries ends c.args.i e c.self.invariant is)) has in
+    c.requires.becomes (raw_entry e own) (raw_attr (a, get_or own c.args.j 0)) (rw (← c.self.view_is) there) attr
 
 pub invariant_of-self-2 : goal.invariant_of-self-2
 invariant_of-self-2 c =
-    let old = c.self.inside.sides in
-    let new = c.store_over.new.self in
-    let heads = c.self.inside.heads.items in
-    let cells = c.self.inside.cells.items in
-    let ends = c.self.inside.ends.items in
-    let cell : Cell = c.index-2.result.now in
-    let held : Held = c.in_ok-held.held in
+    let entries = c.self.inside.entries in
     let read = rw (← c.self.view_is) at c.requires.stands.1 in
-    let lt = raw_cell_there old heads cells ends c.args.i c.args.j c.index.result.now c.requires.stands.0 c.self.invariant c.index.ensures read c.requires.stands.2 in
-    let put = rw c.held.ensures at c.in_ok-held.ensures.few in
-    let others = c.store_over.ensures.others in
-    rw c.with_value.ensures (record {
-      raw = raw_set new heads cells ends (c.index.result.now.first + c.args.j) (record cell { kind = held.kind; payload = held.payload }) c.in_ok-held.ensures.within (record { flat = flat_as (CellWithin old) (CellWithin new) (λ (x : Cell) w. others.within x.kind x.payload w) heads cells (length cells) c.self.invariant.raw.flat; beside = c.self.invariant.raw.beside });
-      columns = few_over old new cells (c.index.result.now.first + c.args.j) cell held.kind held.payload c.self.invariant.columns c.self.invariant.raw.flat.within lt c.index-2.ensures put.0 put.1 put.2;
-    })
+    let from = raw_from entries c.self.inside.ends.items c.args.i c.requires.stands.0 read in
+    let e : Entry = from.0 in
+    let one = there_is e.attrs c.args.j (omega (arith, from.2, c.requires.stands.2)) in
+    let attr : Attr = record one.0 { value = value_put c.args.value } in
+    let to : Entry = record e { attrs = set e.attrs c.args.j attr } in
+    let new = c.in_ok-set.ensures.ok e one.0 from.1 one.1 in
+    let same = count_same entries c.args.i e to from.1 (length-set e.attrs c.args.j attr) in
+    rw (new, same) c.self.invariant
 
 pub returns-clause-ok : goal.returns-clause-ok
-returns-clause-ok c e a read this =
-    let cell : Cell = c.index-2.result.now in
-    let held : Held = c.in_ok-held.held in
-    let stands = rw (← c.self.view_is) at read in
-    let others = rw c.held.ensures at c.store_over.ensures.others in
-    let written = raw_entries_over c.self.inside.sides c.store_over.new.self c.self.inside.heads.items c.self.inside.cells.items c.self.inside.ends.items c.args.i c.args.j c.index.result.now cell held.kind held.payload e a c.self.invariant others c.index.ensures stands this c.index-2.ensures in
-    rw (c.with_value.ensures, ← c.self.view_is, ← c.in_ok-held.ensures.value cell.form) written
+returns-clause-ok c raw a is has =
+    let ends = c.self.inside.ends.items in
+    let one = written c.self.inside.entries ends c.args.i c.args.j raw a (rw (← c.self.view_is) at is) has in
+    let new = c.in_ok-set.ensures.ok one.entry one.attr one.stands one.has in
+    rw (← c.self.view_is) (ap (λ (entries : List Entry). raw_entries entries ends) new ∙ one.becomes (value_put c.args.value))
