@@ -7,9 +7,10 @@ use Rattle.dwarf_types.specs.declared.expr.PlainOp.{PlainOp}
 use Rattle.dwarf_types.specs.declared.sides.InnerRow.{InnerRow}
 use Rattle.dwarf_types.specs.declared.sides.OpRow.{OpRow}
 use Rattle.dwarf_types.specs.declared.sides.Sides.{Sides}
-use Rattle.dwarf_types.specs.declared.sides.Stretch.{Stretch}
-use Rattle.dwarf_types.specs.Cells.{Grows, InColumn, InnerWithin, OpWithin, inner_of, op_of, stretch_of}
+use Rattle.dwarf_types.specs.declared.runs.Run.{Run}
+use Rattle.dwarf_types.specs.Cells.{Grows, InnerWithin, OpWithin, inner_of, op_of}
 use Rattle.dwarf_types.specs.Gathered.{AreRows, Gathered, gathered_of}
+use Rattle.dwarf_types.specs.Runs.{InRun, run_of}
 use Rattle.dwarf_types.proofs.Kept.{inners_kept, inners_within, ops_kept, ops_within}
 
 abbrev gathered_with : List Op → List PlainOp → Gathered
@@ -48,8 +49,8 @@ gathered_inner s t rows at r g more a =
 
 -- ---- an operation that takes those inside
 
--- the stretch up to the end
-pub open_part : {A : Type 0} (items : List A) (s : Stretch) (at : ℕ) → s.from ≡ at → s.to ≡ length items → at ≤ length items → (stretch_of items s ≡ drop at items) × InColumn items s
+-- the run up to the end
+pub open_part : {A : Type 0} (items : List A) (s : Run) (at : ℕ) → s.from ≡ at → s.to ≡ length items → at ≤ length items → (run_of items s ≡ drop at items) × InRun items s
 open_part items s at from to few =
     let tail : drop s.from items ≡ drop at items = ap (λ n. drop n items) from in
     (ap (take (s.to - s.from)) tail ∙ take_all (s.to - s.from) (drop at items) (omega (arith, length-drop at items)), (omega arith, omega arith))

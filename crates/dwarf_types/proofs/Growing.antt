@@ -6,8 +6,9 @@ use Rattle.dwarf_types.specs.declared.sides.InnerRow.{InnerRow}
 use Rattle.dwarf_types.specs.declared.sides.ItemRow.{ItemRow}
 use Rattle.dwarf_types.specs.declared.sides.OpRow.{OpRow}
 use Rattle.dwarf_types.specs.declared.sides.Sides.{Sides}
-use Rattle.dwarf_types.specs.declared.sides.Stretch.{Stretch}
-use Rattle.dwarf_types.specs.Cells.{AreAsMany, Begins, Grows, InColumn, stretch_of}
+use Rattle.dwarf_types.specs.declared.runs.Run.{Run}
+use Rattle.dwarf_types.specs.Cells.{AreAsMany, Begins, Grows}
+use Rattle.dwarf_types.specs.Runs.{InRun, run_of}
 
 pub begins_not : {A : Type 0} (xs : List A) → Begins xs xs
 begins_not xs = ([], sym (append-nil xs))
@@ -22,7 +23,7 @@ pub grows_on : (r s t : Sides) → Grows r s → Grows s t → Grows r t
 grows_on r s t g h = record {
   large = begins_on _ _ _ g.large h.large;
   bytes = begins_on _ _ _ g.bytes h.bytes;
-  stretches = begins_on _ _ _ g.stretches h.stretches;
+  runs = begins_on _ _ _ g.runs h.runs;
   lists = begins_on _ _ _ g.lists h.lists;
   places = begins_on _ _ _ g.places h.places;
   addresses = begins_on _ _ _ g.addresses h.addresses;
@@ -33,7 +34,7 @@ grows_on r s t g h = record {
 }
 
 pub grows_not : (s : Sides) → Grows s s
-grows_not s = record { large = begins_not _; bytes = begins_not _; stretches = begins_not _; lists = begins_not _; places = begins_not _; addresses = begins_not _; spans = begins_not _; ops = begins_not _; inner = begins_not _; items = begins_not _ }
+grows_not s = record { large = begins_not _; bytes = begins_not _; runs = begins_not _; lists = begins_not _; places = begins_not _; addresses = begins_not _; spans = begins_not _; ops = begins_not _; inner = begins_not _; items = begins_not _ }
 
 pub as_many : (s : Sides) → AreAsMany s s
 as_many s = (refl, refl)
@@ -65,12 +66,12 @@ module _ {R A : Type 0} (column : Sides → List R) (mean : Sides → R → A) (
         within = All-push (Within new) rows.more r (within_kept now new g rows.more rows.within) within;
       }
 
-  -- the stretch from where they begin to where they end
-  pub rows_stretch : (old now : Sides) (parts : List A) (s : Stretch) → Rows column mean Within old now parts → s.from ≡ length (column old) → s.to ≡ length (column now) → InColumn (column now) s × (map (mean now) (stretch_of (column now) s) ≡ parts) × All (Within now) (stretch_of (column now) s)
-  rows_stretch old now parts s rows from to =
+  -- the run from where they begin to where they end
+  pub rows_run : (old now : Sides) (parts : List A) (s : Run) → Rows column mean Within old now parts → s.from ≡ length (column old) → s.to ≡ length (column now) → InRun (column now) s × (map (mean now) (run_of (column now) s) ≡ parts) × All (Within now) (run_of (column now) s)
+  rows_run old now parts s rows from to =
       let both : length (column now) ≡ length (column old) + length rows.more = ap length rows.behind ∙ length-append (column old) rows.more in
       let tail : drop s.from (column now) ≡ rows.more = rw (rows.behind, from) (drop_at (column old) rows.more (length (column old)) refl) in
-      let part : stretch_of (column now) s ≡ rows.more = ap (take (s.to - s.from)) tail ∙ take_all (s.to - s.from) rows.more (omega arith) in
+      let part : run_of (column now) s ≡ rows.more = ap (take (s.to - s.from)) tail ∙ take_all (s.to - s.from) rows.more (omega arith) in
       ((omega arith, omega arith), ap (map (mean now)) part ∙ rows.means, rw part rows.within)
 
 -- ---- the columns of rows

@@ -19,10 +19,11 @@ use Rattle.dwarf_types.specs.declared.sides.Kind.{Kind}
 use Rattle.dwarf_types.specs.declared.sides.Kind.TheVariants as kinds
 use Rattle.dwarf_types.specs.declared.sides.OpRow.{OpRow}
 use Rattle.dwarf_types.specs.declared.sides.Sides.{Sides}
-use Rattle.dwarf_types.specs.declared.sides.Stretch.{Stretch}
+use Rattle.dwarf_types.specs.declared.runs.Run.{Run}
 use Rattle.dwarf_types.specs.declared.value.Value.TheVariants as values
-use Rattle.dwarf_types.specs.Cells.{Begins, Grows, InColumn, InnerWithin, IsAddress, IsList, IsStretch, IsWithin, ItemWithin, KeepsOthers, OpWithin, address_at, first_text, held_value, inner_of, item_of, list_at, no_place, no_stretch, op_of, stretch_at, stretch_of, text_from}
+use Rattle.dwarf_types.specs.Cells.{Begins, Grows, InnerWithin, IsAddress, IsList, IsRun, IsWithin, ItemWithin, KeepsOthers, OpWithin, address_at, first_text, held_value, inner_of, item_of, list_at, no_place, op_of, run_at, text_from}
 use Rattle.dwarf_types.specs.Put.{number_form}
+use Rattle.dwarf_types.specs.Runs.{InRun, no_run, run_of}
 
 pub range_begins : {A : Type 0} (old new : List A) (from to : ℕ) → Begins old new → from ≤ to → to ≤ length old → slice_range new from to ≡ slice_range old from to
 range_begins old new from to b up within =
@@ -34,38 +35,38 @@ get_begins old new i d b lt = rw b.1 (get_or_append_left old b.0 d i lt)
 pub longer : {A : Type 0} (old new : List A) → Begins old new → length old ≤ length new
 longer old new b = rw b.1 (omega (arith, length-append old b.0))
 
-part_kept : {A : Type 0} (c d : List A) (s : Stretch) → Begins c d → InColumn c s → stretch_of d s ≡ stretch_of c s
+part_kept : {A : Type 0} (c d : List A) (s : Run) → Begins c d → InRun c s → run_of d s ≡ run_of c s
 part_kept c d s b w = range_begins c d s.from s.to b w.0 w.1
 
-part_within : {A : Type 0} (c d : List A) (s : Stretch) → Begins c d → InColumn c s → InColumn d s
+part_within : {A : Type 0} (c d : List A) (s : Run) → Begins c d → InRun c s → InRun d s
 part_within c d s b w =
     let m = longer c d b in
     let up : s.from ≤ s.to = w.0 in
     let inside : s.to ≤ length c = w.1 in
     (up, omega arith)
 
-stretch_kept : {A : Type 0} (old new : Sides) (c d : List A) (i : ℕ) → Grows old new → Begins c d → IsStretch old c i → stretch_of d (stretch_at new i) ≡ stretch_of c (stretch_at old i)
-stretch_kept old new c d i g b w =
-    rw (get_begins _ _ i no_stretch g.stretches w.0) (range_begins c d _ _ b w.1.0 w.1.1)
+run_kept : {A : Type 0} (old new : Sides) (c d : List A) (i : ℕ) → Grows old new → Begins c d → IsRun old c i → run_of d (run_at new i) ≡ run_of c (run_at old i)
+run_kept old new c d i g b w =
+    rw (get_begins _ _ i no_run g.runs w.0) (range_begins c d _ _ b w.1.0 w.1.1)
 
-stretch_within : {A : Type 0} (old new : Sides) (c d : List A) (i : ℕ) → Grows old new → Begins c d → IsStretch old c i → IsStretch new d i
-stretch_within old new c d i g b w =
-    let l = longer _ _ g.stretches in
-    let lt : i < length old.stretches.items = w.0 in
-    let P : Stretch → Type 0 = InColumn d in
-    let e = get_begins _ _ i no_stretch g.stretches lt in
-    (omega arith, subst P (sym e) (part_within c d (stretch_at old i) b w.1))
+run_within : {A : Type 0} (old new : Sides) (c d : List A) (i : ℕ) → Grows old new → Begins c d → IsRun old c i → IsRun new d i
+run_within old new c d i g b w =
+    let l = longer _ _ g.runs in
+    let lt : i < length old.runs.items = w.0 in
+    let P : Run → Type 0 = InRun d in
+    let e = get_begins _ _ i no_run g.runs lt in
+    (omega arith, subst P (sym e) (part_within c d (run_at old i) b w.1))
 
-list_kept : {A : Type 0} (old new : Sides) (c d : List A) (i : ℕ) → Grows old new → Begins c d → IsList old c i → stretch_of d (list_at new i) ≡ stretch_of c (list_at old i)
+list_kept : {A : Type 0} (old new : Sides) (c d : List A) (i : ℕ) → Grows old new → Begins c d → IsList old c i → run_of d (list_at new i) ≡ run_of c (list_at old i)
 list_kept old new c d i g b w =
-    rw (get_begins _ _ i no_stretch g.lists w.0) (range_begins c d _ _ b w.1.0 w.1.1)
+    rw (get_begins _ _ i no_run g.lists w.0) (range_begins c d _ _ b w.1.0 w.1.1)
 
 list_within : {A : Type 0} (old new : Sides) (c d : List A) (i : ℕ) → Grows old new → Begins c d → IsList old c i → IsList new d i
 list_within old new c d i g b w =
     let l = longer _ _ g.lists in
     let lt : i < length old.lists.items = w.0 in
-    let P : Stretch → Type 0 = InColumn d in
-    let e = get_begins _ _ i no_stretch g.lists lt in
+    let P : Run → Type 0 = InRun d in
+    let e = get_begins _ _ i no_run g.lists lt in
     (omega arith, subst P (sym e) (part_within c d (list_at old i) b w.1))
 
 -- ---- texts
@@ -130,8 +131,8 @@ inners_within old new g = All-weaker (InnerWithin old) (InnerWithin new) (inner_
 
 pub op_kept : (old new : Sides) → Grows old new → (r : OpRow) → OpWithin old r → op_of new r ≡ op_of old r
 op_kept old new g r w =
-    let with_inner : List PlainOp → Op = λ inner. record { code = r.code; bytes = stretch_of new.bytes.items r.bytes; address = address_at new r.address; base = r.base; inner = inner } in
-    let with_parts : List ℕ → Option Place → Op = λ bytes address. record { code = r.code; bytes = bytes; address = address; base = r.base; inner = map (inner_of old) (stretch_of old.inner.items r.inner) } in
+    let with_inner : List PlainOp → Op = λ inner. record { code = r.code; bytes = run_of new.bytes.items r.bytes; address = address_at new r.address; base = r.base; inner = inner } in
+    let with_parts : List ℕ → Option Place → Op = λ bytes address. record { code = r.code; bytes = bytes; address = address; base = r.base; inner = map (inner_of old) (run_of old.inner.items r.inner) } in
     let rows = part_kept _ _ r.inner g.inner w.1.0 in
     ap with_inner (ap (map (inner_of new)) rows ∙ inners_kept old new g _ w.1.1) ∙ ap₂ with_parts (part_kept _ _ r.bytes g.bytes w.0.0) (address_kept old new g r.address w.0.1)
 
@@ -171,9 +172,9 @@ pub held_kept : (old new : Sides) → Grows old new → (kind : Kind) (form n : 
 held_kept old new g kinds.Small form n w = refl
 held_kept old new g kinds.Large form n w = ap (values.Number (number_form form)) (get_begins _ _ n 0 g.large w)
 held_kept old new g kinds.Text form n w = ap values.Text (ap (λ (text : Option (List ℕ)). unwrap_or text []) (text_kept _ _ n g.bytes w))
-held_kept old new g kinds.OwnText form n w = ap values.Text (stretch_kept old new _ _ n g g.bytes w)
-held_kept old new g kinds.Wide form n w = ap values.Wide (stretch_kept old new _ _ n g g.bytes w)
-held_kept old new g kinds.Block form n w = ap (values.Block form) (stretch_kept old new _ _ n g g.bytes w)
+held_kept old new g kinds.OwnText form n w = ap values.Text (run_kept old new _ _ n g g.bytes w)
+held_kept old new g kinds.Wide form n w = ap values.Wide (run_kept old new _ _ n g g.bytes w)
+held_kept old new g kinds.Block form n w = ap (values.Block form) (run_kept old new _ _ n g g.bytes w)
 held_kept old new g kinds.Stored form n w = refl
 held_kept old new g kinds.Address form n w = ap values.Address (get_begins _ _ n no_place g.places w)
 held_kept old new g kinds.Ref form n w = refl
@@ -192,9 +193,9 @@ pub within_kept : (old new : Sides) → Grows old new → (kind : Kind) (n : ℕ
 within_kept old new g kinds.Small n w = tt
 within_kept old new g kinds.Large n w = let l = longer _ _ g.large in omega arith
 within_kept old new g kinds.Text n w = rw (text_kept _ _ n g.bytes w) w
-within_kept old new g kinds.OwnText n w = stretch_within old new _ _ n g g.bytes w
-within_kept old new g kinds.Wide n w = stretch_within old new _ _ n g g.bytes w
-within_kept old new g kinds.Block n w = stretch_within old new _ _ n g g.bytes w
+within_kept old new g kinds.OwnText n w = run_within old new _ _ n g g.bytes w
+within_kept old new g kinds.Wide n w = run_within old new _ _ n g g.bytes w
+within_kept old new g kinds.Block n w = run_within old new _ _ n g g.bytes w
 within_kept old new g kinds.Stored n w = tt
 within_kept old new g kinds.Address n w = let l = longer _ _ g.places in omega arith
 within_kept old new g kinds.Ref n w = tt
@@ -215,18 +216,18 @@ others_kept was old new g = record { value = λ kind form n w apart. held_kept o
 
 -- ---- parts that are put
 
--- items behind others, and the stretch of them
-pub appended : {A : Type 0} (xs ys zs : List A) (s : Stretch) → zs ≡ xs ++ ys → s.from ≡ length xs → s.to ≡ length xs + length ys → (stretch_of zs s ≡ ys) × InColumn zs s
+-- items behind others, and the run of them
+pub appended : {A : Type 0} (xs ys zs : List A) (s : Run) → zs ≡ xs ++ ys → s.from ≡ length xs → s.to ≡ length xs + length ys → (run_of zs s ≡ ys) × InRun zs s
 appended xs ys zs s is from to =
     let tail : drop s.from zs ≡ ys = rw (is, from) (drop_at xs ys (length xs) refl) in
     let all : length zs ≡ length xs + length ys = ap length is ∙ length-append xs ys in
     (ap (take (s.to - s.from)) tail ∙ take_all (s.to - s.from) ys (omega arith), (omega arith, omega arith))
 
 -- bytes and an address stay, as columns grow
-pub parts_kept : (s t : Sides) (bytes : Stretch) (at : Option ℕ) → Grows s t → InColumn s.bytes.items bytes → IsAddress s at → ((stretch_of t.bytes.items bytes ≡ stretch_of s.bytes.items bytes) × (address_at t at ≡ address_at s at)) × (InColumn t.bytes.items bytes × IsAddress t at)
+pub parts_kept : (s t : Sides) (bytes : Run) (at : Option ℕ) → Grows s t → InRun s.bytes.items bytes → IsAddress s at → ((run_of t.bytes.items bytes ≡ run_of s.bytes.items bytes) × (address_at t at ≡ address_at s at)) × (InRun t.bytes.items bytes × IsAddress t at)
 parts_kept s t bytes at g w a = ((part_kept _ _ bytes g.bytes w, address_kept s t g at a), (part_within _ _ bytes g.bytes w, address_within s t g at a))
 
--- the stretch that was put last
-pub last_stretch : (xs ys : List Stretch) (at : ℕ) (s : Stretch) → ys ≡ xs ++ s ∷ [] → at ≡ length xs → (at < length ys) × (get_or ys at no_stretch ≡ s)
-last_stretch xs ys at s is there =
-    (rw (is, there) (omega (arith, length_push xs s)), rw (is, there) (get_or_push xs s no_stretch (length xs) refl))
+-- the run that was put last
+pub last_run : (xs ys : List Run) (at : ℕ) (s : Run) → ys ≡ xs ++ s ∷ [] → at ≡ length xs → (at < length ys) × (get_or ys at no_run ≡ s)
+last_run xs ys at s is there =
+    (rw (is, there) (omega (arith, length_push xs s)), rw (is, there) (get_or_push xs s no_run (length xs) refl))

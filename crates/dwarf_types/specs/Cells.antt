@@ -17,10 +17,11 @@ use Rattle.dwarf_types.specs.declared.sides.Kind.{Kind}
 use Rattle.dwarf_types.specs.declared.sides.Kind.TheVariants as kinds
 use Rattle.dwarf_types.specs.declared.sides.OpRow.{OpRow}
 use Rattle.dwarf_types.specs.declared.sides.Sides.{Sides}
-use Rattle.dwarf_types.specs.declared.sides.Stretch.{Stretch}
+use Rattle.dwarf_types.specs.declared.runs.Run.{Run}
 use Rattle.dwarf_types.specs.declared.value.Value.{Value}
 use Rattle.dwarf_types.specs.declared.value.Value.TheVariants as values
 use Rattle.dwarf_types.specs.Put.{number_form}
+use Rattle.dwarf_types.specs.Runs.{InRun, no_run, run_of}
 
 -- an address that is stored, and has gone nowhere
 abbrev pub stored_place : ℕ → Place
@@ -29,19 +30,12 @@ stored_place number = record { at = addrs.Fixed number; linked = None; linked_en
 abbrev pub no_place : Place
 no_place = stored_place 0
 
-abbrev pub no_stretch : Stretch
-no_stretch = record { from = 0; to = 0 }
-
-abbrev pub stretch_at : Sides → ℕ → Stretch
-stretch_at s i = get_or s.stretches.items i no_stretch
+abbrev pub run_at : Sides → ℕ → Run
+run_at s i = get_or s.runs.items i no_run
 
 -- the same of operations, spans and items of location lists
-abbrev pub list_at : Sides → ℕ → Stretch
-list_at s i = get_or s.lists.items i no_stretch
-
--- the items of a stretch of a column
-abbrev pub stretch_of : {A : Type 0} → List A → Stretch → List A
-stretch_of items s = slice_range items s.from s.to
+abbrev pub list_at : Sides → ℕ → Run
+list_at s i = get_or s.lists.items i no_run
 
 -- ---- texts
 
@@ -59,13 +53,13 @@ abbrev pub address_at : Sides → Option ℕ → Option Place
 address_at s at = option_map (λ i. get_or s.addresses.items i no_place) at
 
 abbrev pub inner_of : Sides → InnerRow → PlainOp
-inner_of s r = record { code = r.code; bytes = stretch_of s.bytes.items r.bytes; address = address_at s r.address; base = r.base }
+inner_of s r = record { code = r.code; bytes = run_of s.bytes.items r.bytes; address = address_at s r.address; base = r.base }
 
 abbrev pub op_of : Sides → OpRow → Op
-op_of s r = record { code = r.code; bytes = stretch_of s.bytes.items r.bytes; address = address_at s r.address; base = r.base; inner = map (inner_of s) (stretch_of s.inner.items r.inner) }
+op_of s r = record { code = r.code; bytes = run_of s.bytes.items r.bytes; address = address_at s r.address; base = r.base; inner = map (inner_of s) (run_of s.inner.items r.inner) }
 
 abbrev pub item_of : Sides → ItemRow → Location
-item_of s r = record { span = r.span; ops = map (op_of s) (stretch_of s.ops.items r.ops) }
+item_of s r = record { span = r.span; ops = map (op_of s) (run_of s.ops.items r.ops) }
 
 -- ---- values
 
@@ -74,56 +68,53 @@ abbrev pub held_value : Sides → Kind → ℕ → ℕ → Value
 held_value s kinds.Small form n = values.Number (number_form form) n
 held_value s kinds.Large form i = values.Number (number_form form) (get_or s.large.items i 0)
 held_value s kinds.Text form place = values.Text (unwrap_or (text_from s.bytes.items place) [])
-held_value s kinds.OwnText form i = values.Text (stretch_of s.bytes.items (stretch_at s i))
-held_value s kinds.Wide form i = values.Wide (stretch_of s.bytes.items (stretch_at s i))
-held_value s kinds.Block form i = values.Block form (stretch_of s.bytes.items (stretch_at s i))
+held_value s kinds.OwnText form i = values.Text (run_of s.bytes.items (run_at s i))
+held_value s kinds.Wide form i = values.Wide (run_of s.bytes.items (run_at s i))
+held_value s kinds.Block form i = values.Block form (run_of s.bytes.items (run_at s i))
 held_value s kinds.Stored form n = values.Address (stored_place n)
 held_value s kinds.Address form i = values.Address (get_or s.places.items i no_place)
 held_value s kinds.Ref form n = values.Ref n
-held_value s kinds.Expr form i = values.Expr (map (op_of s) (stretch_of s.ops.items (list_at s i)))
-held_value s kinds.Ranges form i = values.Ranges (stretch_of s.spans.items (list_at s i))
-held_value s kinds.Locations form i = values.Locations (map (item_of s) (stretch_of s.items.items (list_at s i)))
+held_value s kinds.Expr form i = values.Expr (map (op_of s) (run_of s.ops.items (list_at s i)))
+held_value s kinds.Ranges form i = values.Ranges (run_of s.spans.items (list_at s i))
+held_value s kinds.Locations form i = values.Locations (map (item_of s) (run_of s.items.items (list_at s i)))
 held_value s kinds.Lines form n = values.Lines
 held_value s kinds.Offset form n = values.Offset n
 held_value s kinds.LargeOffset form i = values.Offset (get_or s.large.items i 0)
 
 -- ---- payloads that lie in their columns
 
-abbrev pub InColumn : {A : Type 0} → List A → Stretch → Type 0
-InColumn items s = (s.from ≤ s.to) × (s.to ≤ length items)
-
 abbrev pub IsAddress : Sides → Option ℕ → Type 0
 IsAddress s at = IfSome at (λ i. i < length s.addresses.items)
 
 abbrev pub InnerWithin : Sides → InnerRow → Type 0
-InnerWithin s r = InColumn s.bytes.items r.bytes × IsAddress s r.address
+InnerWithin s r = InRun s.bytes.items r.bytes × IsAddress s r.address
 
 abbrev pub OpWithin : Sides → OpRow → Type 0
-OpWithin s r = (InColumn s.bytes.items r.bytes × IsAddress s r.address) × (InColumn s.inner.items r.inner × All (InnerWithin s) (stretch_of s.inner.items r.inner))
+OpWithin s r = (InRun s.bytes.items r.bytes × IsAddress s r.address) × (InRun s.inner.items r.inner × All (InnerWithin s) (run_of s.inner.items r.inner))
 
 abbrev pub ItemWithin : Sides → ItemRow → Type 0
-ItemWithin s r = InColumn s.ops.items r.ops × All (OpWithin s) (stretch_of s.ops.items r.ops)
+ItemWithin s r = InRun s.ops.items r.ops × All (OpWithin s) (run_of s.ops.items r.ops)
 
--- the place of a stretch, which lies in its column
-abbrev pub IsStretch : {A : Type 0} → Sides → List A → ℕ → Type 0
-IsStretch s items i = (i < length s.stretches.items) × InColumn items (stretch_at s i)
+-- the place of a run, which lies in its column
+abbrev pub IsRun : {A : Type 0} → Sides → List A → ℕ → Type 0
+IsRun s items i = (i < length s.runs.items) × InRun items (run_at s i)
 
 abbrev pub IsList : {A : Type 0} → Sides → List A → ℕ → Type 0
-IsList s items i = (i < length s.lists.items) × InColumn items (list_at s i)
+IsList s items i = (i < length s.lists.items) × InRun items (list_at s i)
 
 abbrev pub IsWithin : Sides → Kind → ℕ → Type 0
 IsWithin s kinds.Small n = ⊤
 IsWithin s kinds.Large i = i < length s.large.items
 IsWithin s kinds.Text place = IsSome (text_from s.bytes.items place)
-IsWithin s kinds.OwnText i = IsStretch s s.bytes.items i
-IsWithin s kinds.Wide i = IsStretch s s.bytes.items i
-IsWithin s kinds.Block i = IsStretch s s.bytes.items i
+IsWithin s kinds.OwnText i = IsRun s s.bytes.items i
+IsWithin s kinds.Wide i = IsRun s s.bytes.items i
+IsWithin s kinds.Block i = IsRun s s.bytes.items i
 IsWithin s kinds.Stored n = ⊤
 IsWithin s kinds.Address i = i < length s.places.items
 IsWithin s kinds.Ref n = ⊤
-IsWithin s kinds.Expr i = IsList s s.ops.items i × All (OpWithin s) (stretch_of s.ops.items (list_at s i))
+IsWithin s kinds.Expr i = IsList s s.ops.items i × All (OpWithin s) (run_of s.ops.items (list_at s i))
 IsWithin s kinds.Ranges i = IsList s s.spans.items i
-IsWithin s kinds.Locations i = IsList s s.items.items i × All (ItemWithin s) (stretch_of s.items.items (list_at s i))
+IsWithin s kinds.Locations i = IsList s s.items.items i × All (ItemWithin s) (run_of s.items.items (list_at s i))
 IsWithin s kinds.Lines n = ⊤
 IsWithin s kinds.Offset n = ⊤
 IsWithin s kinds.LargeOffset i = i < length s.large.items
@@ -137,7 +128,7 @@ Begins {A} old new = (more : List A) × (new ≡ old ++ more)
 pub record Grows (old new : Sides) : Type 0 where
   pub large : Begins old.large.items new.large.items
   pub bytes : Begins old.bytes.items new.bytes.items
-  pub stretches : Begins old.stretches.items new.stretches.items
+  pub runs : Begins old.runs.items new.runs.items
   pub lists : Begins old.lists.items new.lists.items
   pub places : Begins old.places.items new.places.items
   pub addresses : Begins old.addresses.items new.addresses.items
@@ -150,7 +141,7 @@ pub record Grows (old new : Sides) : Type 0 where
 
 -- in those into which only values that are read are put
 abbrev pub read_items : Sides → ℕ
-read_items s = length s.large.items + length s.stretches.items
+read_items s = length s.large.items + length s.runs.items
 
 -- and in those of addresses and lists
 abbrev pub own_items : Sides → ℕ

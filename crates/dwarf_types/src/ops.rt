@@ -4,8 +4,9 @@ ghost use Rattle.std.specs.Prelude.{◌≡◌, ◌<◌, [], ◌∷◌, ◌++◌,
 ghost use Rattle.dwarf_types.specs.Seen.{inner_seen, op_seen};
 
 use crate::address::Span;
+use crate::runs::Run;
 use crate::seen::{InnerOpRef, LocationsRef, OpRef, OpsRef};
-use crate::sides::{ItemRow, OpRow, Sides, Stretch};
+use crate::sides::{ItemRow, OpRow, Sides};
 use ds_base::NoMemory;
 use std::alloc::Global;
 use std::marker::Model;
@@ -93,7 +94,7 @@ impl Ops {
     {
         let (bytes, address) = self.sides.store_parts(op.bytes, op.address)?;
         let end = self.sides.inner.len();
-        let inner = Stretch {
+        let inner = Run {
             from: self.open_from,
             to: end,
         };

@@ -2,16 +2,18 @@
 
 ghost use Rattle.std.specs.Prelude.{◌≡◌, ◌<◌, [], All, IsSome, length, map, slice_index_or};
 ghost use Rattle.std.specs.Option.{unwrap_or};
-ghost use Rattle.dwarf_types.specs.Cells.{InColumn, InnerWithin, IsAddress, IsStretch, IsWithin, ItemWithin, OpWithin, address_at, held_value, inner_of, item_of, op_of, stretch_at, stretch_of, text_from};
+ghost use Rattle.dwarf_types.specs.Cells.{InnerWithin, IsAddress, IsRun, IsWithin, ItemWithin, OpWithin, address_at, held_value, inner_of, item_of, op_of, run_at, text_from};
 ghost use Rattle.dwarf_types.specs.Columns.{CellWithin, attr_of};
 ghost use Rattle.dwarf_types.specs.Moves.{place_in};
 ghost use Rattle.dwarf_types.specs.Put.{number_form};
+ghost use Rattle.dwarf_types.specs.Runs.{InRun, run_of};
 ghost use Rattle.dwarf_types.specs.Seen.{attr_seen, inner_seen, location_seen, op_seen, value_seen};
 
 use crate::address::{Addr, Place, Span};
 use crate::columns::Cell;
 use crate::expr::Base;
-use crate::sides::{InnerRow, ItemRow, Kind, OpRow, Sides, Stretch, text_at};
+use crate::runs::part_of;
+use crate::sides::{InnerRow, ItemRow, Kind, OpRow, Sides, text_at};
 use ds_base::dwarf::{DW_FORM_implicit_const, DW_FORM_sdata};
 use std::marker::Model;
 
@@ -151,14 +153,6 @@ fn op_in<'a>(sides: &'a Sides, row: OpRow) -> OpRef<'a>
         base: row.base,
         inner: InnerOpsRef::new(sides, part_of(&sides.inner, row.inner)),
     }
-}
-
-/// The items of a stretch of a column.
-fn part_of<'a, T>(column: &'a [T], stretch: Stretch) -> &'a [T]
-    requires { InColumn column.now stretch }
-    ensures { result.now ≡ stretch_of column.now stretch }
-{
-    &column[stretch.from..stretch.to]
 }
 
 /// The address at a place of the column.
@@ -390,10 +384,10 @@ fn text_in(bytes: &[u8], place: u32) -> &[u8]
     }
 }
 
-/// The bytes of the stretch at a place.
+/// The bytes of the run at a place.
 fn bytes_in<'a>(sides: &'a Sides, at: usize) -> &'a [u8]
-    requires { IsStretch sides.now sides.now.bytes.items at }
-    ensures { result.now ≡ stretch_of sides.now.bytes.items (stretch_at sides.now at) }
+    requires { IsRun sides.now sides.now.bytes.items at }
+    ensures { result.now ≡ run_of sides.now.bytes.items (run_at sides.now at) }
 {
-    part_of(&sides.bytes, sides.stretches[at])
+    part_of(&sides.bytes, sides.runs[at])
 }

@@ -7,14 +7,16 @@ ghost use Rattle.dwarf_types.specs.declared.sides.InnerRow.{InnerRow as AnInner}
 ghost use Rattle.dwarf_types.specs.declared.sides.ItemRow.{ItemRow as AnItem};
 ghost use Rattle.dwarf_types.specs.declared.sides.Kind.TheVariants as kinds;
 ghost use Rattle.dwarf_types.specs.declared.sides.OpRow.{OpRow as ARow};
-ghost use Rattle.dwarf_types.specs.Cells.{AreAsMany, Grows, HaveNone, HaveRoom, InColumn, InnerWithin, IsAddress, IsWithin, ItemWithin, KeepsOthers, MayHold, OpWithin, PutsOver, PutsOwn, PutsRead, held_value, address_at, first_text, inner_of, item_of, op_of, own_item, own_items, stored_place, stretch_of, text_from};
+ghost use Rattle.dwarf_types.specs.Cells.{AreAsMany, Grows, HaveNone, HaveRoom, InnerWithin, IsAddress, IsWithin, ItemWithin, KeepsOthers, MayHold, OpWithin, PutsOver, PutsOwn, PutsRead, held_value, address_at, first_text, inner_of, item_of, op_of, own_item, own_items, stored_place, text_from};
 ghost use Rattle.dwarf_types.specs.Put.{number_form, value_put, value_read};
+ghost use Rattle.dwarf_types.specs.Runs.{InRun, run_of};
 ghost use Rattle.dwarf_types.specs.Seen.{inner_seen, location_seen, op_seen};
 ghost use Rattle.dwarf_types.specs.declared.value.Value.TheVariants as values;
 
 use crate::address::{Addr, Place, Span};
 use crate::expr::Base;
 use crate::put::{NewValue, RawValue};
+use crate::runs::{Run, append};
 use crate::seen::{InnerOpRef, InnerOpsRef, LocationRef, LocationsRef, OpRef, OpsRef};
 use ds_base::NoMemory;
 use memchr::memchr;
@@ -29,11 +31,11 @@ pub(crate) enum Kind {
     Large,
     /// The place of the first byte of a text, which ends before the next zero byte.
     Text,
-    /// The place of the stretch of a text.
+    /// The place of the run of a text.
     OwnText,
-    /// The place of the stretch of a constant of 16 bytes.
+    /// The place of the run of a constant of 16 bytes.
     Wide,
-    /// The place of the stretch of a block.
+    /// The place of the run of a block.
     Block,
     /// A stored address below 2^32, which has gone nowhere.
     Stored,
@@ -41,11 +43,11 @@ pub(crate) enum Kind {
     Address,
     /// The place, or the number, of an entry.
     Ref,
-    /// The place of the stretch of the operations.
+    /// The place of the run of the operations.
     Expr,
-    /// The place of the stretch of the spans.
+    /// The place of the run of the spans.
     Ranges,
-    /// The place of the stretch of the items.
+    /// The place of the run of the items.
     Locations,
     /// Nothing.
     Lines,
@@ -55,18 +57,11 @@ pub(crate) enum Kind {
     LargeOffset,
 }
 
-/// From one place of a column up to another.
-#[derive(Clone, Copy)]
-pub(crate) struct Stretch {
-    pub(crate) from: usize,
-    pub(crate) to: usize,
-}
-
 /// An operation inside another, in its column.
 #[derive(Clone, Copy)]
 pub(crate) struct InnerRow {
     pub(crate) code: u8,
-    pub(crate) bytes: Stretch,
+    pub(crate) bytes: Run,
     /// The place of its address in the column of addresses.
     pub(crate) address: Option<usize>,
     pub(crate) base: Option<Base>,
@@ -76,19 +71,19 @@ pub(crate) struct InnerRow {
 #[derive(Clone, Copy)]
 pub(crate) struct OpRow {
     pub(crate) code: u8,
-    pub(crate) bytes: Stretch,
+    pub(crate) bytes: Run,
     /// The place of its address in the column of addresses.
     pub(crate) address: Option<usize>,
     pub(crate) base: Option<Base>,
     /// The operations inside.
-    pub(crate) inner: Stretch,
+    pub(crate) inner: Run,
 }
 
 /// An item of a location list in its column.
 #[derive(Clone, Copy)]
 pub(crate) struct ItemRow {
     pub(crate) span: Span,
-    pub(crate) ops: Stretch,
+    pub(crate) ops: Run,
 }
 
 /// A value, as it stands in a cell.
@@ -105,10 +100,10 @@ pub(crate) struct Sides {
     pub(crate) large: Vec<u64>,
     /// The sections of texts, one behind the other, and behind them all other bytes.
     pub(crate) bytes: Vec<u8>,
-    /// The stretches of texts, of constants of 16 bytes, and of blocks.
-    pub(crate) stretches: Vec<Stretch>,
+    /// The runs of texts, of constants of 16 bytes, and of blocks.
+    pub(crate) runs: Vec<Run>,
     /// Those of operations, of spans, and of items of location lists.
-    pub(crate) lists: Vec<Stretch>,
+    pub(crate) lists: Vec<Run>,
     /// The addresses of cells.
     pub(crate) places: Vec<Place>,
     /// Those of operations.
@@ -128,7 +123,7 @@ impl Sides {
         Sides {
             large: Vec::new(alloc),
             bytes: Vec::new(alloc),
-            stretches: Vec::new(alloc),
+            runs: Vec::new(alloc),
             lists: Vec::new(alloc),
             places: Vec::new(alloc),
             addresses: Vec::new(alloc),
@@ -280,8 +275,8 @@ impl Sides {
         ensures few { PutsRead self.old self.new result }
         ensures grows { Grows self.old self.new }
     {
-        let stretch = append(&mut self.bytes, text)?;
-        let payload = push_at(&mut self.stretches, stretch)?;
+        let run = append(&mut self.bytes, text)?;
+        let payload = push_at(&mut self.runs, run)?;
         Ok(Held {
             kind: Kind::OwnText,
             payload,
@@ -296,8 +291,8 @@ impl Sides {
         ensures few { PutsRead self.old self.new result }
         ensures grows { Grows self.old self.new }
     {
-        let stretch = append(&mut self.bytes, bytes)?;
-        let payload = push_at(&mut self.stretches, stretch)?;
+        let run = append(&mut self.bytes, bytes)?;
+        let payload = push_at(&mut self.runs, run)?;
         Ok(Held {
             kind: Kind::Wide,
             payload,
@@ -312,8 +307,8 @@ impl Sides {
         ensures few { PutsRead self.old self.new result }
         ensures grows { Grows self.old self.new }
     {
-        let stretch = append(&mut self.bytes, bytes)?;
-        let payload = push_at(&mut self.stretches, stretch)?;
+        let run = append(&mut self.bytes, bytes)?;
+        let payload = push_at(&mut self.runs, run)?;
         Ok(Held {
             kind: Kind::Block,
             payload,
@@ -370,8 +365,8 @@ impl Sides {
         ensures few { PutsOwn self.old self.new result }
         ensures grows { Grows self.old self.new }
     {
-        let stretch = self.store_ops(ops)?;
-        let payload = push_at(&mut self.lists, stretch)?;
+        let run = self.store_ops(ops)?;
+        let payload = push_at(&mut self.lists, run)?;
         Ok(Held {
             kind: Kind::Expr,
             payload,
@@ -386,8 +381,8 @@ impl Sides {
         ensures few { PutsOwn self.old self.new result }
         ensures grows { Grows self.old self.new }
     {
-        let stretch = append(&mut self.spans, spans)?;
-        let payload = push_at(&mut self.lists, stretch)?;
+        let run = append(&mut self.spans, spans)?;
+        let payload = push_at(&mut self.lists, run)?;
         Ok(Held {
             kind: Kind::Ranges,
             payload,
@@ -402,8 +397,8 @@ impl Sides {
         ensures few { PutsOwn self.old self.new result }
         ensures grows { Grows self.old self.new }
     {
-        let stretch = self.store_items(items)?;
-        let payload = push_at(&mut self.lists, stretch)?;
+        let run = self.store_items(items)?;
+        let payload = push_at(&mut self.lists, run)?;
         Ok(Held {
             kind: Kind::Locations,
             payload,
@@ -411,8 +406,8 @@ impl Sides {
     }
 
     /// Operations, each in a row.
-    pub(crate) fn store_ops(&mut self, ops: &OpsRef<'_>) -> Result<Stretch, NoMemory>
-        ensures rows { IfOk result (λ at. InColumn self.new.ops.items at × (map (op_of self.new) (stretch_of self.new.ops.items at) ≡ ops.now) × All (OpWithin self.new) (stretch_of self.new.ops.items at)) }
+    pub(crate) fn store_ops(&mut self, ops: &OpsRef<'_>) -> Result<Run, NoMemory>
+        ensures rows { IfOk result (λ at. InRun self.new.ops.items at × (map (op_of self.new) (run_of self.new.ops.items at) ≡ ops.now) × All (OpWithin self.new) (run_of self.new.ops.items at)) }
         ensures few { AreAsMany self.old self.new }
         ensures grows { Grows self.old self.new }
         ensures others { self.new.items.items ≡ self.old.items.items }
@@ -422,7 +417,7 @@ impl Sides {
             self.store_op(&ops.op(k))?;
         }
         let to = self.ops.len();
-        Ok(Stretch { from, to })
+        Ok(Run { from, to })
     }
 
     /// The row of an operation, behind the others.
@@ -449,9 +444,9 @@ impl Sides {
         &mut self,
         bytes: &[u8],
         address: Option<Place>,
-    ) -> Result<(Stretch, Option<usize>), NoMemory>
-        ensures value { IfOk result (λ at. (stretch_of self.new.bytes.items at.0 ≡ bytes.now) × (address_at self.new at.1 ≡ address)) }
-        ensures within { IfOk result (λ at. InColumn self.new.bytes.items at.0 × IsAddress self.new at.1) }
+    ) -> Result<(Run, Option<usize>), NoMemory>
+        ensures value { IfOk result (λ at. (run_of self.new.bytes.items at.0 ≡ bytes.now) × (address_at self.new at.1 ≡ address)) }
+        ensures within { IfOk result (λ at. InRun self.new.bytes.items at.0 × IsAddress self.new at.1) }
         ensures few { AreAsMany self.old self.new }
         ensures grows { Grows self.old self.new }
         ensures others { (self.new.ops.items ≡ self.old.ops.items) × (self.new.inner.items ≡ self.old.inner.items) × (self.new.items.items ≡ self.old.items.items) }
@@ -480,8 +475,8 @@ impl Sides {
     }
 
     /// Operations inside an operation, each in a row.
-    fn store_inner_ops(&mut self, ops: &InnerOpsRef<'_>) -> Result<Stretch, NoMemory>
-        ensures rows { IfOk result (λ at. InColumn self.new.inner.items at × (map (inner_of self.new) (stretch_of self.new.inner.items at) ≡ ops.now) × All (InnerWithin self.new) (stretch_of self.new.inner.items at)) }
+    fn store_inner_ops(&mut self, ops: &InnerOpsRef<'_>) -> Result<Run, NoMemory>
+        ensures rows { IfOk result (λ at. InRun self.new.inner.items at × (map (inner_of self.new) (run_of self.new.inner.items at) ≡ ops.now) × All (InnerWithin self.new) (run_of self.new.inner.items at)) }
         ensures few { AreAsMany self.old self.new }
         ensures grows { Grows self.old self.new }
         ensures others { (self.new.ops.items ≡ self.old.ops.items) × (self.new.items.items ≡ self.old.items.items) }
@@ -491,7 +486,7 @@ impl Sides {
             self.store_inner(&ops.op(k))?;
         }
         let to = self.inner.len();
-        Ok(Stretch { from, to })
+        Ok(Run { from, to })
     }
 
     /// The row of an operation inside another, behind the others.
@@ -522,8 +517,8 @@ impl Sides {
     }
 
     /// Items of a location list, each in a row.
-    fn store_items(&mut self, items: &LocationsRef<'_>) -> Result<Stretch, NoMemory>
-        ensures rows { IfOk result (λ at. InColumn self.new.items.items at × (map (item_of self.new) (stretch_of self.new.items.items at) ≡ items.now) × All (ItemWithin self.new) (stretch_of self.new.items.items at)) }
+    fn store_items(&mut self, items: &LocationsRef<'_>) -> Result<Run, NoMemory>
+        ensures rows { IfOk result (λ at. InRun self.new.items.items at × (map (item_of self.new) (run_of self.new.items.items at) ≡ items.now) × All (ItemWithin self.new) (run_of self.new.items.items at)) }
         ensures few { AreAsMany self.old self.new }
         ensures grows { Grows self.old self.new }
     {
@@ -532,7 +527,7 @@ impl Sides {
             self.store_item(&items.item(k))?;
         }
         let to = self.items.len();
-        Ok(Stretch { from, to })
+        Ok(Run { from, to })
     }
 
     /// The row of an item of a location list, behind the others.
@@ -609,16 +604,4 @@ fn push_at<T: Copy + Drop>(column: &mut Vec<T>, item: T) -> Result<u32, NoMemory
     let at = column.len() as u32;
     column.push(item)?;
     Ok(at)
-}
-
-/// Puts items last, and answers where they lie.
-fn append<T: Copy>(column: &mut Vec<T>, items: &[T]) -> Result<Stretch, NoMemory>
-    ensures ok { OnOk result (column.new.items ≡ column.old.items ++ items.now) }
-    ensures at { IfOk result (λ at. (at.from ≡ length column.old.items) × (at.to ≡ length column.old.items + length items.now)) }
-    ensures unchanged { OnErr result (column.new.items ≡ column.old.items) }
-{
-    let from = column.len();
-    column.extend_from_slice(items)?;
-    let to = column.len();
-    Ok(Stretch { from, to })
 }

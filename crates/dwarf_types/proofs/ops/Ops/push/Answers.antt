@@ -1,7 +1,7 @@
 use Rattle.std.proofs.Common.{rules, ◌≡◌, [], ◌∷◌, ◌++◌, ℕ, List, Option, map, length, arith, refl, ap, ◌∙◌}
 use Rattle.dwarf_types.specs.declared.address.Place.{Place}
 use Rattle.dwarf_types.specs.declared.sides.OpRow.{OpRow}
-use Rattle.dwarf_types.specs.declared.sides.Stretch.{Stretch}
+use Rattle.dwarf_types.specs.declared.runs.Run.{Run}
 use Rattle.dwarf_types.specs.Cells.{inner_of}
 use Rattle.dwarf_types.specs.Gathered.{Gathered, gathered_of}
 use Rattle.dwarf_types.proofs.Gathering.{gathered_put, gathered_stay, open_part, rows_put, rows_stay}
@@ -30,7 +30,7 @@ invariant_of-self-2 c =
     let at = c.self.inside.open_from in
     let stay = rows_stay _ s _ at c.store_parts.ensures.grows c.store_parts.ensures.others.1 c.self.invariant in
     let end : c.len-end.result ≡ length s.inner.items = omega arith in
-    let inner : Stretch = record { from = at; to = length s.inner.items } in
+    let inner : Run = record { from = at; to = length s.inner.items } in
     let part = open_part s.inner.items inner at refl refl stay.few in
     let row : OpRow = record { code = c.args.op.now.code; bytes = c.in_ok-bytes.bytes; address = c.in_ok-bytes.address; base = c.args.op.now.base; inner = inner } in
     let own = c.in_ok-bytes.ensures.within in
@@ -44,7 +44,7 @@ returns-clause-ok c =
     let stay = rows_stay _ s _ at c.store_parts.ensures.grows c.store_parts.ensures.others.1 c.self.invariant in
     let kept : gathered_of s rows at ≡ c.args.self.now = gathered_stay _ s _ _ c.store_parts.ensures.grows c.store_parts.ensures.others.1 c.self.invariant ∙ c.self.view_is in
     let end : c.len-end.result ≡ length s.inner.items = omega arith in
-    let inner : Stretch = record { from = at; to = length s.inner.items } in
+    let inner : Run = record { from = at; to = length s.inner.items } in
     let part = open_part s.inner.items inner at refl refl stay.few in
     let row : OpRow = record { code = c.args.op.now.code; bytes = c.in_ok-bytes.bytes; address = c.in_ok-bytes.address; base = c.args.op.now.base; inner = inner } in
     let with_parts : List ℕ → Option Place → Gathered → Gathered = λ bytes address g. record { ops = g.ops ++ record { code = c.args.op.now.code; bytes = bytes; address = address; base = c.args.op.now.base; inner = g.inner } ∷ []; inner = [] } in

@@ -2,7 +2,7 @@ use Rattle.std.proofs.Common.{◌≡◌, ◌<◌, length, arith, refl, take, ◌
 use Rattle.std.proofs.lemmas.List.{take_all, take_more}
 use Rattle.dwarf_types.specs.Cells.{inner_of, InnerWithin}
 use Rattle.dwarf_types.specs.Seen.{inner_seen}
-use Rattle.dwarf_types.proofs.Growing.{inner_column, as_many, as_many_on, grows_on, rows_more, rows_none, rows_stretch}
+use Rattle.dwarf_types.proofs.Growing.{inner_column, as_many, as_many_on, grows_on, rows_more, rows_none, rows_run}
 use Rattle.dwarf_types.proofs.Kept.{inners_kept, inners_within}
 use Rattle.dwarf_types.proofs.sides.Sides.store_inner_ops.Goals as goal
 
@@ -27,7 +27,7 @@ returns-clause-rows c =
     let from : c.len-from.result ≡ length c.args.self.now.inner.items = omega arith in
     let to : c.len-to.result ≡ length c.loop-k.self.inner.items = omega arith in
     let whole : take c.loop-k.k c.args.ops.now ≡ c.args.ops.now = take_all c.loop-k.k c.args.ops.now (omega arith) in
-    let all = rows_stretch inner_column inner_of InnerWithin c.args.self.now c.loop-k.self (take c.loop-k.k c.args.ops.now) (record { from = c.len-from.result; to = c.len-to.result }) c.loop-k.invariant.1.0 from to in
+    let all = rows_run inner_column inner_of InnerWithin c.args.self.now c.loop-k.self (take c.loop-k.k c.args.ops.now) (record { from = c.len-from.result; to = c.len-to.result }) c.loop-k.invariant.1.0 from to in
     (all.0, all.1 ∙ whole, all.2)
 
 pub returns-in_err-store_inner-clause-few : goal.returns-in_err-store_inner-clause-few

@@ -2,7 +2,7 @@ use Rattle.std.proofs.Common.{◌≡◌, ◌<◌, length, arith, take, ◌∙◌
 use Rattle.std.proofs.lemmas.List.{take_all, take_more}
 use Rattle.dwarf_types.specs.Cells.{item_of, ItemWithin}
 use Rattle.dwarf_types.specs.Seen.{location_seen}
-use Rattle.dwarf_types.proofs.Growing.{item_column, as_many, as_many_on, grows_on, rows_more, rows_none, rows_stretch}
+use Rattle.dwarf_types.proofs.Growing.{item_column, as_many, as_many_on, grows_on, rows_more, rows_none, rows_run}
 use Rattle.dwarf_types.proofs.Kept.{items_kept, items_within}
 use Rattle.dwarf_types.proofs.sides.Sides.store_items.Goals as goal
 
@@ -24,7 +24,7 @@ returns-clause-rows c =
     let from : c.len-from.result ≡ length c.args.self.now.items.items = omega arith in
     let to : c.len-to.result ≡ length c.loop-k.self.items.items = omega arith in
     let whole : take c.loop-k.k c.args.items.now ≡ c.args.items.now = take_all c.loop-k.k c.args.items.now (omega arith) in
-    let all = rows_stretch item_column item_of ItemWithin c.args.self.now c.loop-k.self (take c.loop-k.k c.args.items.now) (record { from = c.len-from.result; to = c.len-to.result }) c.loop-k.invariant.1 from to in
+    let all = rows_run item_column item_of ItemWithin c.args.self.now c.loop-k.self (take c.loop-k.k c.args.items.now) (record { from = c.len-from.result; to = c.len-to.result }) c.loop-k.invariant.1 from to in
     (all.0, all.1 ∙ whole, all.2)
 
 pub returns-in_err-store_item-clause-few : goal.returns-in_err-store_item-clause-few
