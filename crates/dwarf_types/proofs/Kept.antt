@@ -1,13 +1,11 @@
 -- Columns that grow keep what their cells stand for.
-use Rattle.std.proofs.Common.{inl, inr, ◌≡◌, ℕ, ◌+◌, ◌-◌, ◌<◌, ◌≤◌, ◌==◌, List, [], ◌∷◌, ◌++◌, map, length, drop, take, get_or, All, refl, ap, ap₂, subst, sym, arith, slice_range, ◌∙◌, Option, Some, None, Bool, true, false}
+use Rattle.std.proofs.Common.{inl, inr, ◌≡◌, ℕ, suc, nat_lt, if◌then◌else◌, ◌+◌, ◌-◌, ◌<◌, ◌≤◌, List, [], ◌∷◌, ◌++◌, map, length, drop, take, get_or, All, refl, ap, ap₂, subst, sym, arith, slice_range, ◌∙◌, Option, Some, None, Bool, true, false}
 use Rattle.std.specs.Prelude.{IsSome}
-use Rattle.std.specs.List.{position, position_or_len}
 use Rattle.std.specs.Option.{option_map, unwrap_or}
-use Rattle.std.proofs.lemmas.Bool.{cases_lt, lt-ltb}
+use Rattle.std.proofs.lemmas.Bool.{cases_lt}
 use Rattle.std.proofs.lemmas.List.{drop-append-le, drop_at, take-append-le, take_all, drop_all, length-drop, length-append, length_push, get_or_append_left, get_or_push}
 use Rattle.std.proofs.lemmas.List.Elements.{All-head, All-tail, All-weaker}
-use Rattle.std.proofs.lemmas.List.Quantifiers.{position-Some}
-use Rattle.std.proofs.lemmas.List.Sums.{position_or_len_is}
+use Rattle.ds_base.specs.Reading.{index_below, text_of}
 use Rattle.dwarf_types.specs.declared.address.Place.{Place}
 use Rattle.dwarf_types.specs.declared.expr.Op.{Op}
 use Rattle.dwarf_types.specs.declared.expr.PlainOp.{PlainOp}
@@ -21,7 +19,7 @@ use Rattle.dwarf_types.specs.declared.sides.OpRow.{OpRow}
 use Rattle.dwarf_types.specs.declared.sides.Sides.{Sides}
 use Rattle.dwarf_types.specs.declared.runs.Run.{Run}
 use Rattle.dwarf_types.specs.declared.value.Value.TheVariants as values
-use Rattle.dwarf_types.specs.Cells.{Begins, Grows, InnerWithin, IsAddress, IsList, IsRun, IsWithin, ItemWithin, KeepsOthers, OpWithin, address_at, first_text, held_value, inner_of, item_of, list_at, no_place, op_of, run_at, text_from}
+use Rattle.dwarf_types.specs.Cells.{Begins, Grows, InnerWithin, IsAddress, IsList, IsRun, IsWithin, ItemWithin, KeepsOthers, OpWithin, address_at, held_value, inner_of, item_of, list_at, no_place, op_of, run_at}
 use Rattle.dwarf_types.specs.Put.{number_form}
 use Rattle.dwarf_types.specs.Runs.{InRun, no_run, run_of}
 
@@ -71,33 +69,38 @@ list_within old new c d i g b w =
 
 -- ---- texts
 
-abbrev is_zero : ℕ → Bool
-is_zero b = b == 0
+below_step : (here : Bool) (o p : Option ℕ) (len n : ℕ) → ((m : ℕ) → o ≡ Some m → (m < len) × (p ≡ Some m)) → (if here then Some 0 else option_map suc o) ≡ Some n → (n < suc len) × ((if here then Some 0 else option_map suc p) ≡ Some n)
+below_step true o p len n same e =
+    let is : 0 ≡ n = cc in
+    (omega arith, e)
+below_step false None p len n same e = absurd (let no : ⊥ = cc in no)
+below_step false (Some m) p len n same e =
+    let later = same m refl in
+    let is : suc m ≡ n = cc in
+    (omega (arith, later.0), ap (option_map suc) later.1 ∙ ap Some is)
 
-position_kept : (xs ys : List ℕ) (n : ℕ) → position is_zero xs ≡ Some n → position is_zero (xs ++ ys) ≡ Some n
-position_kept xs ys n e =
-    let found = position-Some is_zero xs n 0 e in
-    let lt : n < length xs = found.0 in
-    let more : n < length (xs ++ ys) = omega (arith, length-append xs ys) in
-    let before : (k : ℕ) → k < n → is_zero (get_or (xs ++ ys) k 0) ≡ false = λ k below. rw (get_or_append_left xs ys 0 k (omega arith)) (found.2 k below) in
-    let here : n < length (xs ++ ys) → is_zero (get_or (xs ++ ys) n 0) ≡ true = λ inside. rw (get_or_append_left xs ys 0 n lt) found.1 in
-    let is : position_or_len is_zero (xs ++ ys) ≡ n = position_or_len_is is_zero (xs ++ ys) n 0 (omega arith) before here in
-    rw (is, lt-ltb n (length (xs ++ ys)) more) refl
+-- the first byte below a limit stays the first
+below_kept : (limit : ℕ) (xs ys : List ℕ) (n : ℕ) → index_below limit xs ≡ Some n → (n < length xs) × (index_below limit (xs ++ ys) ≡ Some n)
+below_kept limit [] ys n e = absurd (let no : ⊥ = cc in no)
+below_kept limit (b ∷ xs) ys n e = below_step (nat_lt b limit) (index_below limit xs) (index_below limit (xs ++ ys)) (length xs) n (λ m is. below_kept limit xs ys m is) e
 
-text_found : (xs ys : List ℕ) (o : Option ℕ) → position is_zero xs ≡ o → IsSome (option_map (λ n. take n xs) o) → first_text (xs ++ ys) ≡ first_text xs
+abbrev first_text : List ℕ → Option (List ℕ)
+first_text bytes = option_map (λ n. take n bytes) (index_below 1 bytes)
+
+text_found : (xs ys : List ℕ) (o : Option ℕ) → index_below 1 xs ≡ o → IsSome (option_map (λ n. take n xs) o) → first_text (xs ++ ys) ≡ first_text xs
 text_found xs ys None e w = absurd (let no : ⊥ = cc in no)
 text_found xs ys (Some n) e w =
-    let found = position-Some is_zero xs n 0 e in
-    let lt : n < length xs = found.0 in
-    rw (position_kept xs ys n e, e) (ap Some (take-append-le n xs ys (omega arith)))
+    let found = below_kept 1 xs ys n e in
+    rw (found.1, e) (ap Some (take-append-le n xs ys (omega (arith, found.0))))
 
-text_kept : (old new : List ℕ) (place : ℕ) → Begins old new → IsSome (text_from old place) → text_from new place ≡ text_from old place
+text_kept : (old new : List ℕ) (place : ℕ) → Begins old new → IsSome (text_of old place) → text_of new place ≡ text_of old place
+unfolding text_of
 text_kept old new place b w =
     elim (cases_lt (length old) place) [
       | inl lt ↦
           let none : IsSome (first_text []) = subst (λ (bytes : List ℕ). IsSome (first_text bytes)) (drop_all place old (omega arith)) w in
           absurd (let no : ⊥ = cc in no)
-      | inr le ↦ rw (b.1, drop-append-le place old b.0 le) (text_found (drop place old) b.0 (position is_zero (drop place old)) refl w)
+      | inr le ↦ rw (b.1, drop-append-le place old b.0 le) (text_found (drop place old) b.0 (index_below 1 (drop place old)) refl w)
     ]
 
 -- ---- operations

@@ -14,7 +14,6 @@ pub mod PlainCells
 pub mod Readers
 pub mod Replacing
 pub mod Setting
-pub mod Texts
 pub mod WithEnds
 pub mod WorkedGraph
 pub mod WorkedLinked

@@ -1,8 +1,8 @@
 -- What a cell stands for.
-use Rattle.std.specs.Prelude.{◌≡◌, ℕ, ◌+◌, ◌^◌, ◌<◌, ◌≤◌, ◌==◌, List, [], ◌++◌, drop, length, get_or, slice_range, take, All, IfSome, IsSome, Option, None, Result, Ok, Err, map, ⊤}
-use Rattle.std.specs.List.{position}
+use Rattle.std.specs.Prelude.{◌≡◌, ℕ, ◌+◌, ◌^◌, ◌<◌, ◌≤◌, List, [], ◌++◌, length, get_or, All, IfSome, IsSome, Option, None, Result, Ok, Err, map, ⊤}
 use Rattle.std.specs.Option.{option_map, unwrap_or}
 use Rattle.ds_base.specs.declared.fault.NoMemory.{NoMemory}
+use Rattle.ds_base.specs.Reading.{text_of}
 use Rattle.dwarf_types.specs.declared.address.Addr.TheVariants as addrs
 use Rattle.dwarf_types.specs.declared.address.Place.{Place}
 use Rattle.dwarf_types.specs.declared.expr.Op.{Op}
@@ -37,16 +37,6 @@ run_at s i = get_or s.runs.items i no_run
 abbrev pub list_at : Sides → ℕ → Run
 list_at s i = get_or s.lists.items i no_run
 
--- ---- texts
-
--- the bytes up to the first zero byte
-abbrev pub first_text : List ℕ → Option (List ℕ)
-first_text bytes = option_map (λ n. take n bytes) (position (λ b. b == 0) bytes)
-
--- those from a place on
-abbrev pub text_from : List ℕ → ℕ → Option (List ℕ)
-text_from bytes place = first_text (drop place bytes)
-
 -- ---- operations
 
 abbrev pub address_at : Sides → Option ℕ → Option Place
@@ -67,7 +57,7 @@ item_of s r = record { span = r.span; ops = map (op_of s) (run_of s.ops.items r.
 abbrev pub held_value : Sides → Kind → ℕ → ℕ → Value
 held_value s kinds.Small form n = values.Number (number_form form) n
 held_value s kinds.Large form i = values.Number (number_form form) (get_or s.large.items i 0)
-held_value s kinds.Text form place = values.Text (unwrap_or (text_from s.bytes.items place) [])
+held_value s kinds.Text form place = values.Text (unwrap_or (text_of s.bytes.items place) [])
 held_value s kinds.OwnText form i = values.Text (run_of s.bytes.items (run_at s i))
 held_value s kinds.Wide form i = values.Wide (run_of s.bytes.items (run_at s i))
 held_value s kinds.Block form i = values.Block form (run_of s.bytes.items (run_at s i))
@@ -105,7 +95,7 @@ IsList s items i = (i < length s.lists.items) × InRun items (list_at s i)
 abbrev pub IsWithin : Sides → Kind → ℕ → Type 0
 IsWithin s kinds.Small n = ⊤
 IsWithin s kinds.Large i = i < length s.large.items
-IsWithin s kinds.Text place = IsSome (text_from s.bytes.items place)
+IsWithin s kinds.Text place = IsSome (text_of s.bytes.items place)
 IsWithin s kinds.OwnText i = IsRun s s.bytes.items i
 IsWithin s kinds.Wide i = IsRun s s.bytes.items i
 IsWithin s kinds.Block i = IsRun s s.bytes.items i

@@ -2,7 +2,8 @@
 
 ghost use Rattle.std.specs.Prelude.{◌≡◌, ◌<◌, [], All, IsSome, length, map, slice_index_or};
 ghost use Rattle.std.specs.Option.{unwrap_or};
-ghost use Rattle.dwarf_types.specs.Cells.{InnerWithin, IsAddress, IsRun, IsWithin, ItemWithin, OpWithin, address_at, held_value, inner_of, item_of, op_of, run_at, text_from};
+ghost use Rattle.ds_base.specs.Reading.{text_of};
+ghost use Rattle.dwarf_types.specs.Cells.{InnerWithin, IsAddress, IsRun, IsWithin, ItemWithin, OpWithin, address_at, held_value, inner_of, item_of, op_of, run_at};
 ghost use Rattle.dwarf_types.specs.Columns.{CellWithin, attr_of};
 ghost use Rattle.dwarf_types.specs.Moves.{place_in};
 ghost use Rattle.dwarf_types.specs.Put.{number_form};
@@ -13,8 +14,9 @@ use crate::address::{Addr, Place, Span};
 use crate::columns::Cell;
 use crate::expr::Base;
 use crate::runs::part_of;
-use crate::sides::{InnerRow, ItemRow, Kind, OpRow, Sides, text_at};
+use crate::sides::{InnerRow, ItemRow, Kind, OpRow, Sides};
 use ds_base::dwarf::{DW_FORM_implicit_const, DW_FORM_sdata};
+use ds_base::text_in;
 use std::marker::Model;
 
 /// The value of an attribute where it stands, by the class of its form.
@@ -333,7 +335,7 @@ pub(crate) fn value_in<'a>(sides: &'a Sides, cell: Cell) -> ValueRef<'a>
             form: number_form(u16::from(cell.form)),
             bits: sides.large[at],
         },
-        Kind::Text => ValueRef::Text(text_in(&sides.bytes, cell.payload)),
+        Kind::Text => ValueRef::Text(text_at(&sides.bytes, cell.payload)),
         Kind::OwnText => ValueRef::Text(bytes_in(sides, at)),
         Kind::Wide => ValueRef::Wide(bytes_in(sides, at)),
         Kind::Block => ValueRef::Block {
@@ -374,11 +376,11 @@ fn number_form(form: u16) -> u16
 }
 
 /// The text that stands at a place.
-fn text_in(bytes: &[u8], place: u32) -> &[u8]
-    requires { IsSome (text_from bytes.now place) }
-    ensures { result.now ≡ unwrap_or (text_from bytes.now place) [] }
+fn text_at(bytes: &[u8], place: u32) -> &[u8]
+    requires { IsSome (text_of bytes.now place) }
+    ensures { result.now ≡ unwrap_or (text_of bytes.now place) [] }
 {
-    match text_at(bytes, place) {
+    match text_in(bytes, place) {
         Some(text) => text,
         None => unreachable!(),
     }

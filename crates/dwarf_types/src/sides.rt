@@ -1,13 +1,12 @@
 //! What a cell holds, and the columns beside the cells.
 
-ghost use Rattle.std.specs.Prelude.{◌≡◌, ◌==◌, ◌+◌, ◌++◌, ◌^◌, ◌<◌, ℕ, [], ◌∷◌, All, length, map, slice_get, Some, IfOk, IfSome, OnOk, OnErr, true, false};
-ghost use Rattle.std.specs.List.{position};
-ghost use Rattle.std.specs.Option.{option_copied};
+ghost use Rattle.std.specs.Prelude.{◌≡◌, ◌+◌, ◌++◌, ◌^◌, ◌<◌, ℕ, [], ◌∷◌, All, length, map, slice_get, Some, IfOk, OnOk, OnErr, true, false};
+ghost use Rattle.ds_base.specs.Reading.{text_of};
 ghost use Rattle.dwarf_types.specs.declared.sides.InnerRow.{InnerRow as AnInner};
 ghost use Rattle.dwarf_types.specs.declared.sides.ItemRow.{ItemRow as AnItem};
 ghost use Rattle.dwarf_types.specs.declared.sides.Kind.TheVariants as kinds;
 ghost use Rattle.dwarf_types.specs.declared.sides.OpRow.{OpRow as ARow};
-ghost use Rattle.dwarf_types.specs.Cells.{AreAsMany, Grows, HaveNone, HaveRoom, InnerWithin, IsAddress, IsWithin, ItemWithin, KeepsOthers, MayHold, OpWithin, PutsOver, PutsOwn, PutsRead, held_value, address_at, first_text, inner_of, item_of, op_of, own_item, own_items, stored_place, text_from};
+ghost use Rattle.dwarf_types.specs.Cells.{AreAsMany, Grows, HaveNone, HaveRoom, InnerWithin, IsAddress, IsWithin, ItemWithin, KeepsOthers, MayHold, OpWithin, PutsOver, PutsOwn, PutsRead, held_value, address_at, inner_of, item_of, op_of, own_item, own_items, stored_place};
 ghost use Rattle.dwarf_types.specs.Put.{number_form, value_put, value_read};
 ghost use Rattle.dwarf_types.specs.Runs.{InRun, run_of};
 ghost use Rattle.dwarf_types.specs.Seen.{inner_seen, location_seen, op_seen};
@@ -18,8 +17,7 @@ use crate::expr::Base;
 use crate::put::{NewValue, RawValue};
 use crate::runs::{Run, append};
 use crate::seen::{InnerOpRef, InnerOpsRef, LocationRef, LocationsRef, OpRef, OpsRef};
-use ds_base::NoMemory;
-use memchr::memchr;
+use ds_base::{NoMemory, text_in};
 use std::alloc::Global;
 
 /// What the payload of a cell is.
@@ -547,41 +545,12 @@ impl Sides {
 
 /// Whether a text stands at a place, and ends there before a zero byte.
 fn stands_at(bytes: &[u8], place: u32, text: &[u8]) -> bool
-    ensures { result ≡ true → text_from bytes.now place ≡ Some text.now }
+    ensures { result ≡ true → text_of bytes.now place ≡ Some text.now }
 {
-    match text_at(bytes, place) {
+    match text_in(bytes, place) {
         Some(found) => found == text,
         None => false,
     }
-}
-
-/// The bytes from a place up to the next zero byte, if there is one.
-pub(crate) fn text_at(bytes: &[u8], place: u32) -> Option<&[u8]>
-    ensures { option_copied result ≡ text_from bytes.now place }
-{
-    let place = place as usize;
-    if place > bytes.len() {
-        return None;
-    }
-    first_text(&bytes[place..])
-}
-
-/// The bytes up to the first zero byte, if there is one.
-fn first_text(bytes: &[u8]) -> Option<&[u8]>
-    ensures { option_copied result ≡ first_text bytes.now }
-{
-    match first_zero(bytes) {
-        Some(len) => Some(&bytes[..len]),
-        None => None,
-    }
-}
-
-/// The place of the first zero byte, if there is one.
-fn first_zero(bytes: &[u8]) -> Option<usize>
-    ensures is { result ≡ position (λ b. b == 0) bytes.now }
-    ensures within { IfSome result (λ n. n < length bytes.now) }
-{
-    memchr(0, bytes)
 }
 
 /// Whether a cell of this kind has an item in the column of addresses.
