@@ -1,5 +1,6 @@
 -- Objects and what is linked of them.
-use Rattle.std.proofs.Common.{◌≡◌, ◌==◌, if◌then◌else◌, ℕ, true, false, List, [], ◌∷◌, Option, Some, None, refl}
+use Rattle.std.proofs.Common.{◌≡◌, ◌==◌, if◌then◌else◌, ℕ, true, false, List, [], ◌∷◌, Option, Some, None, map, refl}
+use Rattle.std.specs.List.{filter_map}
 use Rattle.ds_base.specs.declared.dwarf.TheConstants.{DW_TAG_base_type, DW_TAG_compile_unit, DW_TAG_GNU_call_site, DW_TAG_namespace, DW_TAG_structure_type, DW_TAG_subprogram, DW_TAG_variable, DW_AT_byte_size, DW_AT_const_value, DW_AT_decl_file, DW_AT_external, DW_AT_frame_base, DW_AT_high_pc, DW_AT_language, DW_AT_location, DW_AT_low_pc, DW_AT_macro_info, DW_AT_name, DW_AT_ranges, DW_AT_sibling, DW_AT_type, DW_FORM_data1, DW_FORM_data2, DW_FORM_data4, DW_FORM_flag_present, DW_FORM_udata}
 use Rattle.dwarf_types.specs.declared.address.Addr.TheVariants as addrs
 use Rattle.dwarf_types.specs.declared.address.Span.{Span}
@@ -15,13 +16,12 @@ use Rattle.dwarf_types.specs.declared.graph.OutValue.TheVariants as out
 use Rattle.dwarf_types.specs.declared.graph.Target.{Target}
 use Rattle.dwarf_types.specs.declared.parts.ExprPart.TheVariants as parts
 use Rattle.dwarf_types.specs.declared.parts.PlainPart.TheVariants as plain
-use Rattle.dwarf_types.specs.declared.shape.Shape.{Shape}
 use Rattle.dwarf_types.specs.declared.value.Value.{Value}
 use Rattle.dwarf_types.specs.declared.value.Value.TheVariants as values
 use Rattle.dwarf_types.specs.Kept.{kept_of}
 use Rattle.dwarf_types.specs.LinkedGraph.{linked}
-use Rattle.dwarf_types.specs.LinkedShape.{shaped}
-use Rattle.dwarf_types.specs.LinkedUnits.{Object}
+use Rattle.dwarf_types.specs.LinkedShape.{plain_in, shape_in}
+use Rattle.dwarf_types.specs.LinkedUnits.{Object, plain_target, sources}
 use Rattle.dwarf_types.specs.LinkedValues.{attrs_written}
 use Rattle.dwarf_types.specs.Operations.{has_no_operands, operands_of}
 use Rattle.dwarf_types.specs.Tree.{lineage}
@@ -152,26 +152,27 @@ linked_both : linked (two_units ∷ one_function ∷ []) ≡ both
 unfolding attr address root entry text m_c main code unit function one_function op at convert entry_value span two_units node says ranges both operands_of has_no_operands
 linked_both = refl
 
--- the entries of their nodes, and where each entry went
-shape : Shape
-shape = record {
-  units =
-      record {
-        version = 4;
-        nodes =
-            record { object = 1; entry = 0; parent = None } ∷ record { object = 1; entry = 2; parent = Some 0 } ∷ record { object = 1; entry = 3; parent = Some 0 }
-            ∷ record { object = 1; entry = 4; parent = Some 1 } ∷ record { object = 1; entry = 5; parent = Some 0 } ∷ [];
-      }
-      ∷ record { version = 4; nodes = record { object = 2; entry = 0; parent = None } ∷ record { object = 2; entry = 1; parent = Some 0 } ∷ [] } ∷ [];
-  plain = (Some 0 ∷ None ∷ Some 1 ∷ Some 2 ∷ Some 3 ∷ Some 4 ∷ None ∷ []) ∷ (Some 0 ∷ Some 1 ∷ []) ∷ [];
-  images =
-      (Some (record { unit = 0; node = 0 }) ∷ None ∷ Some (record { unit = 0; node = 1 }) ∷ Some (record { unit = 0; node = 2 }) ∷ Some (record { unit = 0; node = 3 }) ∷ Some (record { unit = 0; node = 4 }) ∷ None ∷ [])
-      ∷ (Some (record { unit = 1; node = 0 }) ∷ Some (record { unit = 1; node = 1 }) ∷ []) ∷ [];
-}
+-- the entries of their nodes
+units_both : filter_map (shape_in (two_units ∷ one_function ∷ [])) (sources (two_units ∷ one_function ∷ []))
+    ≡ record {
+      version = 4;
+      nodes =
+          record { object = 1; entry = 0; parent = None } ∷ record { object = 1; entry = 2; parent = Some 0 } ∷ record { object = 1; entry = 3; parent = Some 0 }
+          ∷ record { object = 1; entry = 4; parent = Some 1 } ∷ record { object = 1; entry = 5; parent = Some 0 } ∷ [];
+    }
+    ∷ record { version = 4; nodes = record { object = 2; entry = 0; parent = None } ∷ record { object = 2; entry = 1; parent = Some 0 } ∷ [] } ∷ []
+unfolding attr address root entry text m_c main code one_function op at convert entry_value span two_units
+units_both = refl
 
-shaped_both : shaped (two_units ∷ one_function ∷ []) ≡ shape
-unfolding attr address root entry text m_c main code one_function op at convert entry_value span two_units shape
-shaped_both = refl
+-- the node of each entry
+plain_both : map plain_in (two_units ∷ one_function ∷ []) ≡ (Some 0 ∷ None ∷ Some 1 ∷ Some 2 ∷ Some 3 ∷ Some 4 ∷ None ∷ []) ∷ (Some 0 ∷ Some 1 ∷ []) ∷ []
+unfolding attr address root entry text m_c main code one_function op at convert entry_value span two_units
+plain_both = refl
+
+-- and where references to those of the second object lead
+targets_second : map (λ k. plain_target 0 (two_units ∷ one_function ∷ []) 1 k) (0 ∷ 1 ∷ []) ≡ Some (record { unit = 1; node = 0 }) ∷ Some (record { unit = 1; node = 1 }) ∷ []
+unfolding attr address root entry text m_c main code one_function op at convert entry_value span two_units
+targets_second = refl
 
 -- ---- two namespaces with a merged structure each, and a function in the second
 

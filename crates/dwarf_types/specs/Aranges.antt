@@ -18,8 +18,5 @@ set_bytes start spans =
     ++ (flat_map arange_bytes spans ++ replicate 16 0)))))
 
 -- that of a unit whose header stands at a place, if it has addresses
-abbrev pub aranges_len : List Span → ℕ
-aranges_len spans = if length spans == 0 then 0 else set_len spans
-
 abbrev pub aranges_bytes : ℕ → List Span → List ℕ
 aranges_bytes start spans = if length spans == 0 then [] else set_bytes start spans

@@ -1,15 +1,14 @@
--- The shape of the linked graph: its units with the entry for which each node stands, the node of each entry, and where references to each lead.
+-- The shape of the linked graph: its units with the entry for which each node stands, and the node of each entry.
 use Rattle.std.specs.Prelude.{◌≡◌, ℕ, ◌+◌, Bool, List, map, length, slice_get, Option, is_some}
-use Rattle.std.specs.List.{All, enumerate_from, filter_map, zip}
+use Rattle.std.specs.List.{All, zip}
 use Rattle.std.specs.Option.{option_and_then, option_map}
 use Rattle.dwarf_types.specs.declared.analysis.Analysis.{Analysis}
 use Rattle.dwarf_types.specs.declared.entry.Entry.{Entry}
 use Rattle.dwarf_types.specs.declared.entry.InUnit.{InUnit}
-use Rattle.dwarf_types.specs.declared.graph.Target.{Target}
 use Rattle.dwarf_types.specs.declared.shape.Origin.{Origin}
 use Rattle.dwarf_types.specs.declared.shape.Shape.{Shape}
 use Rattle.dwarf_types.specs.declared.shape.ShapeUnit.{ShapeUnit}
-use Rattle.dwarf_types.specs.LinkedUnits.{Object, Source, kept_entries, node_number, numbered, parent_node, plain_target, sources}
+use Rattle.dwarf_types.specs.LinkedUnits.{Object, Source, kept_entries, node_number, numbered, parent_node}
 
 -- ---- objects
 
@@ -36,17 +35,6 @@ shape_in objects source = option_and_then (λ o. option_map (unit_shape source o
 abbrev pub plain_in : Object → List (Option ℕ)
 plain_in o = map (λ e. node_number o e.1.unit e.0) (numbered o)
 
--- where references to the entries of an object lead
-abbrev pub images_in : List Object → ℕ × Object → List (Option Target)
-images_in objects o = map (λ e. plain_target 0 objects o.0 e.0) (numbered o.1)
-
-abbrev pub shaped : List Object → Shape
-shaped objects = record {
-  units = filter_map (shape_in objects) (sources objects);
-  plain = map plain_in objects;
-  images = map (images_in objects) (enumerate_from 0 objects);
-}
-
 -- ---- the objects of a shape
 
 -- which entries have a node in their own unit
@@ -55,8 +43,3 @@ marks_in shape = map (λ plain. map is_some plain) shape.plain
 
 abbrev pub objects_in : List Analysis → Shape → List Object
 objects_in seen shape = objects_of seen (marks_in shape)
-
--- a shape of these analyses
-pub record IsShape (seen : List Analysis) (shape : Shape) : Type 0 where
-  pub marked : AreMarked seen (marks_in shape)
-  pub is : shape ≡ shaped (objects_in seen shape)
