@@ -4,16 +4,16 @@ ghost use Rattle.std.specs.Prelude.{◌≡◌, true, is_some, length, IfOk, OnOk
 ghost use Rattle.std.specs.List.{All, list_all};
 ghost use Rattle.clone_values.specs.Cut.{is_nested, with_op};
 ghost use Rattle.clone_values.specs.Images.{OpAmong, image_at};
-ghost use Rattle.dwarf_types.specs.LinkedExpressions.{outside, parts_of};
+ghost use Rattle.dwarf_types.specs.LinkedExpressions.{parts_of};
 ghost use Rattle.dwarf_types.specs.LinkedValues.{all_move};
 ghost use Rattle.dwarf_types.specs.Moves.{op_fields};
 ghost use Rattle.dwarf_types.specs.Operations.{operands_of};
-ghost use Rattle.dwarf_types.specs.Seen.{inner_seen, op_seen};
+ghost use Rattle.dwarf_types.specs.Seen.{op_seen};
 
 use crate::cutting::Cutting;
 use crate::inside::plain_parts;
 use ds_base::{List, NoMemory};
-use dwarf_types::{ExprPart, InnerOpRef, OpRef, Operands, OpsRef, Target, operands_after};
+use dwarf_types::{ExprPart, OpRef, Operands, OpsRef, Target, operands_after};
 use std::alloc::Global;
 
 /// The parts of an expression as it is written, with stretches of bytes as long as can be.
@@ -51,19 +51,7 @@ fn add_op(
             parts,
         });
     }
-    cutting.add(alloc, images, &outside(op))
-}
-
-/// An operation without those inside.
-fn outside<'a>(op: &OpRef<'a>) -> InnerOpRef<'a>
-    ensures { inner_seen result ≡ outside (op_seen op.now) }
-{
-    InnerOpRef {
-        code: op.code,
-        bytes: op.bytes,
-        address: op.address,
-        base: op.base,
-    }
+    cutting.add(alloc, images, &op.outside())
 }
 
 /// Whether an operation is an entry value.

@@ -5,6 +5,7 @@ ghost use Rattle.std.specs.Option.{unwrap_or};
 ghost use Rattle.ds_base.specs.Reading.{text_of};
 ghost use Rattle.dwarf_types.specs.Cells.{InnerWithin, IsAddress, IsRun, IsWithin, ItemWithin, OpWithin, address_at, held_value, inner_of, item_of, op_of, run_at};
 ghost use Rattle.dwarf_types.specs.Columns.{CellWithin, attr_of};
+ghost use Rattle.dwarf_types.specs.LinkedExpressions.{outside};
 ghost use Rattle.dwarf_types.specs.Moves.{place_in};
 ghost use Rattle.dwarf_types.specs.Put.{number_form};
 ghost use Rattle.dwarf_types.specs.Runs.{InRun, run_of};
@@ -140,6 +141,20 @@ impl<'a> OpsRef<'a> {
         ensures { op_seen result ≡ slice_index_or self.now k (op_seen result) }
     {
         op_in(self.sides, self.rows[k])
+    }
+}
+
+impl<'a> OpRef<'a> {
+    /// It without the operations inside.
+    pub fn outside(&self) -> InnerOpRef<'a>
+        ensures { inner_seen result ≡ outside (op_seen self.now) }
+    {
+        InnerOpRef {
+            code: self.code,
+            bytes: self.bytes,
+            address: self.address,
+            base: self.base,
+        }
     }
 }
 
