@@ -7,7 +7,8 @@ use Rattle.std.proofs.lemmas.List.Quantifiers.{all_pairs_push}
 use Rattle.std.proofs.lemmas.List.Sums.{position_or_len_is}
 use Rattle.dwarf_types.specs.declared.entry.RawEntry.{RawEntry}
 use Rattle.dwarf_types.specs.declared.place_table.TheConstants.{STEP}
-use Rattle.dwarf_types.specs.PlaceSteps.{IsTable, places_of}
+use Rattle.dwarf_types.specs.PlaceSteps.{IsTable}
+use Rattle.dwarf_types.specs.Raw.{places_of}
 
 abbrev is_at : ℕ → ℕ → Bool
 is_at place p = p == place

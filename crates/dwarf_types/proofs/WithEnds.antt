@@ -9,8 +9,7 @@ use Rattle.dwarf_types.specs.declared.entry.Entry.{Entry}
 use Rattle.dwarf_types.specs.declared.entry.RawAttr.{RawAttr}
 use Rattle.dwarf_types.specs.declared.entry.RawEntry.{RawEntry}
 use Rattle.dwarf_types.specs.declared.value.Value.{Value}
-use Rattle.dwarf_types.specs.PlaceSteps.{places_of}
-use Rattle.dwarf_types.specs.Raw.{attr_count, attr_of, entry_of, raw_attr, raw_entries, raw_entry}
+use Rattle.dwarf_types.specs.Raw.{attr_count, attr_of, entry_of, places_of, raw_attr, raw_entries, raw_entry}
 use Rattle.dwarf_types.proofs.Ends.{position_beside}
 use Rattle.dwarf_types.proofs.Heads.{position_map}
 

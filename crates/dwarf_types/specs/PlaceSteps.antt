@@ -1,12 +1,7 @@
 -- The places of entries by steps of so many bytes: of each step, how many of them lie before it.
-use Rattle.std.specs.Prelude.{ℕ, ◌*◌, ◌<◌, ◌≤◌, List, length, map, slice_index_or}
+use Rattle.std.specs.Prelude.{ℕ, ◌*◌, ◌<◌, ◌≤◌, List, length, slice_index_or}
 use Rattle.std.specs.List.{AllPairs}
-use Rattle.dwarf_types.specs.declared.entry.RawEntry.{RawEntry}
 use Rattle.dwarf_types.specs.declared.place_table.TheConstants.{STEP}
-
--- where each entry begins
-abbrev pub places_of : List RawEntry → List ℕ
-places_of entries = map (λ e. e.place) entries
 
 -- the table of places has these counts, one a step
 pub record IsTable (places before : List ℕ) : Type 0 where

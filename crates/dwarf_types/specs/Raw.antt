@@ -1,4 +1,4 @@
--- Entries as they are read: each value has the place behind it.
+-- Entries as they are read: where they begin, and of each value the place behind it.
 use Rattle.std.specs.Prelude.{ℕ, List, [], ◌∷◌, drop, length, map, take}
 use Rattle.std.specs.List.{sum_by, zip}
 use Rattle.dwarf_types.specs.declared.entry.Attr.{Attr}
@@ -6,7 +6,11 @@ use Rattle.dwarf_types.specs.declared.entry.Entry.{Entry}
 use Rattle.dwarf_types.specs.declared.entry.RawAttr.{RawAttr}
 use Rattle.dwarf_types.specs.declared.entry.RawEntry.{RawEntry}
 
--- ---- without these places
+-- where each entry begins
+abbrev pub places_of : List RawEntry → List ℕ
+places_of entries = map (λ e. e.place) entries
+
+-- ---- without the places behind values
 
 abbrev pub attr_of : RawAttr → Attr
 attr_of a = record { name = a.name; form = a.form; value = a.value }

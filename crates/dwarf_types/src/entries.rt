@@ -6,9 +6,8 @@ ghost use Rattle.dwarf_types.specs.declared.entry.Entry.{Entry as AnEntry};
 ghost use Rattle.dwarf_types.specs.declared.entry.RawAttr.{RawAttr as ARawAttr};
 ghost use Rattle.dwarf_types.specs.declared.entry.RawEntry.{RawEntry as ARawEntry};
 ghost use Rattle.dwarf_types.specs.Columns.{AreEntries, entries_of, raw_entries_of};
-ghost use Rattle.dwarf_types.specs.PlaceSteps.{places_of};
 ghost use Rattle.dwarf_types.specs.Put.{MayBecome, value_put};
-ghost use Rattle.dwarf_types.specs.Raw.{attr_count, entry_of};
+ghost use Rattle.dwarf_types.specs.Raw.{attr_count, entry_of, places_of};
 
 use crate::columns::{Cell, Head, cells_in};
 use crate::entry_ref::{EntryRef, RawEntryRef};

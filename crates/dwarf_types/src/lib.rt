@@ -6,8 +6,9 @@
 //! as lists of the records here (`specs/Columns.antt`, `specs/Cells.antt`). The encoding of a
 //! graph is a definition alone (`specs/Encode.antt`): sections of DWARF 4 and 5, section 7, with this
 //! project's choices (docs/PROFILE.md, "Bytes written"). What every linked graph keeps to is
-//! `specs/Well.antt`. The one table here is that of the operations of expressions
-//! ([`operands_after`]), by which they are read and written. Nothing here reads or writes bytes.
+//! `specs/Well.antt`. There are two tables here: that of the operations of expressions
+//! ([`operands_after`]), by which they are read and written, and that of the places of entries
+//! ([`PlaceTable`]), by which the entry at a place is found. Nothing here reads or writes bytes.
 #![tactic(auto)]
 
 mod abbrev;

@@ -2,7 +2,8 @@
 
 ghost use Rattle.std.specs.Prelude.{◌≡◌, ◌++◌, ◌<◌, ◌≤◌, ◌==◌, ℕ, IfOk, OnOk, length, replicate, slice_index_or};
 ghost use Rattle.std.specs.List.{AllPairs, position};
-ghost use Rattle.dwarf_types.specs.PlaceSteps.{IsTable, places_of};
+ghost use Rattle.dwarf_types.specs.PlaceSteps.{IsTable};
+ghost use Rattle.dwarf_types.specs.Raw.{places_of};
 
 use crate::entries::RawEntries;
 use ds_base::NoMemory;

@@ -16,8 +16,7 @@ use Rattle.dwarf_types.specs.declared.entry.InUnit.{InUnit}
 use Rattle.dwarf_types.specs.declared.entry.RawAttr.{RawAttr}
 use Rattle.dwarf_types.specs.declared.entry.RawUnits.{RawUnits}
 use Rattle.dwarf_types.specs.declared.value.Value.{Value}
-use Rattle.dwarf_types.specs.PlaceSteps.{places_of}
-use Rattle.dwarf_types.specs.Raw.{entry_of}
+use Rattle.dwarf_types.specs.Raw.{entry_of, places_of}
 use Rattle.dwarf_types.specs.SectionBytes.{SectionBytes, location_bytes}
 use Rattle.dwarf_types.specs.Spelled.{AreBytes, AreTextBytes}
 use Rattle.dwarf_types.proofs.Readers.{AreBytes-from, IsBytes-drop, IsBytes-from, IsBytes-take}

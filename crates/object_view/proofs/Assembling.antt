@@ -13,8 +13,7 @@ use Rattle.dwarf_types.specs.declared.entry.Entry.{Entry}
 use Rattle.dwarf_types.specs.declared.entry.InUnit.{InUnit}
 use Rattle.dwarf_types.specs.declared.entry.RawEntry.{RawEntry}
 use Rattle.dwarf_types.specs.declared.entry.RawUnits.{RawUnits}
-use Rattle.dwarf_types.specs.PlaceSteps.{places_of}
-use Rattle.dwarf_types.specs.Raw.{attr_of}
+use Rattle.dwarf_types.specs.Raw.{attr_of, places_of}
 use Rattle.stab_map.specs.declared.object.MapObject.{MapObject}
 use Rattle.addr_map.specs.declared.map.AddrMap.{AddrMap}
 use Rattle.addr_map.specs.Ranges.{map_of}

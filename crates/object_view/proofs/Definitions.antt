@@ -15,8 +15,7 @@ use Rattle.dwarf_types.specs.declared.entry.RawUnits.{RawUnits}
 use Rattle.dwarf_types.specs.declared.entry.RawAttr.{RawAttr}
 use Rattle.dwarf_types.specs.declared.entry.RawEntry.{RawEntry}
 use Rattle.dwarf_types.specs.declared.value.Value.{Value}
-use Rattle.dwarf_types.specs.PlaceSteps.{places_of}
-use Rattle.dwarf_types.specs.Raw.{entry_of}
+use Rattle.dwarf_types.specs.Raw.{entry_of, places_of}
 use Rattle.addr_map.specs.declared.map.AddrMap.{AddrMap}
 use Rattle.object_view.specs.Analysis.{units_analysed}
 use Rattle.object_view.specs.Attributes.{all_marked, base_of, entries_by, entries_meant, info_context, info_step, locations_context, locations_meant, locations_step, ranges_meant, ranges_step, raw_entries_by, unit_base, units_meant, value_meant}

@@ -21,8 +21,7 @@ use Rattle.dwarf_types.specs.declared.entry.RawUnits.{RawUnits}
 use Rattle.dwarf_types.specs.declared.lists.RawSpan.{RawSpan}
 use Rattle.dwarf_types.specs.declared.value.Value.{Value}
 use Rattle.dwarf_types.specs.declared.value.Value.TheVariants as values
-use Rattle.dwarf_types.specs.PlaceSteps.{places_of}
-use Rattle.dwarf_types.specs.Raw.{attr_of}
+use Rattle.dwarf_types.specs.Raw.{attr_of, places_of}
 use Rattle.dwarf_types.specs.SectionBytes.{SectionBytes}
 use Rattle.addr_map.specs.declared.map.AddrMap.{AddrMap}
 use Rattle.index_tables.specs.declared.bases.Bases.{Bases}

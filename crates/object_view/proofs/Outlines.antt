@@ -24,7 +24,7 @@ use Rattle.dwarf_types.specs.declared.lists.RawSpan.{RawSpan}
 use Rattle.dwarf_types.specs.declared.value.Value.{Value}
 use Rattle.dwarf_types.specs.declared.value.Value.TheVariants as values
 use Rattle.dwarf_types.specs.Live.{Stands, target_in}
-use Rattle.dwarf_types.specs.PlaceSteps.{places_of}
+use Rattle.dwarf_types.specs.Raw.{places_of}
 use Rattle.dwarf_types.specs.SectionBytes.{SectionBytes}
 use Rattle.addr_map.specs.declared.map.AddrMap.{AddrMap}
 use Rattle.frame_table.specs.Frames.{frames_of}

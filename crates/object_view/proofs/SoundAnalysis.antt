@@ -22,7 +22,7 @@ use Rattle.dwarf_types.specs.declared.entry.RawEntry.{RawEntry}
 use Rattle.dwarf_types.specs.declared.entry.RawUnits.{RawUnits}
 use Rattle.dwarf_types.specs.declared.lines.OutLines.{OutLines}
 use Rattle.dwarf_types.specs.Live.{Stands, bases_of, op_bases, operations_of}
-use Rattle.dwarf_types.specs.PlaceSteps.{places_of}
+use Rattle.dwarf_types.specs.Raw.{places_of}
 use Rattle.dwarf_types.specs.Sound.{AreCodeRanges, AreUnits, IsBaseType, IsParent, IsSound, IsSoundEntry}
 use Rattle.ds_base.proofs.Passing.{bind_ok, ok_is}
 use Rattle.addr_map.specs.declared.map.AddrMap.{AddrMap}

@@ -26,8 +26,7 @@ use Rattle.dwarf_types.specs.declared.lists.RawSpan.{RawSpan}
 use Rattle.dwarf_types.specs.declared.value.Value.{Value}
 use Rattle.dwarf_types.specs.declared.value.Value.TheVariants as values
 use Rattle.dwarf_types.specs.Moves.{place_in, value_of}
-use Rattle.dwarf_types.specs.PlaceSteps.{places_of}
-use Rattle.dwarf_types.specs.Raw.{entry_of}
+use Rattle.dwarf_types.specs.Raw.{entry_of, places_of}
 use Rattle.reloc_table.specs.declared.relocation.Relocs.{Relocs}
 use Rattle.reloc_table.specs.Address.{address_of}
 use Rattle.addr_map.specs.declared.map.AddrMap.{AddrMap}

@@ -3,7 +3,7 @@
 ghost use Rattle.std.specs.Prelude.{◌≡◌, ◌^◌, ◌<◌, length, IfOk};
 ghost use Rattle.std.specs.List.{All};
 ghost use Rattle.ds_base.specs.Reading.{Gives};
-ghost use Rattle.dwarf_types.specs.PlaceSteps.{places_of};
+ghost use Rattle.dwarf_types.specs.Raw.{places_of};
 ghost use Rattle.dwarf_types.specs.SectionBytes.{bytes_in};
 ghost use Rattle.dwarf_types.specs.Sound.{IsSound};
 ghost use Rattle.unit_tree.specs.Inside.{AreInside};

@@ -2,7 +2,8 @@
 
 ghost use Rattle.std.specs.Prelude.{◌≡◌, ◌<◌, ◌^◌, length, map, Some, is_some, IfOk, IfSome};
 ghost use Rattle.ds_base.specs.Reading.{Gives};
-ghost use Rattle.dwarf_types.specs.PlaceSteps.{IsTable, places_of};
+ghost use Rattle.dwarf_types.specs.PlaceSteps.{IsTable};
+ghost use Rattle.dwarf_types.specs.Raw.{places_of};
 ghost use Rattle.unit_tree.specs.Reference.{reaches, leads, resolved, IsRising};
 ghost use Rattle.unit_tree.specs.Targets.{number_at};
 

@@ -3,7 +3,7 @@
 ghost use Rattle.std.specs.Prelude.{◌≡◌, ◌≤◌, ◌<◌, ◌^◌, [], length, map, Some, IfOk, OnOk};
 ghost use Rattle.std.specs.List.{list_all};
 ghost use Rattle.ds_base.specs.Reading.{Finds, Gives};
-ghost use Rattle.dwarf_types.specs.PlaceSteps.{places_of};
+ghost use Rattle.dwarf_types.specs.Raw.{places_of};
 ghost use Rattle.dwarf_types.specs.SectionBytes.{bytes_in};
 ghost use Rattle.dwarf_types.specs.Seen.{value_seen};
 ghost use Rattle.dwarf_types.specs.Spelled.{AreBytes};

@@ -1,5 +1,5 @@
 use Rattle.std.proofs.Common.{ℕ, ◌<◌, length, get_or}
-use Rattle.dwarf_types.specs.PlaceSteps.{places_of}
+use Rattle.dwarf_types.specs.Raw.{places_of}
 use Rattle.dwarf_types.proofs.place_table.find_from.Given as goal
 
 abbrev pub invariant-loop-i : goal.invariant-loop-i

@@ -1,4 +1,4 @@
-use Rattle.dwarf_types.specs.PlaceSteps.{places_of}
+use Rattle.dwarf_types.specs.Raw.{places_of}
 use Rattle.object_view.proofs.analysis.understand_info.Given as goal
 
 abbrev pub ghost-understand_entries : goal.ghost-understand_entries

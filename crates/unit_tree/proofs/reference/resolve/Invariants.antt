@@ -1,5 +1,5 @@
 use Rattle.std.proofs.Common.{◌≡◌, Some, drop, map, take}
-use Rattle.dwarf_types.specs.PlaceSteps.{places_of}
+use Rattle.dwarf_types.specs.Raw.{places_of}
 use Rattle.unit_tree.specs.Targets.{number_at}
 use Rattle.unit_tree.proofs.References.{dangling}
 use Rattle.unit_tree.proofs.reference.resolve.Given as goal

@@ -1,6 +1,6 @@
 use Rattle.std.proofs.Common.{ap, arith, map, refl, ◌∙◌}
 use Rattle.std.proofs.lemmas.Result.{err_from_is_err_and}
-use Rattle.dwarf_types.specs.PlaceSteps.{places_of}
+use Rattle.dwarf_types.specs.Raw.{places_of}
 use Rattle.dwarf_types.specs.SectionBytes.{bytes_in}
 use Rattle.unit_tree.specs.Targets.{number_at}
 use Rattle.unit_tree.proofs.InsideLaws.{read_inside}

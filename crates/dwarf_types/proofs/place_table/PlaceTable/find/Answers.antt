@@ -1,5 +1,5 @@
 use Rattle.std.proofs.Common.{ap, arith, length, sym}
-use Rattle.dwarf_types.specs.PlaceSteps.{places_of}
+use Rattle.dwarf_types.specs.Raw.{places_of}
 use Rattle.dwarf_types.proofs.Placing.{all_before}
 use Rattle.dwarf_types.proofs.place_table.PlaceTable.find.Goals as goal
 

@@ -2,7 +2,7 @@ use Rattle.std.proofs.Common.{◌<◌, ◌*◌, ◌++◌, arith, get_or, length,
 use Rattle.std.proofs.lemmas.List.{length-map}
 use Rattle.dwarf_types.specs.declared.entry.RawEntry.{RawEntry}
 use Rattle.dwarf_types.specs.declared.place_table.TheConstants.{STEP}
-use Rattle.dwarf_types.specs.PlaceSteps.{places_of}
+use Rattle.dwarf_types.specs.Raw.{places_of}
 use Rattle.dwarf_types.proofs.Placing.{places_rise, rank_le, table_more}
 use Rattle.dwarf_types.proofs.place_table.PlaceTable.of.Goals as goal
 
