@@ -90,7 +90,7 @@ onward_inside s t o inside =
     let place : t.place ≡ s.place + o.by = ap (λ (x : Spot). x.place) o.is in
     omega (arith, o.fits, place, end_kept s t o, inside)
 
-pub table_whole : (image : Image) (relocs : Relocs) (sections : SectionBytes) (unit : ℕ) (first : Spot) (lines : RawLines) → lines_from image relocs sections unit first ≡ Ok lines → IsWhole image relocs unit first lines
+pub table_whole : (image : Image) (relocs : Relocs) (sections : SectionBytes) (unit : ℕ) (first : Spot) (lines : RawLines) → lines_from image relocs sections unit first ≡ Ok lines → IsWhole image relocs sections unit first lines
 unfolding lines_from
 table_whole image relocs sections unit first lines e =
     let table = bind_ok (table_at first) _ lines e in
@@ -113,7 +113,23 @@ table_whole image relocs sections unit first lines e =
       files = files.0.0;
       program = s;
       ops = listing.ops;
-      stands = record { table = table.0; version = version.0; sizes = sizes.0; behind = program.0.1; opened = table.1; versioned = version.1; sized = sizes.1; placed = program.1; ended = end_kept table.0 s on };
+      stands = record {
+        table = table.0;
+        version = version.0;
+        sizes = sizes.0;
+        behind = program.0.1;
+        dirs_from = header.0.1;
+        files_from = dirs.0.1;
+        files_to = files.0.1;
+        opened = table.1;
+        versioned = version.1;
+        sized = sizes.1;
+        placed = program.1;
+        ended = end_kept table.0 s on;
+        headed = header.1;
+        dirs_read = dirs.1;
+        files_read = files.1;
+      };
       filled = ops_fill read (op_further header.0.0 image relocs) (s.end - s.place) s inside none;
       means = means_all header.0.0 dirs.0.0 files.0.0 listing lines none files.2;
     }

@@ -13,10 +13,10 @@ ghost use Rattle.line_read.specs.Program.{lines_of};
 ghost use Rattle.line_read.specs.Whole.{IsWhole};
 
 /// The program of a table that is read is read whole: operations follow each other without a gap from its first byte to
-/// the table's end, and the table is what they mean.
+/// the table's end, and the table is what they mean under the header, the directories and the files that stand before it.
 pub fn operations_fill_the_program()
     ensures { (image : Image) (relocs : Relocs) (sections : SectionBytes) (version offset : ℕ) (lines : RawLines) →
-        lines_of image relocs sections version offset ≡ Ok lines → IsWhole image relocs version (line_at sections.line offset) lines }
+        lines_of image relocs sections version offset ≡ Ok lines → IsWhole image relocs sections version (line_at sections.line offset) lines }
 {}
 
 /// Each fault of a table is of one of these kinds.

@@ -37,7 +37,7 @@ table_in first table e =
     let fits = ltb-false (len.0.1.end - len.0.1.place) len.0.0 (second_false (nat_le LENGTH_RESERVED len.0.0) _ p.0) in
     (len.0, len.1, omega (arith, fits, ap (λ (x : Spot). x.place) is, ap (λ (x : Spot). x.end) is))
 
-pub told : (image : Image) (relocs : Relocs) (sections : SectionBytes) (unit place : ℕ) (lines : RawLines) → IsWhole image relocs unit (line_at sections.line place) lines → IsSome (version_of sections place)
+pub told : (image : Image) (relocs : Relocs) (sections : SectionBytes) (unit place : ℕ) (lines : RawLines) → IsWhole image relocs sections unit (line_at sections.line place) lines → IsSome (version_of sections place)
 told image relocs sections unit place lines whole =
     let table = table_in (line_at sections.line place) whole.stands.table whole.stands.opened in
     let fits = version_fits unit whole.stands.table whole.stands.version whole.stands.versioned in
