@@ -81,11 +81,7 @@ fn run<'a>(
         registers: initial(header),
         last: None,
     };
-    let left = cursor.left();
-    for _ in 0..left {
-        if cursor.left() == 0 {
-            return Ok(matrix);
-        }
+    while cursor.left() > 0 {
         let place = cursor.place();
         let op = read_op(header, bytes, relocs, image, &mut cursor)?;
         run_op(header, place, op, &mut matrix)?;
