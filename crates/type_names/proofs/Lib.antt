@@ -12,6 +12,7 @@ pub mod Cleaning
 pub mod HeadTests
 pub mod TextRows
 pub mod Pooling
+mod Unmerged
 pub mod References
 mod Fields
 mod Orders

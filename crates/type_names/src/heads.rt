@@ -3,7 +3,7 @@
 ghost use Rattle.std.specs.Prelude.{◌≡◌, ◌≤◌, ◌<◌, ◌^◌, ◌&&◌, ◌||◌, not, true, false, length, slice_get, Some, is_some, IfOk, codes};
 ghost use Rattle.dwarf_types.specs.Tree.{ParentsStandBefore};
 ghost use Rattle.type_names.specs.Spell.{made_by};
-ghost use Rattle.std.specs.List.{list_all};
+ghost use Rattle.std.specs.List.{list_all, list_any};
 ghost use Rattle.std.specs.Option.{ForSome, option_map_or};
 ghost use Rattle.type_names.specs.Entries.{holds, is_named_type, is_type, name_of};
 ghost use Rattle.type_names.specs.HeadRows.{AreRows, HasParametersTo, is_open_at, is_tied_at, template_of};
@@ -25,7 +25,7 @@ use ds_base::dwarf::{
     DW_TAG_subroutine_type, DW_TAG_unspecified_type, DW_TAG_volatile_type,
 };
 use ds_base::{BitRow, NoMemory};
-use dwarf_types::{Analysis, Entries, EntryRef};
+use dwarf_types::{Analysis, Entries, EntryRef, InUnit};
 use std::alloc::Global;
 
 /// Rows of an object from which its heads are told.
@@ -235,6 +235,13 @@ fn has_one_definition(language: u16) -> bool
             | DW_LANG_C_plus_plus_11
             | DW_LANG_C_plus_plus_14
     )
+}
+
+/// Whether one of some units takes part in merging.
+pub(crate) fn has_merged_unit(units: &[InUnit]) -> bool
+    ensures { result ≡ list_any (λ unit. has_one_definition unit.language) units.now }
+{
+    units.iter().any(|unit| has_one_definition(unit.language))
 }
 
 /// Whether an entry can be told by its name.

@@ -4,7 +4,8 @@
 //! (`Entries`), spelled types (`Spell`), heads and pooled entries (`Heads`), paths (`Paths`), names with their bids
 //! (`Names`) and where the search for a path starts (`Start`). [`type_names`] tells of an object which entries are pooled,
 //! which stand in the subtrees of heads, and the spelled texts of the pieces of these (`pooled`; what it answers stands in
-//! `specs/Pooled.antt`). It goes over the entries a fixed number of times: rows tell what heads ask of each entry
+//! `specs/Pooled.antt`). Of an object without a unit that takes part in merging it looks at the units alone. Of others it
+//! goes over the entries a fixed number of times: rows tell what heads ask of each entry
 //! (`heads`), marks go down and up the trees by parents alone (`tree`), and a table leads from an entry to those of its
 //! children that its spelling reads (`children`). Types are spelled with at most 64 of them open and up to 4,096 bytes
 //! (`spell`), and nothing recurses deeper; the texts lie in one row of bytes ([`TextTable`]).

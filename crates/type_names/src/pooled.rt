@@ -1,6 +1,6 @@
 //! Which entries of an object are pooled, and the spelled texts of their pieces.
 
-ghost use Rattle.std.specs.Prelude.{◌≡◌, ◌≤◌, ◌<◌, ◌^◌, ◌&&◌, ◌||◌, ℕ, List, Option, [], true, false, length, slice_get, slice_index_or, is_some, Some, None, IfOk};
+ghost use Rattle.std.specs.Prelude.{◌≡◌, ◌≤◌, ◌<◌, ◌^◌, ◌&&◌, ◌||◌, ℕ, List, Option, [], true, false, length, slice_get, slice_index_or, is_some, Some, None, IfOk, replicate};
 ghost use Rattle.std.specs.Option.{option_map};
 ghost use Rattle.dwarf_types.specs.Sound.{IsSound};
 ghost use Rattle.dwarf_types.specs.Tree.{ParentsStandBefore};
@@ -19,7 +19,8 @@ ghost use Rattle.type_names.specs.Tree.{is_marked, parent_of};
 use crate::children::{Children, children_of};
 use crate::entries::linkage_of;
 use crate::heads::{
-    HeadRows, common_of, is_clean, is_derived_at_top, named_heads, rows_of, takes_part,
+    HeadRows, common_of, has_merged_unit, is_clean, is_derived_at_top, named_heads, rows_of,
+    takes_part,
 };
 use crate::spell::{SpellError, Types, write_parameters, write_type};
 use crate::text_table::TextTable;
@@ -51,7 +52,7 @@ pub fn type_names(alloc: Global, seen: &Analysis, live: &BitRow) -> Result<TypeN
     names_of(alloc, seen, live)
 }
 
-/// The same, for an analysis of which this much is known.
+/// The same, for an analysis of which this much is known. Where no unit takes part in merging, the entries are not looked at.
 fn names_of(alloc: Global, seen: &Analysis, live: &BitRow) -> Result<TypeNames, NoMemory>
     requires few { length seen.now.entries ≤ 2 ^ 24 }
     requires units { AreInUnits seen.now }
@@ -60,6 +61,9 @@ fn names_of(alloc: Global, seen: &Analysis, live: &BitRow) -> Result<TypeNames, 
     requires live { length live.now ≡ length seen.now.entries }
     ensures { IfOk result (λ names. AreNames (object_of seen.now live.now) names) }
 {
+    if !has_merged_unit(seen.units.as_slice()) {
+        return no_names(alloc, seen.entries.len());
+    }
     let entries = &seen.entries;
     let rows = rows_of(alloc, entries)?;
     let named = named_heads(alloc, seen, live, &rows)?;
@@ -73,6 +77,20 @@ fn names_of(alloc: Global, seen: &Analysis, live: &BitRow) -> Result<TypeNames, 
         pooled,
         in_heads,
         spelled,
+    })
+}
+
+/// What is told of an object where nothing is merged: no entry is pooled, and no text is spelled.
+fn no_names(alloc: Global, count: usize) -> Result<TypeNames, NoMemory>
+    requires { count ≤ 2 ^ 24 }
+    ensures pooled { IfOk result (λ names. names.pooled ≡ replicate count false) }
+    ensures in_heads { IfOk result (λ names. names.in_heads ≡ replicate count false) }
+    ensures spelled { IfOk result (λ names. names.spelled ≡ replicate count None) }
+{
+    Ok(TypeNames {
+        pooled: BitRow::new(alloc, count as u32)?,
+        in_heads: BitRow::new(alloc, count as u32)?,
+        spelled: TextTable::missing(alloc, count)?,
     })
 }
 

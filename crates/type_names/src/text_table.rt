@@ -1,6 +1,6 @@
 //! Texts of entries, held one behind the other.
 
-ghost use Rattle.std.specs.Prelude.{◌≡◌, ◌≤◌, ◌<◌, ◌^◌, [], ◌∷◌, ◌++◌, length, slice_index_or, Some, None, IfOk, OnOk, if◌then◌else◌};
+ghost use Rattle.std.specs.Prelude.{◌≡◌, ◌≤◌, ◌<◌, ◌^◌, [], ◌∷◌, ◌++◌, length, replicate, slice_index_or, Some, None, IfOk, OnOk, if◌then◌else◌};
 ghost use Rattle.std.specs.Option.{option_map};
 ghost use Rattle.type_names.specs.TextTable.{AreEnds, begin_of, text_numbered};
 
@@ -44,6 +44,17 @@ impl TextTable {
         })
     }
 
+    /// So many texts that are all missing.
+    pub(crate) fn missing(alloc: Global, count: usize) -> Result<TextTable, NoMemory>
+        ensures { IfOk result (λ texts. texts ≡ replicate count None) }
+    {
+        Ok(TextTable {
+            bytes: Vec::new(alloc),
+            ends: Vec::new(alloc),
+            numbers: no_numbers(alloc, count)?,
+        })
+    }
+
     /// The text of a number, where there is one.
     pub fn get(&self, k: u32) -> Option<&[u8]>
         requires { k < length self.now }
@@ -69,6 +80,14 @@ impl TextTable {
         self.numbers.push_reserved(self.ends.len() as u32);
         Ok(())
     }
+}
+
+/// So many numbers, each that of no text.
+fn no_numbers(alloc: Global, count: usize) -> Result<Vec<u32>, NoMemory>
+    ensures { IfOk result (λ numbers. numbers.items ≡ replicate count 0) }
+{
+    let numbers = vec![in alloc; 0; count]?;
+    Ok(numbers)
 }
 
 /// The text of a number that is counted from 1; 0 is that of none.
