@@ -13,6 +13,7 @@ pub mod HeadTests
 pub mod TextRows
 pub mod Pooling
 mod Unmerged
+mod Telling
 pub mod References
 mod Fields
 mod Orders

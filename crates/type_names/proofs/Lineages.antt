@@ -1,5 +1,6 @@
 -- The lineage of an entry is that of its parent, and itself.
 use Rattle.std.proofs.Common.{◌≡◌, ℕ, zero, suc, ◌<◌, ◌≤◌, Bool, true, false, List, [], ◌∷◌, ◌++◌, Option, Some, None, refl, sym, ap, ◌∙◌, arith, slice_get, ◌||◌}
+use Rattle.std.specs.List.{list_any}
 use Rattle.std.specs.Option.{option_and_then, option_map_or}
 use Rattle.std.proofs.lemmas.List.Folds.{list_any-append}
 use Rattle.dwarf_types.specs.declared.entry.Entry.{Entry}
@@ -42,34 +43,40 @@ lineage_below entries (suc k) p before is =
     let h = parent_before entries (suc k) p before is in
     rw is (ap (λ (xs : List ℕ). xs ++ suc k ∷ []) (same_lineage k p entries p before (omega arith) (omega arith)))
 
--- ---- marks
+-- ---- tests over lineages
 
-pub in_marked_top : (entries : List Entry) (marks : List Bool) (k : ℕ) → parent_of entries k ≡ None → is_in_marked entries marks k ≡ is_marked marks k
-in_marked_top entries marks k is = rw (lineage_top entries k is) (or_false (is_marked marks k)) where
+any_top : (entries : List Entry) (test : ℕ → Bool) (k : ℕ) → parent_of entries k ≡ None → list_any test (lineage entries k) ≡ test k
+any_top entries test k is = rw (lineage_top entries k is) (or_false (test k)) where
   or_false : (b : Bool) → (b || false) ≡ b
   or_false true = refl
   or_false false = refl
 
-pub in_marked_below : (entries : List Entry) (marks : List Bool) (k p : ℕ) → ParentsStandBefore entries → parent_of entries k ≡ Some p
-    → is_in_marked entries marks k ≡ (is_marked marks k || is_in_marked entries marks p)
-in_marked_below entries marks k p before is =
-    rw (lineage_below entries k p before is, list_any-append (is_marked marks) (lineage entries p) (k ∷ [])) (turned (is_in_marked entries marks p) (is_marked marks k)) where
+any_below : (entries : List Entry) (test : ℕ → Bool) (k p : ℕ) → ParentsStandBefore entries → parent_of entries k ≡ Some p
+    → list_any test (lineage entries k) ≡ (test k || list_any test (lineage entries p))
+any_below entries test k p before is =
+    rw (lineage_below entries k p before is, list_any-append test (lineage entries p) (k ∷ [])) (turned (list_any test (lineage entries p)) (test k)) where
       turned : (a b : Bool) → (a || (b || false)) ≡ (b || a)
       turned true true = refl
       turned true false = refl
       turned false true = refl
       turned false false = refl
 
--- one more entry of the row
-pub marked_more : (entries : List Entry) (marks row : List Bool) (k : ℕ) (e : Entry) → ParentsStandBefore entries → slice_get entries k ≡ Some e
-    → ((p : ℕ) → p < k → is_marked row p ≡ is_in_marked entries marks p)
-    → (is_marked marks k || option_map_or (is_marked row) e.parent false) ≡ is_in_marked entries marks k
-marked_more entries marks row k e before at so_far = go e.parent refl where
-  go : (o : Option ℕ) → e.parent ≡ o → (is_marked marks k || option_map_or (is_marked row) o false) ≡ is_in_marked entries marks k
-  go None is = or_false (is_marked marks k) ∙ sym (in_marked_top entries marks k (rw at is)) where
+-- an entry passes, or its parent stands where the row tells it
+pub any_more : (entries : List Entry) (test : ℕ → Bool) (row : List Bool) (k : ℕ) (e : Entry) → ParentsStandBefore entries → slice_get entries k ≡ Some e
+    → ((p : ℕ) → p < k → is_marked row p ≡ list_any test (lineage entries p))
+    → (test k || option_map_or (is_marked row) e.parent false) ≡ list_any test (lineage entries k)
+any_more entries test row k e before at so_far = go e.parent refl where
+  go : (o : Option ℕ) → e.parent ≡ o → (test k || option_map_or (is_marked row) o false) ≡ list_any test (lineage entries k)
+  go None is = or_false (test k) ∙ sym (any_top entries test k (rw at is)) where
     or_false : (b : Bool) → (b || false) ≡ b
     or_false true = refl
     or_false false = refl
   go (Some p) is =
       let above = so_far p (before k p e at is) in
-      rw above (sym (in_marked_below entries marks k p before (rw at is)))
+      rw above (sym (any_below entries test k p before (rw at is)))
+
+-- one more entry of the row
+pub marked_more : (entries : List Entry) (marks row : List Bool) (k : ℕ) (e : Entry) → ParentsStandBefore entries → slice_get entries k ≡ Some e
+    → ((p : ℕ) → p < k → is_marked row p ≡ is_in_marked entries marks p)
+    → (is_marked marks k || option_map_or (is_marked row) e.parent false) ≡ is_in_marked entries marks k
+marked_more entries marks row k e before at so_far = any_more entries (is_marked marks) row k e before at so_far

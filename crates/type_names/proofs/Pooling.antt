@@ -11,7 +11,7 @@ use Rattle.dwarf_types.specs.declared.entry.Entry.{Entry}
 use Rattle.dwarf_types.specs.Sound.{IsParent, IsSound}
 use Rattle.dwarf_types.specs.Tree.{ParentsStandBefore}
 use Rattle.type_names.specs.Entries.{Text}
-use Rattle.type_names.specs.Heads.{Object, derived_name, derived_name_entry, entries_of, is_common, is_common_entry, is_head, is_named_head, is_named_head_entry, may_be_derived}
+use Rattle.type_names.specs.Heads.{Object, derived_name, derived_name_entry, entries_of, is_common, is_head, is_named_head, is_named_head_entry, may_be_derived}
 use Rattle.type_names.specs.Objects.{AreInUnits, object_of}
 use Rattle.type_names.specs.Onto.{onto}
 use Rattle.type_names.specs.Rows.{IsRow}
@@ -37,9 +37,6 @@ derived_past o k past = ap (option_and_then (derived_name_entry o k)) (slice_get
 
 pub head_past : (o : Object) (k : ℕ) → length (entries_of o) ≤ k → is_head o k ≡ false
 head_past o k past = rw (named_past o k past, derived_past o k past) refl
-
-common_past : (o : Object) (k : ℕ) → length (entries_of o) ≤ k → is_common o k ≡ false
-common_past o k past = ap (λ (e : Option Entry). option_map_or (is_common_entry o k) e false) (slice_get_past (entries_of o) k past)
 
 -- a row of what stands below marked entries, where the marks are those of a test
 pub row_under : (entries : List Entry) (test : ℕ → Bool) (marks row : List Bool) → IsRow test (length entries) marks → ((k : ℕ) → length entries ≤ k → test k ≡ false)
@@ -73,13 +70,12 @@ unfolding onto
 onto_empty None = refl
 onto_empty (Some text) = refl
 
-pub derived_is : (seen : Analysis) (live may_open : List Bool) (k : ℕ) (e : Entry) → slice_get seen.entries k ≡ Some e → may_be_derived (object_of seen live) k e ≡ true
-    → IsRow (is_common (object_of seen live)) (length seen.entries) may_open → spelling (is_marked may_open) seen.entries k ≡ derived_name (object_of seen live) k
+pub derived_is : (seen : Analysis) (live : List Bool) (may_open : ℕ → Bool) (k : ℕ) (e : Entry) → slice_get seen.entries k ≡ Some e → may_be_derived (object_of seen live) k e ≡ true
+    → ((i : ℕ) → i < length seen.entries → may_open i ≡ is_common (object_of seen live) i) → spelling may_open seen.entries k ≡ derived_name (object_of seen live) k
 unfolding derived_name
-derived_is seen live may_open k e at may row =
+derived_is seen live may_open k e at may agree =
     let o : Object = object_of seen live in
-    let same : is_marked may_open ≡ is_common o = fun_ext (row_is (is_common o) (length seen.entries) may_open row (common_past o)) in
-    ap (λ (t : ℕ → Bool). spelling t seen.entries k) same
+    ap (λ (spelled : ℕ → Option Text). option_and_then not_too_long (spelled k)) (spelled_agree 64 may_open (is_common o) seen.entries agree)
     ∙ ap (λ (b : Bool). if b then spelling (is_common o) seen.entries k else None) (sym may)
     ∙ ap (option_and_then (derived_name_entry o k)) (sym at)
 

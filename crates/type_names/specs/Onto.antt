@@ -1,5 +1,6 @@
 -- Texts written one behind the other, up to the length that a spelling may have.
-use Rattle.std.specs.Prelude.{◌≡◌, ℕ, ◌≤◌, ◌^◌, List, ◌++◌, length, Option, Some, None, Result, Ok, Err, nat_le, if◌then◌else◌}
+use Rattle.std.specs.Prelude.{◌≡◌, ℕ, ◌≤◌, ◌^◌, Bool, true, List, ◌++◌, length, Option, Some, None, Result, Ok, Err, nat_le, if◌then◌else◌}
+use Rattle.std.specs.Option.{ForSome, option_map_or}
 use Rattle.dwarf_types.specs.Tree.{ParentsStandBefore}
 use Rattle.type_names.specs.declared.spell.SpellError.{SpellError}
 use Rattle.type_names.specs.declared.spell.SpellError.TheVariants as errors
@@ -27,8 +28,12 @@ pub record AreTypes (types : Types) : Type 0 where
   pub parents : ParentsStandBefore types.entries.now
   pub refer : ReferToEntries types.entries.now
   pub table : IsTableFrom types.entries.now types.children.now.first.items types.children.now.next.items 0
-  pub open_len : length types.may_open.now ≡ length types.entries.now
+  pub open_len : ForSome types.may_open (λ row. length row.now ≡ length types.entries.now)
+
+-- a spelling may open the types that are marked; all, where there is no row
+abbrev pub may_open : Types → ℕ → Bool
+may_open types k = option_map_or (λ row. is_marked row.now k) types.may_open true
 
 -- the spelling of a type with at most so many types open
 abbrev pub spelled_in : Types → ℕ → ℕ → Option Text
-spelled_in types levels = spelled_within levels (is_marked types.may_open.now) types.entries.now
+spelled_in types levels = spelled_within levels (may_open types) types.entries.now

@@ -2,9 +2,9 @@
 use Rattle.std.specs.Prelude.{ℕ, Bool, List, length, Option, Some, None, if◌then◌else◌}
 use Rattle.type_names.specs.declared.pooled.TypeNames.{TypeNames}
 use Rattle.type_names.specs.Entries.{Text}
-use Rattle.type_names.specs.Heads.{Object, entries_of, is_in_head, is_pooled}
+use Rattle.type_names.specs.Heads.{Object, entries_of, is_head, is_in_head, is_pooled}
 use Rattle.type_names.specs.Paths.{piece_text}
-use Rattle.type_names.specs.Rows.{IsRow}
+use Rattle.type_names.specs.Rows.{IsRow, IsRowTo}
 use Rattle.type_names.specs.TextTable.{AreTexts}
 
 -- the text that was written, where one was
@@ -16,3 +16,9 @@ pub record AreNames (o : Object) (names : TypeNames) : Type 0 where
   pub pooled : IsRow (is_pooled o) (length (entries_of o)) names.pooled
   pub in_heads : IsRow (is_in_head o) (length (entries_of o)) names.in_heads
   pub spelled : AreTexts names.spelled (piece_text o) (length (entries_of o))
+
+-- of the first i entries: which are heads, which stand in subtrees of heads, and the spelled texts of their pieces
+pub record IsToldTo (o : Object) (heads in_heads : List Bool) (texts : List (Option Text)) (i : ℕ) : Type 0 where
+  pub its_heads : IsRowTo (is_head o) (length (entries_of o)) heads i
+  pub inside : IsRowTo (is_in_head o) (length (entries_of o)) in_heads i
+  pub spelled : AreTexts texts (piece_text o) i

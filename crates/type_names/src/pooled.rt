@@ -1,19 +1,18 @@
 //! Which entries of an object are pooled, and the spelled texts of their pieces.
 
-ghost use Rattle.std.specs.Prelude.{◌≡◌, ◌≤◌, ◌<◌, ◌^◌, ◌&&◌, ◌||◌, ℕ, List, Option, [], true, false, length, slice_get, slice_index_or, is_some, Some, None, IfOk, replicate};
-ghost use Rattle.std.specs.Option.{option_map};
+ghost use Rattle.std.specs.Prelude.{◌≡◌, ◌≤◌, ◌<◌, ◌^◌, ◌&&◌, ◌||◌, ℕ, List, Option, [], true, false, length, slice_get, is_some, Some, None, IfOk, replicate, if◌then◌else◌};
+ghost use Rattle.std.specs.Option.{ForSome, option_map_or};
 ghost use Rattle.dwarf_types.specs.Sound.{IsSound};
 ghost use Rattle.dwarf_types.specs.Tree.{ParentsStandBefore};
 ghost use Rattle.type_names.specs.Children.{IsTableFrom};
 ghost use Rattle.type_names.specs.HeadRows.{AreRows};
 ghost use Rattle.type_names.specs.Heads.{derived_name, may_be_derived, is_common, is_head, is_in_head, is_in_named_head, is_named_head, is_pooled};
 ghost use Rattle.type_names.specs.Objects.{AreInUnits, ReferToEntries, object_of};
-ghost use Rattle.type_names.specs.Onto.{AreTypes, Writes};
-ghost use Rattle.type_names.specs.Paths.{is_overloaded, piece_text};
-ghost use Rattle.type_names.specs.Pooled.{AreNames, text_if};
+ghost use Rattle.type_names.specs.Onto.{AreTypes, Writes, may_open};
+ghost use Rattle.type_names.specs.Paths.{is_overloaded};
+ghost use Rattle.type_names.specs.Pooled.{AreNames, IsToldTo, text_if};
 ghost use Rattle.type_names.specs.Rows.{IsRow};
 ghost use Rattle.type_names.specs.Spell.{spelled_parameters, spelling};
-ghost use Rattle.type_names.specs.TextTable.{AreTexts};
 ghost use Rattle.type_names.specs.Tree.{is_marked, parent_of};
 
 use crate::children::{Children, children_of};
@@ -68,15 +67,14 @@ fn names_of(alloc: Global, seen: &Analysis, live: &BitRow) -> Result<TypeNames, 
     let rows = rows_of(alloc, entries)?;
     let named = named_heads(alloc, seen, live, &rows)?;
     let children = children_of(alloc, entries)?;
-    let derived = derived_of(alloc, seen, live, &rows, &named, &children)?;
-    let heads = heads_of(alloc, seen, live, &named, &derived)?;
-    let in_heads = in_heads_of(alloc, seen, live, &heads)?;
-    let pooled = pooled_of(alloc, seen, live, &heads, &in_heads)?;
-    let spelled = spelled_of(alloc, seen, live, &in_heads, &derived, &children)?;
+    let in_named = in_named_of(alloc, seen, live, &named)?;
+    let common = common_of(alloc, seen, live, &in_named)?;
+    let told = told_of(alloc, seen, live, &rows, &named, &common, &children)?;
+    let pooled = pooled_of(alloc, seen, live, &told.heads, &told.in_heads)?;
     Ok(TypeNames {
         pooled,
-        in_heads,
-        spelled,
+        in_heads: told.in_heads,
+        spelled: told.spelled,
     })
 }
 
@@ -94,15 +92,27 @@ fn no_names(alloc: Global, count: usize) -> Result<TypeNames, NoMemory>
     })
 }
 
-/// The spellings of the derived heads, which are their names.
-fn derived_of(
+/// What is told of an object's heads.
+#[derive(Drop)]
+struct HeadsTold {
+    /// The heads.
+    heads: BitRow,
+    /// The entries in their subtrees.
+    in_heads: BitRow,
+    /// Of each of these, the spelled text of its piece.
+    spelled: TextTable,
+}
+
+/// Which entries are heads, which stand in the subtrees of heads, and the spelled texts of these.
+fn told_of(
     alloc: Global,
     seen: &Analysis,
     live: &BitRow,
     rows: &HeadRows,
     named: &BitRow,
+    common: &BitRow,
     children: &Children,
-) -> Result<TextTable, NoMemory>
+) -> Result<HeadsTold, NoMemory>
     requires few { length seen.now.entries ≤ 2 ^ 24 }
     requires live { length live.now ≡ length seen.now.entries }
     requires units { AreInUnits seen.now }
@@ -110,18 +120,73 @@ fn derived_of(
     requires refer { ReferToEntries seen.now.entries }
     requires rows { AreRows seen.now.entries rows.now }
     requires named { IsRow (is_named_head (object_of seen.now live.now)) (length seen.now.entries) named.now }
+    requires common { IsRow (is_common (object_of seen.now live.now)) (length seen.now.entries) common.now }
     requires table { IsTableFrom seen.now.entries children.now.first.items children.now.next.items 0 }
-    ensures { IfOk result (λ texts. AreTexts texts (derived_name (object_of seen.now live.now)) (length seen.now.entries)) }
+    ensures { IfOk result (λ told. IsToldTo (object_of seen.now live.now) told.heads told.in_heads told.spelled (length seen.now.entries)) }
 {
-    let in_named = in_named_of(alloc, seen, live, named)?;
-    let may_open = common_of(alloc, seen, live, &in_named)?;
-    let types = Types {
+    let common = Types {
         alloc,
         entries: &seen.entries,
         children,
-        may_open: &may_open,
+        may_open: Some(common),
     };
-    spell_derived_all(alloc, seen, live, rows, &types)
+    let all = Types {
+        alloc,
+        entries: &seen.entries,
+        children,
+        may_open: None,
+    };
+    tell_all(alloc, seen, live, rows, named, &common, &all)
+}
+
+/// The same, where types are spelled by `common` in the spellings of heads, and by `all` in parameters.
+///
+/// An entry stands behind those above it, so one walk tells of each whether it is a head, whether one stands above it, and
+/// what it spells.
+fn tell_all(
+    alloc: Global,
+    seen: &Analysis,
+    live: &BitRow,
+    rows: &HeadRows,
+    named: &BitRow,
+    common: &Types,
+    all: &Types,
+) -> Result<HeadsTold, NoMemory>
+    requires few { length seen.now.entries ≤ 2 ^ 24 }
+    requires live { length live.now ≡ length seen.now.entries }
+    requires units { AreInUnits seen.now }
+    requires parents { ParentsStandBefore seen.now.entries }
+    requires rows { AreRows seen.now.entries rows.now }
+    requires named { IsRow (is_named_head (object_of seen.now live.now)) (length seen.now.entries) named.now }
+    requires types { AreTypes common.now }
+    requires entries { common.now.entries.now ≡ seen.now.entries }
+    requires common { (k : ℕ) → k < length seen.now.entries → may_open common.now k ≡ is_common (object_of seen.now live.now) k }
+    requires all_types { AreTypes all.now }
+    requires all_entries { all.now.entries.now ≡ seen.now.entries }
+    requires all { (k : ℕ) → may_open all.now k ≡ true }
+    ensures { IfOk result (λ told. IsToldTo (object_of seen.now live.now) told.heads told.in_heads told.spelled (length seen.now.entries)) }
+{
+    let mut heads = BitRow::new(alloc, seen.entries.len() as u32)?;
+    let mut in_heads = BitRow::new(alloc, seen.entries.len() as u32)?;
+    let mut spelled = TextTable::with_capacity(alloc, seen.entries.len())?;
+    let mut out = Vec::new(alloc);
+    for i in 0..seen.entries.len() {
+        let k = i as u32;
+        let entry = seen.entries.entry(i);
+        out.clear();
+        let derived = spell_derived(seen, live, rows, common, k, &entry, &mut out)?;
+        let head = is_head(named, k, derived);
+        let inside = is_in_head(head, &in_heads, entry.parent());
+        heads.set_if(k, head);
+        in_heads.set_if(k, inside);
+        let there = spell_piece(all, k, &entry, inside, derived, &mut out)?;
+        spelled.push(&out, there)?;
+    }
+    Ok(HeadsTold {
+        heads,
+        in_heads,
+        spelled,
+    })
 }
 
 /// Of each entry, whether it stands in the subtree of a named head.
@@ -140,34 +205,6 @@ fn in_named_of(
     Ok(row)
 }
 
-/// Spells the derived heads.
-fn spell_derived_all(
-    alloc: Global,
-    seen: &Analysis,
-    live: &BitRow,
-    rows: &HeadRows,
-    types: &Types,
-) -> Result<TextTable, NoMemory>
-    requires few { length seen.now.entries ≤ 2 ^ 24 }
-    requires live { length live.now ≡ length seen.now.entries }
-    requires units { AreInUnits seen.now }
-    requires parents { ParentsStandBefore seen.now.entries }
-    requires rows { AreRows seen.now.entries rows.now }
-    requires types { AreTypes types.now }
-    requires entries { types.now.entries.now ≡ seen.now.entries }
-    requires common { IsRow (is_common (object_of seen.now live.now)) (length seen.now.entries) types.now.may_open.now }
-    ensures { IfOk result (λ texts. AreTexts texts (derived_name (object_of seen.now live.now)) (length seen.now.entries)) }
-{
-    let mut texts = TextTable::with_capacity(alloc, seen.entries.len())?;
-    let mut out = Vec::new(alloc);
-    for i in 0..seen.entries.len() {
-        out.clear();
-        let there = spell_derived(seen, live, rows, types, i as u32, &mut out)?;
-        texts.push(&out, there)?;
-    }
-    Ok(texts)
-}
-
 /// Spells an entry, where it is a derived head.
 #[tactic(auto, unfolding(crate::specs::Heads::derived_name))]
 fn spell_derived(
@@ -176,8 +213,10 @@ fn spell_derived(
     rows: &HeadRows,
     types: &Types,
     k: u32,
+    entry: &EntryRef,
     out: &mut Vec<u8>,
 ) -> Result<bool, NoMemory>
+    requires stands { slice_get seen.now.entries k ≡ Some entry.now }
     requires place { k < length seen.now.entries }
     requires live { length live.now ≡ length seen.now.entries }
     requires units { AreInUnits seen.now }
@@ -185,12 +224,11 @@ fn spell_derived(
     requires rows { AreRows seen.now.entries rows.now }
     requires types { AreTypes types.now }
     requires entries { types.now.entries.now ≡ seen.now.entries }
-    requires common { IsRow (is_common (object_of seen.now live.now)) (length seen.now.entries) types.now.may_open.now }
+    requires common { (k : ℕ) → k < length seen.now.entries → may_open types.now k ≡ is_common (object_of seen.now live.now) k }
     requires empty { out.old.items ≡ [] }
     ensures { IfOk result (λ there. text_if there out.new.items ≡ derived_name (object_of seen.now live.now) k) }
 {
-    let entry = seen.entries.entry(k as usize);
-    if !may_be_derived(seen, live, rows, k, &entry) {
+    if !may_be_derived(seen, live, rows, k, entry) {
         return Ok(false);
     }
     spell(types, k, out)
@@ -216,7 +254,7 @@ fn spell(types: &Types, k: u32, out: &mut Vec<u8>) -> Result<bool, NoMemory>
     requires types { AreTypes types.now }
     requires place { k < length types.now.entries.now }
     requires empty { out.old.items ≡ [] }
-    ensures { IfOk result (λ there. text_if there out.new.items ≡ spelling (is_marked types.now.may_open.now) types.now.entries.now k) }
+    ensures { IfOk result (λ there. text_if there out.new.items ≡ spelling (may_open types.now) types.now.entries.now k) }
 {
     told(write_type(types, 64, k, out))
 }
@@ -225,7 +263,7 @@ fn spell(types: &Types, k: u32, out: &mut Vec<u8>) -> Result<bool, NoMemory>
 fn spell_parameters(types: &Types, k: u32, out: &mut Vec<u8>) -> Result<bool, NoMemory>
     requires types { AreTypes types.now }
     requires place { k < length types.now.entries.now }
-    requires all { IsRow (λ _. true) (length types.now.entries.now) types.now.may_open.now }
+    requires all { (k : ℕ) → may_open types.now k ≡ true }
     requires empty { out.old.items ≡ [] }
     ensures { IfOk result (λ there. text_if there out.new.items ≡ spelled_parameters types.now.entries.now k) }
 {
@@ -243,49 +281,23 @@ fn told(outcome: Result<(), SpellError>) -> Result<bool, NoMemory>
     }
 }
 
-/// Of each entry, whether it is a head.
-fn heads_of(
-    alloc: Global,
-    seen: &Analysis,
-    live: &BitRow,
-    named: &BitRow,
-    derived: &TextTable,
-) -> Result<BitRow, NoMemory>
-    requires few { length seen.now.entries ≤ 2 ^ 24 }
-    requires named { IsRow (is_named_head (object_of seen.now live.now)) (length seen.now.entries) named.now }
-    requires derived { AreTexts derived.now (derived_name (object_of seen.now live.now)) (length seen.now.entries) }
-    ensures { IfOk result (λ row. IsRow (is_head (object_of seen.now live.now)) (length seen.now.entries) row) }
-{
-    let mut row = BitRow::new(alloc, seen.entries.len() as u32)?;
-    for i in 0..seen.entries.len() {
-        let head = is_head(named, derived, i as u32);
-        row.set_if(i as u32, head);
-    }
-    Ok(row)
-}
-
 /// Whether an entry is a named head, or has a name as a derived head.
-fn is_head(named: &BitRow, derived: &TextTable, k: u32) -> bool
-    requires { (k < length named.now) × (k < length derived.now) }
-    ensures { result ≡ (is_marked named.now k || is_some (slice_index_or derived.now k None)) }
+fn is_head(named: &BitRow, k: u32, derived: bool) -> bool
+    requires { k < length named.now }
+    ensures { result ≡ (is_marked named.now k || derived) }
 {
-    named.get(k) || derived.get(k).is_some()
+    named.get(k) || derived
 }
 
-/// Of each entry, whether it stands in the subtree of a head.
-fn in_heads_of(
-    alloc: Global,
-    seen: &Analysis,
-    live: &BitRow,
-    heads: &BitRow,
-) -> Result<BitRow, NoMemory>
-    requires few { length seen.now.entries ≤ 2 ^ 24 }
-    requires parents { ParentsStandBefore seen.now.entries }
-    requires heads { IsRow (is_head (object_of seen.now live.now)) (length seen.now.entries) heads.now }
-    ensures { IfOk result (λ row. IsRow (is_in_head (object_of seen.now live.now)) (length seen.now.entries) row) }
+/// Whether an entry is a head, or its parent stands in the subtree of one.
+fn is_in_head(head: bool, in_heads: &BitRow, parent: Option<u32>) -> bool
+    requires { ForSome parent (λ p. p < length in_heads.now) }
+    ensures { result ≡ (head || option_map_or (is_marked in_heads.now) parent false) }
 {
-    let row = in_marked(alloc, &seen.entries, heads)?;
-    Ok(row)
+    match parent {
+        Some(p) => head || in_heads.get(p),
+        None => head,
+    }
 }
 
 /// Of each entry, whether it is pooled: it is live and in the subtree of a head, or stands above a head.
@@ -329,98 +341,26 @@ fn is_below_unit_and(entries: &Entries, above: &BitRow, k: u32) -> bool
     parent_of(entries, k).is_some() && above.get(k)
 }
 
-/// The spelled texts of the pieces of the entries in subtrees of heads.
-fn spelled_of(
-    alloc: Global,
-    seen: &Analysis,
-    live: &BitRow,
-    in_heads: &BitRow,
-    derived: &TextTable,
-    children: &Children,
-) -> Result<TextTable, NoMemory>
-    requires few { length seen.now.entries ≤ 2 ^ 24 }
-    requires parents { ParentsStandBefore seen.now.entries }
-    requires refer { ReferToEntries seen.now.entries }
-    requires in_heads { IsRow (is_in_head (object_of seen.now live.now)) (length seen.now.entries) in_heads.now }
-    requires derived { AreTexts derived.now (derived_name (object_of seen.now live.now)) (length seen.now.entries) }
-    requires table { IsTableFrom seen.now.entries children.now.first.items children.now.next.items 0 }
-    ensures { IfOk result (λ texts. AreTexts texts (piece_text (object_of seen.now live.now)) (length seen.now.entries)) }
-{
-    let may_open = all_of(alloc, &seen.entries)?;
-    let types = Types {
-        alloc,
-        entries: &seen.entries,
-        children,
-        may_open: &may_open,
-    };
-    spell_pieces(alloc, seen, live, in_heads, derived, &types)
-}
-
-/// Of each entry, that it may be opened.
-fn all_of(alloc: Global, entries: &Entries) -> Result<BitRow, NoMemory>
-    requires { length entries.now ≤ 2 ^ 24 }
-    ensures { IfOk result (λ row. IsRow (λ _. true) (length entries.now) row) }
-{
-    let mut row = BitRow::new(alloc, entries.len() as u32)?;
-    for i in 0..entries.len() {
-        row.set_if(i as u32, true);
-    }
-    Ok(row)
-}
-
-/// Spells what the pieces of the entries in subtrees of heads spell.
-fn spell_pieces(
-    alloc: Global,
-    seen: &Analysis,
-    live: &BitRow,
-    in_heads: &BitRow,
-    derived: &TextTable,
-    types: &Types,
-) -> Result<TextTable, NoMemory>
-    requires few { length seen.now.entries ≤ 2 ^ 24 }
-    requires in_heads { IsRow (is_in_head (object_of seen.now live.now)) (length seen.now.entries) in_heads.now }
-    requires derived { AreTexts derived.now (derived_name (object_of seen.now live.now)) (length seen.now.entries) }
-    requires types { AreTypes types.now }
-    requires entries { types.now.entries.now ≡ seen.now.entries }
-    requires all { IsRow (λ _. true) (length types.now.entries.now) types.now.may_open.now }
-    ensures { IfOk result (λ texts. AreTexts texts (piece_text (object_of seen.now live.now)) (length seen.now.entries)) }
-{
-    let mut texts = TextTable::with_capacity(alloc, seen.entries.len())?;
-    let mut out = Vec::new(alloc);
-    for i in 0..seen.entries.len() {
-        out.clear();
-        let there = spell_piece(seen, live, in_heads, derived, types, i as u32, &mut out)?;
-        texts.push(&out, there)?;
-    }
-    Ok(texts)
-}
-
-/// Spells what the piece of an entry spells, where it stands in the subtree of a head.
+/// Spells the parameters of an entry in the subtree of a head that only they tell apart. What another one spells is its
+/// spelling as a derived head, which is written where it is one.
 fn spell_piece(
-    seen: &Analysis,
-    live: &BitRow,
-    in_heads: &BitRow,
-    derived: &TextTable,
     types: &Types,
     k: u32,
+    entry: &EntryRef,
+    inside: bool,
+    derived: bool,
     out: &mut Vec<u8>,
 ) -> Result<bool, NoMemory>
-    requires place { k < length seen.now.entries }
-    requires in_heads { IsRow (is_in_head (object_of seen.now live.now)) (length seen.now.entries) in_heads.now }
-    requires derived { AreTexts derived.now (derived_name (object_of seen.now live.now)) (length seen.now.entries) }
     requires types { AreTypes types.now }
-    requires entries { types.now.entries.now ≡ seen.now.entries }
-    requires all { IsRow (λ _. true) (length types.now.entries.now) types.now.may_open.now }
-    requires empty { out.old.items ≡ [] }
-    ensures { IfOk result (λ there. text_if there out.new.items ≡ piece_text (object_of seen.now live.now) k) }
+    requires place { k < length types.now.entries.now }
+    requires all { (k : ℕ) → may_open types.now k ≡ true }
+    ensures { IfOk result (λ there. text_if there out.new.items ≡ if inside && is_overloaded entry.now then spelled_parameters types.now.entries.now k else text_if derived out.old.items) }
 {
-    if !in_heads.get(k) {
-        return Ok(false);
-    }
-    if is_overloaded(&seen.entries.entry(k as usize)) {
+    if inside && is_overloaded(entry) {
+        out.clear();
         return spell_parameters(types, k, out);
     }
-    copy_text(derived.get(k), out)
+    Ok(derived)
 }
 
 /// Whether only its parameters tell a subprogram apart: it has no linkage name.
@@ -428,18 +368,4 @@ fn is_overloaded(entry: &EntryRef) -> bool
     ensures { result ≡ is_overloaded entry.now }
 {
     entry.tag() == DW_TAG_subprogram && linkage_of(entry).is_none()
-}
-
-/// Copies a text, where there is one.
-fn copy_text(text: Option<&[u8]>, out: &mut Vec<u8>) -> Result<bool, NoMemory>
-    requires { out.old.items ≡ [] }
-    ensures { IfOk result (λ there. text_if there out.new.items ≡ option_map (λ text. text.now) text.entry) }
-{
-    match text {
-        Some(text) => {
-            out.extend_from_slice(text)?;
-            Ok(true)
-        }
-        None => Ok(false),
-    }
 }

@@ -10,7 +10,7 @@ ghost use Rattle.dwarf_types.specs.Tree.{ParentsStandBefore};
 ghost use Rattle.type_names.specs.Children.{has_tag, next_listed};
 ghost use Rattle.type_names.specs.Entries.{is_made_up, own_name};
 ghost use Rattle.type_names.specs.Objects.{LeadsAmong, RefersAmong};
-ghost use Rattle.type_names.specs.Onto.{AreTypes, Writes, onto, spelled_in};
+ghost use Rattle.type_names.specs.Onto.{AreTypes, Writes, may_open, onto, spelled_in};
 ghost use Rattle.type_names.specs.Spell.{◌&◌, all_of, bound_in, count_in, made_by, named_by, number_in, parameter_in, parameters_in, qualified_name, scope_name, spelled_by, spelled_target, subrange_in, subranges_in, type_in};
 ghost use Rattle.type_names.specs.Tree.{above, numbers_above};
 
@@ -66,8 +66,8 @@ pub(crate) struct Types<'a> {
     pub(crate) alloc: Global,
     pub(crate) entries: &'a Entries,
     pub(crate) children: &'a Children,
-    /// The types that a spelling may open.
-    pub(crate) may_open: &'a BitRow,
+    /// The types that a spelling may open; all, where there is no row.
+    pub(crate) may_open: Option<&'a BitRow>,
 }
 
 /// Writes a text.
@@ -95,10 +95,22 @@ pub(crate) fn write_type(
     requires place { k < length types.now.entries.now }
     ensures { Writes result out.new.items (onto out.old.items (spelled_in types.now levels k)) }
 {
-    if levels == 0 || !types.may_open.get(k) {
+    if levels == 0 || !may_open(types, k) {
         return Err(SpellError::Cannot);
     }
     write_entry(types, levels - 1, k, &types.entries.entry(k as usize), out)
+}
+
+/// Whether a spelling may open type `k`.
+fn may_open(types: &Types, k: u32) -> bool
+    requires types { AreTypes types.now }
+    requires place { k < length types.now.entries.now }
+    ensures { result ≡ may_open types.now k }
+{
+    match types.may_open {
+        Some(row) => row.get(k),
+        None => true,
+    }
 }
 
 /// Writes the spelling of type `k`, which is open, with at most so many types open in it.

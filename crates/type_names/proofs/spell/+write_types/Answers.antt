@@ -9,7 +9,7 @@ use Rattle.type_names.specs.Children.{next_listed}
 use Rattle.type_names.specs.Entries.{Text}
 use Rattle.type_names.specs.Tree.{is_marked}
 use Rattle.type_names.specs.Spell.{◌&◌, made_by, parameter_in, parameters_in, spelled_target, spelled_within, subranges_in, type_in}
-use Rattle.type_names.specs.Onto.{Writes, onto, spelled_in}
+use Rattle.type_names.specs.Onto.{Writes, may_open, onto, spelled_in}
 use Rattle.type_names.proofs.Reading.{IsReading, left_of, parameters_read, reading_child, reading_ends, reading_falls, reading_more, reading_stops}
 use Rattle.type_names.proofs.Texts.{joined, opened, stopped}
 use Rattle.type_names.proofs.spell.+write_types.Goals as goal
@@ -53,8 +53,8 @@ pub write_type-returns : goal.write_type-returns
 write_type-returns t c =
     let types = c.args.types.now in
     let one_more : c.args.levels ≡ suc (c.args.levels - 1) = omega arith in
-    let told = opened (c.args.levels - 1) (is_marked types.may_open.now) types.entries.now c.args.k c.entry.result (sym c.get.ensures ∙ c.if-not-get.false) c.entry.ensures.stands in
-    subst (λ (text : Option Text). Writes c.write_entry.result c.write_entry.new.out.items (onto c.args.out.now.items text)) (sym told ∙ ap (λ (n : ℕ). spelled_within n (is_marked types.may_open.now) types.entries.now c.args.k) (sym one_more)) c.write_entry.ensures
+    let told = opened (c.args.levels - 1) (may_open types) types.entries.now c.args.k c.entry.result (sym c.may_open.ensures ∙ c.if-not-may_open.false) c.entry.ensures.stands in
+    subst (λ (text : Option Text). Writes c.write_entry.result c.write_entry.new.out.items (onto c.args.out.now.items text)) (sym told ∙ ap (λ (n : ℕ). spelled_within n (may_open types) types.entries.now c.args.k) (sym one_more)) c.write_entry.ensures
 
 pub write_member_pointer-returns-in_err-write : goal.write_member_pointer-returns-in_err-write
 write_member_pointer-returns-in_err-write t c =
