@@ -5,7 +5,7 @@ use Rattle.std.specs.Option.{option_and_then, option_map_or}
 use Rattle.std.proofs.lemmas.List.Folds.{list_any-append}
 use Rattle.dwarf_types.specs.declared.entry.Entry.{Entry}
 use Rattle.dwarf_types.specs.Tree.{ParentsStandBefore}
-use Rattle.type_names.specs.Tree.{is_in_marked, is_marked, lineage, lineage_of, parent_of}
+use Rattle.type_names.specs.Tree.{is_marked, lineage, lineage_of, parent_of}
 
 -- the parent stands before
 pub parent_before : (entries : List Entry) (k p : ℕ) → ParentsStandBefore entries → parent_of entries k ≡ Some p → p < k
@@ -62,7 +62,7 @@ any_below entries test k p before is =
       turned false false = refl
 
 -- an entry passes, or its parent stands where the row tells it
-pub any_more : (entries : List Entry) (test : ℕ → Bool) (row : List Bool) (k : ℕ) (e : Entry) → ParentsStandBefore entries → slice_get entries k ≡ Some e
+any_more : (entries : List Entry) (test : ℕ → Bool) (row : List Bool) (k : ℕ) (e : Entry) → ParentsStandBefore entries → slice_get entries k ≡ Some e
     → ((p : ℕ) → p < k → is_marked row p ≡ list_any test (lineage entries p))
     → (test k || option_map_or (is_marked row) e.parent false) ≡ list_any test (lineage entries k)
 any_more entries test row k e before at so_far = go e.parent refl where
@@ -75,8 +75,8 @@ any_more entries test row k e before at so_far = go e.parent refl where
       let above = so_far p (before k p e at is) in
       rw above (sym (any_below entries test k p before (rw at is)))
 
--- one more entry of the row
-pub marked_more : (entries : List Entry) (marks row : List Bool) (k : ℕ) (e : Entry) → ParentsStandBefore entries → slice_get entries k ≡ Some e
-    → ((p : ℕ) → p < k → is_marked row p ≡ is_in_marked entries marks p)
-    → (is_marked marks k || option_map_or (is_marked row) e.parent false) ≡ is_in_marked entries marks k
-marked_more entries marks row k e before at so_far = any_more entries (is_marked marks) row k e before at so_far
+pub inside_more : (entries : List Entry) (test : ℕ → Bool) (row : List Bool) (k : ℕ) (e : Entry) (passes : Bool) (parent : Option ℕ) → ParentsStandBefore entries → slice_get entries k ≡ Some e
+    → ((p : ℕ) → p < k → is_marked row p ≡ list_any test (lineage entries p)) → passes ≡ test k → parent ≡ e.parent
+    → (passes || option_map_or (is_marked row) parent false) ≡ list_any test (lineage entries k)
+inside_more entries test row k e passes parent before at so_far is above =
+    (λ i. is i || option_map_or (is_marked row) (above i) false) ∙ any_more entries test row k e before at so_far

@@ -16,7 +16,7 @@ use Rattle.type_names.specs.Objects.{AreInUnits, object_of}
 use Rattle.type_names.specs.Onto.{onto}
 use Rattle.type_names.specs.Rows.{IsRow}
 use Rattle.type_names.specs.Spell.{not_too_long, spelled_by, spelled_within, spelling}
-use Rattle.type_names.specs.Tree.{HasMarkedBelow, is_below, is_in_marked, is_marked, lineage}
+use Rattle.type_names.specs.Tree.{HasMarkedBelow, is_below, is_marked}
 use Rattle.type_names.proofs.HeadTests.{row_is}
 
 pub sound_parents : (seen : Analysis) → IsSound seen → ParentsStandBefore seen.entries
@@ -27,7 +27,7 @@ sound_units seen sound k e at = slice_get_within seen.units e.unit (sound.entrie
 
 -- ---- rows of heads
 
-pub named_past : (o : Object) (k : ℕ) → length (entries_of o) ≤ k → is_named_head o k ≡ false
+named_past : (o : Object) (k : ℕ) → length (entries_of o) ≤ k → is_named_head o k ≡ false
 unfolding is_named_head
 named_past o k past = ap (λ (e : Option Entry). option_map_or (is_named_head_entry o k) e false) (slice_get_past (entries_of o) k past)
 
@@ -37,17 +37,6 @@ derived_past o k past = ap (option_and_then (derived_name_entry o k)) (slice_get
 
 pub head_past : (o : Object) (k : ℕ) → length (entries_of o) ≤ k → is_head o k ≡ false
 head_past o k past = rw (named_past o k past, derived_past o k past) refl
-
--- a row of what stands below marked entries, where the marks are those of a test
-pub row_under : (entries : List Entry) (test : ℕ → Bool) (marks row : List Bool) → IsRow test (length entries) marks → ((k : ℕ) → length entries ≤ k → test k ≡ false)
-    → IsRow (is_in_marked entries marks) (length entries) row → IsRow (λ k. list_any test (lineage entries k)) (length entries) row
-row_under entries test marks row are past is =
-    let same : is_marked marks ≡ test = fun_ext (row_is test (length entries) marks are past) in
-    record {
-      len = is.len;
-      each = λ k within. is.each k within ∙ ap (λ (t : ℕ → Bool). list_any t (lineage entries k)) same;
-      none = is.none;
-    }
 
 -- ---- spellings
 

@@ -1,5 +1,5 @@
 -- One entry more of which it is told whether it is a head, whether one stands above it, and what its piece spells.
-use Rattle.std.proofs.Common.{◌≡◌, ℕ, ◌+◌, ◌<◌, ◌&&◌, ◌||◌, Bool, true, false, List, [], ◌∷◌, ◌++◌, length, replicate, Option, Some, None, is_some, slice_get, refl, sym, ap, ◌∙◌, arith, subst}
+use Rattle.std.proofs.Common.{◌≡◌, ℕ, ◌+◌, ◌<◌, ◌&&◌, ◌||◌, Bool, true, false, List, [], ◌∷◌, ◌++◌, length, replicate, Option, Some, None, is_some, slice_get, refl, sym, ap, ◌∙◌, subst}
 use Rattle.std.specs.Prelude.{if◌then◌else◌}
 use Rattle.std.specs.Option.{option_and_then, option_map_or}
 use Rattle.std.proofs.lemmas.Option.{slice_get_within}
@@ -13,7 +13,7 @@ use Rattle.type_names.specs.Rows.{IsRow, IsRowTo, marked_if}
 use Rattle.type_names.specs.Spell.{spelled_parameters}
 use Rattle.type_names.specs.TextTable.{AreTexts}
 use Rattle.type_names.specs.Tree.{is_marked}
-use Rattle.type_names.proofs.Lineages.{any_more}
+use Rattle.type_names.proofs.Lineages.{inside_more}
 use Rattle.type_names.proofs.MarkRows.{row_more, row_none}
 use Rattle.type_names.proofs.TextRows.{texts_more, texts_none}
 
@@ -50,7 +50,7 @@ told_more o named heads in_heads texts i e derived head inside out text before a
     let some : derived ≡ is_some (derived_name o i) = sym (there_some derived out) ∙ ap is_some derived_is in
     let is_its_head : head ≡ is_head o i = head_is ∙ (λ j. named_row.each i within j || some j) in
     let is_inside : inside ≡ is_in_head o i =
-    inside_is ∙ ap (λ (b : Bool). b || option_map_or (is_marked in_heads) e.parent false) is_its_head ∙ any_more (entries_of o) (is_head o) in_heads i e before at (λ p lt. so_far.inside.each p lt) in
+    inside_is ∙ inside_more (entries_of o) (is_head o) in_heads i e head e.parent before at (λ p lt. so_far.inside.each p lt) is_its_head refl in
     let outside : inside ≡ false → derived_name o i ≡ None = λ no. (
     let not_head = (neither head _ (sym inside_is ∙ no)).0 in
     let not_derived = (neither (is_marked named i) derived (sym head_is ∙ not_head)).1 in

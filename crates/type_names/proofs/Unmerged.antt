@@ -1,17 +1,16 @@
 -- An object of which no unit takes part in merging: nothing is told of its entries.
-use Rattle.std.proofs.Common.{◌≡◌, ℕ, zero, suc, ◌<◌, ◌≤◌, ◌&&◌, ◌||◌, Bool, true, false, List, [], ◌∷◌, length, map, replicate, get_or, Option, Some, None, is_some, slice_get, Result, Ok, Err, refl, sym, ap, ◌∙◌, arith, subst}
+use Rattle.std.proofs.Common.{◌≡◌, ℕ, zero, suc, ◌≤◌, ◌&&◌, ◌||◌, Bool, true, false, List, [], ◌∷◌, length, map, replicate, get_or, Option, Some, None, is_some, slice_get, Result, Ok, Err, refl, sym, ap, ◌∙◌, arith, subst}
 use Rattle.std.specs.Prelude.{IfOk, if◌then◌else◌}
 use Rattle.std.specs.List.{All, enumerate_from, list_any}
 use Rattle.std.specs.Option.{option_and_then, option_map_or}
 use Rattle.std.proofs.lemmas.List.{get_or-replicate, length-replicate}
 use Rattle.std.proofs.lemmas.List.Elements.{All-replicate}
-use mathlib.Core.Path.{fun_ext}
 use Rattle.dwarf_types.specs.declared.analysis.Analysis.{Analysis}
 use Rattle.dwarf_types.specs.declared.entry.Entry.{Entry}
 use Rattle.dwarf_types.specs.declared.entry.InUnit.{InUnit}
 use Rattle.type_names.specs.declared.pooled.TypeNames.{TypeNames}
 use Rattle.type_names.specs.Entries.{Text, is_type, name_of}
-use Rattle.type_names.specs.Heads.{Object, derived_name, derived_name_entry, entries_of, has_one_definition, is_above_head, is_clean, is_common, is_derived_at_top, is_head, is_in_head, is_live, is_named_head, is_named_head_entry, is_pooled, is_reached, takes_part, tells}
+use Rattle.type_names.specs.Heads.{Object, derived_name, derived_name_entry, has_one_definition, is_above_head, is_clean, is_common, is_derived_at_top, is_head, is_in_head, is_live, is_named_head, is_named_head_entry, is_pooled, is_reached, takes_part, tells}
 use Rattle.type_names.specs.Objects.{object_of}
 use Rattle.type_names.specs.Paths.{piece_text, spelled_of}
 use Rattle.type_names.specs.Pooled.{AreNames}

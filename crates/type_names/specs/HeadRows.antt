@@ -5,8 +5,8 @@ use Rattle.std.specs.Option.{option_map_or}
 use Rattle.dwarf_types.specs.declared.entry.Entry.{Entry}
 use Rattle.type_names.specs.declared.heads.HeadRows.{HeadRows}
 use Rattle.type_names.specs.Entries.{is_template_parameter, is_tied}
-use Rattle.type_names.specs.Heads.{is_open_namespace}
-use Rattle.type_names.specs.Rows.{IsRow}
+use Rattle.type_names.specs.Heads.{Object, entries_of, is_common, is_in_named_head, is_named_head, is_open_namespace}
+use Rattle.type_names.specs.Rows.{IsRow, IsRowTo}
 use Rattle.type_names.specs.Tree.{HasMarkedBelow, below_unit, is_marked}
 
 abbrev pub is_tied_at : List Entry → ℕ → Bool
@@ -35,3 +35,15 @@ pub record AreRows (entries : List Entry) (rows : HeadRows) : Type 0 where
   pub below : (k : ℕ) → (is_marked rows.tied_below k ≡ true) ↔ HasMarkedBelow entries rows.tied k
   pub namespaces : IsRow (is_open_at entries) (length entries) rows.namespaces
   pub template : HasParametersTo entries rows.template (length entries)
+
+-- the rows that one walk fills, after the first i entries
+pub record AreRowsTo (entries : List Entry) (tied namespaces template : List Bool) (i : ℕ) : Type 0 where
+  pub ties : IsRowTo (is_tied_at entries) (length entries) tied i
+  pub opens : IsRowTo (is_open_at entries) (length entries) namespaces i
+  pub parameters : HasParametersTo entries template i
+
+-- of the first i entries: which are named heads, which stand in the subtrees of these, and which types mean the same in every object
+pub record AreNamedTo (o : Object) (named in_named common : List Bool) (i : ℕ) : Type 0 where
+  pub heads : IsRowTo (is_named_head o) (length (entries_of o)) named i
+  pub inside : IsRowTo (is_in_named_head o) (length (entries_of o)) in_named i
+  pub means_same : IsRowTo (is_common o) (length (entries_of o)) common i

@@ -1,6 +1,6 @@
 -- The trees of an object's entries: what stands above an entry, and what below it.
 use Rattle.std.specs.Prelude.{ℕ, ◌≡◌, ◌≤◌, ◌↔◌, ◌==◌, ◌||◌, ◌&&◌, not, Bool, true, false, List, length, slice_index_or, slice_set, if◌then◌else◌, [], map, drop, slice_get, Option, Some, is_some}
-use Rattle.std.specs.List.{enumerate_from, filter, filter_map, list_any}
+use Rattle.std.specs.List.{enumerate_from, filter, filter_map}
 use Rattle.std.specs.Option.{option_map_or}
 use Rattle.dwarf_types.specs.declared.entry.Entry.{Entry}
 unfoldable pub use Rattle.dwarf_types.specs.Tree.{lineage}
@@ -34,10 +34,6 @@ is_at_top entries e = option_map_or (λ parent. is_some (slice_get entries paren
 -- entry k is marked
 abbrev pub is_marked : List Bool → ℕ → Bool
 is_marked marks k = slice_index_or marks k false
-
--- entry k or one above it is marked
-abbrev pub is_in_marked : List Entry → List Bool → ℕ → Bool
-is_in_marked entries marks k = list_any (is_marked marks) (lineage entries k)
 
 -- entry k stands below entry a
 abbrev pub is_below : List Entry → ℕ → ℕ → Bool

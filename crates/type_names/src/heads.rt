@@ -6,7 +6,7 @@ ghost use Rattle.type_names.specs.Spell.{made_by};
 ghost use Rattle.std.specs.List.{list_all, list_any};
 ghost use Rattle.std.specs.Option.{ForSome, option_map_or};
 ghost use Rattle.type_names.specs.Entries.{holds, is_named_type, is_type, name_of};
-ghost use Rattle.type_names.specs.HeadRows.{AreRows, HasParametersTo, is_open_at, is_tied_at, template_of};
+ghost use Rattle.type_names.specs.HeadRows.{AreRows, template_of};
 ghost use Rattle.type_names.specs.Heads.{has_one_definition, has_template_parameter, is_clean, is_common, is_derived, is_derived_at_top, is_derived_attribute, is_in_named_head, is_named_head, is_open_namespace, is_plain_derived, is_reached, takes_part, tells};
 ghost use Rattle.type_names.specs.Objects.{AreInUnits, object_of};
 ghost use Rattle.type_names.specs.Rows.{IsRow};
@@ -15,7 +15,7 @@ ghost use Rattle.type_names.specs.Tree.{is_at_top, is_marked, parent_of};
 use crate::entries::{
     has_field, holds, is_made_up, is_named_type, is_template_parameter, is_tied, is_type, name_of,
 };
-use crate::tree::{mark, marked_below};
+use crate::tree::{is_within, mark, marked_below};
 use ds_base::dwarf::{
     DW_AT_byte_size, DW_AT_containing_type, DW_AT_prototyped, DW_AT_sibling, DW_AT_type,
     DW_LANG_C_plus_plus, DW_LANG_C_plus_plus_03, DW_LANG_C_plus_plus_11, DW_LANG_C_plus_plus_14,
@@ -47,43 +47,24 @@ pub(crate) fn rows_of(alloc: Global, entries: &Entries) -> Result<HeadRows, NoMe
     requires parents { ParentsStandBefore entries.now }
     ensures { IfOk result (λ rows. AreRows entries.now rows) }
 {
-    let tied = tied_of(alloc, entries)?;
+    let mut tied = BitRow::new(alloc, entries.len() as u32)?;
+    let mut namespaces = BitRow::new(alloc, entries.len() as u32)?;
+    let mut template = BitRow::new(alloc, entries.len() as u32)?;
+    for i in 0..entries.len() {
+        let entry = entries.entry(i);
+        let is_tied = is_tied(&entry);
+        let open = is_open(&entry, &namespaces);
+        tied.set_if(i as u32, is_tied);
+        namespaces.set_if(i as u32, open);
+        mark(&mut template, template_of(&entry));
+    }
     let tied_below = marked_below(alloc, entries, &tied)?;
-    let namespaces = open_of(alloc, entries)?;
-    let template = templates_of(alloc, entries)?;
     Ok(HeadRows {
         tied,
         tied_below,
         namespaces,
         template,
     })
-}
-
-/// Of each entry, whether it is tied to its unit.
-fn tied_of(alloc: Global, entries: &Entries) -> Result<BitRow, NoMemory>
-    requires { length entries.now ≤ 2 ^ 24 }
-    ensures { IfOk result (λ row. IsRow (is_tied_at entries.now) (length entries.now) row) }
-{
-    let mut row = BitRow::new(alloc, entries.len() as u32)?;
-    for i in 0..entries.len() {
-        let tied = is_tied(&entries.entry(i));
-        row.set_if(i as u32, tied);
-    }
-    Ok(row)
-}
-
-/// Of each entry, whether it and all entries above it but the unit are open namespaces.
-fn open_of(alloc: Global, entries: &Entries) -> Result<BitRow, NoMemory>
-    requires few { length entries.now ≤ 2 ^ 24 }
-    requires parents { ParentsStandBefore entries.now }
-    ensures { IfOk result (λ row. IsRow (is_open_at entries.now) (length entries.now) row) }
-{
-    let mut row = BitRow::new(alloc, entries.len() as u32)?;
-    for i in 0..entries.len() {
-        let open = is_open(&entries.entry(i), &row);
-        row.set_if(i as u32, open);
-    }
-    Ok(row)
 }
 
 /// Whether an entry is a unit, or an open namespace in entries that are open.
@@ -102,19 +83,6 @@ fn is_open_namespace(entry: &EntryRef) -> bool
     ensures { result ≡ is_open_namespace entry.now }
 {
     entry.tag() == DW_TAG_namespace && name_of(entry).is_some() && !has_field(entry)
-}
-
-/// Of each entry, whether a child of it is a parameter of a template.
-fn templates_of(alloc: Global, entries: &Entries) -> Result<BitRow, NoMemory>
-    requires few { length entries.now ≤ 2 ^ 24 }
-    requires parents { ParentsStandBefore entries.now }
-    ensures { IfOk result (λ row. HasParametersTo entries.now row (length entries.now)) }
-{
-    let mut row = BitRow::new(alloc, entries.len() as u32)?;
-    for i in 0..entries.len() {
-        mark(&mut row, template_of(&entries.entry(i)));
-    }
-    Ok(row)
 }
 
 /// The template of which an entry is a parameter.
@@ -146,26 +114,44 @@ fn is_spoilt(rows: &HeadRows, k: u32) -> bool
     rows.tied.get(k) || rows.tied_below.get(k)
 }
 
-/// Of each entry, whether it is a named head.
-pub(crate) fn named_heads(
+/// The entries that need no spelling to be told.
+#[derive(Drop)]
+pub(crate) struct NamedRows {
+    /// The named heads.
+    pub(crate) named: BitRow,
+    /// The types that mean the same in every object.
+    pub(crate) common: BitRow,
+}
+
+/// Of each entry, whether it is a named head, and whether it is a type that means the same in every object.
+pub(crate) fn named_of(
     alloc: Global,
     seen: &Analysis,
     live: &BitRow,
     rows: &HeadRows,
-) -> Result<BitRow, NoMemory>
+) -> Result<NamedRows, NoMemory>
     requires few { length seen.now.entries ≤ 2 ^ 24 }
     requires live { length live.now ≡ length seen.now.entries }
     requires units { AreInUnits seen.now }
     requires parents { ParentsStandBefore seen.now.entries }
     requires rows { AreRows seen.now.entries rows.now }
-    ensures { IfOk result (λ row. IsRow (is_named_head (object_of seen.now live.now)) (length seen.now.entries) row) }
+    ensures named { IfOk result (λ rows. IsRow (is_named_head (object_of seen.now live.now)) (length seen.now.entries) rows.named) }
+    ensures common { IfOk result (λ rows. IsRow (is_common (object_of seen.now live.now)) (length seen.now.entries) rows.common) }
 {
-    let mut row = BitRow::new(alloc, seen.entries.len() as u32)?;
+    let mut named = BitRow::new(alloc, seen.entries.len() as u32)?;
+    let mut in_named = BitRow::new(alloc, seen.entries.len() as u32)?;
+    let mut common = BitRow::new(alloc, seen.entries.len() as u32)?;
     for i in 0..seen.entries.len() {
-        let head = is_named_head(seen, live, rows, i as u32);
-        row.set_if(i as u32, head);
+        let k = i as u32;
+        let entry = seen.entries.entry(i);
+        let head = is_named_head(seen, live, rows, k);
+        let inside = is_within(head, &in_named, entry.parent());
+        let means_same = is_common(seen, live, inside, k);
+        named.set_if(k, head);
+        in_named.set_if(k, inside);
+        common.set_if(k, means_same);
     }
-    Ok(row)
+    Ok(NamedRows { named, common })
 }
 
 /// Whether an entry is a named head: a type that is told by its name and by namespaces alone.
@@ -299,46 +285,25 @@ fn is_reached(seen: &Analysis, rows: &HeadRows, k: u32, entry: &EntryRef) -> boo
     }
 }
 
-/// Of each entry, whether it is a type that means the same in every object.
-pub(crate) fn common_of(
-    alloc: Global,
-    seen: &Analysis,
-    live: &BitRow,
-    in_named: &BitRow,
-) -> Result<BitRow, NoMemory>
-    requires few { length seen.now.entries ≤ 2 ^ 24 }
-    requires parents { ParentsStandBefore seen.now.entries }
-    requires named { IsRow (is_in_named_head (object_of seen.now live.now)) (length seen.now.entries) in_named.now }
-    ensures { IfOk result (λ row. IsRow (is_common (object_of seen.now live.now)) (length seen.now.entries) row) }
-{
-    let mut row = BitRow::new(alloc, seen.entries.len() as u32)?;
-    for i in 0..seen.entries.len() {
-        let common = is_common(seen, live, in_named, i as u32);
-        row.set_if(i as u32, common);
-    }
-    Ok(row)
-}
-
 /// Whether an entry is a type that means the same in every object.
-fn is_common(seen: &Analysis, live: &BitRow, in_named: &BitRow, k: u32) -> bool
+fn is_common(seen: &Analysis, live: &BitRow, inside: bool, k: u32) -> bool
     requires place { k < length seen.now.entries }
     requires parents { ParentsStandBefore seen.now.entries }
-    requires named { IsRow (is_in_named_head (object_of seen.now live.now)) (length seen.now.entries) in_named.now }
+    requires inside { inside ≡ is_in_named_head (object_of seen.now live.now) k }
     ensures { result ≡ is_common (object_of seen.now live.now) k }
 {
     let entry = seen.entries.entry(k as usize);
     entry.tag() == DW_TAG_base_type
         || entry.tag() == DW_TAG_unspecified_type
-        || is_named_inside(in_named, k, &entry)
+        || is_named_inside(inside, &entry)
         || is_plain_derived(&seen.entries, &entry)
 }
 
-/// Whether an entry is marked, and is a type with a name.
-fn is_named_inside(in_named: &BitRow, k: u32, entry: &EntryRef) -> bool
-    requires { k < length in_named.now }
-    ensures { result ≡ (is_named_type entry.now && is_marked in_named.now k) }
+/// Whether an entry stands in the subtree of a named head, and is a type with a name.
+fn is_named_inside(inside: bool, entry: &EntryRef) -> bool
+    ensures { result ≡ (is_named_type entry.now && inside) }
 {
-    if in_named.get(k) {
+    if inside {
         return is_named_type(entry);
     }
     false

@@ -1,12 +1,11 @@
 //! Which entries of an object are pooled, and the spelled texts of their pieces.
 
 ghost use Rattle.std.specs.Prelude.{◌≡◌, ◌≤◌, ◌<◌, ◌^◌, ◌&&◌, ◌||◌, ℕ, List, Option, [], true, false, length, slice_get, is_some, Some, None, IfOk, replicate, if◌then◌else◌};
-ghost use Rattle.std.specs.Option.{ForSome, option_map_or};
 ghost use Rattle.dwarf_types.specs.Sound.{IsSound};
 ghost use Rattle.dwarf_types.specs.Tree.{ParentsStandBefore};
 ghost use Rattle.type_names.specs.Children.{IsTableFrom};
 ghost use Rattle.type_names.specs.HeadRows.{AreRows};
-ghost use Rattle.type_names.specs.Heads.{derived_name, may_be_derived, is_common, is_head, is_in_head, is_in_named_head, is_named_head, is_pooled};
+ghost use Rattle.type_names.specs.Heads.{derived_name, may_be_derived, is_common, is_head, is_in_head, is_named_head, is_pooled};
 ghost use Rattle.type_names.specs.Objects.{AreInUnits, ReferToEntries, object_of};
 ghost use Rattle.type_names.specs.Onto.{AreTypes, Writes, may_open};
 ghost use Rattle.type_names.specs.Paths.{is_overloaded};
@@ -18,12 +17,11 @@ ghost use Rattle.type_names.specs.Tree.{is_marked, parent_of};
 use crate::children::{Children, children_of};
 use crate::entries::linkage_of;
 use crate::heads::{
-    HeadRows, common_of, has_merged_unit, is_clean, is_derived_at_top, named_heads, rows_of,
-    takes_part,
+    HeadRows, has_merged_unit, is_clean, is_derived_at_top, named_of, rows_of, takes_part,
 };
 use crate::spell::{SpellError, Types, write_parameters, write_type};
 use crate::text_table::TextTable;
-use crate::tree::{in_marked, marked_below, parent_of};
+use crate::tree::{is_within, marked_below, parent_of};
 use ds_base::dwarf::DW_TAG_subprogram;
 use ds_base::{BitRow, NoMemory};
 use dwarf_types::{Analysis, Entries, EntryRef};
@@ -65,11 +63,17 @@ fn names_of(alloc: Global, seen: &Analysis, live: &BitRow) -> Result<TypeNames, 
     }
     let entries = &seen.entries;
     let rows = rows_of(alloc, entries)?;
-    let named = named_heads(alloc, seen, live, &rows)?;
+    let named = named_of(alloc, seen, live, &rows)?;
     let children = children_of(alloc, entries)?;
-    let in_named = in_named_of(alloc, seen, live, &named)?;
-    let common = common_of(alloc, seen, live, &in_named)?;
-    let told = told_of(alloc, seen, live, &rows, &named, &common, &children)?;
+    let told = told_of(
+        alloc,
+        seen,
+        live,
+        &rows,
+        &named.named,
+        &named.common,
+        &children,
+    )?;
     let pooled = pooled_of(alloc, seen, live, &told.heads, &told.in_heads)?;
     Ok(TypeNames {
         pooled,
@@ -176,7 +180,7 @@ fn tell_all(
         out.clear();
         let derived = spell_derived(seen, live, rows, common, k, &entry, &mut out)?;
         let head = is_head(named, k, derived);
-        let inside = is_in_head(head, &in_heads, entry.parent());
+        let inside = is_within(head, &in_heads, entry.parent());
         heads.set_if(k, head);
         in_heads.set_if(k, inside);
         let there = spell_piece(all, k, &entry, inside, derived, &mut out)?;
@@ -187,22 +191,6 @@ fn tell_all(
         in_heads,
         spelled,
     })
-}
-
-/// Of each entry, whether it stands in the subtree of a named head.
-fn in_named_of(
-    alloc: Global,
-    seen: &Analysis,
-    live: &BitRow,
-    named: &BitRow,
-) -> Result<BitRow, NoMemory>
-    requires few { length seen.now.entries ≤ 2 ^ 24 }
-    requires parents { ParentsStandBefore seen.now.entries }
-    requires named { IsRow (is_named_head (object_of seen.now live.now)) (length seen.now.entries) named.now }
-    ensures { IfOk result (λ row. IsRow (is_in_named_head (object_of seen.now live.now)) (length seen.now.entries) row) }
-{
-    let row = in_marked(alloc, &seen.entries, named)?;
-    Ok(row)
 }
 
 /// Spells an entry, where it is a derived head.
@@ -287,17 +275,6 @@ fn is_head(named: &BitRow, k: u32, derived: bool) -> bool
     ensures { result ≡ (is_marked named.now k || derived) }
 {
     named.get(k) || derived
-}
-
-/// Whether an entry is a head, or its parent stands in the subtree of one.
-fn is_in_head(head: bool, in_heads: &BitRow, parent: Option<u32>) -> bool
-    requires { ForSome parent (λ p. p < length in_heads.now) }
-    ensures { result ≡ (head || option_map_or (is_marked in_heads.now) parent false) }
-{
-    match parent {
-        Some(p) => head || in_heads.get(p),
-        None => head,
-    }
 }
 
 /// Of each entry, whether it is pooled: it is live and in the subtree of a head, or stands above a head.

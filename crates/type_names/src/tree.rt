@@ -1,43 +1,22 @@
-//! Marks over the trees of an object: what stands below a marked entry, and what above one.
+//! Marks over the trees of an object: whether an entry stands in a marked subtree, and what stands above a marked one.
 
 ghost use Rattle.std.specs.Prelude.{◌≡◌, ◌≤◌, ◌<◌, ◌^◌, ◌↔◌, ◌||◌, ℕ, true, false, length, slice_set, IfOk};
 ghost use Rattle.std.specs.Option.{ForSome, option_map_or};
 ghost use Rattle.dwarf_types.specs.Tree.{ParentsStandBefore};
-ghost use Rattle.type_names.specs.Rows.{IsRow};
-ghost use Rattle.type_names.specs.Tree.{HasMarkedBelow, IsPassedTo, is_in_marked, is_marked, parent_of, passed_up};
+ghost use Rattle.type_names.specs.Tree.{HasMarkedBelow, IsPassedTo, is_marked, parent_of, passed_up};
 
 use ds_base::{BitRow, NoMemory};
 use dwarf_types::Entries;
 use std::alloc::Global;
 
-/// Of each entry, whether it or an entry above it is marked.
-pub(crate) fn in_marked(
-    alloc: Global,
-    entries: &Entries,
-    marks: &BitRow,
-) -> Result<BitRow, NoMemory>
-    requires few { length entries.now ≤ 2 ^ 24 }
-    requires parents { ParentsStandBefore entries.now }
-    requires len { length marks.now ≡ length entries.now }
-    ensures { IfOk result (λ row. IsRow (is_in_marked entries.now marks.now) (length entries.now) row) }
-{
-    let mut row = BitRow::new(alloc, entries.len() as u32)?;
-    for i in 0..entries.len() {
-        let inherited = is_inherited(marks, i as u32, &row, entries.entry(i).parent());
-        row.set_if(i as u32, inherited);
-    }
-    Ok(row)
-}
-
-/// Whether an entry is marked, or its parent stands in a marked subtree.
-fn is_inherited(marks: &BitRow, k: u32, row: &BitRow, parent: Option<u32>) -> bool
-    requires place { k < length marks.now }
-    requires parent { ForSome parent (λ p. p < length row.now) }
-    ensures { result ≡ (is_marked marks.now k || option_map_or (is_marked row.now) parent false) }
+/// Whether an entry passes, or its parent is marked.
+pub(crate) fn is_within(passes: bool, row: &BitRow, parent: Option<u32>) -> bool
+    requires { ForSome parent (λ p. p < length row.now) }
+    ensures { result ≡ (passes || option_map_or (is_marked row.now) parent false) }
 {
     match parent {
-        Some(p) => marks.get(k) || row.get(p),
-        None => marks.get(k),
+        Some(p) => passes || row.get(p),
+        None => passes,
     }
 }
 

@@ -7,7 +7,6 @@ use Rattle.dwarf_types.specs.declared.value.Value.{Value}
 use Rattle.dwarf_types.specs.Moves.{value_of}
 use Rattle.type_names.specs.Children.{next_listed}
 use Rattle.type_names.specs.Entries.{Text}
-use Rattle.type_names.specs.Tree.{is_marked}
 use Rattle.type_names.specs.Spell.{◌&◌, made_by, parameter_in, parameters_in, spelled_target, spelled_within, subranges_in, type_in}
 use Rattle.type_names.specs.Onto.{Writes, may_open, onto, spelled_in}
 use Rattle.type_names.proofs.Reading.{IsReading, left_of, parameters_read, reading_child, reading_ends, reading_falls, reading_more, reading_stops}

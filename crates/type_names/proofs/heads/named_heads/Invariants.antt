@@ -1,8 +1,0 @@
-use Rattle.std.proofs.Common.{length}
-use Rattle.type_names.specs.Rows.{IsRowTo}
-use Rattle.type_names.specs.Heads.{is_named_head}
-use Rattle.type_names.specs.Objects.{object_of}
-use Rattle.type_names.proofs.heads.named_heads.Given as goal
-
-abbrev pub invariant-loop-i : goal.invariant-loop-i
-invariant-loop-i l = IsRowTo (is_named_head (object_of l.seen l.live)) (length l.seen.entries) l.row l.i
