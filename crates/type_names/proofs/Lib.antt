@@ -18,3 +18,4 @@ pub mod References
 mod Fields
 mod Orders
 mod Parentheses
+mod Holding

@@ -16,6 +16,7 @@ use ds_base::dwarf::{
 };
 use dwarf_types::{EntryRef, InnerOpRef, InnerOpsRef, OpRef, OpsRef, ValueRef};
 use memchr::memchr;
+use memchr::memmem::find;
 
 /// The value of the entry's first attribute of a name.
 pub(crate) fn value_of<'a>(entry: &EntryRef<'a>, name: u16) -> Option<ValueRef<'a>>
@@ -115,14 +116,10 @@ fn has_parenthesis(text: &[u8]) -> bool
 
 /// Whether a text holds a part, which is not empty.
 pub(crate) fn holds(part: &[u8], text: &[u8]) -> bool
+    requires { 0 < length part.now }
     ensures { result ≡ holds part.now text.now }
 {
-    for i in 0..text.len() {
-        if text[i..].starts_with(part) {
-            return true;
-        }
-    }
-    false
+    find(text, part).is_some()
 }
 
 /// Whether an entry is a base type, or is tied to its unit by an attribute.
