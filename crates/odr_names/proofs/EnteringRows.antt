@@ -1,5 +1,5 @@
 -- Rows entered one after the other.
-use Rattle.std.proofs.Common.{◌≡◌, inl, inr, ℕ, ◌+◌, ◌-◌, ◌<◌, ◌≤◌, ◌^◌, Bool, true, false, List, [], ◌∷◌, ◌++◌, length, map, take, Option, Some, None, slice_get, get_or, refl, sym, ap, ◌∙◌, arith, subst, append_assoc, append-nil}
+use Rattle.std.proofs.Common.{suc, zero, ◌≡◌, inl, inr, ℕ, ◌+◌, ◌-◌, ◌<◌, ◌≤◌, ◌^◌, Bool, true, false, List, [], ◌∷◌, ◌++◌, length, map, take, Option, Some, None, slice_get, get_or, refl, sym, ap, ◌∙◌, arith, subst, append_assoc, append-nil}
 use Rattle.std.specs.Prelude.{IfSome, ◌||◌, is_some, if◌then◌else◌}
 use Rattle.std.specs.List.{cons_option, enumerate_from, filter_map}
 use Rattle.std.specs.Option.{ForSome, option_and_then, option_map, option_map_or}
@@ -23,6 +23,7 @@ use Rattle.type_names.proofs.HeadTests.{enumerated_more}
 use Rattle.type_names.proofs.Lineages.{parent_before}
 use Rattle.odr_names.proofs.BookPaths.{above_found, get_before, get_last, hash_is, link_before, private_is, row_in, up_within}
 use Rattle.odr_names.proofs.Closed.{path_below, path_top, pooled_parent, spelled_pooled, unit_is_plain}
+use Rattle.odr_names.proofs.Counting.{entry_at}
 use Rattle.odr_names.proofs.Hashes.{path_hash_more}
 
 -- ---- names
@@ -47,6 +48,13 @@ names_skip n o k e at plain = one_name n o k e at ∙ ap (λ (b : Bool). names_t
 
 names_more : (n : ℕ) (o : Object) (k : ℕ) (e : Entry) → slice_get (entries_of o) k ≡ Some e → is_pooled o k ≡ true → names_to n o (k + 1) ≡ names_to n o k ++ named_of n o k e ∷ []
 names_more n o k e at pooled = one_name n o k e at ∙ ap (λ (b : Bool). names_to n o k ++ cons_option (if b then Some (named_of n o k e) else None) []) pooled
+
+-- none of them, where no entry is pooled
+pub no_names : (n : ℕ) (o : Object) (k : ℕ) → k ≤ length (entries_of o) → ((j : ℕ) → j < k → is_pooled o j ≡ false) → names_to n o k ≡ []
+no_names n o zero le plain = refl
+no_names n o (suc k) le plain =
+    let e = entry_at (entries_of o) k (omega (arith, le)) in
+    ap (names_to n o) (let next : suc k ≡ k + 1 = omega arith in next) ∙ names_skip n o k e.0 e.1 (plain k (omega arith)) ∙ append-nil (names_to n o k) ∙ no_names n o k (omega (arith, le)) (λ j lt. plain j (omega arith))
 
 -- ---- rows
 
@@ -247,3 +255,10 @@ bounded_above o numbers m k bounded x is = go (parent_of (entries_of o) k) is wh
 pub number_small : (pooled : Bool) (row : Row) (old new : List Row) (number : Option ℕ) → length old < 2 ^ 25 → IsEntered pooled row old new number → IfSome number (λ x. x < 2 ^ 25)
 number_small true row old new number few is = subst (λ (x : Option ℕ). IfSome x (λ x. x < 2 ^ 25)) (sym is.0) few
 number_small false row old new number few is = subst (λ (x : Option ℕ). IfSome x (λ x. x < 2 ^ 25)) (sym is.0) tt
+
+-- no entry is pooled, so no row stands for one
+pub none_entered : (n : ℕ) (o : Object) (objects : List Object) → ((k : ℕ) → k < length (entries_of o) → is_pooled o k ≡ false) → AreEntered objects n o [] []
+none_entered n o objects plain = record {
+  are_rows = record { of_entries = λ x row at. absurd (none-some row at); linked = λ x row at. absurd (none-some row at) };
+  names = sym (ap (λ (es : List Entry). filter_map (λ (e : ℕ × Entry). if is_pooled o e.0 then Some (named_of n o e.0 e.1) else None) (enumerate_from 0 es)) (sym (take_all (length (entries_of o)) (entries_of o) (omega arith))) ∙ no_names n o (length (entries_of o)) (omega arith) plain);
+}

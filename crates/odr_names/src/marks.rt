@@ -1,6 +1,6 @@
 //! How many marks a row has.
 
-ghost use Rattle.std.specs.Prelude.{◌≡◌, ◌≤◌, ◌^◌, length};
+ghost use Rattle.std.specs.Prelude.{◌≡◌, ◌≤◌, ◌<◌, ◌^◌, ℕ, false, length, slice_index_or};
 
 use ds_base::BitRow;
 
@@ -8,7 +8,8 @@ use ds_base::BitRow;
 pub(crate) fn count_marked(row: &BitRow, len: usize) -> usize
     requires few { len ≤ 2 ^ 24 }
     requires all { length row.now ≡ len }
-    ensures { result ≤ len }
+    ensures few { result ≤ len }
+    ensures none { result ≡ 0 → (k : ℕ) → k < len → slice_index_or row.now k false ≡ false }
 {
     let mut count = 0;
     for i in 0..len {

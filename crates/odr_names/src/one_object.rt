@@ -25,7 +25,7 @@ pub struct ObjectNames {
 /// The names of an object, which is counted from 1.
 ///
 /// `live` marks the live entries. A sound object has 2^24 entries at most, and no more names than entries, so there are
-/// never too many of one object alone. Source: this project's profile (docs/PROFILE.md, "Names and the pool").
+/// never too many of one object alone. Where nothing of it is pooled, as in a C program, no ordinals are counted. Source: this project's profile (docs/PROFILE.md, "Names and the pool").
 pub fn object_names(
     alloc: Global,
     seen: &Analysis,
@@ -38,8 +38,15 @@ pub fn object_names(
     ensures { IfOk result (λ own. AreNamesOf object (object_of seen.now live.now) own) }
 {
     let names = type_names(alloc, seen, live)?;
+    let count = count_marked(&names.pooled, seen.entries.len());
+    if count == 0 {
+        return Ok(ObjectNames {
+            names,
+            rows: Vec::new(alloc),
+        });
+    }
     let counts = twins_of(alloc, seen, live, &names, object)?;
-    let mut rows = Vec::with_capacity(alloc, count_marked(&names.pooled, seen.entries.len()))?;
+    let mut rows = Vec::with_capacity(alloc, count)?;
     enter_entries(alloc, seen, live, &names, object, &counts, &mut rows)?;
     Ok(ObjectNames { names, rows })
 }
