@@ -1,12 +1,13 @@
 -- What stands above a pooled entry: its unit, or a pooled entry.
-use Rattle.std.proofs.Common.{◌≡◌, ◌⊎◌, inl, inr, ℕ, ◌+◌, ◌<◌, ◌==◌, ◌&&◌, ◌||◌, not, Bool, true, false, cond, List, [], ◌∷◌, ◌++◌, length, Option, Some, None, is_some, slice_get, refl, sym, ap, ◌∙◌, arith}
+use Rattle.std.proofs.Common.{◌≡◌, ◌⊎◌, inl, inr, ℕ, ◌+◌, ◌<◌, ◌==◌, ◌&&◌, ◌||◌, not, Bool, true, false, cond, List, [], ◌∷◌, ◌++◌, length, Option, Some, None, is_some, slice_get, refl, sym, ap, ◌∙◌, arith, subst}
+use Rattle.std.specs.Prelude.{if◌then◌else◌}
 use Rattle.std.specs.List.{cons_option, enumerate_from, filter_map, list_all, list_any}
 use Rattle.std.specs.Option.{option_and_then, option_map, option_map_or}
 use Rattle.std.proofs.lemmas.Bool.{both_ways, eq-eqb, eqb-true, ne_eqb}
 use Rattle.std.proofs.lemmas.List.Elements.{filter_map-append}
 use Rattle.std.proofs.lemmas.List.Folds.{list_any-append}
 use Rattle.std.proofs.lemmas.Option.{none-some, same_Some}
-use Rattle.ds_base.specs.declared.dwarf.TheConstants.{DW_TAG_namespace, DW_TAG_subprogram}
+use Rattle.ds_base.specs.declared.dwarf.TheConstants.{DW_TAG_class_type, DW_TAG_namespace, DW_TAG_structure_type, DW_TAG_subprogram}
 use Rattle.dwarf_types.specs.declared.entry.Entry.{Entry}
 use Rattle.dwarf_types.specs.Tree.{ParentsStandBefore}
 use Rattle.type_names.specs.Entries.{Text, is_named_type, is_type, linkage_of, name_of}
@@ -15,8 +16,8 @@ use Rattle.type_names.specs.Paths.{Piece, earlier_twins, is_overloaded, is_told_
 use Rattle.type_names.specs.Spell.{spelled_parameters, spelling}
 use Rattle.odr_names.specs.Pieces.{IsSpelled}
 use Rattle.odr_names.specs.Entering.{AreLiveParents}
-use Rattle.odr_names.specs.Twins.{is_inside, twins_before}
-use Rattle.odr_names.proofs.Siblings.{spelled_in_head}
+use Rattle.odr_names.specs.Twins.{is_inside, tell_alone, twins_before, wants_ordinal}
+use Rattle.odr_names.proofs.Siblings.{spelled_in_head, told_told, wanted}
 use Rattle.type_names.specs.Tree.{below_unit, is_at_top, is_below, is_in, lineage, numbers_above, parent_of}
 use Rattle.type_names.proofs.Lineages.{lineage_below, lineage_top, parent_before}
 use Rattle.type_names.proofs.Pooling.{any_numbers}
@@ -302,6 +303,24 @@ told_is o k e spelled at is = ap (λ (b : Bool). e.tag == DW_TAG_namespace || (i
   go false plain = ap (λ (b : Bool). not b && is_some spelled) plain ∙ ap (λ (t : Option Text). is_some t) (is ∙ ap (λ (b : Bool). cond b (spelled_parameters (entries_of o) k) (derived_name o k)) plain)
   go true over = ap (λ (b : Bool). not b && is_some spelled) over ∙ ap (λ (t : Option Text). is_some t) (sym (underived o k e at (ap (λ (tag : ℕ). is_derived tag) (eqb-true e.tag DW_TAG_subprogram (both (e.tag == DW_TAG_subprogram) (not (is_some (linkage_of e))) over).0))))
 
+abbrev bits_tell : ℕ → Bool → Bool → Bool → Bool
+bits_tell tag named linked spelled = tag == DW_TAG_namespace || ((is_type tag && named) || (not (tag == DW_TAG_subprogram && not linked) && spelled))
+
+-- a class is told as a structure is
+class_tells : (tag : ℕ) (named linked spelled : Bool) → bits_tell (if tag == DW_TAG_class_type then DW_TAG_structure_type else tag) named linked spelled ≡ bits_tell tag named linked spelled
+class_tells tag named linked spelled = go (tag == DW_TAG_class_type) refl where
+  go : (b : Bool) → tag == DW_TAG_class_type ≡ b → bits_tell (cond b DW_TAG_structure_type tag) named linked spelled ≡ bits_tell tag named linked spelled
+  go false other = refl
+  go true is = subst (λ (tag : ℕ). bits_tell DW_TAG_structure_type named linked spelled ≡ bits_tell tag named linked spelled) (sym (eqb-true tag DW_TAG_class_type is)) refl
+
+-- whether an entry is told by its parts follows from these alone
+pub told_alone : (n : ℕ) (o : Object) (k : ℕ) (e : Entry) → slice_get (entries_of o) k ≡ Some e → tell_alone (parts_of n o k e) ≡ is_told_by_parts o k e
+told_alone n o k e at = class_tells e.tag (is_some (name_of e)) (is_some (linkage_of e)) (is_some (spelled_of o k e)) ∙ told_is o k e (spelled_of o k e) at refl
+
+-- a pooled entry that its parts do not tell has its twins counted
+pub ordinal_wanted : (n : ℕ) (o : Object) (k : ℕ) (e : Entry) → ParentsStandBefore (entries_of o) → slice_get (entries_of o) k ≡ Some e → is_pooled o k ≡ true → is_told_by_parts o k e ≡ false → wants_ordinal n o k ≡ true
+ordinal_wanted n o k e before at pooled untold = wanted n o k (told_or_inside o k e before at pooled untold) (told_told n o k e at ∙ told_alone n o k e at ∙ untold)
+
 -- a unit is not pooled
 pub unit_is_plain : (o : Object) (p : ℕ) → parent_of (entries_of o) p ≡ None → is_pooled o p ≡ false
 unit_is_plain o p top = go (is_pooled o p) refl where
@@ -323,7 +342,3 @@ pub ordinal_untold : (n : ℕ) (o : Object) (k : ℕ) (e : Entry) → slice_get 
 ordinal_untold n o k e at told =
     ap (λ (x : Option Entry). option_map_or (λ (e : Entry). option_map_or (λ (p : ℕ). length (earlier_twins n o p k (parts_of n o k e))) e.parent 0) x 0) at
     ∙ sym (ap (λ (b : Bool). cond b 0 (option_map_or (λ (p : ℕ). length (earlier_twins n o p k (parts_of n o k e))) e.parent 0)) told)
-
-pub some_seen : {A B : Type 0} (f : A → B) (x : Option A) → is_some x ≡ is_some (option_map f x)
-some_seen f None = refl
-some_seen f (Some a) = refl

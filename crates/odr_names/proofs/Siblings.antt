@@ -15,7 +15,7 @@ use Rattle.dwarf_types.specs.Tree.{ParentsStandBefore}
 use Rattle.odr_names.specs.declared.winners.Ranked.{Ranked}
 use Rattle.odr_names.specs.Pieces.{IsSpelled}
 use Rattle.odr_names.specs.Ranking.{AreInOrder}
-use Rattle.odr_names.specs.Twins.{AreCounted, AreNoTwins, AreSiblings, AreTwins, IsSibling, is_inside, may_have_twins, own_in, parts_hash, parts_in, twins_before}
+use Rattle.odr_names.specs.Twins.{AreCounted, AreNoTwins, AreSiblings, AreTwins, IsSibling, is_inside, is_told_in, may_have_twins, own_in, parts_hash, parts_in, tell_alone, twins_before, wants_ordinal}
 use Rattle.type_names.specs.Heads.{Object, entries_of, is_head, is_in_head}
 use Rattle.type_names.specs.Paths.{Parts, earlier_twins, is_overloaded, parts_of, spelled_of}
 use Rattle.type_names.specs.Rows.{IsRow}
@@ -87,8 +87,27 @@ no_twins_more n o ranks here r j i at differs so_far = record {
 own_told : (n : ℕ) (o : Object) (k : ℕ) (e : Entry) → slice_get (entries_of o) k ≡ Some e → own_in n o k ≡ (parts_of n o k e).private
 own_told n o k e at = ap (λ (x : Option Entry). option_and_then (λ (parts : Parts). parts.private) (option_map (parts_of n o k) x)) at
 
-may_have : (n : ℕ) (o : Object) (k : ℕ) → is_inside o k ≡ true → own_in n o k ≡ None → may_have_twins n o k ≡ true
-may_have n o k inside none = ap (λ (b : Bool). b && not (is_some (own_in n o k))) inside ∙ ap (λ (own : Option (ℕ × ℕ)). not (is_some own)) none
+pub told_told : (n : ℕ) (o : Object) (k : ℕ) (e : Entry) → slice_get (entries_of o) k ≡ Some e → is_told_in n o k ≡ tell_alone (parts_of n o k e)
+told_told n o k e at = ap (λ (x : Option Entry). option_map_or tell_alone (option_map (parts_of n o k) x) false) at
+
+pub wanted : (n : ℕ) (o : Object) (k : ℕ) → is_inside o k ≡ true → is_told_in n o k ≡ false → wants_ordinal n o k ≡ true
+wanted n o k inside untold = ap (λ (b : Bool). b && not (is_told_in n o k)) inside ∙ ap not untold
+
+may_have : (n : ℕ) (o : Object) (k : ℕ) → wants_ordinal n o k ≡ true → own_in n o k ≡ None → may_have_twins n o k ≡ true
+may_have n o k wants none = ap (λ (b : Bool). b && not (is_some (own_in n o k))) wants ∙ ap (λ (own : Option (ℕ × ℕ)). not (is_some own)) none
+
+never_twins : (a b c : Bool) → b ≡ true → ((a && not b) && not c) ≡ false
+never_twins false b c told = refl
+never_twins true true c told = refl
+never_twins true false c told = absurd (both_ways _ refl told)
+
+pub none_seen : {A B : Type 0} (f : A → B) (x : Option A) → is_some x ≡ false → option_map f x ≡ None
+none_seen f None is = refl
+none_seen f (Some a) is = absurd (both_ways _ is refl)
+
+-- an entry that its parts tell apart needs no place among its siblings
+pub none_told : (n : ℕ) (o : Object) (k : ℕ) (e : Entry) → slice_get (entries_of o) k ≡ Some e → tell_alone (parts_of n o k e) ≡ true → may_have_twins n o k ≡ false
+none_told n o k e at told = never_twins (is_inside o k) (is_told_in n o k) (is_some (own_in n o k)) (told_told n o k e at ∙ told)
 
 own_number : (n : ℕ) (o : Object) (k : ℕ) (own : ℕ × ℕ) → own_in n o k ≡ Some own → own.1 ≡ k
 own_number n o k own is = go (slice_get (entries_of o) k) is where
@@ -129,9 +148,10 @@ twin_before n o ranks here i m are order at before twins =
     let it = are.each i here at in
     let parent_m : parent_of (entries_of o) m ≡ Some it.parent = twins.parent ∙ parent_at o here.name it.entry it.stands ∙ it.child in
     let in_m : is_inside o m ≡ true = ap (λ (p : Option ℕ). option_map_or (is_in_head o) p false) parent_m ∙ it.inside in
+    let told_m : is_told_in n o m ≡ false = ap (λ (p : Option Parts). option_map_or tell_alone p false) twins.parts ∙ told_told n o here.name it.entry it.stands ∙ it.untold in
     let own_m : own_in n o m ≡ None = ap (option_and_then (λ (parts : Parts). parts.private)) twins.parts ∙ own_told n o here.name it.entry it.stands ∙ it.common in
     let inside : m < length (entries_of o) = omega (arith, before, slice_get_within (entries_of o) here.name it.entry it.stands) in
-    let found = are.all m inside (may_have n o m in_m own_m) in
+    let found = are.all m inside (may_have n o m (wanted n o m in_m told_m) own_m) in
     let k = found.0 in
     let r = found.1 in
     let its = are.each k r found.2 in
@@ -199,11 +219,11 @@ counted_more n o ranks counts i here count are at is so_far = record {
   others = λ k none. get_or-set_other counts here.name k count 0 (λ same. none (i, here, at, sym same)) ∙ so_far.others k none;
 }
 
-pub counted_all : (n : ℕ) (o : Object) (ranks : List Ranked) (counts : List ℕ) (k : ℕ) → AreSiblings n o ranks (length (entries_of o)) → AreCounted n o ranks counts (length ranks) → k < length (entries_of o) → is_inside o k ≡ true → get_or counts k 0 ≡ twins_before n o k
-counted_all n o ranks counts k are counted within inside = go (own_in n o k) refl where
+pub counted_all : (n : ℕ) (o : Object) (ranks : List Ranked) (counts : List ℕ) (k : ℕ) → AreSiblings n o ranks (length (entries_of o)) → AreCounted n o ranks counts (length ranks) → k < length (entries_of o) → wants_ordinal n o k ≡ true → get_or counts k 0 ≡ twins_before n o k
+counted_all n o ranks counts k are counted within wants = go (own_in n o k) refl where
   go : (own : Option (ℕ × ℕ)) → own_in n o k ≡ own → get_or counts k 0 ≡ twins_before n o k
   go None none = (
-      let found = are.all k within (may_have n o k inside none) in
+      let found = are.all k within (may_have n o k wants none) in
       subst (λ (x : ℕ). get_or counts x 0 ≡ twins_before n o x) found.3 (counted.each found.0 found.1 (slice_get_within ranks found.0 found.1 found.2) found.2))
   go (Some own) is = counted.others k (λ among. (
       let it = are.each among.0 among.1 among.2 in

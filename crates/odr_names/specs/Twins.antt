@@ -1,9 +1,11 @@
 -- How many earlier siblings of an entry have its parts.
-use Rattle.std.specs.Prelude.{◌≡◌, ℕ, ◌<◌, ◌≤◌, ◌&&◌, not, Bool, true, false, List, length, slice_get, slice_index_or, Option, Some, None, is_some}
+use Rattle.std.specs.Prelude.{◌≡◌, ℕ, ◌<◌, ◌≤◌, ◌==◌, ◌&&◌, ◌||◌, not, Bool, true, false, List, length, slice_get, slice_index_or, Option, Some, None, is_some}
 use Rattle.std.specs.Option.{option_and_then, option_map, option_map_or}
+use Rattle.ds_base.specs.declared.dwarf.TheConstants as dw
 use Rattle.dwarf_types.specs.declared.entry.Entry.{Entry}
 use Rattle.odr_names.specs.declared.winners.Ranked.{Ranked}
 use Rattle.odr_names.specs.Ranking.{IsAmong}
+use Rattle.type_names.specs.Entries.{is_type}
 use Rattle.type_names.specs.Heads.{Object, entries_of, is_in_head}
 use Rattle.type_names.specs.Paths.{Parts, earlier_twins, parts_of}
 use Rattle.type_names.specs.Start.{hash_from, piece_bytes}
@@ -32,9 +34,21 @@ twins_before n o k = option_map_or (λ e. option_map_or (λ p. length (earlier_t
 abbrev pub is_inside : Object → ℕ → Bool
 is_inside o k = option_map_or (is_in_head o) (parent_of (entries_of o) k) false
 
+-- they tell an entry apart wherever it stands: it is a namespace, a type with a name, or a derived head
+abbrev pub tell_alone : Parts → Bool
+tell_alone p = p.tag == dw.DW_TAG_namespace || ((is_type p.tag && is_some p.name) || (not (p.tag == dw.DW_TAG_subprogram && not (is_some p.linkage)) && is_some p.spelled))
+
+-- its parts do
+abbrev pub is_told_in : ℕ → Object → ℕ → Bool
+is_told_in n o k = option_map_or tell_alone (parts_in n o k) false
+
+-- it stands below an entry in the subtree of a head, and its parts do not tell it apart
+abbrev pub wants_ordinal : ℕ → Object → ℕ → Bool
+wants_ordinal n o k = is_inside o k && not (is_told_in n o k)
+
 -- the same, and its own number is none of its parts, so that siblings may have them too
 abbrev pub may_have_twins : ℕ → Object → ℕ → Bool
-may_have_twins n o k = is_inside o k && not (is_some (own_in n o k))
+may_have_twins n o k = wants_ordinal n o k && not (is_some (own_in n o k))
 
 -- a hash of its parent and its parts
 abbrev pub parts_hash : ℕ → Parts → ℕ
@@ -47,6 +61,7 @@ pub record IsSibling (n : ℕ) (o : Object) (r : Ranked) : Type 0 where
   pub stands : slice_get (entries_of o) r.name ≡ Some entry
   pub child : entry.parent ≡ Some parent
   pub inside : is_in_head o parent ≡ true
+  pub untold : tell_alone (parts_of n o r.name entry) ≡ false
   pub common : (parts_of n o r.name entry).private ≡ None
   pub hash : r.hash ≡ parts_hash parent (parts_of n o r.name entry)
   pub bid : r.bid ≡ r.name

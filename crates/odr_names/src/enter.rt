@@ -8,7 +8,7 @@ ghost use Rattle.odr_names.specs.declared.path_book.Row.{Row as ARow};
 ghost use Rattle.odr_names.specs.Book.{AreRows};
 ghost use Rattle.odr_names.specs.Entering.{AreEntered, AreLiveParents, Enters, hash_above, new_row, private_above, rows_up};
 ghost use Rattle.odr_names.specs.Pieces.{parts_seen};
-ghost use Rattle.odr_names.specs.Twins.{is_inside, twins_before};
+ghost use Rattle.odr_names.specs.Twins.{twins_before, wants_ordinal};
 ghost use Rattle.type_names.specs.Entries.{is_declaration};
 ghost use Rattle.type_names.specs.Heads.{Object, is_pooled};
 ghost use Rattle.type_names.specs.Objects.{object_of};
@@ -40,7 +40,7 @@ pub(crate) fn enter_entry(
     requires parents { ParentsStandBefore seen.now.entries }
     requires names { AreNames (object_of seen.now live.now) names.now }
     requires len { length counts.now ≡ length seen.now.entries }
-    requires counts { (j : ℕ) → j < length seen.now.entries → is_inside (object_of seen.now live.now) j ≡ true
+    requires counts { (j : ℕ) → j < length seen.now.entries → wants_ordinal object (object_of seen.now live.now) j ≡ true
         → slice_index_or counts.now j 0 ≡ twins_before object (object_of seen.now live.now) j }
     requires counted { object < 2 ^ 16 }
     requires known { length numbers.now ≡ k }
@@ -83,7 +83,7 @@ fn row_of(
     requires names { AreNames (object_of seen.now live.now) names.now }
     requires pooled { is_pooled (object_of seen.now live.now) k ≡ true }
     requires len { length counts.now ≡ length seen.now.entries }
-    requires counts { (j : ℕ) → j < length seen.now.entries → is_inside (object_of seen.now live.now) j ≡ true
+    requires counts { (j : ℕ) → j < length seen.now.entries → wants_ordinal object (object_of seen.now live.now) j ≡ true
         → slice_index_or counts.now j 0 ≡ twins_before object (object_of seen.now live.now) j }
     requires counted { object < 2 ^ 16 }
     requires few { length rows.now < 2 ^ 25 }
@@ -164,7 +164,7 @@ pub(crate) fn enter_entries(
     requires live_parents { AreLiveParents (object_of seen.now live.now) }
     requires names { AreNames (object_of seen.now live.now) names.now }
     requires len { length counts.now ≡ length seen.now.entries }
-    requires counts { (j : ℕ) → j < length seen.now.entries → is_inside (object_of seen.now live.now) j ≡ true
+    requires counts { (j : ℕ) → j < length seen.now.entries → wants_ordinal object (object_of seen.now live.now) j ≡ true
         → slice_index_or counts.now j 0 ≡ twins_before object (object_of seen.now live.now) j }
     requires rows { length rows.old.items + length seen.now.entries < 2 ^ 25 }
     ensures few { OnOk result (length rows.new.items < 2 ^ 25) }

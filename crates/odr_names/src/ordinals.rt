@@ -1,17 +1,16 @@
 //! Ordinals of pieces: how many earlier siblings have the same parts.
 
-ghost use Rattle.std.specs.Prelude.{◌≡◌, ◌==◌, ◌||◌, ◌&&◌, not, ◌≤◌, ◌<◌, ◌^◌, ◌↔◌, ℕ, true, false, length, slice_get, slice_index_or, Some, None, IfOk, IsTrue, is_some, if◌then◌else◌};
+ghost use Rattle.std.specs.Prelude.{◌≡◌, ◌≤◌, ◌<◌, ◌^◌, ◌↔◌, ℕ, true, false, length, slice_get, slice_index_or, Some, None, IfOk, IsTrue, if◌then◌else◌};
 ghost use Rattle.std.specs.Option.{option_and_then};
 ghost use Rattle.dwarf_types.specs.declared.entry.Entry.{Entry as AnEntry};
 ghost use Rattle.dwarf_types.specs.Tree.{ParentsStandBefore};
 ghost use Rattle.odr_names.specs.Pieces.{IsSpelled, parts_seen};
 ghost use Rattle.odr_names.specs.Ranking.{AreInOrder};
-ghost use Rattle.odr_names.specs.Twins.{AreCounted, AreNoTwins, AreSiblings, AreTwins, IsRankOf, is_inside, parts_hash, twins_before};
+ghost use Rattle.odr_names.specs.Twins.{AreCounted, AreNoTwins, AreSiblings, AreTwins, IsRankOf, parts_hash, tell_alone, twins_before, wants_ordinal};
 ghost use Rattle.odr_names.specs.declared.winners.Ranked.{Ranked as RankedAs};
-ghost use Rattle.type_names.specs.Entries.{is_named_type, linkage_of, name_of};
 ghost use Rattle.type_names.specs.Heads.{is_in_head, is_pooled};
 ghost use Rattle.type_names.specs.Objects.{object_of};
-ghost use Rattle.type_names.specs.Paths.{is_overloaded, ordinal_of, parts_of};
+ghost use Rattle.type_names.specs.Paths.{ordinal_of, parts_of};
 ghost use Rattle.type_names.specs.Pooled.{AreNames};
 ghost use Rattle.type_names.specs.Tree.{parent_of};
 
@@ -21,11 +20,12 @@ use crate::piece::{PartsRef, PieceRef, parts_at, parts_equal};
 use crate::winners::{Ranked, sort_ranks};
 use ds_base::dwarf::{DW_TAG_namespace, DW_TAG_subprogram};
 use ds_base::{BitRow, NoMemory};
-use dwarf_types::{Analysis, Entries, EntryRef};
+use dwarf_types::{Analysis, Entries};
 use std::alloc::Global;
 use type_names::{TypeNames, is_type};
 
-/// Of each entry below one that stands in the subtree of a head, how many earlier siblings have the same parts.
+/// Of each entry whose ordinal is asked for, how many earlier siblings have the same parts: of those below entries in the
+/// subtrees of heads that their parts don't tell apart.
 ///
 /// The siblings are put in order by the hashes of their parents and parts, and then by number, so that the nearest
 /// earlier one with the same parts stands a few places before.
@@ -40,7 +40,7 @@ pub(crate) fn twins_of(
     requires parents { ParentsStandBefore seen.now.entries }
     requires names { AreNames (object_of seen.now live.now) names.now }
     ensures len { IfOk result (λ counts. length counts.items ≡ length seen.now.entries) }
-    ensures exact { IfOk result (λ counts. (k : ℕ) → k < length seen.now.entries → is_inside (object_of seen.now live.now) k ≡ true
+    ensures exact { IfOk result (λ counts. (k : ℕ) → k < length seen.now.entries → wants_ordinal object (object_of seen.now live.now) k ≡ true
         → slice_index_or counts.items k 0 ≡ twins_before object (object_of seen.now live.now) k) }
 {
     let mut ranks = siblings_of(alloc, seen, live, names, object)?;
@@ -51,7 +51,8 @@ pub(crate) fn twins_of(
 
 /// The entries below those in subtrees of heads, with the hashes of their parents and parts.
 ///
-/// Those with a [`crate::piece::Private`] have no twins, and are left out. It goes into no hash, so all members of a class
+/// Those that their parts tell apart are left out: their ordinals are 0, and what has the same parts is left out too. Those
+/// with a [`crate::piece::Private`] have no twins, and are left out as well. It goes into no hash, so all members of a class
 /// that differ in it alone would stand together, each to be compared with all before.
 fn siblings_of(
     alloc: Global,
@@ -84,6 +85,9 @@ fn rank_of(seen: &Analysis, live: &BitRow, names: &TypeNames, object: u32, k: u3
 {
     let parent = parent_inside(&seen.entries, names, k)?;
     let parts = parts_at(seen, live, names, object, k);
+    if tell_alone(&parts) {
+        return None;
+    }
     if parts.private.is_some() {
         return None;
     }
@@ -223,28 +227,23 @@ pub(crate) fn ordinal_at(
     requires parents { ParentsStandBefore seen.now.entries }
     requires pooled { is_pooled (object_of seen.now live.now) k ≡ true }
     requires len { length counts.now ≡ length seen.now.entries }
-    requires counts { (j : ℕ) → j < length seen.now.entries → is_inside (object_of seen.now live.now) j ≡ true
+    requires counts { (j : ℕ) → j < length seen.now.entries → wants_ordinal object (object_of seen.now live.now) j ≡ true
         → slice_index_or counts.now j 0 ≡ twins_before object (object_of seen.now live.now) j }
     requires parts { (e : AnEntry) → slice_get seen.now.entries k ≡ Some e → parts_seen parts.now ≡ parts_of object (object_of seen.now live.now) k e }
     ensures { (e : AnEntry) → slice_get seen.now.entries k ≡ Some e → result ≡ ordinal_of object (object_of seen.now live.now) k e }
 {
-    let entry = seen.entries.entry(k as usize);
-    let named = parts.name.is_some();
-    let linked = parts.linkage.is_some();
-    let spelled = parts.spelled.is_some();
-    if is_told_by_parts(&entry, named, linked, spelled) {
+    if tell_alone(parts) {
         return 0;
     }
     counts[k as usize]
 }
 
-/// Whether an entry with these parts is one wherever it stands: it is a namespace, a type with a name, or a derived head.
-/// It is told whether it has a name, a linkage name, and a spelling.
-fn is_told_by_parts(entry: &EntryRef, named: bool, linked: bool, spelled: bool) -> bool
-    requires named { named ≡ is_some (name_of entry.now) }
-    requires linked { linked ≡ is_some (linkage_of entry.now) }
-    ensures { result ≡ (entry.now.tag == DW_TAG_namespace || (is_named_type entry.now || (not (is_overloaded entry.now) && spelled))) }
+/// Whether parts tell an entry apart wherever it stands: it is a namespace, a type with a name, or a derived head.
+fn tell_alone(parts: &PartsRef) -> bool
+    ensures { result ≡ tell_alone (parts_seen parts.now) }
 {
-    let overloaded = entry.tag() == DW_TAG_subprogram && !linked;
-    entry.tag() == DW_TAG_namespace || (is_type(entry.tag()) && named) || (!overloaded && spelled)
+    let overloaded = parts.tag == DW_TAG_subprogram && !parts.linkage.is_some();
+    parts.tag == DW_TAG_namespace
+        || (is_type(parts.tag) && parts.name.is_some())
+        || (!overloaded && parts.spelled.is_some())
 }
