@@ -5,12 +5,12 @@ use Rattle.std.specs.Option.{ForSome, option_map_or}
 use Rattle.std.proofs.lemmas.Bool.{cases_eq, cases_lt, eq-eqb, ne_eqb}
 use Rattle.std.proofs.lemmas.List.{get_or-replicate, get_or-set_other, get_or-set_same, length-replicate, length-set, length_push, same_from_push}
 use Rattle.std.proofs.lemmas.Option.{same_Some, slice_get-get_or, slice_get_within}
-use Rattle.odr_names.specs.Book.{bid_at, path_at}
+use Rattle.odr_names.specs.Book.{IsLinkedUp, bid_at, path_at}
 use Rattle.odr_names.specs.Winners.{AreWinners}
 use Rattle.type_names.specs.Names.{Named}
 use Rattle.type_names.specs.Paths.{Piece}
 use Rattle.link_graph.specs.Pool.{children_of, is_outbid}
-use Rattle.link_graph.specs.PoolOrder.{AnyName, AreApart, AreChains, AreHungFrom, AreRanked, Hangs, IsChildOf, IsFamily, IsKey, IsLinkedUp, IsRightBelow, Passed, Wins, below, key_of, key_path, name_at}
+use Rattle.link_graph.specs.PoolOrder.{AnyName, AreApart, AreChains, AreHungFrom, AreRanked, Hangs, IsChildOf, IsFamily, IsKey, IsRightBelow, Passed, Wins, below, key_of, key_path, name_at}
 use Rattle.link_graph.proofs.PoolPaths.{child_path, is_child_from, not_empty}
 use Rattle.link_graph.proofs.PoolTrees.{AreShort, below_unfolds, child_from, child_is, children_rise, not_outbid, outbid_none}
 use Rattle.link_graph.proofs.Rising.{Differ, Has, differ_from, flat_map_of_map, from_map, has_at, has_map, only_rising, place_of, rises_map}
@@ -386,32 +386,18 @@ passed_new names from to n low = inr (low, omega arith)
 
 -- ---- names that are left
 
--- the names from this one on are linked up
-linked_more : (names : List Named) (n : ℕ) → IsLinkedUp names n → ((y : ℕ) → n + 1 ≤ y → y < length names → IsLinkedUp names y) → (y : ℕ) → n ≤ y → y < length names → IsLinkedUp names y
-linked_more names n linked so_far y le within = elim (cases_eq y n) [ inl same ↦ subst (IsLinkedUp names) (sym same) linked | inr other ↦ so_far y (omega (arith, le, other)) within ]
-
 -- the name at hand hangs nowhere
-pub hung_past : (names : List Named) (winners : List ℕ) (from to n : ℕ) (first next : List (Option ℕ)) → IsLinkedUp names n → ((y : ℕ) → Passed names from to n y → Wins names winners y → Passed names from to (n + 1) y)
+pub hung_past : (names : List Named) (winners : List ℕ) (from to n : ℕ) (first next : List (Option ℕ)) → ((y : ℕ) → Passed names from to n y → Wins names winners y → Passed names from to (n + 1) y)
     → AreHungFrom names winners from to (n + 1) first next → AreHungFrom names winners from to n first next
-hung_past names winners from to n first next linked past so_far = record {
-  wide = so_far.wide;
-  long = so_far.long;
-  linked = linked_more names n linked so_far.linked;
-  chains = λ all. chains_same names winners (Passed names from to (n + 1)) (Passed names from to n) first next (passed_on names winners from to n) past (so_far.chains all);
-}
+hung_past names winners from to n first next past so_far = chains_same names winners (Passed names from to (n + 1)) (Passed names from to n) first next (passed_on names winners from to n) past so_far
 
 -- it hangs before those that were passed
-pub hung_more : (names : List Named) (winners : List ℕ) (from to n : ℕ) (first next : List (Option ℕ)) (key : ℕ) → AreRanked names → AreWinners names winners → (2 ^ 63 ≤ from) ⊎ (to ≤ 2 ^ 63)
+pub hung_more : (names : List Named) (winners : List ℕ) (from to n : ℕ) (first next : List (Option ℕ)) (key : ℕ) → AreRanked names → AreWinners names winners → (2 ^ 63 ≤ from) ⊎ (to ≤ 2 ^ 63) → ((y : ℕ) → y < length names → IsLinkedUp names y)
     → (linked : IsLinkedUp names n) → key ≡ key_of winners linked.up → Wins names winners n → from ≤ bid_at names n → bid_at names n < to
     → AreHungFrom names winners from to (n + 1) first next → AreHungFrom names winners from to n (slice_set first key (Some n)) (slice_set next n (get_or first key None))
-hung_more names winners from to n first next key ranked are bounds linked is wins low high so_far = record {
-  wide = length-set first key (Some n) ∙ so_far.wide;
-  long = length-set next n (get_or first key None) ∙ so_far.long;
-  linked = linked_more names n linked so_far.linked;
-  chains = λ all. chains_more names winners (Passed names from to (n + 1)) (Passed names from to n) first next key n (ranked_apart names ranked) are all
-      (wins, right_below names winners n key linked (ranked_apart names ranked) are wins.within is) (passed_fresh names from to n high) (passed_new names from to n low) (passed_on names winners from to n) (passed_split names winners from to n)
-      (passed_later names from to n ranked wins.within bounds high) (so_far.chains all);
-}
+hung_more names winners from to n first next key ranked are bounds all linked is wins low high so_far = chains_more names winners (Passed names from to (n + 1)) (Passed names from to n) first next key n (ranked_apart names ranked) are all
+    (wins, right_below names winners n key linked (ranked_apart names ranked) are wins.within is) (passed_fresh names from to n high) (passed_new names from to n low) (passed_on names winners from to n) (passed_split names winners from to n)
+    (passed_later names from to n ranked wins.within bounds high) so_far
 
 -- where the rows were just made
 none_yet : (names : List Named) (winners : List ℕ) (some : ℕ → Type 0) (first next : List (Option ℕ)) (n m : ℕ) → first ≡ replicate n None → next ≡ replicate m None → n ≡ m + 1 → m ≡ length names → ((x : ℕ) → some x → x < length names → ⊥) → AreChains names winners some first next
@@ -424,20 +410,8 @@ none_yet names winners some first next n m first_is next_is more all none =
 
 pub none_hung : (names : List Named) (winners : List ℕ) (from to : ℕ) (first next : List (Option ℕ)) (n m : ℕ) → first ≡ replicate n None → next ≡ replicate m None → n ≡ m + 1 → m ≡ length names → ((x : ℕ) → x < length names → bid_at names x < to)
     → AreHungFrom names winners from to (length names) first next
-none_hung names winners from to first next n m first_is next_is more all lower = record {
-  wide = chains.wide;
-  long = chains.long;
-  linked = λ y le within. absurd (omega (arith, le, within));
-  chains = λ linked. chains;
-} where
-  chains : AreChains names winners (Passed names from to (length names)) first next
-  chains = none_yet names winners (Passed names from to (length names)) first next n m first_is next_is more all (passed_none names from to lower)
+none_hung names winners from to first next n m first_is next_is more all lower = none_yet names winners (Passed names from to (length names)) first next n m first_is next_is more all (passed_none names from to lower)
 
 -- those from one bid on hang, and those below it are to
 pub hung_half : (names : List Named) (winners : List ℕ) (from to : ℕ) (first next : List (Option ℕ)) → from ≤ to → AreHungFrom names winners from to 0 first next → AreHungFrom names winners 0 from (length names) first next
-hung_half names winners from to first next le hung = record {
-  wide = hung.wide;
-  long = hung.long;
-  linked = λ y late within. hung.linked y (omega arith) within;
-  chains = λ linked. chains_same names winners (Passed names from to 0) (Passed names 0 from (length names)) first next (passed_half names from to le) (half_passed names winners from to) (hung.chains linked);
-}
+hung_half names winners from to first next le hung = chains_same names winners (Passed names from to 0) (Passed names 0 from (length names)) first next (passed_half names from to le) (half_passed names winners from to) hung

@@ -5,7 +5,7 @@ use Rattle.std.proofs.lemmas.Bool.{both_ways, cases_eq, eq-eqb, le-ltb, lt-ltb, 
 use Rattle.std.proofs.lemmas.List.{get_or-map, length-map, same_lists}
 use Rattle.std.proofs.lemmas.List.Elements.{All-head, All-tail}
 use Rattle.std.proofs.lemmas.Option.{slice_get-get_or}
-use Rattle.odr_names.specs.Book.{path_at}
+use Rattle.odr_names.specs.Book.{IsLinkedUp, path_at}
 use Rattle.odr_names.specs.Winners.{AreWinners}
 use Rattle.type_names.specs.Names.{Named}
 use Rattle.type_names.specs.Paths.{Piece}
@@ -14,7 +14,7 @@ use Rattle.dwarf_types.specs.declared.shape.ShapeUnit.{ShapeUnit}
 use Rattle.link_graph.specs.Joining.{AreOriginsFrom, origin_at}
 use Rattle.link_graph.specs.Merged.{pool_origin, pool_root, pool_units}
 use Rattle.link_graph.specs.Pool.{node_above, node_of_path, path_above, pool_names, same_path}
-use Rattle.link_graph.specs.PoolOrder.{AreApart, AreNodes, AreNodesFrom, IsLinkedUp, IsPreorder, Wins, name_at, node_in_order, own_node}
+use Rattle.link_graph.specs.PoolOrder.{AreApart, AreNodes, AreNodesFrom, IsPreorder, Wins, name_at, node_in_order, own_node}
 use Rattle.link_graph.proofs.Families.{names_differ, path_is, same_winner, some_path, winner_wins}
 use Rattle.link_graph.proofs.PoolPaths.{above_push, path_same, same_path_from}
 use Rattle.link_graph.proofs.PoolTrees.{preorder_few}

@@ -4,10 +4,11 @@ use Rattle.std.specs.Bool.{⊤}
 use Rattle.std.proofs.lemmas.List.{length-map, length_push, map-append}
 use Rattle.std.proofs.lemmas.List.Elements.{All-nil, All-push}
 use Rattle.std.proofs.lemmas.Option.{none-some, same_Some}
+use Rattle.odr_names.specs.Book.{IsLinkedUp}
 use Rattle.odr_names.specs.Winners.{AreWinners}
 use Rattle.type_names.specs.Names.{Named}
 use Rattle.link_graph.specs.Pool.{pool_names}
-use Rattle.link_graph.specs.PoolOrder.{AnyName, AreApart, AreChains, Hangs, IsFamily, IsLinkedUp, Wins, below, name_at}
+use Rattle.link_graph.specs.PoolOrder.{AnyName, AreApart, AreChains, Hangs, IsFamily, Wins, below, name_at}
 use Rattle.link_graph.proofs.Families.{chain_gives, family_below, key_path_up, path_is}
 use Rattle.link_graph.proofs.Rising.{Has}
 

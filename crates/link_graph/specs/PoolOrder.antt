@@ -2,7 +2,7 @@
 use Rattle.std.specs.Prelude.{◌≡◌, ◌⊎◌, ℕ, ◌+◌, ◌-◌, ◌^◌, ◌<◌, ◌≤◌, ◌==◌, List, [], ◌∷◌, ◌++◌, map, drop, length, slice_get, slice_index_or, Option, Some, None, if◌then◌else◌}
 use Rattle.std.specs.Bool.{⊤}
 use Rattle.std.specs.List.{All, position_from}
-use Rattle.std.specs.Option.{ForSome, option_map_or}
+use Rattle.std.specs.Option.{option_map_or}
 use Rattle.odr_names.specs.Book.{bid_at, path_at}
 use Rattle.type_names.specs.Names.{Named}
 use Rattle.type_names.specs.Paths.{Piece}
@@ -15,13 +15,6 @@ use Rattle.link_graph.specs.Rising.{Has, Rises}
 -- different names have different bids
 abbrev pub AreApart : List Named → Type 0
 AreApart names = (i j : ℕ) (v w : Named) → slice_get names i ≡ Some v → slice_get names j ≡ Some w → v.bid ≡ w.bid → i ≡ j
-
--- the path of name x is that of a name before it and a piece more, or one piece
-pub record IsLinkedUp (names : List Named) (x : ℕ) : Type 0 where
-  pub up : Option ℕ
-  pub before : ForSome up (λ p. p < x)
-  pub piece : Piece
-  pub path : path_at names x ≡ option_map_or (path_at names) up [] ++ piece ∷ []
 
 -- name x wins its path
 pub record Wins (names : List Named) (winners : List ℕ) (x : ℕ) : Type 0 where
@@ -96,12 +89,9 @@ pub record AreChains (names : List Named) (winners : List ℕ) (some : ℕ → T
 abbrev pub Passed : List Named → ℕ → ℕ → ℕ → ℕ → Type 0
 Passed names from to x y = (to ≤ bid_at names y) ⊎ ((from ≤ bid_at names y) × (x ≤ y))
 
--- each name from this one on is linked up, and if all are, then those that were passed hang in chains
-pub record AreHungFrom (names : List Named) (winners : List ℕ) (from to x : ℕ) (first next : List (Option ℕ)) : Type 0 where
-  pub wide : length first ≡ length names + 1
-  pub long : length next ≡ length names
-  pub linked : (y : ℕ) → x ≤ y → y < length names → IsLinkedUp names y
-  pub chains : ((y : ℕ) → y < length names → IsLinkedUp names y) → AreChains names winners (Passed names from to x) first next
+-- those that were passed hang in chains
+abbrev pub AreHungFrom : List Named → List ℕ → ℕ → ℕ → ℕ → List (Option ℕ) → List (Option ℕ) → Type 0
+AreHungFrom names winners from to x first next = AreChains names winners (Passed names from to x) first next
 
 abbrev pub AnyName : ℕ → Type 0
 AnyName x = ⊤

@@ -8,19 +8,19 @@
 ghost use Rattle.std.specs.Prelude.{◌≡◌, ◌<◌, ◌≤◌, ◌+◌, ◌^◌, ◌==◌, ◌⊎◌, ◌++◌, ℕ, ◌∷◌, None, Some, length, map, replicate, slice_index_or, slice_set, IfOk, List as Listed};
 ghost use Rattle.std.specs.List.{All, list_any};
 ghost use Rattle.std.specs.Option.{ForSome};
-ghost use Rattle.odr_names.specs.Book.{path_at};
+ghost use Rattle.odr_names.specs.Book.{IsLinkedUp, path_at};
 ghost use Rattle.odr_names.specs.Winners.{AreWinners};
 ghost use Rattle.link_graph.specs.Graph.{pool_version};
 ghost use Rattle.link_graph.specs.Joining.{AreOriginsFrom, ArePathNodes, origin_at};
 ghost use Rattle.link_graph.specs.Merged.{pool_origin, pool_root, pool_units};
 ghost use Rattle.link_graph.specs.Passes.{with_version};
 ghost use Rattle.link_graph.specs.Pool.{node_above};
-ghost use Rattle.link_graph.specs.PoolOrder.{AnyName, AreChains, AreHungFrom, AreNodes, AreNodesFrom, AreRanked, IsLinkedUp, IsPreorder, firsts, key_of, name_at, nexts};
+ghost use Rattle.link_graph.specs.PoolOrder.{AnyName, AreChains, AreHungFrom, AreNodes, AreNodesFrom, AreRanked, IsPreorder, firsts, key_of, name_at, nexts};
 
 use ds_base::dwarf::{DWARF_4, DWARF_5};
 use ds_base::{List, NoMemory};
 use dwarf_types::{Origin, ShapeUnit};
-use odr_names::{PathBook, above, bids_are_some, count, number, occurrence};
+use odr_names::{PathBook, above, bids_are_some, count, names_are_linked, number, occurrence};
 use std::alloc::Global;
 use std::thread::{Threads, for_each_chunk_mut};
 
@@ -93,6 +93,7 @@ fn chains_of(alloc: Global, names: &PathBook, winners: &[u32]) -> Result<Vec<Lin
     ensures chains { IfOk result (λ chains. AreChains names.now winners.now AnyName (firsts chains.items) (nexts chains.items)) }
 {
     bids_are_some(names);
+    names_are_linked(names);
     let mut chains = no_links(alloc, count(names) as usize + 1)?;
     hang_winners(names, winners, DECLARED, u64::MAX, &mut chains);
     hang_winners(names, winners, 0, DECLARED, &mut chains);
@@ -119,19 +120,18 @@ fn key_of(winners: &[u32], above: Option<u32>) -> u32
 
 /// Puts the winners whose bids are in these bounds before those in the chains, the last one first.
 ///
-/// Those that hang already bid no less than `to`. Each name is asked for the one above, so after this all are known to be
-/// linked up.
+/// Those that hang already bid no less than `to`. The name above is asked for of these winners alone.
 fn hang_winners(names: &PathBook, winners: &[u32], from: u64, to: u64, chains: &mut Vec<Link>)
     requires bounds { (2 ^ 63 ≤ from) ⊎ (to ≤ 2 ^ 63) }
     requires ranked { AreRanked names.now }
     requires winners { AreWinners names.now winners.now }
+    requires linked { (x : ℕ) → x < length names.now → IsLinkedUp names.now x }
     requires hung { AreHungFrom names.now winners.now from to (length names.now) (firsts chains.old.items) (nexts chains.old.items) }
     ensures { AreHungFrom names.now winners.now from to 0 (firsts chains.new.items) (nexts chains.new.items) }
 {
     let mut x = count(names);
     while x > 0 {
         x -= 1;
-        let up = above(names, x);
         if winners[x as usize] != x {
             continue;
         }
@@ -142,6 +142,7 @@ fn hang_winners(names: &PathBook, winners: &[u32], from: u64, to: u64, chains: &
         if bid >= to {
             continue;
         }
+        let up = above(names, x);
         hang(chains, key_of(winners, up), x);
     }
 }

@@ -10,7 +10,7 @@ use Rattle.type_names.specs.Names.{Named}
 use Rattle.type_names.specs.Paths.{Piece}
 use Rattle.type_names.specs.Start.{path_hash}
 use Rattle.odr_names.specs.declared.path_book.Row.{Row}
-use Rattle.odr_names.specs.Book.{AreRows, Compared, IsLinked, IsOfParent, bid_at, path_above, path_at, path_in, row_above, row_bid, row_name, row_path, row_piece}
+use Rattle.odr_names.specs.Book.{AreRows, Compared, IsLinked, IsLinkedUp, IsOfParent, bid_at, path_above, path_at, path_in, row_above, row_bid, row_name, row_path, row_piece}
 use Rattle.odr_names.specs.Entering.{rows_up}
 use Rattle.odr_names.specs.Innermost.{innermost}
 use Rattle.odr_names.proofs.Innermost.{innermost_more}
@@ -166,6 +166,12 @@ above_in_names objects rows x row sound at =
       go : (parent : Option ℕ) → ForSome parent (λ p. p < length rows) → path_above objects rows parent ≡ option_map_or (path_at (map (row_name objects) rows)) parent []
       go None within = refl
       go (Some p) within = sym (path_at_names objects rows p (within p refl))
+
+pub names_linked : (objects : List Object) (rows : List Row) → AreRows objects rows → (x : ℕ) → x < length (map (row_name objects) rows) → IsLinkedUp (map (row_name objects) rows) x
+names_linked objects rows sound x within =
+    let row = row_in rows x (omega (arith, within, length_names objects rows)) in
+    let path = above_in_names objects rows x row.0 sound row.1 in
+    record { up = row_above x row.0; before = above_lower x row.0 (sound.linked x row.0 row.1).before; piece = path.0; path = path.1 }
 
 -- the name of the row above is that of the parent of the entry
 pub parent_in_names : (objects : List Object) (rows : List Row) (x : ℕ) (row : Row) → AreRows objects rows → slice_get rows x ≡ Some row → ForSome (row_above x row) (IsOfParent (map (row_name objects) rows) x)

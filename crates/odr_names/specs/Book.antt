@@ -30,6 +30,13 @@ bid_at names x = option_map_or (λ name. name.bid) (slice_get names x) 0
 abbrev pub IsOfParent : List Named → ℕ → ℕ → Type 0
 IsOfParent names x p = (name up : Named) → slice_get names x ≡ Some name → slice_get names p ≡ Some up → (up.object ≡ name.object) × (name.parent ≡ Some up.entry)
 
+-- the path of name x is that of a name before it and a piece more, or one piece
+pub record IsLinkedUp (names : List Named) (x : ℕ) : Type 0 where
+  pub up : Option ℕ
+  pub before : ForSome up (λ p. p < x)
+  pub piece : Piece
+  pub path : path_at names x ≡ option_map_or (path_at names) up [] ++ piece ∷ []
+
 -- names a and b have one path
 abbrev pub SamePath : List Named → ℕ → ℕ → Type 0
 SamePath names a b = path_at names a ≡ path_at names b

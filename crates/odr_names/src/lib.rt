@@ -29,8 +29,8 @@ pub use book_error::BookError;
 pub use entry_place::Occurrence;
 pub use one_object::{ObjectNames, object_names};
 pub use path_book::{
-    PathBook, above, bids_are_some, book, count, first_of, joined_book, number, object_count,
-    occurrence, path_equal, path_start,
+    PathBook, above, bids_are_some, book, count, first_of, joined_book, names_are_linked, number,
+    object_count, occurrence, path_equal, path_start,
 };
 pub use together::names_together;
 pub use winners::{put_winners, winners_plain};

@@ -6,7 +6,7 @@ ghost use Rattle.std.specs.List.Sorted.{IsNonDecreasingBy, IsPartitionPoint};
 ghost use Rattle.std.specs.Option.{ForSome, option_map, option_map_or};
 ghost use Rattle.dwarf_types.specs.Sound.{IsSound};
 ghost use Rattle.odr_names.specs.declared.book_error.BookError.TheVariants as errors;
-ghost use Rattle.odr_names.specs.Book.{AreRows, AreTold, IsBook, IsOfParent, IsRowOf, SamePath, bid_at, objects_in, objects_of, path_at, path_in, row_above, row_bid, row_piece};
+ghost use Rattle.odr_names.specs.Book.{AreRows, AreTold, IsBook, IsLinkedUp, IsOfParent, IsRowOf, SamePath, bid_at, objects_in, objects_of, path_at, path_in, row_above, row_bid, row_piece};
 ghost use Rattle.odr_names.specs.Innermost.{innermost, rank_hash};
 ghost use Rattle.odr_names.specs.Joining.{AreAllNames};
 ghost use Rattle.odr_names.specs.Making.{AreLiveRows, merged};
@@ -221,6 +221,13 @@ pub fn above(names: &PathBook, x: u32) -> Option<u32>
     ensures path { (piece : Piece) × (path_at names.now x ≡ option_map_or (path_at names.now) result [] ++ piece ∷ []) }
 {
     row_above(x, row_at(&names.rows, x))
+}
+
+/// The path of each name is that of the one above and a piece more, whether or not that one is asked for ([`above`]).
+pub fn names_are_linked(names: &PathBook)
+    ensures { (x : ℕ) → x < length names.now → IsLinkedUp names.now x }
+{
+    let _count = names.rows.len();
 }
 
 /// Whether two names have the same path.

@@ -14,12 +14,8 @@ hang_winners-requires-clause-hung c =
 pub hang_winners-requires-2-clause-hung : goal.hang_winners-requires-2-clause-hung
 hang_winners-requires-2-clause-hung c = hung_half c.args.names.now c.args.winners.now (2 ^ 63) (2 ^ 64 - 1) (firsts c.hang_winners.new.chains.items) (nexts c.hang_winners.new.chains.items) (omega arith) c.hang_winners.ensures
 
-pub returns-clause-linked : goal.returns-clause-linked
-returns-clause-linked c = λ x within. c.hang_winners-2.ensures.linked x (omega arith) within
-
 pub returns-clause-chains : goal.returns-clause-chains
 returns-clause-chains c =
     let names = c.args.names.now in
     let links = c.hang_winners-2.new.chains.items in
-    let hung = c.hang_winners-2.ensures in
-    chains_same names c.args.winners.now (Passed names 0 (2 ^ 63) 0) AnyName (firsts links) (nexts links) (λ x passed. tt) (λ x any wins. inr (omega arith, omega arith)) (hung.chains (λ x within. hung.linked x (omega arith) within))
+    chains_same names c.args.winners.now (Passed names 0 (2 ^ 63) 0) AnyName (firsts links) (nexts links) (λ x passed. tt) (λ x any wins. inr (omega arith, omega arith)) c.hang_winners-2.ensures

@@ -17,8 +17,7 @@ loop-x-preserved-then-winners-x c =
     let next = nexts c.loop-x.chains.items in
     let one : c.loop-x.x ≡ n + 1 = omega (arith, c.loop-x-test.true) in
     let so_far = subst (λ (k : ℕ). AreHungFrom names winners from to k first next) one c.loop-x.invariant.hung in
-    let linked = linked_up names n c.above-up.result c.above-up.ensures.before c.above-up.ensures.path in
-    record { within = omega (arith, c.loop-x.invariant.within); hung = hung_past names winners from to n first next linked (passed_loser names winners from to n c.if-winners-x.true) so_far }
+    record { within = omega (arith, c.loop-x.invariant.within); hung = hung_past names winners from to n first next (passed_loser names winners from to n c.if-winners-x.true) so_far }
 
 pub loop-x-preserved-then-bid-from : goal.loop-x-preserved-then-bid-from
 loop-x-preserved-then-bid-from c =
@@ -31,9 +30,8 @@ loop-x-preserved-then-bid-from c =
     let next = nexts c.loop-x.chains.items in
     let one : c.loop-x.x ≡ n + 1 = omega (arith, c.loop-x-test.true) in
     let so_far = subst (λ (k : ℕ). AreHungFrom names winners from to k first next) one c.loop-x.invariant.hung in
-    let linked = linked_up names n c.above-up.result c.above-up.ensures.before c.above-up.ensures.path in
     let low : bid_at names n < from = omega (arith, c.if-bid-from.true, c.number-bid.ensures) in
-    record { within = omega (arith, c.loop-x.invariant.within); hung = hung_past names winners from to n first next linked (passed_low names winners from to n low) so_far }
+    record { within = omega (arith, c.loop-x.invariant.within); hung = hung_past names winners from to n first next (passed_low names winners from to n low) so_far }
 
 pub loop-x-preserved-then-bid-to : goal.loop-x-preserved-then-bid-to
 loop-x-preserved-then-bid-to c =
@@ -46,9 +44,8 @@ loop-x-preserved-then-bid-to c =
     let next = nexts c.loop-x.chains.items in
     let one : c.loop-x.x ≡ n + 1 = omega (arith, c.loop-x-test.true) in
     let so_far = subst (λ (k : ℕ). AreHungFrom names winners from to k first next) one c.loop-x.invariant.hung in
-    let linked = linked_up names n c.above-up.result c.above-up.ensures.before c.above-up.ensures.path in
     let high : to ≤ bid_at names n = omega (arith, c.if-bid-to.true, c.number-bid.ensures) in
-    record { within = omega (arith, c.loop-x.invariant.within); hung = hung_past names winners from to n first next linked (passed_high names winners from to n high) so_far }
+    record { within = omega (arith, c.loop-x.invariant.within); hung = hung_past names winners from to n first next (passed_high names winners from to n high) so_far }
 
 pub hang-requires-clause-key : goal.hang-requires-clause-key
 hang-requires-clause-key c =
@@ -91,5 +88,5 @@ loop-x-preserved c =
     record {
       within = omega (arith, c.loop-x.invariant.within);
       hung = rw (c.hang.ensures.first, c.hang.ensures.next)
-          (hung_more names winners from to n first next c.key_of.result c.requires.ranked c.requires.winners c.requires.bounds linked c.key_of.ensures wins low high so_far);
+          (hung_more names winners from to n first next c.key_of.result c.requires.ranked c.requires.winners c.requires.bounds c.requires.linked linked c.key_of.ensures wins low high so_far);
     }
