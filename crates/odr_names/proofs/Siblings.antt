@@ -12,10 +12,9 @@ use Rattle.std.proofs.lemmas.List.Sorted.{Contains-permutation, IsPermutation-sy
 use Rattle.std.proofs.lemmas.Option.{get_or_from_slice_get, none-some, same_Some, slice_get-get_or, slice_get_read, slice_get_within}
 use Rattle.dwarf_types.specs.declared.entry.Entry.{Entry}
 use Rattle.dwarf_types.specs.Tree.{ParentsStandBefore}
-use Rattle.odr_names.specs.declared.winners.Ranked.{Ranked}
+use Rattle.odr_names.specs.declared.ordinals.Sibling.{Sibling}
 use Rattle.odr_names.specs.Pieces.{IsSpelled}
-use Rattle.odr_names.specs.Ranking.{AreInOrder}
-use Rattle.odr_names.specs.Twins.{AreCounted, AreNoTwins, AreSiblings, AreTwins, IsSibling, is_inside, is_told_in, may_have_twins, own_in, parts_hash, parts_in, tell_alone, twins_before, wants_ordinal}
+use Rattle.odr_names.specs.Twins.{AreByHash, AreCounted, AreNoTwins, AreSiblings, AreTwins, IsSibling, is_inside, is_told_in, may_have_twins, own_in, parts_hash, parts_in, tell_alone, twins_before, wants_ordinal}
 use Rattle.type_names.specs.Heads.{Object, entries_of, is_head, is_in_head}
 use Rattle.type_names.specs.Paths.{Parts, earlier_twins, is_overloaded, parts_of, spelled_of}
 use Rattle.type_names.specs.Rows.{IsRow}
@@ -36,7 +35,7 @@ parent_at o k e at = ap (option_and_then (λ (e : Entry). e.parent)) at
 pub siblings_none : (n : ℕ) (o : Object) → AreSiblings n o [] 0
 siblings_none n o = record { each = λ j r at. absurd (none-some r at); all = λ k lt. absurd (omega arith) }
 
-pub siblings_more : (n : ℕ) (o : Object) (ranks : List Ranked) (i : ℕ) (r : Ranked) → r.name ≡ i → IsSibling n o r → AreSiblings n o ranks i → AreSiblings n o (ranks ++ r ∷ []) (i + 1)
+pub siblings_more : (n : ℕ) (o : Object) (ranks : List Sibling) (i : ℕ) (r : Sibling) → r.number ≡ i → IsSibling n o r → AreSiblings n o ranks i → AreSiblings n o (ranks ++ r ∷ []) (i + 1)
 siblings_more n o ranks i r is sibling so_far = record {
   each = λ j s at. elim (cases_lt j (length ranks)) [
     | inl earlier ↦ so_far.each j s (sym (get_before ranks (r ∷ []) j earlier) ∙ at)
@@ -50,7 +49,7 @@ siblings_more n o ranks i r is sibling so_far = record {
   ];
 }
 
-pub siblings_same : (n : ℕ) (o : Object) (ranks : List Ranked) (i : ℕ) → may_have_twins n o i ≡ false → AreSiblings n o ranks i → AreSiblings n o ranks (i + 1)
+pub siblings_same : (n : ℕ) (o : Object) (ranks : List Sibling) (i : ℕ) → may_have_twins n o i ≡ false → AreSiblings n o ranks i → AreSiblings n o ranks (i + 1)
 siblings_same n o ranks i none so_far = record {
   each = so_far.each;
   all = λ k lt may. elim (cases_eq k i) [
@@ -59,7 +58,7 @@ siblings_same n o ranks i none so_far = record {
   ];
 }
 
-pub siblings_moved : (n : ℕ) (o : Object) (ranks moved : List Ranked) (i : ℕ) → AreSiblings n o ranks i → IsPermutation ranks moved → AreSiblings n o moved i
+pub siblings_moved : (n : ℕ) (o : Object) (ranks moved : List Sibling) (i : ℕ) → AreSiblings n o ranks i → IsPermutation ranks moved → AreSiblings n o moved i
 siblings_moved n o ranks moved i are same = record {
   each = λ j r at. (
       let there = Contains-permutation moved ranks r (IsPermutation-sym ranks moved same) (j, slice_get_within moved j r at, get_or_from_slice_get moved j r r at) in
@@ -72,12 +71,12 @@ siblings_moved n o ranks moved i are same = record {
 
 -- ---- the nearest earlier twin
 
-pub no_twins_more : (n : ℕ) (o : Object) (ranks : List Ranked) (here r : Ranked) (j i : ℕ) → slice_get ranks (j - 1) ≡ Some r → (r.name < here.name → AreTwins n o r.name here.name → ⊥)
+pub no_twins_more : (n : ℕ) (o : Object) (ranks : List Sibling) (here r : Sibling) (j i : ℕ) → slice_get ranks (j - 1) ≡ Some r → (r.number < here.number → AreTwins n o r.number here.number → ⊥)
     → AreNoTwins n o ranks here j i → AreNoTwins n o ranks here (j - 1) i
 no_twins_more n o ranks here r j i at differs so_far = record {
   le = omega (arith, so_far.le);
   differ = λ k s from below at_k lower same. elim (cases_eq k (j - 1)) [
-    | inl first ↦ (let one : r ≡ s = same_Some r s (sym at ∙ ap (slice_get ranks) (sym first) ∙ at_k) in differs (subst (λ (t : Ranked). t.name < here.name) (sym one) lower) (subst (λ (t : Ranked). AreTwins n o t.name here.name) (sym one) same))
+    | inl first ↦ (let one : r ≡ s = same_Some r s (sym at ∙ ap (slice_get ranks) (sym first) ∙ at_k) in differs (subst (λ (t : Sibling). t.number < here.number) (sym one) lower) (subst (λ (t : Sibling). AreTwins n o t.number here.number) (sym one) same))
     | inr other ↦ so_far.differ k s (omega arith) below at_k lower same
   ];
 }
@@ -142,58 +141,57 @@ up (inl lt) = omega arith
 up (inr same) = omega (arith, same.0)
 
 -- an earlier twin stands in the run before it
-twin_before : (n : ℕ) (o : Object) (ranks : List Ranked) (here : Ranked) (i m : ℕ) → AreSiblings n o ranks (length (entries_of o)) → AreInOrder ranks → slice_get ranks i ≡ Some here → m < here.name → AreTwins n o m here.name
-    → (k : ℕ) × (r : Ranked) × (slice_get ranks k ≡ Some r) × (r.name ≡ m) × (k < i) × (r.hash ≡ here.hash)
+twin_before : (n : ℕ) (o : Object) (ranks : List Sibling) (here : Sibling) (i m : ℕ) → AreSiblings n o ranks (length (entries_of o)) → AreByHash ranks → slice_get ranks i ≡ Some here → m < here.number → AreTwins n o m here.number
+    → (k : ℕ) × (r : Sibling) × (slice_get ranks k ≡ Some r) × (r.number ≡ m) × (k < i) × (r.hash ≡ here.hash)
 twin_before n o ranks here i m are order at before twins =
     let it = are.each i here at in
-    let parent_m : parent_of (entries_of o) m ≡ Some it.parent = twins.parent ∙ parent_at o here.name it.entry it.stands ∙ it.child in
+    let parent_m : parent_of (entries_of o) m ≡ Some it.parent = twins.parent ∙ parent_at o here.number it.entry it.stands ∙ it.child in
     let in_m : is_inside o m ≡ true = ap (λ (p : Option ℕ). option_map_or (is_in_head o) p false) parent_m ∙ it.inside in
-    let told_m : is_told_in n o m ≡ false = ap (λ (p : Option Parts). option_map_or tell_alone p false) twins.parts ∙ told_told n o here.name it.entry it.stands ∙ it.untold in
-    let own_m : own_in n o m ≡ None = ap (option_and_then (λ (parts : Parts). parts.private)) twins.parts ∙ own_told n o here.name it.entry it.stands ∙ it.common in
-    let inside : m < length (entries_of o) = omega (arith, before, slice_get_within (entries_of o) here.name it.entry it.stands) in
+    let told_m : is_told_in n o m ≡ false = ap (λ (p : Option Parts). option_map_or tell_alone p false) twins.parts ∙ told_told n o here.number it.entry it.stands ∙ it.untold in
+    let own_m : own_in n o m ≡ None = ap (option_and_then (λ (parts : Parts). parts.private)) twins.parts ∙ own_told n o here.number it.entry it.stands ∙ it.common in
+    let inside : m < length (entries_of o) = omega (arith, before, slice_get_within (entries_of o) here.number it.entry it.stands) in
     let found = are.all m inside (may_have n o m (wanted n o m in_m told_m) own_m) in
     let k = found.0 in
     let r = found.1 in
     let its = are.each k r found.2 in
-    let parent_r : its.parent ≡ it.parent = same_Some its.parent it.parent (sym (sym (ap (parent_of (entries_of o)) found.3) ∙ parent_at o r.name its.entry its.stands ∙ its.child) ∙ parent_m) in
-    let parts_r : parts_of n o r.name its.entry ≡ parts_of n o here.name it.entry = same_Some (parts_of n o r.name its.entry) (parts_of n o here.name it.entry) (sym (ap (option_map (parts_of n o r.name)) its.stands) ∙ ap (parts_in n o) found.3 ∙ twins.parts ∙ ap (option_map (parts_of n o here.name)) it.stands) in
+    let parent_r : its.parent ≡ it.parent = same_Some its.parent it.parent (sym (sym (ap (parent_of (entries_of o)) found.3) ∙ parent_at o r.number its.entry its.stands ∙ its.child) ∙ parent_m) in
+    let parts_r : parts_of n o r.number its.entry ≡ parts_of n o here.number it.entry = same_Some (parts_of n o r.number its.entry) (parts_of n o here.number it.entry) (sym (ap (option_map (parts_of n o r.number)) its.stands) ∙ ap (parts_in n o) found.3 ∙ twins.parts ∙ ap (option_map (parts_of n o here.number)) it.stands) in
     let hash : r.hash ≡ here.hash = its.hash ∙ (λ j. parts_hash (parent_r j) (parts_r j)) ∙ sym it.hash in
     let earlier : k < i = elim (cases_lt k i) [
       | inl lt ↦ lt
       | inr later ↦ elim (order i k here r later at found.2) [
         | inl above ↦ absurd (omega arith)
-        | inr not_above ↦ absurd (omega (arith, not_above.1, it.bid, its.bid, found.3, before))
+        | inr not_above ↦ absurd (omega (arith, not_above.1, found.3, before))
       ]
     ] in
     (k, r, found.2, found.3, earlier, hash)
 
-pub taken : (n : ℕ) (o : Object) (ranks : List Ranked) (counts : List ℕ) (here r : Ranked) (j i : ℕ) → AreSiblings n o ranks (length (entries_of o)) → AreInOrder ranks → slice_get ranks i ≡ Some here → slice_get ranks j ≡ Some r → j < i → r.hash ≡ here.hash
-    → AreTwins n o r.name here.name → AreNoTwins n o ranks here (j + 1) i → r.name < here.name → AreCounted n o ranks counts i → get_or counts r.name 0 + 1 ≡ twins_before n o here.name
+pub taken : (n : ℕ) (o : Object) (ranks : List Sibling) (counts : List ℕ) (here r : Sibling) (j i : ℕ) → AreSiblings n o ranks (length (entries_of o)) → AreByHash ranks → slice_get ranks i ≡ Some here → slice_get ranks j ≡ Some r → j < i → r.hash ≡ here.hash
+    → AreTwins n o r.number here.number → AreNoTwins n o ranks here (j + 1) i → r.number < here.number → AreCounted n o ranks counts i → get_or counts r.number 0 + 1 ≡ twins_before n o here.number
 taken n o ranks counts here r j i are order at at_j below hash twins none lower counted =
     let it = are.each i here at in
     let its = are.each j r at_j in
-    let more = one_twin_more n o r.name here.name it.parent its.entry it.entry its.stands it.stands it.child lower twins (λ m above under is. (
+    let more = one_twin_more n o r.number here.number it.parent its.entry it.entry its.stands it.stands it.child lower twins (λ m above under is. (
     let found = twin_before n o ranks here i m are order at under is in
-    let m_is = are.each found.0 found.1 found.2 in
     elim (cases_lt found.0 (j + 1)) [
-      | inr in_run ↦ none.differ found.0 found.1 in_run found.4 found.2 (omega (arith, found.3, under)) (subst (λ (x : ℕ). AreTwins n o x here.name) (sym found.3) is)
+      | inr in_run ↦ none.differ found.0 found.1 in_run found.4 found.2 (omega (arith, found.3, under)) (subst (λ (x : ℕ). AreTwins n o x here.number) (sym found.3) is)
       | inl not_after ↦ elim (order found.0 j found.1 r (omega arith) found.2 at_j) [
         | inl above_hash ↦ omega (arith, found.5, hash)
-        | inr same ↦ omega (arith, same.1, m_is.bid, its.bid, found.3, above)
+        | inr same ↦ omega (arith, same.1, found.3, above)
       ]
     ])) in
     ap (λ (c : ℕ). c + 1) (counted.each j r below at_j) ∙ sym more
 
-pub none_taken : (n : ℕ) (o : Object) (ranks : List Ranked) (here : Ranked) (j i : ℕ) → AreSiblings n o ranks (length (entries_of o)) → AreInOrder ranks → slice_get ranks i ≡ Some here → AreNoTwins n o ranks here j i
-    → ((r : Ranked) → 0 < j → slice_get ranks (j - 1) ≡ Some r → r.hash ≡ here.hash → ⊥) → 0 ≡ twins_before n o here.name
+pub none_taken : (n : ℕ) (o : Object) (ranks : List Sibling) (here : Sibling) (j i : ℕ) → AreSiblings n o ranks (length (entries_of o)) → AreByHash ranks → slice_get ranks i ≡ Some here → AreNoTwins n o ranks here j i
+    → ((r : Sibling) → 0 < j → slice_get ranks (j - 1) ≡ Some r → r.hash ≡ here.hash → ⊥) → 0 ≡ twins_before n o here.number
 none_taken n o ranks here j i are order at none begins =
     let it = are.each i here at in
-    sym (no_twin n o here.name it.parent it.entry it.stands it.child (λ m under is. (
+    sym (no_twin n o here.number it.parent it.entry it.stands it.child (λ m under is. (
     let found = twin_before n o ranks here i m are order at under is in
     elim (cases_lt found.0 j) [
-      | inr in_run ↦ none.differ found.0 found.1 in_run found.4 found.2 (omega (arith, found.3, under)) (subst (λ (x : ℕ). AreTwins n o x here.name) (sym found.3) is)
+      | inr in_run ↦ none.differ found.0 found.1 in_run found.4 found.2 (omega (arith, found.3, under)) (subst (λ (x : ℕ). AreTwins n o x here.number) (sym found.3) is)
       | inl before ↦ (
-          let d : Ranked = record { hash = 0; bid = 0; name = 0 } in
+          let d : Sibling = record { hash = 0; number = 0 } in
           let s = get_or ranks (j - 1) d in
           let s_at : slice_get ranks (j - 1) ≡ Some s = slice_get-get_or ranks (j - 1) d (omega (arith, slice_get_within ranks i here at, none.le)) in
           let low : found.1.hash ≤ s.hash = up (order found.0 (j - 1) found.1 s (omega arith) found.2 s_at) in
@@ -203,23 +201,23 @@ none_taken n o ranks here j i are order at none begins =
 
 -- ---- counts rank by rank
 
-pub counted_more : (n : ℕ) (o : Object) (ranks : List Ranked) (counts : List ℕ) (i : ℕ) (here : Ranked) (count : ℕ) → AreSiblings n o ranks (length (entries_of o)) → slice_get ranks i ≡ Some here → count ≡ twins_before n o here.name
-    → AreCounted n o ranks counts i → AreCounted n o ranks (set counts here.name count) (i + 1)
+pub counted_more : (n : ℕ) (o : Object) (ranks : List Sibling) (counts : List ℕ) (i : ℕ) (here : Sibling) (count : ℕ) → AreSiblings n o ranks (length (entries_of o)) → slice_get ranks i ≡ Some here → count ≡ twins_before n o here.number
+    → AreCounted n o ranks counts i → AreCounted n o ranks (set counts here.number count) (i + 1)
 counted_more n o ranks counts i here count are at is so_far = record {
-  len = length-set counts here.name count ∙ so_far.len;
-  each = λ j r below at_j. elim (cases_eq r.name here.name) [
-    | inl same ↦ ap (λ (x : ℕ). get_or (set counts here.name count) x 0) same ∙ get_or-set_same counts here.name count 0 (omega (arith, slice_get_within (entries_of o) here.name (are.each i here at).entry (are.each i here at).stands, so_far.len)) ∙ is ∙ ap (twins_before n o) (sym same)
+  len = length-set counts here.number count ∙ so_far.len;
+  each = λ j r below at_j. elim (cases_eq r.number here.number) [
+    | inl same ↦ ap (λ (x : ℕ). get_or (set counts here.number count) x 0) same ∙ get_or-set_same counts here.number count 0 (omega (arith, slice_get_within (entries_of o) here.number (are.each i here at).entry (are.each i here at).stands, so_far.len)) ∙ is ∙ ap (twins_before n o) (sym same)
     | inr other ↦ (
         let earlier : j < i = elim (cases_eq j i) [
-          | inl last ↦ absurd (other (ap (λ (t : Ranked). t.name) (same_Some r here (sym at_j ∙ ap (slice_get ranks) last ∙ at))))
+          | inl last ↦ absurd (other (ap (λ (t : Sibling). t.number) (same_Some r here (sym at_j ∙ ap (slice_get ranks) last ∙ at))))
           | inr not_last ↦ omega arith
         ] in
-        get_or-set_other counts here.name r.name count 0 other ∙ so_far.each j r earlier at_j)
+        get_or-set_other counts here.number r.number count 0 other ∙ so_far.each j r earlier at_j)
   ];
-  others = λ k none. get_or-set_other counts here.name k count 0 (λ same. none (i, here, at, sym same)) ∙ so_far.others k none;
+  others = λ k none. get_or-set_other counts here.number k count 0 (λ same. none (i, here, at, sym same)) ∙ so_far.others k none;
 }
 
-pub counted_all : (n : ℕ) (o : Object) (ranks : List Ranked) (counts : List ℕ) (k : ℕ) → AreSiblings n o ranks (length (entries_of o)) → AreCounted n o ranks counts (length ranks) → k < length (entries_of o) → wants_ordinal n o k ≡ true → get_or counts k 0 ≡ twins_before n o k
+pub counted_all : (n : ℕ) (o : Object) (ranks : List Sibling) (counts : List ℕ) (k : ℕ) → AreSiblings n o ranks (length (entries_of o)) → AreCounted n o ranks counts (length ranks) → k < length (entries_of o) → wants_ordinal n o k ≡ true → get_or counts k 0 ≡ twins_before n o k
 counted_all n o ranks counts k are counted within wants = go (own_in n o k) refl where
   go : (own : Option (ℕ × ℕ)) → own_in n o k ≡ own → get_or counts k 0 ≡ twins_before n o k
   go None none = (
@@ -227,7 +225,7 @@ counted_all n o ranks counts k are counted within wants = go (own_in n o k) refl
       subst (λ (x : ℕ). get_or counts x 0 ≡ twins_before n o x) found.3 (counted.each found.0 found.1 (slice_get_within ranks found.0 found.1 found.2) found.2))
   go (Some own) is = counted.others k (λ among. (
       let it = are.each among.0 among.1 among.2 in
-      none-some own (sym (ap (own_in n o) (sym among.3) ∙ own_told n o among.1.name it.entry it.stands ∙ it.common) ∙ is)))
+      none-some own (sym (ap (own_in n o) (sym among.3) ∙ own_told n o among.1.number it.entry it.stands ∙ it.common) ∙ is)))
       ∙ sym (own_alone n o k own within is)
 
 -- ---- what is told of siblings
@@ -239,8 +237,8 @@ list_any_last test xs x is = list_any-append test xs (x ∷ []) ∙ ap (λ (b : 
 pub inside_below : (o : Object) (k p : ℕ) → ParentsStandBefore (entries_of o) → parent_of (entries_of o) k ≡ Some p → is_in_head o p ≡ true → is_in_head o k ≡ true
 inside_below o k p before child inside = ap (list_any (is_head o)) (lineage_below (entries_of o) k p before child) ∙ list_any_last (is_head o) (lineage (entries_of o) p) k inside
 
-pub sibling_spelled : (n : ℕ) (o : Object) (r : Ranked) → ParentsStandBefore (entries_of o) → IsSibling n o r → IsSpelled o r.name
-sibling_spelled n o r before it = spelled_in_head o r.name (inside_below o r.name it.parent before (parent_at o r.name it.entry it.stands ∙ it.child) it.inside)
+pub sibling_spelled : (n : ℕ) (o : Object) (r : Sibling) → ParentsStandBefore (entries_of o) → IsSibling n o r → IsSpelled o r.number
+sibling_spelled n o r before it = spelled_in_head o r.number (inside_below o r.number it.parent before (parent_at o r.number it.entry it.stands ∙ it.child) it.inside)
 
 -- the parent that stands in the subtree of a head
 pub found_inside : (o : Object) (row : List Bool) (k p : ℕ) → ParentsStandBefore (entries_of o) → k < length (entries_of o) → IsRow (is_in_head o) (length (entries_of o)) row

@@ -3,8 +3,8 @@ use Rattle.std.specs.Prelude.{◌≡◌, ℕ, ◌<◌, ◌≤◌, ◌==◌, ◌&
 use Rattle.std.specs.Option.{option_and_then, option_map, option_map_or}
 use Rattle.ds_base.specs.declared.dwarf.TheConstants as dw
 use Rattle.dwarf_types.specs.declared.entry.Entry.{Entry}
-use Rattle.odr_names.specs.declared.winners.Ranked.{Ranked}
-use Rattle.odr_names.specs.Ranking.{IsAmong}
+use Rattle.odr_names.specs.declared.ordinals.Sibling.{Sibling}
+use Rattle.odr_names.specs.Ranking.{AreSortedBy}
 use Rattle.type_names.specs.Entries.{is_type}
 use Rattle.type_names.specs.Heads.{Object, entries_of, is_in_head}
 use Rattle.type_names.specs.Paths.{Parts, earlier_twins, parts_of}
@@ -54,34 +54,41 @@ may_have_twins n o k = wants_ordinal n o k && not (is_some (own_in n o k))
 abbrev pub parts_hash : ℕ → Parts → ℕ
 parts_hash parent parts = hash_from parent (piece_bytes (record { parts = parts; ordinal = 0 }))
 
+-- by hash, and then by number
+abbrev pub AreByHash : List Sibling → Type 0
+AreByHash ranks = AreSortedBy (λ (r : Sibling). r.hash) (λ (r : Sibling). r.number) ranks
+
+-- an entry of which there is a rank
+abbrev pub IsRanked : List Sibling → ℕ → Type 0
+IsRanked ranks k = (i : ℕ) × (r : Sibling) × (slice_get ranks i ≡ Some r) × (r.number ≡ k)
+
 -- the hash of parts goes on from the parent's number
-pub record IsSibling (n : ℕ) (o : Object) (r : Ranked) : Type 0 where
+pub record IsSibling (n : ℕ) (o : Object) (r : Sibling) : Type 0 where
   pub entry : Entry
   pub parent : ℕ
-  pub stands : slice_get (entries_of o) r.name ≡ Some entry
+  pub stands : slice_get (entries_of o) r.number ≡ Some entry
   pub child : entry.parent ≡ Some parent
   pub inside : is_in_head o parent ≡ true
-  pub untold : tell_alone (parts_of n o r.name entry) ≡ false
-  pub common : (parts_of n o r.name entry).private ≡ None
-  pub hash : r.hash ≡ parts_hash parent (parts_of n o r.name entry)
-  pub bid : r.bid ≡ r.name
+  pub untold : tell_alone (parts_of n o r.number entry) ≡ false
+  pub common : (parts_of n o r.number entry).private ≡ None
+  pub hash : r.hash ≡ parts_hash parent (parts_of n o r.number entry)
 
-pub record AreSiblings (n : ℕ) (o : Object) (ranks : List Ranked) (i : ℕ) : Type 0 where
-  pub each : (j : ℕ) (r : Ranked) → slice_get ranks j ≡ Some r → IsSibling n o r
-  pub all : (k : ℕ) → k < i → may_have_twins n o k ≡ true → (j : ℕ) × (r : Ranked) × (slice_get ranks j ≡ Some r) × (r.name ≡ k)
+pub record AreSiblings (n : ℕ) (o : Object) (ranks : List Sibling) (i : ℕ) : Type 0 where
+  pub each : (j : ℕ) (r : Sibling) → slice_get ranks j ≡ Some r → IsSibling n o r
+  pub all : (k : ℕ) → k < i → may_have_twins n o k ≡ true → (j : ℕ) × (r : Sibling) × (slice_get ranks j ≡ Some r) × (r.number ≡ k)
 
 -- the rank of entry k, where it has one
-abbrev pub IsRankOf : ℕ → Object → ℕ → Option Ranked → Type 0
-IsRankOf n o k (Some r) = (r.name ≡ k) × IsSibling n o r
+abbrev pub IsRankOf : ℕ → Object → ℕ → Option Sibling → Type 0
+IsRankOf n o k (Some r) = (r.number ≡ k) × IsSibling n o r
 IsRankOf n o k None = may_have_twins n o k ≡ false
 
 -- the twins of the first i ranks are counted; entries without a rank have none
-pub record AreCounted (n : ℕ) (o : Object) (ranks : List Ranked) (counts : List ℕ) (i : ℕ) : Type 0 where
+pub record AreCounted (n : ℕ) (o : Object) (ranks : List Sibling) (counts : List ℕ) (i : ℕ) : Type 0 where
   pub len : length counts ≡ length (entries_of o)
-  pub each : (j : ℕ) (r : Ranked) → j < i → slice_get ranks j ≡ Some r → slice_index_or counts r.name 0 ≡ twins_before n o r.name
-  pub others : (k : ℕ) → (IsAmong ranks k → ⊥) → slice_index_or counts k 0 ≡ 0
+  pub each : (j : ℕ) (r : Sibling) → j < i → slice_get ranks j ≡ Some r → slice_index_or counts r.number 0 ≡ twins_before n o r.number
+  pub others : (k : ℕ) → (IsRanked ranks k → ⊥) → slice_index_or counts k 0 ≡ 0
 
 -- the entries from rank j up to rank i are no earlier twins of that at rank i
-pub record AreNoTwins (n : ℕ) (o : Object) (ranks : List Ranked) (here : Ranked) (j i : ℕ) : Type 0 where
+pub record AreNoTwins (n : ℕ) (o : Object) (ranks : List Sibling) (here : Sibling) (j i : ℕ) : Type 0 where
   pub le : j ≤ i
-  pub differ : (k : ℕ) (r : Ranked) → j ≤ k → k < i → slice_get ranks k ≡ Some r → r.name < here.name → AreTwins n o r.name here.name → ⊥
+  pub differ : (k : ℕ) (r : Sibling) → j ≤ k → k < i → slice_get ranks k ≡ Some r → r.number < here.number → AreTwins n o r.number here.number → ⊥

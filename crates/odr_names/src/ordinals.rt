@@ -5,9 +5,9 @@ ghost use Rattle.std.specs.Option.{option_and_then};
 ghost use Rattle.dwarf_types.specs.declared.entry.Entry.{Entry as AnEntry};
 ghost use Rattle.dwarf_types.specs.Tree.{ParentsStandBefore};
 ghost use Rattle.odr_names.specs.Pieces.{IsSpelled, parts_seen};
-ghost use Rattle.odr_names.specs.Ranking.{AreInOrder};
-ghost use Rattle.odr_names.specs.Twins.{AreCounted, AreNoTwins, AreSiblings, AreTwins, IsRankOf, parts_hash, tell_alone, twins_before, wants_ordinal};
-ghost use Rattle.odr_names.specs.declared.winners.Ranked.{Ranked as RankedAs};
+ghost use Rattle.std.specs.List.Sorted.{IsPermutation};
+ghost use Rattle.odr_names.specs.Twins.{AreByHash, AreCounted, AreNoTwins, AreSiblings, AreTwins, IsRankOf, parts_hash, tell_alone, twins_before, wants_ordinal};
+ghost use Rattle.odr_names.specs.declared.ordinals.Sibling.{Sibling as ASibling};
 ghost use Rattle.type_names.specs.Heads.{is_in_head, is_pooled};
 ghost use Rattle.type_names.specs.Objects.{object_of};
 ghost use Rattle.type_names.specs.Paths.{ordinal_of, parts_of};
@@ -17,12 +17,20 @@ ghost use Rattle.type_names.specs.Tree.{parent_of};
 use crate::hash::hash_piece;
 use crate::marks::count_marked;
 use crate::piece::{PartsRef, PieceRef, parts_at, parts_equal};
-use crate::winners::{Ranked, sort_ranks};
 use ds_base::dwarf::{DW_TAG_namespace, DW_TAG_subprogram};
 use ds_base::{BitRow, NoMemory};
 use dwarf_types::{Analysis, Entries};
 use std::alloc::Global;
 use type_names::{TypeNames, is_type};
+
+/// An entry that siblings may have the parts of, by a hash of its parent and its parts.
+#[derive(Clone, Copy)]
+pub(crate) struct Sibling {
+    pub(crate) hash: u64,
+    pub(crate) number: u32,
+}
+
+const _: () = prove!(size_of::<Sibling>() == 16);
 
 /// Of each entry whose ordinal is asked for, how many earlier siblings have the same parts: of those below entries in the
 /// subtrees of heads that their parts don't tell apart.
@@ -44,7 +52,7 @@ pub(crate) fn twins_of(
         → slice_index_or counts.items k 0 ≡ twins_before object (object_of seen.now live.now) k) }
 {
     let mut ranks = siblings_of(alloc, seen, live, names, object)?;
-    sort_ranks(&mut ranks);
+    sort_siblings(&mut ranks);
     let counts = counts_of(alloc, seen, live, names, object, &ranks)?;
     Ok(counts)
 }
@@ -60,7 +68,7 @@ fn siblings_of(
     live: &BitRow,
     names: &TypeNames,
     object: u32,
-) -> Result<Vec<Ranked>, NoMemory>
+) -> Result<Vec<Sibling>, NoMemory>
     requires few { length seen.now.entries ≤ 2 ^ 24 }
     requires parents { ParentsStandBefore seen.now.entries }
     requires names { AreNames (object_of seen.now live.now) names.now }
@@ -76,8 +84,22 @@ fn siblings_of(
     Ok(ranks)
 }
 
+/// Puts siblings in order: by hash, and then by number.
+fn sort_siblings(ranks: &mut Vec<Sibling>)
+    ensures same { IsPermutation ranks.old.items ranks.new.items }
+    ensures order { AreByHash ranks.new.items }
+{
+    ranks.sort_unstable_by_key(|r| (r.hash, r.number));
+}
+
 /// The rank of an entry, where siblings may have its parts.
-fn rank_of(seen: &Analysis, live: &BitRow, names: &TypeNames, object: u32, k: u32) -> Option<Ranked>
+fn rank_of(
+    seen: &Analysis,
+    live: &BitRow,
+    names: &TypeNames,
+    object: u32,
+    k: u32,
+) -> Option<Sibling>
     requires place { k < length seen.now.entries }
     requires parents { ParentsStandBefore seen.now.entries }
     requires names { AreNames (object_of seen.now live.now) names.now }
@@ -91,10 +113,9 @@ fn rank_of(seen: &Analysis, live: &BitRow, names: &TypeNames, object: u32, k: u3
     if parts.private.is_some() {
         return None;
     }
-    Some(Ranked {
+    Some(Sibling {
         hash: hash_parts(parent, parts),
-        bid: u64::from(k),
-        name: k,
+        number: k,
     })
 }
 
@@ -127,19 +148,19 @@ fn counts_of(
     live: &BitRow,
     names: &TypeNames,
     object: u32,
-    ranks: &[Ranked],
+    ranks: &[Sibling],
 ) -> Result<Vec<u32>, NoMemory>
     requires few { length seen.now.entries ≤ 2 ^ 24 }
     requires parents { ParentsStandBefore seen.now.entries }
     requires names { AreNames (object_of seen.now live.now) names.now }
     requires siblings { AreSiblings object (object_of seen.now live.now) ranks.now (length seen.now.entries) }
-    requires order { AreInOrder ranks.now }
+    requires order { AreByHash ranks.now }
     ensures { IfOk result (λ counts. AreCounted object (object_of seen.now live.now) ranks.now counts.items (length ranks.now)) }
 {
     let mut counts = vec![in alloc; 0; seen.entries.len()]?;
     for i in 0..ranks.len() {
         let count = count_at(seen, live, names, object, ranks, &counts, i);
-        counts[ranks[i].name as usize] = count;
+        counts[ranks[i].number as usize] = count;
     }
     Ok(counts)
 }
@@ -150,7 +171,7 @@ fn count_at(
     live: &BitRow,
     names: &TypeNames,
     object: u32,
-    ranks: &[Ranked],
+    ranks: &[Sibling],
     counts: &[u32],
     i: usize,
 ) -> u32
@@ -158,25 +179,25 @@ fn count_at(
     requires parents { ParentsStandBefore seen.now.entries }
     requires names { AreNames (object_of seen.now live.now) names.now }
     requires siblings { AreSiblings object (object_of seen.now live.now) ranks.now (length seen.now.entries) }
-    requires order { AreInOrder ranks.now }
+    requires order { AreByHash ranks.now }
     requires within { i < length ranks.now }
     requires counted { AreCounted object (object_of seen.now live.now) ranks.now counts.now i }
-    ensures { (r : RankedAs) → slice_get ranks.now i ≡ Some r → result ≡ twins_before object (object_of seen.now live.now) r.name }
+    ensures { (r : ASibling) → slice_get ranks.now i ≡ Some r → result ≡ twins_before object (object_of seen.now live.now) r.number }
 {
     let here = rank_at(ranks, i);
     let mut j = i;
     while j > 0 && rank_at(ranks, j - 1).hash == here.hash {
         j -= 1;
         let other = rank_at(ranks, j);
-        if is_earlier_twin(seen, live, names, object, other.name, here.name) {
-            return counts[other.name as usize] + 1;
+        if is_earlier_twin(seen, live, names, object, other.number, here.number) {
+            return counts[other.number as usize] + 1;
         }
     }
     0
 }
 
 /// The rank at a place.
-fn rank_at(ranks: &[Ranked], i: usize) -> Ranked
+fn rank_at(ranks: &[Sibling], i: usize) -> Sibling
     requires { i < length ranks.now }
     ensures { slice_get ranks.now i ≡ Some result }
 {

@@ -12,8 +12,7 @@ use crate::path_book::{PathBook, count, number, path_equal, rank_hash_at};
 use ds_base::NoMemory;
 use std::alloc::Global;
 
-/// A name by a hash of its path and its bid; or an entry, in place of a name, by a hash of its parent and its parts and by
-/// its number (`ordinals`).
+/// A name by a hash of its path and its bid.
 #[derive(Clone, Copy)]
 pub(crate) struct Ranked {
     pub(crate) hash: u64,
@@ -94,7 +93,7 @@ fn rank_of(names: &PathBook, x: u32) -> Ranked
 }
 
 /// Puts ranks in order: by hash, and then by bid.
-pub(crate) fn sort_ranks(ranks: &mut Vec<Ranked>)
+fn sort_ranks(ranks: &mut Vec<Ranked>)
     ensures same { IsPermutation ranks.old.items ranks.new.items }
     ensures order { AreInOrder ranks.new.items }
 {

@@ -1,6 +1,6 @@
 use Rattle.std.proofs.Common.{◌≡◌, Some, arith, slice_get, get_or}
 use Rattle.std.proofs.lemmas.Option.{slice_get-get_or, slice_get_within}
-use Rattle.odr_names.specs.declared.winners.Ranked.{Ranked}
+use Rattle.odr_names.specs.declared.ordinals.Sibling.{Sibling}
 use Rattle.type_names.specs.Heads.{Object, entries_of}
 use Rattle.type_names.specs.Objects.{object_of}
 use Rattle.odr_names.proofs.Siblings.{counted_more}
@@ -11,16 +11,16 @@ index_mut-requires c =
     let o : Object = object_of c.args.seen.now c.args.live.now in
     let n = c.args.object in
     let ranks = c.args.ranks.now in
-    let d : Ranked = record { hash = 0; bid = 0; name = 0 } in
+    let d : Sibling = record { hash = 0; number = 0 } in
     let at : slice_get ranks c.loop-i.i ≡ Some (get_or ranks c.loop-i.i d) = slice_get-get_or ranks c.loop-i.i d (omega arith) in
     let it = c.requires.siblings.each c.loop-i.i (get_or ranks c.loop-i.i d) at in
-    omega (arith, slice_get_within (entries_of o) (get_or ranks c.loop-i.i d).name it.entry it.stands, c.loop-i.invariant.len)
+    omega (arith, slice_get_within (entries_of o) (get_or ranks c.loop-i.i d).number it.entry it.stands, c.loop-i.invariant.len)
 
 pub loop-i-preserved : goal.loop-i-preserved
 loop-i-preserved c =
     let o : Object = object_of c.args.seen.now c.args.live.now in
     let n = c.args.object in
     let ranks = c.args.ranks.now in
-    let d : Ranked = record { hash = 0; bid = 0; name = 0 } in
+    let d : Sibling = record { hash = 0; number = 0 } in
     let at : slice_get ranks c.loop-i.i ≡ Some (get_or ranks c.loop-i.i d) = slice_get-get_or ranks c.loop-i.i d (omega arith) in
     counted_more n o ranks c.loop-i.counts.items c.loop-i.i (get_or ranks c.loop-i.i d) c.count_at-count.result c.requires.siblings at (c.count_at-count.ensures (get_or ranks c.loop-i.i d) at) c.loop-i.invariant

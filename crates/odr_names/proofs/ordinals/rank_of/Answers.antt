@@ -1,4 +1,4 @@
-use Rattle.std.proofs.Common.{◌≡◌, ◌∙◌, false, true, refl, sym, ap}
+use Rattle.std.proofs.Common.{◌≡◌, ◌∙◌, refl, sym, ap}
 use Rattle.odr_names.specs.Pieces.{own_seen, parts_seen}
 use Rattle.odr_names.specs.Twins.{parts_hash, tell_alone}
 use Rattle.type_names.specs.Heads.{Object, entries_of}
@@ -40,6 +40,5 @@ returns c =
         untold = sym (ap tell_alone parts) ∙ sym c.tell_alone.ensures ∙ c.if-tell_alone.false;
         common = sym (ap (λ (p : Parts). p.private) parts) ∙ none_seen own_seen c.parts_at-parts.result.private (sym c.is_some.ensures ∙ c.if-is_some.false);
         hash = c.hash_parts.ensures ∙ ap (parts_hash c.in_ok-parent.parent) parts;
-        bid = c.from.ensures;
       },
     )

@@ -1,5 +1,5 @@
 use Rattle.std.proofs.Common.{Vec, Global, Some, ap, subst}
-use Rattle.odr_names.specs.declared.winners.Ranked.{Ranked}
+use Rattle.odr_names.specs.declared.ordinals.Sibling.{Sibling}
 use Rattle.odr_names.specs.Twins.{IsRankOf}
 use Rattle.type_names.specs.Heads.{Object}
 use Rattle.type_names.specs.Objects.{object_of}
@@ -15,6 +15,6 @@ loop-i-preserved c =
     elim c.match-rank_of.branch [
       | in-Some+in_ok-push w ↦ (
           let is : IsRankOf n o k (Some w.in-Some.rank) = subst (IsRankOf n o k) w.in-Some.is c.rank_of.ensures in
-          rw (ap (λ (v : Vec Ranked Global). v.items) w.ranks-is, w.in_ok-push.ensures.items) (siblings_more n o c.loop-i.ranks.items k w.in-Some.rank is.0 is.1 c.loop-i.invariant))
-      | in_default w ↦ rw (ap (λ (v : Vec Ranked Global). v.items) w.ranks-is) (siblings_same n o c.loop-i.ranks.items k (subst (IsRankOf n o k) w.in_default.is c.rank_of.ensures) c.loop-i.invariant)
+          rw (ap (λ (v : Vec Sibling Global). v.items) w.ranks-is, w.in_ok-push.ensures.items) (siblings_more n o c.loop-i.ranks.items k w.in-Some.rank is.0 is.1 c.loop-i.invariant))
+      | in_default w ↦ rw (ap (λ (v : Vec Sibling Global). v.items) w.ranks-is) (siblings_same n o c.loop-i.ranks.items k (subst (IsRankOf n o k) w.in_default.is c.rank_of.ensures) c.loop-i.invariant)
     ]
