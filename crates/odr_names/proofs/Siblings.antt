@@ -1,20 +1,19 @@
--- Siblings in the order of the hashes of their parents and parts.
-use Rattle.std.proofs.Common.{◌≡◌, ℕ, ◌+◌, ◌-◌, ◌<◌, ◌≤◌, ◌⊎◌, inl, inr, Bool, true, false, cond, List, [], ◌∷◌, ◌++◌, length, Option, Some, None, is_some, slice_get, get_or, set, refl, sym, ap, ◌∙◌, arith, subst}
+-- Siblings in the order of their numbers, and the chains of those whose hashes share a cell.
+use Rattle.std.proofs.Common.{◌≡◌, ℕ, ◌+◌, ◌/◌, ◌%◌, ◌^◌, replicate, ◌<◌, ◌≤◌, inl, inr, Bool, true, false, cond, List, [], ◌∷◌, ◌++◌, length, Option, Some, None, is_some, slice_get, get_or, set, refl, sym, ap, ◌∙◌, arith, subst}
 use Rattle.std.specs.Prelude.{if◌then◌else◌}
 use Rattle.std.specs.Option.{option_and_then, option_map, option_map_or}
 use Rattle.std.specs.Prelude.{◌||◌, ◌&&◌, not}
 use Rattle.std.specs.List.{list_any}
 use Rattle.std.proofs.lemmas.List.Folds.{list_any-append}
-use Rattle.std.specs.List.Sorted.{IsPermutation}
 use Rattle.std.proofs.lemmas.Bool.{both_ways, cases_eq, cases_lt}
-use Rattle.std.proofs.lemmas.List.{get_or-set_other, get_or-set_same, length-set, length_push}
-use Rattle.std.proofs.lemmas.List.Sorted.{Contains-permutation, IsPermutation-sym}
-use Rattle.std.proofs.lemmas.Option.{get_or_from_slice_get, none-some, same_Some, slice_get-get_or, slice_get_read, slice_get_within}
+use Rattle.std.proofs.lemmas.List.{get_or-replicate, get_or-set_other, get_or-set_same, get_or_append_left, get_or_push, length-replicate, length-set, length_push}
+use Rattle.std.proofs.lemmas.Option.{none-some, same_Some, slice_get_within}
 use Rattle.dwarf_types.specs.declared.entry.Entry.{Entry}
 use Rattle.dwarf_types.specs.Tree.{ParentsStandBefore}
+use Rattle.odr_names.specs.declared.ordinals.Chains.{Chains}
 use Rattle.odr_names.specs.declared.ordinals.Sibling.{Sibling}
 use Rattle.odr_names.specs.Pieces.{IsSpelled}
-use Rattle.odr_names.specs.Twins.{AreByHash, AreCounted, AreNoTwins, AreSiblings, AreTwins, IsSibling, is_inside, is_told_in, may_have_twins, own_in, parts_hash, parts_in, tell_alone, twins_before, wants_ordinal}
+use Rattle.odr_names.specs.Twins.{AreChained, AreCounted, AreSiblings, AreTwins, IsNewest, IsSibling, IsWalked, cell_of, is_inside, is_told_in, may_have_twins, own_in, parts_hash, tell_alone, twins_before, wants_ordinal}
 use Rattle.type_names.specs.Heads.{Object, entries_of, is_head, is_in_head}
 use Rattle.type_names.specs.Paths.{Parts, earlier_twins, is_overloaded, parts_of, spelled_of}
 use Rattle.type_names.specs.Rows.{IsRow}
@@ -33,7 +32,13 @@ parent_at o k e at = ap (option_and_then (λ (e : Entry). e.parent)) at
 -- ---- all siblings
 
 pub siblings_none : (n : ℕ) (o : Object) → AreSiblings n o [] 0
-siblings_none n o = record { each = λ j r at. absurd (none-some r at); all = λ k lt. absurd (omega arith) }
+siblings_none n o = record {
+  each = λ j r at. absurd (none-some r at);
+  rising = λ j k r s lt at. absurd (none-some r at);
+  below = λ j r at. absurd (none-some r at);
+  few = omega arith;
+  all = λ k lt. absurd (omega arith);
+}
 
 pub siblings_more : (n : ℕ) (o : Object) (ranks : List Sibling) (i : ℕ) (r : Sibling) → r.number ≡ i → IsSibling n o r → AreSiblings n o ranks i → AreSiblings n o (ranks ++ r ∷ []) (i + 1)
 siblings_more n o ranks i r is sibling so_far = record {
@@ -43,6 +48,27 @@ siblings_more n o ranks i r is sibling so_far = record {
         let last : j ≡ length ranks = omega (arith, slice_get_within (ranks ++ r ∷ []) j s at, length_push ranks r) in
         subst (IsSibling n o) (same_Some r s (sym (ap (slice_get (ranks ++ r ∷ [])) last ∙ get_last ranks r) ∙ at)) sibling)
   ];
+  rising = λ j k s t lt at_s at_t.
+      (let inside = slice_get_within (ranks ++ r ∷ []) k t at_t in
+      let grown = length_push ranks r in
+      let s_at : slice_get ranks j ≡ Some s = sym (get_before ranks (r ∷ []) j (omega (arith, inside, grown, lt))) ∙ at_s in
+      elim (cases_lt k (length ranks)) [
+        | inl earlier ↦ so_far.rising j k s t lt s_at (sym (get_before ranks (r ∷ []) k earlier) ∙ at_t)
+        | inr later ↦ (
+            let last : k ≡ length ranks = omega (arith, inside, grown, later) in
+            let same : r ≡ t = same_Some r t (sym (ap (slice_get (ranks ++ r ∷ [])) last ∙ get_last ranks r) ∙ at_t) in
+            let number = ap (λ (t : Sibling). t.number) same in
+            let low = so_far.below j s s_at in
+            omega (arith, number, low, is))
+      ]);
+  below = λ j s at. elim (cases_lt j (length ranks)) [
+    | inl earlier ↦ (let low = so_far.below j s (sym (get_before ranks (r ∷ []) j earlier) ∙ at) in omega (arith, low))
+    | inr later ↦ (
+        let last : j ≡ length ranks = omega (arith, slice_get_within (ranks ++ r ∷ []) j s at, length_push ranks r) in
+        let number = ap (λ (t : Sibling). t.number) (same_Some r s (sym (ap (slice_get (ranks ++ r ∷ [])) last ∙ get_last ranks r) ∙ at)) in
+        omega (arith, number, is))
+  ];
+  few = omega (arith, so_far.few, length_push ranks r);
   all = λ k lt may. elim (cases_eq k i) [
     | inl same ↦ (length ranks, r, get_last ranks r, is ∙ sym same)
     | inr other ↦ (let found = so_far.all k (omega arith) may in (found.0, found.1, get_before ranks (r ∷ []) found.0 (slice_get_within ranks found.0 found.1 found.2) ∙ found.2, found.3))
@@ -52,32 +78,12 @@ siblings_more n o ranks i r is sibling so_far = record {
 pub siblings_same : (n : ℕ) (o : Object) (ranks : List Sibling) (i : ℕ) → may_have_twins n o i ≡ false → AreSiblings n o ranks i → AreSiblings n o ranks (i + 1)
 siblings_same n o ranks i none so_far = record {
   each = so_far.each;
+  rising = so_far.rising;
+  below = λ j r at. (let low = so_far.below j r at in omega (arith, low));
+  few = omega (arith, so_far.few);
   all = λ k lt may. elim (cases_eq k i) [
     | inl same ↦ absurd (both_ways _ none (ap (may_have_twins n o) (sym same) ∙ may))
     | inr other ↦ so_far.all k (omega arith) may
-  ];
-}
-
-pub siblings_moved : (n : ℕ) (o : Object) (ranks moved : List Sibling) (i : ℕ) → AreSiblings n o ranks i → IsPermutation ranks moved → AreSiblings n o moved i
-siblings_moved n o ranks moved i are same = record {
-  each = λ j r at. (
-      let there = Contains-permutation moved ranks r (IsPermutation-sym ranks moved same) (j, slice_get_within moved j r at, get_or_from_slice_get moved j r r at) in
-      are.each there.0 r (slice_get_read ranks _ there.0 r refl there.1 (sym there.2)));
-  all = λ k within may. (
-      let it = are.all k within may in
-      let there = Contains-permutation ranks moved it.1 same (it.0, slice_get_within ranks it.0 it.1 it.2, get_or_from_slice_get ranks it.0 it.1 it.1 it.2) in
-      (there.0, it.1, slice_get_read moved _ there.0 it.1 refl there.1 (sym there.2), it.3));
-}
-
--- ---- the nearest earlier twin
-
-pub no_twins_more : (n : ℕ) (o : Object) (ranks : List Sibling) (here r : Sibling) (j i : ℕ) → slice_get ranks (j - 1) ≡ Some r → (r.number < here.number → AreTwins n o r.number here.number → ⊥)
-    → AreNoTwins n o ranks here j i → AreNoTwins n o ranks here (j - 1) i
-no_twins_more n o ranks here r j i at differs so_far = record {
-  le = omega (arith, so_far.le);
-  differ = λ k s from below at_k lower same. elim (cases_eq k (j - 1)) [
-    | inl first ↦ (let one : r ≡ s = same_Some r s (sym at ∙ ap (slice_get ranks) (sym first) ∙ at_k) in differs (subst (λ (t : Sibling). t.number < here.number) (sym one) lower) (subst (λ (t : Sibling). AreTwins n o t.number here.number) (sym one) same))
-    | inr other ↦ so_far.differ k s (omega arith) below at_k lower same
   ];
 }
 
@@ -134,16 +140,20 @@ own_alone n o k own within is = go e.0.parent refl where
   go None top = ap (λ (x : Option Entry). option_map_or (λ e. option_map_or (λ p. length (earlier_twins n o p k (parts_of n o k e))) e.parent 0) x 0) e.1 ∙ ap (λ (x : Option ℕ). option_map_or (λ p. length (earlier_twins n o p k (parts_of n o k e.0))) x 0) top
   go (Some p) child = no_twin n o k p e.0 e.1 child never
 
--- ---- nearest before
+-- ---- the nearest earlier twin
 
-up : {a b c e : ℕ} → (a < b) ⊎ ((a ≡ b) × (c ≤ e)) → a ≤ b
-up (inl lt) = omega arith
-up (inr same) = omega (arith, same.0)
+-- twins have one hash
+pub twin_hash : (n : ℕ) (o : Object) (a b : Sibling) → IsSibling n o a → IsSibling n o b → AreTwins n o a.number b.number → a.hash ≡ b.hash
+twin_hash n o a b first second twins =
+    let parent : first.parent ≡ second.parent = same_Some first.parent second.parent (sym (parent_at o a.number first.entry first.stands ∙ first.child) ∙ twins.parent ∙ (parent_at o b.number second.entry second.stands ∙ second.child)) in
+    let parts : parts_of n o a.number first.entry ≡ parts_of n o b.number second.entry = same_Some (parts_of n o a.number first.entry) (parts_of n o b.number second.entry)
+    (sym (ap (option_map (parts_of n o a.number)) first.stands) ∙ twins.parts ∙ ap (option_map (parts_of n o b.number)) second.stands) in
+    first.hash ∙ (λ j. parts_hash (parent j) (parts j)) ∙ sym second.hash
 
--- an earlier twin stands in the run before it
-twin_before : (n : ℕ) (o : Object) (ranks : List Sibling) (here : Sibling) (i m : ℕ) → AreSiblings n o ranks (length (entries_of o)) → AreByHash ranks → slice_get ranks i ≡ Some here → m < here.number → AreTwins n o m here.number
-    → (k : ℕ) × (r : Sibling) × (slice_get ranks k ≡ Some r) × (r.number ≡ m) × (k < i) × (r.hash ≡ here.hash)
-twin_before n o ranks here i m are order at before twins =
+-- an earlier twin has a rank before
+twin_before : (n : ℕ) (o : Object) (ranks : List Sibling) (here : Sibling) (i m : ℕ) → AreSiblings n o ranks (length (entries_of o)) → slice_get ranks i ≡ Some here → m < here.number → AreTwins n o m here.number
+    → (k : ℕ) × (r : Sibling) × (slice_get ranks k ≡ Some r) × (r.number ≡ m) × (k < i)
+twin_before n o ranks here i m are at before twins =
     let it = are.each i here at in
     let parent_m : parent_of (entries_of o) m ≡ Some it.parent = twins.parent ∙ parent_at o here.number it.entry it.stands ∙ it.child in
     let in_m : is_inside o m ≡ true = ap (λ (p : Option ℕ). option_map_or (is_in_head o) p false) parent_m ∙ it.inside in
@@ -151,53 +161,118 @@ twin_before n o ranks here i m are order at before twins =
     let own_m : own_in n o m ≡ None = ap (option_and_then (λ (parts : Parts). parts.private)) twins.parts ∙ own_told n o here.number it.entry it.stands ∙ it.common in
     let inside : m < length (entries_of o) = omega (arith, before, slice_get_within (entries_of o) here.number it.entry it.stands) in
     let found = are.all m inside (may_have n o m (wanted n o m in_m told_m) own_m) in
-    let k = found.0 in
-    let r = found.1 in
-    let its = are.each k r found.2 in
-    let parent_r : its.parent ≡ it.parent = same_Some its.parent it.parent (sym (sym (ap (parent_of (entries_of o)) found.3) ∙ parent_at o r.number its.entry its.stands ∙ its.child) ∙ parent_m) in
-    let parts_r : parts_of n o r.number its.entry ≡ parts_of n o here.number it.entry = same_Some (parts_of n o r.number its.entry) (parts_of n o here.number it.entry) (sym (ap (option_map (parts_of n o r.number)) its.stands) ∙ ap (parts_in n o) found.3 ∙ twins.parts ∙ ap (option_map (parts_of n o here.number)) it.stands) in
-    let hash : r.hash ≡ here.hash = its.hash ∙ (λ j. parts_hash (parent_r j) (parts_r j)) ∙ sym it.hash in
-    let earlier : k < i = elim (cases_lt k i) [
+    let earlier : found.0 < i = elim (cases_lt found.0 i) [
       | inl lt ↦ lt
-      | inr later ↦ elim (order i k here r later at found.2) [
-        | inl above ↦ absurd (omega arith)
-        | inr not_above ↦ absurd (omega (arith, not_above.1, found.3, before))
+      | inr later ↦ elim (cases_eq found.0 i) [
+        | inl same ↦ absurd (let number = ap (λ (t : Sibling). t.number) (same_Some found.1 here (sym found.2 ∙ ap (slice_get ranks) same ∙ at)) in omega (arith, number, found.3, before))
+        | inr other ↦ absurd (let higher = are.rising i found.0 here found.1 (omega (arith, later, other)) at found.2 in omega (arith, higher, found.3, before))
       ]
     ] in
-    (k, r, found.2, found.3, earlier, hash)
+    (found.0, found.1, found.2, found.3, earlier)
 
-pub taken : (n : ℕ) (o : Object) (ranks : List Sibling) (counts : List ℕ) (here r : Sibling) (j i : ℕ) → AreSiblings n o ranks (length (entries_of o)) → AreByHash ranks → slice_get ranks i ≡ Some here → slice_get ranks j ≡ Some r → j < i → r.hash ≡ here.hash
-    → AreTwins n o r.number here.number → AreNoTwins n o ranks here (j + 1) i → r.number < here.number → AreCounted n o ranks counts i → get_or counts r.number 0 + 1 ≡ twins_before n o here.number
-taken n o ranks counts here r j i are order at at_j below hash twins none lower counted =
+pub taken : (n : ℕ) (o : Object) (ranks : List Sibling) (counts : List ℕ) (here r : Sibling) (j i : ℕ) → AreSiblings n o ranks (length (entries_of o)) → slice_get ranks i ≡ Some here → slice_get ranks j ≡ Some r → j < i
+    → AreTwins n o r.number here.number → ((k : ℕ) (s : Sibling) → j + 1 ≤ k → k < i → slice_get ranks k ≡ Some s → AreTwins n o s.number here.number → ⊥) → AreCounted n o ranks counts i → get_or counts r.number 0 + 1 ≡ twins_before n o here.number
+taken n o ranks counts here r j i are at at_j below twins none counted =
     let it = are.each i here at in
     let its = are.each j r at_j in
+    let lower = are.rising j i r here below at_j at in
     let more = one_twin_more n o r.number here.number it.parent its.entry it.entry its.stands it.stands it.child lower twins (λ m above under is. (
-    let found = twin_before n o ranks here i m are order at under is in
+    let found = twin_before n o ranks here i m are at under is in
     elim (cases_lt found.0 (j + 1)) [
-      | inr in_run ↦ none.differ found.0 found.1 in_run found.4 found.2 (omega (arith, found.3, under)) (subst (λ (x : ℕ). AreTwins n o x here.number) (sym found.3) is)
-      | inl not_after ↦ elim (order found.0 j found.1 r (omega arith) found.2 at_j) [
-        | inl above_hash ↦ omega (arith, found.5, hash)
-        | inr same ↦ omega (arith, same.1, found.3, above)
+      | inr in_run ↦ none found.0 found.1 in_run found.4 found.2 (subst (λ (x : ℕ). AreTwins n o x here.number) (sym found.3) is)
+      | inl not_after ↦ elim (cases_eq found.0 j) [
+        | inl same ↦ (let number = ap (λ (t : Sibling). t.number) (same_Some found.1 r (sym found.2 ∙ ap (slice_get ranks) same ∙ at_j)) in omega (arith, number, found.3, above))
+        | inr other ↦ (let less = are.rising found.0 j found.1 r (omega (arith, not_after, other)) found.2 at_j in omega (arith, less, found.3, above))
       ]
     ])) in
     ap (λ (c : ℕ). c + 1) (counted.each j r below at_j) ∙ sym more
 
-pub none_taken : (n : ℕ) (o : Object) (ranks : List Sibling) (here : Sibling) (j i : ℕ) → AreSiblings n o ranks (length (entries_of o)) → AreByHash ranks → slice_get ranks i ≡ Some here → AreNoTwins n o ranks here j i
-    → ((r : Sibling) → 0 < j → slice_get ranks (j - 1) ≡ Some r → r.hash ≡ here.hash → ⊥) → 0 ≡ twins_before n o here.number
-none_taken n o ranks here j i are order at none begins =
+pub none_taken : (n : ℕ) (o : Object) (ranks : List Sibling) (here : Sibling) (i : ℕ) → AreSiblings n o ranks (length (entries_of o)) → slice_get ranks i ≡ Some here
+    → ((k : ℕ) (s : Sibling) → 0 ≤ k → k < i → slice_get ranks k ≡ Some s → AreTwins n o s.number here.number → ⊥) → 0 ≡ twins_before n o here.number
+none_taken n o ranks here i are at none =
     let it = are.each i here at in
     sym (no_twin n o here.number it.parent it.entry it.stands it.child (λ m under is. (
-    let found = twin_before n o ranks here i m are order at under is in
-    elim (cases_lt found.0 j) [
-      | inr in_run ↦ none.differ found.0 found.1 in_run found.4 found.2 (omega (arith, found.3, under)) (subst (λ (x : ℕ). AreTwins n o x here.number) (sym found.3) is)
-      | inl before ↦ (
-          let d : Sibling = record { hash = 0; number = 0 } in
-          let s = get_or ranks (j - 1) d in
-          let s_at : slice_get ranks (j - 1) ≡ Some s = slice_get-get_or ranks (j - 1) d (omega (arith, slice_get_within ranks i here at, none.le)) in
-          let low : found.1.hash ≤ s.hash = up (order found.0 (j - 1) found.1 s (omega arith) found.2 s_at) in
-          let high : s.hash ≤ here.hash = up (order (j - 1) i s here (omega (arith, none.le)) s_at at) in
-          begins s (omega arith) s_at (omega (arith, found.5)))
-    ])))
+    let found = twin_before n o ranks here i m are at under is in
+    none found.0 found.1 (omega arith) found.4 found.2 (subst (λ (x : ℕ). AreTwins n o x here.number) (sym found.3) is))))
+
+-- ---- along a chain
+
+pub walked_begun : (n : ℕ) (o : Object) (ranks : List Sibling) (cells : ℕ) (here : Sibling) (link i : ℕ) → AreSiblings n o ranks (length (entries_of o)) → slice_get ranks i ≡ Some here → IsNewest ranks cells (cell_of cells here) i link → IsWalked n o ranks cells here link i
+walked_begun n o ranks cells here link i are at newest = record {
+  le = newest.le;
+  own = newest.own;
+  differ = λ k r from below at_k twins. newest.none k r from below at_k (ap (λ (h : ℕ). h / 2 ^ 32 % cells) (twin_hash n o r here (are.each k r at_k) (are.each i here at) twins));
+}
+
+pub walked_more : (n : ℕ) (o : Object) (ranks : List Sibling) (cells : ℕ) (here r : Sibling) (j link i : ℕ) → AreSiblings n o ranks (length (entries_of o)) → slice_get ranks i ≡ Some here → slice_get ranks j ≡ Some r → (AreTwins n o r.number here.number → ⊥)
+    → IsNewest ranks cells (cell_of cells r) j link → IsWalked n o ranks cells here (j + 1) i → IsWalked n o ranks cells here link i
+walked_more n o ranks cells here r j link i are at at_j differs newest so_far =
+    let same : cell_of cells r ≡ cell_of cells here = so_far.own j r refl at_j in
+    record {
+      le = omega (arith, newest.le, so_far.le);
+      own = λ k s is at_k. newest.own k s is at_k ∙ same;
+      differ = λ k s from below at_k twins. elim (cases_lt k j) [
+        | inl before ↦ newest.none k s from before at_k (ap (λ (h : ℕ). h / 2 ^ 32 % cells) (twin_hash n o s here (are.each k s at_k) (are.each i here at) twins) ∙ sym same)
+        | inr not_before ↦ elim (cases_eq k j) [
+          | inl here_is ↦ differs (subst (λ (t : Sibling). AreTwins n o t.number here.number) (same_Some s r (sym at_k ∙ ap (slice_get ranks) here_is ∙ at_j)) twins)
+          | inr other ↦ so_far.differ k s (omega (arith, not_before, other)) below at_k twins
+        ]
+      ];
+    }
+
+-- ---- ranks in chains
+
+pub chained_begun : (ranks : List Sibling) (chains : Chains) (cells : ℕ) → 1 ≤ cells → chains.newest.items ≡ replicate cells 0 → chains.before.items ≡ [] → AreChained ranks chains 0
+chained_begun ranks chains cells some newest before = record {
+  some = omega (arith, some, ap length newest, length-replicate cells zero_of);
+  len = ap length before;
+  newest = λ c within. (
+      let none : get_or chains.newest.items c 0 ≡ 0 = ap (λ (xs : List ℕ). get_or xs c 0) newest ∙ get_or-replicate cells c zero_of 0 (omega (arith, within, ap length newest, length-replicate cells zero_of)) in
+      record { le = omega (arith, none); own = λ k r is at. absurd (omega (arith, is, none)); none = λ k r from below at. absurd (omega arith) });
+  before = λ k r below. absurd (omega arith);
+} where
+  zero_of : ℕ
+  zero_of = 0
+
+pub chained_more : (ranks : List Sibling) (old new : Chains) (r : Sibling) (i c : ℕ) → slice_get ranks i ≡ Some r → c ≡ cell_of (length old.newest.items) r → c < length old.newest.items → new.newest.items ≡ set old.newest.items c (i + 1) → new.before.items ≡ old.before.items ++ get_or old.newest.items c 0 ∷ []
+    → AreChained ranks old i → AreChained ranks new (i + 1)
+chained_more ranks old new r i c at is within newest before so_far =
+    let len : length new.newest.items ≡ length old.newest.items = ap length newest ∙ length-set old.newest.items c (i + 1) in
+    record {
+      some = omega (arith, len, so_far.some);
+      len = ap length before ∙ length_push old.before.items (get_or old.newest.items c 0) ∙ ap (λ (k : ℕ). k + 1) so_far.len;
+      newest = λ d inside. subst (λ (cells : ℕ). IsNewest ranks cells d (i + 1) (get_or new.newest.items d 0)) (sym len) (elim (cases_eq d c) [
+        | inl same ↦ subst (IsNewest ranks (length old.newest.items) d (i + 1)) (sym (ap (λ (xs : List ℕ). get_or xs d 0) newest ∙ ap (λ (x : ℕ). get_or (set old.newest.items c (i + 1)) x 0) same ∙ get_or-set_same old.newest.items c (i + 1) 0 within))
+            (record {
+              le = omega arith;
+              own = λ k s link at_k. (
+                  let last : k ≡ i = omega (arith, link) in
+                  ap (cell_of (length old.newest.items)) (same_Some s r (sym at_k ∙ ap (slice_get ranks) last ∙ at)) ∙ sym is ∙ sym same);
+              none = λ k s from below at_k. absurd (omega arith);
+            })
+        | inr other ↦ subst (IsNewest ranks (length old.newest.items) d (i + 1)) (sym (ap (λ (xs : List ℕ). get_or xs d 0) newest ∙ get_or-set_other old.newest.items c d (i + 1) 0 other))
+            (let was = so_far.newest d (omega (arith, inside, len)) in
+            record {
+              le = omega (arith, was.le);
+              own = was.own;
+              none = λ k s from below at_k cell. elim (cases_eq k i) [
+                | inl last ↦ other (sym cell ∙ (ap (cell_of (length old.newest.items)) (same_Some s r (sym at_k ∙ ap (slice_get ranks) last ∙ at)) ∙ sym is))
+                | inr not_last ↦ was.none k s from (omega (arith, below, not_last)) at_k cell
+              ];
+            })
+      ]);
+      before = λ k s below at_k. subst (λ (cells : ℕ). IsNewest ranks cells (cell_of cells s) k (get_or new.before.items k 0)) (sym len) (elim (cases_eq k i) [
+        | inl last ↦ (
+            let same : s ≡ r = same_Some s r (sym at_k ∙ ap (slice_get ranks) last ∙ at) in
+            let link : get_or new.before.items k 0 ≡ get_or old.newest.items c 0 = ap (λ (xs : List ℕ). get_or xs k 0) before ∙ get_or_push old.before.items (get_or old.newest.items c 0) 0 k (so_far.len ∙ sym last) in
+            subst (IsNewest ranks (length old.newest.items) (cell_of (length old.newest.items) s) k) (sym link)
+            (subst (λ (m : ℕ). IsNewest ranks (length old.newest.items) (cell_of (length old.newest.items) s) m (get_or old.newest.items c 0)) (sym last)
+            (subst (λ (d : ℕ). IsNewest ranks (length old.newest.items) d i (get_or old.newest.items c 0)) (is ∙ sym (ap (cell_of (length old.newest.items)) same)) (so_far.newest c within))))
+        | inr not_last ↦ (
+            let link : get_or new.before.items k 0 ≡ get_or old.before.items k 0 = ap (λ (xs : List ℕ). get_or xs k 0) before ∙ get_or_append_left old.before.items (get_or old.newest.items c 0 ∷ []) 0 k (omega (arith, below, not_last, so_far.len)) in
+            subst (IsNewest ranks (length old.newest.items) (cell_of (length old.newest.items) s) k) (sym link) (so_far.before k s (omega (arith, below, not_last)) at_k))
+      ]);
+    }
 
 -- ---- counts rank by rank
 

@@ -15,7 +15,7 @@ use Rattle.odr_names.specs.Innermost.{rank_hash}
 use Rattle.type_names.specs.Names.{Named}
 use Rattle.odr_names.specs.Book.{SamePath, bid_at, path_at}
 use Rattle.odr_names.specs.Winners.{ArePut, AreWholePaths, AreWinners, IsWinner}
-use Rattle.odr_names.specs.Ranking.{AreFound, AreInOrder, AreOthersKept, AreRanked, AreRankedTo, AreRanksOf, AreSortedBy, IsAmong, IsRank, IsRun}
+use Rattle.odr_names.specs.Ranking.{AreFound, AreInOrder, AreOthersKept, AreRanked, AreRankedTo, AreRanksOf, IsAmong, IsRank, IsRun}
 use Rattle.odr_names.proofs.BookPaths.{get_before, get_last}
 
 -- ---- ranks
@@ -187,15 +187,16 @@ told a b c e not_below = elim (cases_lt a b) [
   ]
 ]
 
-by_two : {R : Type 0} (first second : R → ℕ) → IsTotalOrder (λ (x y : R). ordering_then (nat_cmp (first x) (first y)) (nat_cmp (second x) (second y)))
-by_two {R} first second = then_total (on_total first nat_cmp_total) (on_total second nat_cmp_total)
+by_hash : IsTotalOrder (λ (x y : Ranked). ordering_then (nat_cmp x.hash y.hash) (nat_cmp x.bid y.bid))
+by_hash = then_total (on_total (λ (r : Ranked). r.hash) nat_cmp_total) (on_total (λ (r : Ranked). r.bid) nat_cmp_total)
 
-pub in_order : {R : Type 0} (first second : R → ℕ) (ranks : List R) → IsSortedBy (λ x y. is_lt (ordering_then (nat_cmp (first x) (first y)) (nat_cmp (second x) (second y)))) ranks → AreSortedBy first second ranks
-in_order {R} first second ranks sorted = λ i j r s le at_i at_j. (
-    let far = sorted_far (λ (x y : R). is_lt (ordering_then (nat_cmp (first x) (first y)) (nat_cmp (second x) (second y)))) (ranks_by (by_two first second) (λ (r : R). r)) ranks sorted i j r le (slice_get_within ranks j s at_j) in
-    let r_is = get_or_from_slice_get ranks i r r at_i in
-    let s_is = get_or_from_slice_get ranks j s r at_j in
-    told (first r) (first s) (second r) (second s) (rw (r_is, s_is) at far))
+pub in_order : (ranks : List Ranked) → IsSortedBy (λ x y. is_lt (ordering_then (nat_cmp x.hash y.hash) (nat_cmp x.bid y.bid))) ranks → AreInOrder ranks
+in_order ranks sorted = λ i j r s le at_i at_j. (
+    let d : Ranked = record { hash = 0; bid = 0; name = 0 } in
+    let far = sorted_far (λ (x y : Ranked). is_lt (ordering_then (nat_cmp x.hash y.hash) (nat_cmp x.bid y.bid))) (ranks_by by_hash (λ (r : Ranked). r)) ranks sorted i j d le (slice_get_within ranks j s at_j) in
+    let r_is = get_or_from_slice_get ranks i r d at_i in
+    let s_is = get_or_from_slice_get ranks j s d at_j in
+    told r.hash s.hash r.bid s.bid (rw (r_is, s_is) at far))
 
 pub ranked_moved : (names : List Named) (ranks moved : List Ranked) → AreRanked names ranks → IsPermutation ranks moved → AreRanked names moved
 ranked_moved names ranks moved ranked same_ranks = record {

@@ -21,13 +21,9 @@ pub record AreRanked (names : List Named) (ranks : List Ranked) : Type 0 where
   -- of a path all names are among them, or none
   pub whole : (x y : ℕ) → IsAmong ranks x → y < length names → SamePath names y x → IsAmong ranks y
 
--- by one number, and then by another
-abbrev pub AreSortedBy : {R : Type 0} → (R → ℕ) → (R → ℕ) → List R → Type 0
-AreSortedBy {R} first second ranks = (i j : ℕ) (r s : R) → i ≤ j → slice_get ranks i ≡ Some r → slice_get ranks j ≡ Some s → (first r < first s) ⊎ ((first r ≡ first s) × (second r ≤ second s))
-
 -- by hash, and then by bid
 abbrev pub AreInOrder : List Ranked → Type 0
-AreInOrder ranks = AreSortedBy (λ (r : Ranked). r.hash) (λ (r : Ranked). r.bid) ranks
+AreInOrder ranks = (i j : ℕ) (r s : Ranked) → i ≤ j → slice_get ranks i ≡ Some r → slice_get ranks j ≡ Some s → (r.hash < s.hash) ⊎ ((r.hash ≡ s.hash) × (r.bid ≤ s.bid))
 
 -- the winners of the first i ranks are found
 pub record AreFound (names : List Named) (ranks : List Ranked) (winners : List ℕ) (i : ℕ) : Type 0 where

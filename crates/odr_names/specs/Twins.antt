@@ -1,10 +1,10 @@
 -- How many earlier siblings of an entry have its parts.
-use Rattle.std.specs.Prelude.{◌≡◌, ℕ, ◌<◌, ◌≤◌, ◌==◌, ◌&&◌, ◌||◌, not, Bool, true, false, List, length, slice_get, slice_index_or, Option, Some, None, is_some}
+use Rattle.std.specs.Prelude.{◌≡◌, ℕ, ◌+◌, ◌/◌, ◌%◌, ◌^◌, ◌<◌, ◌≤◌, ◌==◌, ◌&&◌, ◌||◌, not, Bool, true, false, List, length, slice_get, slice_index_or, Option, Some, None, is_some}
 use Rattle.std.specs.Option.{option_and_then, option_map, option_map_or}
 use Rattle.ds_base.specs.declared.dwarf.TheConstants as dw
 use Rattle.dwarf_types.specs.declared.entry.Entry.{Entry}
 use Rattle.odr_names.specs.declared.ordinals.Sibling.{Sibling}
-use Rattle.odr_names.specs.Ranking.{AreSortedBy}
+use Rattle.odr_names.specs.declared.ordinals.Chains.{Chains}
 use Rattle.type_names.specs.Entries.{is_type}
 use Rattle.type_names.specs.Heads.{Object, entries_of, is_in_head}
 use Rattle.type_names.specs.Paths.{Parts, earlier_twins, parts_of}
@@ -28,7 +28,7 @@ pub record AreTwins (n : ℕ) (o : Object) (a b : ℕ) : Type 0 where
 abbrev pub twins_before : ℕ → Object → ℕ → ℕ
 twins_before n o k = option_map_or (λ e. option_map_or (λ p. length (earlier_twins n o p k (parts_of n o k e))) e.parent 0) (slice_get (entries_of o) k) 0
 
--- ---- siblings in the order of the hashes of their parts
+-- ---- siblings in the order of their numbers
 
 -- it stands below an entry that is in the subtree of a head
 abbrev pub is_inside : Object → ℕ → Bool
@@ -54,10 +54,6 @@ may_have_twins n o k = wants_ordinal n o k && not (is_some (own_in n o k))
 abbrev pub parts_hash : ℕ → Parts → ℕ
 parts_hash parent parts = hash_from parent (piece_bytes (record { parts = parts; ordinal = 0 }))
 
--- by hash, and then by number
-abbrev pub AreByHash : List Sibling → Type 0
-AreByHash ranks = AreSortedBy (λ (r : Sibling). r.hash) (λ (r : Sibling). r.number) ranks
-
 -- an entry of which there is a rank
 abbrev pub IsRanked : List Sibling → ℕ → Type 0
 IsRanked ranks k = (i : ℕ) × (r : Sibling) × (slice_get ranks i ≡ Some r) × (r.number ≡ k)
@@ -75,6 +71,10 @@ pub record IsSibling (n : ℕ) (o : Object) (r : Sibling) : Type 0 where
 
 pub record AreSiblings (n : ℕ) (o : Object) (ranks : List Sibling) (i : ℕ) : Type 0 where
   pub each : (j : ℕ) (r : Sibling) → slice_get ranks j ≡ Some r → IsSibling n o r
+  -- in the order of their numbers
+  pub rising : (j k : ℕ) (r s : Sibling) → j < k → slice_get ranks j ≡ Some r → slice_get ranks k ≡ Some s → r.number < s.number
+  pub below : (j : ℕ) (r : Sibling) → slice_get ranks j ≡ Some r → r.number < i
+  pub few : length ranks ≤ i
   pub all : (k : ℕ) → k < i → may_have_twins n o k ≡ true → (j : ℕ) × (r : Sibling) × (slice_get ranks j ≡ Some r) × (r.number ≡ k)
 
 -- the rank of entry k, where it has one
@@ -88,7 +88,27 @@ pub record AreCounted (n : ℕ) (o : Object) (ranks : List Sibling) (counts : Li
   pub each : (j : ℕ) (r : Sibling) → j < i → slice_get ranks j ≡ Some r → slice_index_or counts r.number 0 ≡ twins_before n o r.number
   pub others : (k : ℕ) → (IsRanked ranks k → ⊥) → slice_index_or counts k 0 ≡ 0
 
--- the entries from rank j up to rank i are no earlier twins of that at rank i
-pub record AreNoTwins (n : ℕ) (o : Object) (ranks : List Sibling) (here : Sibling) (j i : ℕ) : Type 0 where
-  pub le : j ≤ i
-  pub differ : (k : ℕ) (r : Sibling) → j ≤ k → k < i → slice_get ranks k ≡ Some r → r.number < here.number → AreTwins n o r.number here.number → ⊥
+-- ---- chains
+
+-- the cell of a rank, among so many
+abbrev pub cell_of : ℕ → Sibling → ℕ
+cell_of cells r = r.hash / 2 ^ 32 % cells
+
+-- the link to the newest of the first i ranks that is in cell c
+pub record IsNewest (ranks : List Sibling) (cells c i link : ℕ) : Type 0 where
+  pub le : link ≤ i
+  pub own : (k : ℕ) (r : Sibling) → link ≡ k + 1 → slice_get ranks k ≡ Some r → cell_of cells r ≡ c
+  pub none : (k : ℕ) (r : Sibling) → link ≤ k → k < i → slice_get ranks k ≡ Some r → cell_of cells r ≡ c → ⊥
+
+-- the first i ranks hang in the chains of their cells
+pub record AreChained (ranks : List Sibling) (chains : Chains) (i : ℕ) : Type 0 where
+  pub some : 1 ≤ length chains.newest.items
+  pub len : length chains.before.items ≡ i
+  pub newest : (c : ℕ) → c < length chains.newest.items → IsNewest ranks (length chains.newest.items) c i (slice_index_or chains.newest.items c 0)
+  pub before : (k : ℕ) (r : Sibling) → k < i → slice_get ranks k ≡ Some r → IsNewest ranks (length chains.newest.items) (cell_of (length chains.newest.items) r) k (slice_index_or chains.before.items k 0)
+
+-- no rank from this one up to rank i is a twin of that one, and the rank before this one is in its cell
+pub record IsWalked (n : ℕ) (o : Object) (ranks : List Sibling) (cells : ℕ) (here : Sibling) (link i : ℕ) : Type 0 where
+  pub le : link ≤ i
+  pub own : (k : ℕ) (r : Sibling) → link ≡ k + 1 → slice_get ranks k ≡ Some r → cell_of cells r ≡ cell_of cells here
+  pub differ : (k : ℕ) (r : Sibling) → link ≤ k → k < i → slice_get ranks k ≡ Some r → AreTwins n o r.number here.number → ⊥

@@ -6,8 +6,9 @@
 //! `specs/Joining.antt`), once [`names_together`] has told that they are few enough; [`book`] makes and joins them one by
 //! one. What a book's names are stands in `type_names/specs/Names.antt`; when rows stand for them, in `specs/Book.antt`;
 //! which rows of live entries a book is made of, in `specs/Making.antt`. Paths are compared hash first and then piece by
-//! piece upwards (`path_book`, `piece`). Ordinals (`ordinals`) and winners ([`winners_plain`], `specs/Winners.antt`) come
-//! from a sort by hashes. A [`PathBook`] is a `NameBook` of `pool_core` (`name_book`).
+//! piece upwards (`path_book`, `piece`). Ordinals (`ordinals`) come from chains of entries whose hashes share a cell, and
+//! winners ([`winners_plain`], `specs/Winners.antt`) from a sort by hashes. A [`PathBook`] is a `NameBook` of `pool_core`
+//! (`name_book`).
 #![tactic(auto)]
 
 mod book_error;

@@ -1,12 +1,11 @@
 //! Ordinals of pieces: how many earlier siblings have the same parts.
 
-ghost use Rattle.std.specs.Prelude.{◌≡◌, ◌≤◌, ◌<◌, ◌^◌, ◌↔◌, ℕ, true, false, length, slice_get, slice_index_or, Some, None, IfOk, IsTrue, if◌then◌else◌};
+ghost use Rattle.std.specs.Prelude.{◌≡◌, ◌≤◌, ◌<◌, ◌^◌, ◌↔◌, ℕ, true, false, length, slice_get, slice_index_or, Some, None, IfOk, IsTrue, OnOk, ◌+◌, if◌then◌else◌};
 ghost use Rattle.std.specs.Option.{option_and_then};
 ghost use Rattle.dwarf_types.specs.declared.entry.Entry.{Entry as AnEntry};
 ghost use Rattle.dwarf_types.specs.Tree.{ParentsStandBefore};
 ghost use Rattle.odr_names.specs.Pieces.{IsSpelled, parts_seen};
-ghost use Rattle.std.specs.List.Sorted.{IsPermutation};
-ghost use Rattle.odr_names.specs.Twins.{AreByHash, AreCounted, AreNoTwins, AreSiblings, AreTwins, IsRankOf, parts_hash, tell_alone, twins_before, wants_ordinal};
+ghost use Rattle.odr_names.specs.Twins.{AreChained, AreCounted, AreSiblings, AreTwins, IsRankOf, IsSibling, cell_of, parts_hash, tell_alone, twins_before, wants_ordinal};
 ghost use Rattle.odr_names.specs.declared.ordinals.Sibling.{Sibling as ASibling};
 ghost use Rattle.type_names.specs.Heads.{is_in_head, is_pooled};
 ghost use Rattle.type_names.specs.Objects.{object_of};
@@ -32,11 +31,20 @@ pub(crate) struct Sibling {
 
 const _: () = prove!(size_of::<Sibling>() == 16);
 
+/// Siblings in chains, one for each cell of hashes. A link holds 1 more than the place of a rank, or 0 for none.
+#[derive(Drop)]
+pub(crate) struct Chains {
+    /// The newest rank of each cell.
+    pub(crate) newest: Vec<u32>,
+    /// Of each rank, the one before it in its cell.
+    pub(crate) before: Vec<u32>,
+}
+
 /// Of each entry whose ordinal is asked for, how many earlier siblings have the same parts: of those below entries in the
 /// subtrees of heads that their parts don't tell apart.
 ///
-/// The siblings are put in order by the hashes of their parents and parts, and then by number, so that the nearest
-/// earlier one with the same parts stands a few places before.
+/// The siblings are gone over by their numbers. Those whose hashes share a cell hang in a chain, so that the nearest earlier
+/// one with the same parts is reached first.
 pub(crate) fn twins_of(
     alloc: Global,
     seen: &Analysis,
@@ -51,8 +59,7 @@ pub(crate) fn twins_of(
     ensures exact { IfOk result (λ counts. (k : ℕ) → k < length seen.now.entries → wants_ordinal object (object_of seen.now live.now) k ≡ true
         → slice_index_or counts.items k 0 ≡ twins_before object (object_of seen.now live.now) k) }
 {
-    let mut ranks = siblings_of(alloc, seen, live, names, object)?;
-    sort_siblings(&mut ranks);
+    let ranks = siblings_of(alloc, seen, live, names, object)?;
     let counts = counts_of(alloc, seen, live, names, object, &ranks)?;
     Ok(counts)
 }
@@ -61,7 +68,7 @@ pub(crate) fn twins_of(
 ///
 /// Those that their parts tell apart are left out: their ordinals are 0, and what has the same parts is left out too. Those
 /// with a [`crate::piece::Private`] have no twins, and are left out as well. It goes into no hash, so all members of a class
-/// that differ in it alone would stand together, each to be compared with all before.
+/// that differ in it alone would hang in one chain, each to be compared with all before.
 fn siblings_of(
     alloc: Global,
     seen: &Analysis,
@@ -82,14 +89,6 @@ fn siblings_of(
         }
     }
     Ok(ranks)
-}
-
-/// Puts siblings in order: by hash, and then by number.
-fn sort_siblings(ranks: &mut Vec<Sibling>)
-    ensures same { IsPermutation ranks.old.items ranks.new.items }
-    ensures order { AreByHash ranks.new.items }
-{
-    ranks.sort_unstable_by_key(|r| (r.hash, r.number));
 }
 
 /// The rank of an entry, where siblings may have its parts.
@@ -154,15 +153,49 @@ fn counts_of(
     requires parents { ParentsStandBefore seen.now.entries }
     requires names { AreNames (object_of seen.now live.now) names.now }
     requires siblings { AreSiblings object (object_of seen.now live.now) ranks.now (length seen.now.entries) }
-    requires order { AreByHash ranks.now }
     ensures { IfOk result (λ counts. AreCounted object (object_of seen.now live.now) ranks.now counts.items (length ranks.now)) }
 {
     let mut counts = vec![in alloc; 0; seen.entries.len()]?;
+    let mut chains = no_chains(alloc, ranks)?;
     for i in 0..ranks.len() {
-        let count = count_at(seen, live, names, object, ranks, &counts, i);
+        let count = count_at(seen, live, names, object, ranks, &chains, &counts, i);
         counts[ranks[i].number as usize] = count;
+        hang(&mut chains, ranks, i)?;
     }
     Ok(counts)
+}
+
+/// Chains in which none of these ranks hangs yet.
+fn no_chains(alloc: Global, ranks: &[Sibling]) -> Result<Chains, NoMemory>
+    requires { length ranks.now ≤ 2 ^ 24 }
+    ensures { IfOk result (λ chains. AreChained ranks.now chains 0) }
+{
+    let newest = vec![in alloc; 0; ranks.len() + 1]?;
+    let before = Vec::with_capacity(alloc, ranks.len())?;
+    Ok(Chains { newest, before })
+}
+
+/// Hangs the rank at a place before those of its cell that hang already.
+fn hang(chains: &mut Chains, ranks: &[Sibling], i: usize) -> Result<(), NoMemory>
+    requires within { i < length ranks.now }
+    requires few { length ranks.now ≤ 2 ^ 24 }
+    requires chained { AreChained ranks.now chains.old i }
+    ensures { OnOk result (AreChained ranks.now chains.new (i + 1)) }
+{
+    let cell = cell_of(rank_at(ranks, i), chains.newest.len());
+    let newest = chains.newest[cell];
+    chains.before.push(newest)?;
+    chains.newest[cell] = i as u32 + 1;
+    Ok(())
+}
+
+/// The cell of a rank, among so many.
+fn cell_of(rank: Sibling, cells: usize) -> usize
+    requires { 1 ≤ cells }
+    ensures cell { result ≡ cell_of cells rank }
+    ensures within { result < cells }
+{
+    ((rank.hash >> 32) % cells as u64) as usize
 }
 
 /// The count at rank `i`: one more than that of the nearest rank before it with the same parent and parts, or 0.
@@ -172,6 +205,7 @@ fn count_at(
     names: &TypeNames,
     object: u32,
     ranks: &[Sibling],
+    chains: &Chains,
     counts: &[u32],
     i: usize,
 ) -> u32
@@ -179,19 +213,19 @@ fn count_at(
     requires parents { ParentsStandBefore seen.now.entries }
     requires names { AreNames (object_of seen.now live.now) names.now }
     requires siblings { AreSiblings object (object_of seen.now live.now) ranks.now (length seen.now.entries) }
-    requires order { AreByHash ranks.now }
+    requires chained { AreChained ranks.now chains.now i }
     requires within { i < length ranks.now }
     requires counted { AreCounted object (object_of seen.now live.now) ranks.now counts.now i }
     ensures { (r : ASibling) → slice_get ranks.now i ≡ Some r → result ≡ twins_before object (object_of seen.now live.now) r.number }
 {
     let here = rank_at(ranks, i);
-    let mut j = i;
-    while j > 0 && rank_at(ranks, j - 1).hash == here.hash {
-        j -= 1;
-        let other = rank_at(ranks, j);
-        if is_earlier_twin(seen, live, names, object, other.number, here.number) {
+    let mut j = chains.newest[cell_of(here, chains.newest.len())];
+    while j > 0 {
+        let other = rank_at(ranks, j as usize - 1);
+        if are_ranked_twins(seen, live, names, object, other, here) {
             return counts[other.number as usize] + 1;
         }
+        j = chains.before[j as usize - 1];
     }
     0
 }
@@ -204,21 +238,21 @@ fn rank_at(ranks: &[Sibling], i: usize) -> Sibling
     ranks[i]
 }
 
-/// Whether an entry is an earlier sibling of another, and has the same parts.
-fn is_earlier_twin(
+/// Whether two ranks are of entries with the same parent and the same parts.
+fn are_ranked_twins(
     seen: &Analysis,
     live: &BitRow,
     names: &TypeNames,
     object: u32,
-    a: u32,
-    b: u32,
+    a: Sibling,
+    b: Sibling,
 ) -> bool
+    requires parents { ParentsStandBefore seen.now.entries }
     requires names { AreNames (object_of seen.now live.now) names.now }
-    requires places { (a < length seen.now.entries) × (b < length seen.now.entries) }
-    requires spelled { IsSpelled (object_of seen.now live.now) a × IsSpelled (object_of seen.now live.now) b }
-    ensures { IsTrue result ↔ ((a < b) × AreTwins object (object_of seen.now live.now) a b) }
+    requires siblings { IsSibling object (object_of seen.now live.now) a × IsSibling object (object_of seen.now live.now) b }
+    ensures { IsTrue result ↔ AreTwins object (object_of seen.now live.now) a.number b.number }
 {
-    a < b && are_twins(seen, live, names, object, a, b)
+    a.hash == b.hash && are_twins(seen, live, names, object, a.number, b.number)
 }
 
 /// Whether two entries have the same parent and the same parts.

@@ -14,7 +14,7 @@ index_mut-requires c =
     let d : Sibling = record { hash = 0; number = 0 } in
     let at : slice_get ranks c.loop-i.i ≡ Some (get_or ranks c.loop-i.i d) = slice_get-get_or ranks c.loop-i.i d (omega arith) in
     let it = c.requires.siblings.each c.loop-i.i (get_or ranks c.loop-i.i d) at in
-    omega (arith, slice_get_within (entries_of o) (get_or ranks c.loop-i.i d).number it.entry it.stands, c.loop-i.invariant.len)
+    omega (arith, slice_get_within (entries_of o) (get_or ranks c.loop-i.i d).number it.entry it.stands, c.loop-i.invariant.counted.len)
 
 pub loop-i-preserved : goal.loop-i-preserved
 loop-i-preserved c =
@@ -23,4 +23,7 @@ loop-i-preserved c =
     let ranks = c.args.ranks.now in
     let d : Sibling = record { hash = 0; number = 0 } in
     let at : slice_get ranks c.loop-i.i ≡ Some (get_or ranks c.loop-i.i d) = slice_get-get_or ranks c.loop-i.i d (omega arith) in
-    counted_more n o ranks c.loop-i.counts.items c.loop-i.i (get_or ranks c.loop-i.i d) c.count_at-count.result c.requires.siblings at (c.count_at-count.ensures (get_or ranks c.loop-i.i d) at) c.loop-i.invariant
+    record {
+      counted = counted_more n o ranks c.loop-i.counts.items c.loop-i.i (get_or ranks c.loop-i.i d) c.count_at-count.result c.requires.siblings at (c.count_at-count.ensures (get_or ranks c.loop-i.i d) at) c.loop-i.invariant.counted;
+      chained = c.in_ok-hang.ensures;
+    }
