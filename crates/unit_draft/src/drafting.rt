@@ -1,9 +1,9 @@
 //! A unit that is being drafted.
 
-ghost use Rattle.std.specs.Prelude.{◌≡◌, [], IfOk};
+ghost use Rattle.std.specs.Prelude.{◌≡◌, []};
 ghost use Rattle.patches.specs.Filling.{Filling, filled};
 
-use ds_base::{Bytes, NoMemory};
+use ds_base::Bytes;
 use patches::Buffer;
 use std::alloc::Global;
 use text_pool::Naming;
@@ -31,16 +31,16 @@ pub(crate) struct Scratch {
 const BYTES_AN_ENTRY: usize = 24;
 
 impl<'a> Drafting<'a> {
-    /// Nothing so far, and room for the entries of so many nodes with a hole of each kind.
-    pub(crate) fn with_capacity(alloc: Global, nodes: usize) -> Result<Drafting<'a>, NoMemory>
-        ensures info { IfOk result (λ it. (f : Filling) → filled it.info f ≡ []) }
-        ensures locations { IfOk result (λ it. (f : Filling) → filled it.locations f ≡ []) }
-        ensures ranges { IfOk result (λ it. it.ranges ≡ []) }
-        ensures names { IfOk result (λ it. it.names ≡ []) }
+    /// Nothing so far, and room for the entries of so many nodes with a hole of each kind, if the allocator has it.
+    pub(crate) fn new(alloc: Global, nodes: usize) -> Drafting<'a>
+        ensures info { (f : Filling) → filled result.info f ≡ [] }
+        ensures locations { (f : Filling) → filled result.locations f ≡ [] }
+        ensures ranges { result.ranges ≡ [] }
+        ensures names { result.names ≡ [] }
     {
         let mut info = Buffer::new(alloc);
-        info.reserve(nodes.saturating_mul(BYTES_AN_ENTRY), nodes)?;
-        Ok(Drafting {
+        let _ = info.reserve(nodes.saturating_mul(BYTES_AN_ENTRY), nodes);
+        Drafting {
             info,
             locations: Buffer::new(alloc),
             ranges: Bytes::new(alloc),
@@ -49,6 +49,6 @@ impl<'a> Drafting<'a> {
                 expression: Buffer::new(alloc),
                 inner: Buffer::new(alloc),
             },
-        })
+        }
     }
 }

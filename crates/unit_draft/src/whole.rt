@@ -80,7 +80,7 @@ fn appender_of<'a>(
 ) -> Result<Appender<'a>, NoMemory>
     ensures { IfOk result (IsBegun number version) }
 {
-    let mut drafting = Drafting::with_capacity(alloc, nodes)?;
+    let mut drafting = Drafting::new(alloc, nodes);
     append_header(&mut drafting.info, version)?;
     let places = List::with_capacity(alloc, nodes)?;
     Ok(Appender {
