@@ -4,7 +4,7 @@ ghost use Rattle.std.specs.Prelude.{◌≡◌, Ok};
 ghost use Rattle.unit_draft.specs.Drafted.{Drafts};
 
 use crate::parts::{add, has_at, one, same, same_bytes};
-use crate::units::{add_attr, bytes, node, number, text, unit, unit_of};
+use crate::units::{add_attr, bytes, first_draft, node, number, text, unit, unit_of};
 use ds_base::dwarf::{
     DW_AT_abstract_origin, DW_AT_const_value, DW_AT_frame_base, DW_AT_location, DW_AT_name,
     DW_AT_type, DW_FORM_data4, DW_OP_convert, DW_OP_entry_value, DW_OP_reg5, DW_OP_stack_value,
@@ -14,10 +14,9 @@ use ds_base::{Bytes, List};
 use dwarf_types::{
     ExprPart, Node, OutAttr, OutLocation, OutUnit, OutValue, PlainPart, Span, Target,
 };
-use patches::{Outside, Placed};
 use std::alloc::Global;
 use std::process::Abort;
-use unit_draft::{Draft, draft_unit, draft_unit_by_two, emit_draft};
+use unit_draft::{Draft, Outside, draft_unit, draft_unit_by_two, emit_draft};
 
 // ---- drafts
 
@@ -169,7 +168,8 @@ fn ended<'a>(end: u32) -> Outside<'a> {
         locations: 0,
         texts: &[],
         line_texts: &[],
-        units: &[],
+        starts: &[],
+        drafts: &[],
         end,
     }
 }
@@ -300,28 +300,17 @@ const LOCATIONS: [u8; 37] = [
     0, 0, 0, 0, 0, 0, 0, 0,  0, 0, 0, 0, 0, 0, 0, 0,
 ];
 
-// The first unit of the graph, to which the second refers.
-fn first_placed(rt: &impl Abort, alloc: Global) -> List<Placed> {
-    let mut nodes = one(rt, alloc, 11);
-    add(rt, &mut nodes, 30);
-    let placed = Placed {
-        start: 0x100,
-        nodes,
-        len: 48,
-    };
-    one(rt, alloc, placed)
-}
-
 #[test]
 fn a_unit_names_entries_texts_and_lists(rt: HostRuntime) {
     let alloc = rt.alloc();
     let unit = second_unit(&rt, alloc);
-    let units = first_placed(&rt, alloc);
+    let first = first_draft(&rt, alloc);
     let outside = Outside {
         table: 0x20,
         locations: 0x30,
         texts: &[5],
-        units: units.as_slice(),
+        starts: &[0x100],
+        drafts: first.as_slice(),
         ..ended(0x15a)
     };
     let want = Want {

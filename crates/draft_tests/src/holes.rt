@@ -2,12 +2,13 @@
 
 ghost use Rattle.std.specs.Prelude.{◌≡◌, []};
 
-use crate::parts::{add, one, same};
-use ds_base::List;
+use crate::parts::same;
+use crate::units::first_draft;
 use dwarf_types::Target;
-use patches::{Buffer, Outer, Outside, Own, Placed};
+use patches::{Buffer, Outer, Own};
 use std::alloc::Global;
 use std::process::Abort;
+use unit_draft::Outside;
 
 // Fills what the unit tells: it has 16 bytes, and its nodes stand at 11 and 13.
 fn settle(buffer: &mut Buffer)
@@ -60,23 +61,11 @@ fn holey(rt: &impl Abort, alloc: Global) -> Buffer {
     buffer
 }
 
-// The one unit of the graph.
-fn units(rt: &impl Abort, alloc: Global) -> List<Placed> {
-    let mut nodes = one(rt, alloc, 11u32);
-    add(rt, &mut nodes, 12);
-    let placed = Placed {
-        start: 0x100,
-        nodes,
-        len: 20,
-    };
-    one(rt, alloc, placed)
-}
-
 #[rattlefmt::skip]
 const FILLED: [u8; 41] = [
     12, 0, 0, 0,  b'a', b'b',  4, 3,  0x80, 1,  0xff, 0x7e,
     8,  0x8d, 0x80, 0x80, 0,  7, 0, 0, 0,
-    16, 0, 0, 0,  0x0c, 1, 0, 0,  0, 2, 0, 0,  0x50, 0, 0, 0,  9, 0, 0, 0,
+    16, 0, 0, 0,  0x1e, 1, 0, 0,  0, 2, 0, 0,  0x50, 0, 0, 0,  9, 0, 0, 0,
 ];
 
 // The bytes of a buffer, once its holes are filled.
@@ -93,8 +82,8 @@ fn holes_are_filled_where_they_were_left(rt: HostRuntime) {
     let alloc = rt.alloc();
     let mut buffer = holey(&rt, alloc);
     settle(&mut buffer);
-    let units = units(&rt, alloc);
-    let outside = Outside { table: 0, lines: 0, ranges: 0x40, locations: 0, texts: &[0, 7], line_texts: &[0, 9], units: units.as_slice(), end: 0x200 };
+    let first = first_draft(&rt, alloc);
+    let outside = Outside { table: 0, lines: 0, ranges: 0x40, locations: 0, texts: &[0, 7], line_texts: &[0, 9], starts: &[0x100], drafts: first.as_slice(), end: 0x200 };
     is_filled(&rt, &buffer, &outside, &mut [0; 41], &FILLED);
     is_patched(&rt, buffer, &outside, &FILLED);
 }

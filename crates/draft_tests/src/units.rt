@@ -9,6 +9,7 @@ use ds_base::{Bytes, List};
 use dwarf_types::{Node, OutAttr, OutUnit, OutValue, Span};
 use std::alloc::Global;
 use std::process::Abort;
+use unit_draft::{Draft, draft_unit};
 
 pub(crate) fn bytes(rt: &impl Abort, alloc: Global, from: &[u8]) -> Bytes {
     Bytes::from_slice(alloc, from).expect(rt, "memory")
@@ -74,4 +75,11 @@ pub(crate) fn unit(rt: &impl Abort, alloc: Global, version: u16) -> OutUnit {
     let mut nodes = one(rt, alloc, root(rt, alloc));
     add(rt, &mut nodes, function(rt, alloc));
     unit_of(rt, alloc, version, nodes)
+}
+
+// The draft of such a unit, which is the first of a graph: its nodes stand at 11 and 30, and it has 48 bytes.
+pub(crate) fn first_draft(rt: &impl Abort, alloc: Global) -> List<Draft> {
+    let unit = unit(rt, alloc, 4);
+    let draft = draft_unit(alloc, &unit, 0).expect(rt, "a draft");
+    one(rt, alloc, draft)
 }

@@ -1,14 +1,11 @@
 -- The draft of a unit of a graph that was measured.
 use Rattle.std.proofs.Common.{◌≡◌, ◌<◌, ℕ, zero, suc, List, [], ◌∷◌, refl, length, slice_get, Some, Ok, sym, ap, ◌∙◌, arith}
-use Rattle.std.proofs.lemmas.List.{length-map}
-use Rattle.std.proofs.lemmas.List.FromFn.{length-enumerate_from}
 use Rattle.dwarf_types.specs.declared.graph.Graph.{Graph}
 use Rattle.dwarf_types.specs.declared.graph.OutUnit.{OutUnit}
-use Rattle.dwarf_types.specs.Layout.{lists_place, numbered_units, places_of, table_place}
+use Rattle.dwarf_types.specs.Layout.{lists_place, places_of, table_place}
 use Rattle.dwarf_types.proofs.Lengths.{length-unit}
 use Rattle.unit_draft.specs.declared.unit.Draft.{Draft}
 use Rattle.unit_draft.specs.Drafted.{IsDraft}
-use Rattle.unit_draft.specs.Outside.{placed}
 use Rattle.emit_info.specs.Emitting.{bytes_in}
 use Rattle.layout.specs.Laid.{IsMeasured, Laid, Measures}
 use Rattle.emit_info.proofs.UnitByUnit.{unit_is, unit_of}
@@ -16,16 +13,6 @@ use Rattle.emit_info.proofs.UnitByUnit.{unit_is, unit_of}
 -- as many units as drafts
 pub within_graph : (graph : Graph) (layout : Laid) (u : ℕ) → Measures graph (Ok layout) → u < length layout.drafts → u < length graph.units
 within_graph graph layout u measured lt = omega (arith, lt, measured.3.count)
-
-pub within_drafts : (graph : Graph) (layout : Laid) (u : ℕ) → Measures graph (Ok layout) → u < length layout.drafts → u < length layout.units
-within_drafts graph layout u measured lt =
-    omega (
-      arith,
-      within_graph graph layout u measured lt,
-      ap (λ (l : Laid). length l.units) measured.0,
-      length-map (numbered_units graph) (λ (n : ℕ × OutUnit). placed graph n.0 n.1),
-      length-enumerate_from 0 graph.units,
-    )
 
 pub its_draft : (layout : Laid) (u : ℕ) (draft : Draft) (m : IsMeasured layout) → u < length layout.drafts → slice_get layout.drafts u ≡ Some draft → IsDraft u (unit_of m.graph u) draft
 its_draft layout u draft m lt there = m.measured.3.each u (unit_of m.graph u) draft (unit_is m.graph u (within_graph m.graph layout u m.measured lt)) there

@@ -12,8 +12,8 @@ use Rattle.dwarf_types.specs.declared.graph.OutUnit.{OutUnit}
 use Rattle.dwarf_types.specs.Entries.{unit_len}
 use Rattle.dwarf_types.specs.Layout.{numbered_units}
 use Rattle.unit_draft.specs.declared.unit.Draft.{Draft}
-use Rattle.unit_draft.specs.Drafted.{IsDraft}
-use Rattle.layout.specs.Laid.{AreDrafts, long_unit}
+use Rattle.unit_draft.specs.Drafted.{AreDrafts, IsDraft}
+use Rattle.layout.specs.Laid.{long_unit}
 use Rattle.layout.proofs.Numbered.{get_numbered, take_numbered, within_numbered}
 
 push_cases : {X : Type 0} (xs : List X) (x : X) (k : ℕ) (y : X) → slice_get (xs ++ x ∷ []) k ≡ Some y → (slice_get xs k ≡ Some y) ⊎ ((k ≡ length xs) × (x ≡ y))

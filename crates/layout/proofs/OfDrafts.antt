@@ -14,15 +14,13 @@ use Rattle.dwarf_types.specs.Aranges.{aranges_bytes}
 use Rattle.dwarf_types.specs.Abbreviations.{same_flag}
 use Rattle.dwarf_types.specs.Entries.{node_place, unit_len}
 use Rattle.dwarf_types.specs.Layout.{line_texts_of, line_texts_of_unit, lines_place, lists_start, locations_before, numbered_units, ranges_before, table_place, texts_of, texts_of_node, unit_start}
-use Rattle.patches.specs.declared.outside.Placed.{Placed}
 use Rattle.unit_draft.specs.declared.unit.Draft.{Draft}
-use Rattle.unit_draft.specs.Drafted.{IsDraft, node_places}
-use Rattle.unit_draft.specs.Outside.{placed}
+use Rattle.unit_draft.specs.Drafted.{AreDrafts, IsDraft}
 use Rattle.text_pool.proofs.Uses.{once_of_onces}
 use Rattle.layout.specs.declared.placing.PartPlaces.{PartPlaces}
 use Rattle.layout.specs.declared.placing.Placing.{Placing}
 use Rattle.layout.specs.declared.starts.Starts.{Starts}
-use Rattle.layout.specs.Laid.{AreDrafts, long_unit, part_places}
+use Rattle.layout.specs.Laid.{long_unit, part_places}
 use Rattle.layout.specs.Pass.{behind_draft, behind_unit, in_five, in_others, no_starts, none_placed, nothing, parts_of, starts_of, with_draft}
 use Rattle.layout.proofs.GraphParts.{by_all, starts_more}
 use Rattle.layout.proofs.SectionLengths.{unit_locations_size, unit_ranges_size}
@@ -54,9 +52,6 @@ behind_is at u unit d is =
     (ap (λ (n : ℕ). at.rnglists + n) (five_are d.version unit (length d.ranges) _ is.version ranges))
     (ap (λ (n : ℕ). at.loc + n) (others_are d.version unit (length d.locations) _ is.version locations))
     (ap (λ (n : ℕ). at.loclists + n) (five_are d.version unit (length d.locations) _ is.version locations))
-
-abbrev placed_by : ℕ → List ℕ → ℕ → Placed
-placed_by start nodes len = record { start = start; nodes = nodes; len = len }
 
 -- where the parts of a unit stand, by its version
 module _ (graph : Graph) (u : ℕ) where
@@ -174,7 +169,7 @@ module _ (graph : Graph) where
 
   -- what is known of drafts that follow the first ones
   record Follow (p : Placing) (n : ℕ) (us : List OutUnit) (new : Placing) : Type 0 where
-    units : new.units ≡ p.units ++ map (λ m. placed graph m.0 m.1) (enumerate_from n us)
+    starts : new.starts ≡ p.starts ++ map (λ m. unit_start graph m.0) (enumerate_from n us)
     parts : new.parts ≡ p.parts ++ map (λ m. part_places graph m.0 m.1) (enumerate_from n us)
     aranges : new.aranges ≡ p.aranges ++ flat_map (λ m. aranges_bytes (unit_start graph m.0) m.1.ranges) (enumerate_from n us)
     at : new.at ≡ starts_of graph (n + length us)
@@ -188,7 +183,7 @@ module _ (graph : Graph) where
   follow_from n front [] [] p parts len f same =
       let end : n ≡ n + 0 = omega arith in
       record {
-        units = sym (append-nil p.units);
+        starts = sym (append-nil p.starts);
         parts = sym (append-nil p.parts);
         aranges = sym (append-nil p.aranges);
         at = same ∙ ap (starts_of graph) end;
@@ -199,12 +194,10 @@ module _ (graph : Graph) where
       let next = with_draft p d in
       let h = follow_from (n + 1) (front ++ u ∷ []) us ds next (next_front front us u parts) (omega (arith, len, length-append front (u ∷ []))) f.1 (next_starts n front us u d p.at parts len f.0 same) in
       let info : p.at.info ≡ unit_start graph n = ap (λ (s : Starts). s.info) same in
-      let unit : placed_by p.at.info d.places d.len ≡ placed_by (unit_start graph n) (node_places n u) (unit_len n u) =
-      ap (λ (s : ℕ). placed_by s d.places d.len) info ∙ ap (λ (ns : List ℕ). placed_by (unit_start graph n) ns d.len) f.0.places ∙ ap (placed_by (unit_start graph n) (node_places n u)) f.0.len in
       let part = ap (λ (v : ℕ). parts_of v p.at) f.0.version ∙ ap (parts_of u.version) same ∙ parts_same graph n u in
       let end : n + 1 + length us ≡ n + suc (length us) = omega arith in
       record {
-        units = one_more _ _ _ _ _ _ h.units unit refl;
+        starts = one_more _ _ _ _ _ _ h.starts info refl;
         parts = one_more _ _ _ _ _ _ h.parts part refl;
         aranges = h.aranges ∙ append_assoc p.aranges (aranges_bytes p.at.info d.code) _
             ∙ ap (λ (s : ℕ). p.aranges ++ (aranges_bytes s d.code ++ flat_map (λ m. aranges_bytes (unit_start graph m.0) m.1.ranges) (enumerate_from (n + 1) us))) info
@@ -214,7 +207,7 @@ module _ (graph : Graph) where
 
   -- all drafts
   pub record AllPlaced (new : Placing) : Type 0 where
-    pub units : new.units ≡ map (λ m. placed graph m.0 m.1) (numbered_units graph)
+    pub starts : new.starts ≡ map (λ m. unit_start graph m.0) (numbered_units graph)
     pub parts : new.parts ≡ map (λ m. part_places graph m.0 m.1) (numbered_units graph)
     pub aranges : new.aranges ≡ flat_map (λ m. aranges_bytes (unit_start graph m.0) m.1.ranges) (numbered_units graph)
     pub at : new.at ≡ starts_of graph (length graph.units)
@@ -223,7 +216,7 @@ module _ (graph : Graph) where
   placed_all drafts are =
       let h = follow_from 0 [] graph.units drafts none_placed refl refl (from_graph graph drafts are) refl in
       let end : 0 + length graph.units ≡ length graph.units = omega arith in
-      record { units = h.units; parts = h.parts; aranges = h.aranges; at = h.at ∙ ap (starts_of graph) end }
+      record { starts = h.starts; parts = h.parts; aranges = h.aranges; at = h.at ∙ ap (starts_of graph) end }
 
 -- ---- whatever the graph
 
@@ -232,16 +225,11 @@ pub at_end : (drafts : List Draft) (p : Placing) → (fold with_draft p drafts).
 at_end [] p = refl
 at_end (d ∷ drafts) p = at_end drafts (with_draft p d)
 
--- each draft has its places in all lists, and there are no more
-pub record AsMany (count : ℕ) (p : Placing) : Type 0 where
-  pub units : length p.units ≡ count
-  pub parts : length p.parts ≡ count
-
-pub as_many : (drafts : List Draft) (count : ℕ) (p : Placing) → AsMany count p → AsMany (count + length drafts) (fold with_draft p drafts)
-as_many [] count p h = record { units = omega (arith, h.units); parts = omega (arith, h.parts) }
-as_many (d ∷ drafts) count p h =
+-- each draft has its places, and there are no more
+pub as_many : (drafts : List Draft) (p : Placing) → length (fold with_draft p drafts).parts ≡ length p.parts + length drafts
+as_many [] p = omega arith
+as_many (d ∷ drafts) p =
     let next = with_draft p d in
-    let units : length next.units ≡ length p.units + 1 = length-append p.units _ in
     let parts : length next.parts ≡ length p.parts + 1 = length-append p.parts _ in
-    let rest = as_many drafts (count + 1) next (record { units = omega (arith, units, h.units); parts = omega (arith, parts, h.parts) }) in
-    record { units = omega (arith, rest.units); parts = omega (arith, rest.parts) }
+    let rest = as_many drafts next in
+    omega (arith, parts, rest)

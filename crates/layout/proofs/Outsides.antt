@@ -1,17 +1,17 @@
 -- What a layout tells of what stands outside of a unit.
-use Rattle.std.proofs.Common.{◌≡◌, ℕ, ◌+◌, ◌<◌, List, [], length, map, get_or, slice_get, slice_index, Some, None, sym, ap, ◌∙◌, arith}
+use Rattle.std.proofs.Common.{◌≡◌, ℕ, ◌+◌, ◌<◌, List, [], length, map, get_or, slice_get, slice_index, Some, None, sym, subst, ap, ◌∙◌, arith}
 use Rattle.std.proofs.lemmas.List.{get_or-map}
 use Rattle.std.proofs.lemmas.List.FromFn.{get_or-enumerate_from, length-enumerate_from}
 use Rattle.std.proofs.lemmas.Option.{get_or_from_slice_get, slice_get_within}
 use Rattle.dwarf_types.specs.declared.graph.Graph.{Graph}
 use Rattle.dwarf_types.specs.declared.graph.OutUnit.{OutUnit}
 use Rattle.dwarf_types.specs.Layout.{line_text_place, numbered_units, text_place}
-use Rattle.patches.specs.declared.outside.Outside.{Outside}
+use Rattle.unit_draft.specs.declared.outside.Outside.{Outside}
 use Rattle.unit_draft.specs.declared.unit.Draft.{Draft}
-use Rattle.unit_draft.specs.Drafted.{IsDraft}
-use Rattle.unit_draft.specs.Outside.{IsOutside, placed}
+use Rattle.unit_draft.specs.Drafted.{AreDrafts, IsDraft}
+use Rattle.unit_draft.specs.Outside.{IsOutside}
 use Rattle.layout.specs.declared.placing.PartPlaces.{PartPlaces}
-use Rattle.layout.specs.Laid.{AreDrafts, Laid, laid, line_text_places, part_places, text_places}
+use Rattle.layout.specs.Laid.{Laid, laid, line_text_places, part_places, text_places}
 use Rattle.layout.proofs.SectionLengths.{info_end}
 
 blank : OutUnit
@@ -33,9 +33,8 @@ module _ (graph : Graph) (layout : Laid) (u : ℕ) (unit : OutUnit) (draft : Dra
   pub outside_is : layout ≡ laid graph layout.drafts → AreDrafts graph layout.drafts → slice_get graph.units u ≡ Some unit → slice_get layout.drafts u ≡ Some draft
       → part ≡ get_or layout.parts u d → places ≡ get_or layout.text_places u places → line_places ≡ get_or layout.line_text_places u line_places
       → o.table ≡ part.table → o.lines ≡ part.lines → o.ranges ≡ part.ranges → o.locations ≡ part.locations → o.texts.now ≡ places → o.line_texts.now ≡ line_places
-      → o.units.now ≡ layout.units → o.end ≡ layout.sizes.info → IsOutside graph u unit draft.names draft.line_names o
-  outside_is whole are here there part_is places_is line_places_is table lines ranges locations texts line_texts units end =
-      let units_are : layout.units ≡ map (λ n. placed graph n.0 n.1) (numbered_units graph) = ap (λ (l : Laid). l.units) whole in
+      → o.starts.now ≡ layout.starts → o.drafts.now ≡ layout.drafts → o.end ≡ layout.sizes.info → IsOutside graph u unit draft.names draft.line_names o
+  outside_is whole are here there part_is places_is line_places_is table lines ranges locations texts line_texts starts drafts end =
       let within : u < length graph.units = slice_get_within graph.units u unit here in
       let its : get_or graph.units u blank ≡ unit = get_or_from_slice_get graph.units u unit blank here in
       let is : IsDraft u unit draft = are.each u unit draft here there in
@@ -54,6 +53,7 @@ module _ (graph : Graph) (layout : Laid) (u : ℕ) (unit : OutUnit) (draft : Dra
         locations = locations ∙ ap (λ (p : PartPlaces). p.locations) parts;
         texts = λ i t at. ap (λ (ps : List ℕ). slice_index ps i) text_list ∙ text_told (text_place graph) draft.names i t at;
         line_texts = λ i t at. ap (λ (ps : List ℕ). slice_index ps i) line_list ∙ text_told (line_text_place graph) draft.line_names i t at;
-        units = units ∙ units_are;
+        starts = starts ∙ ap (λ (l : Laid). l.starts) whole;
+        drafts = subst (AreDrafts graph) (sym drafts) are;
         end = end ∙ ap (λ (l : Laid). l.sizes.info) whole ∙ sym (info_end graph);
       }

@@ -11,8 +11,8 @@ use Rattle.dwarf_types.specs.declared.graph.Graph.{Graph}
 use Rattle.dwarf_types.specs.Encode.{aranges_section, frame_section, line_str_section, str_section}
 use Rattle.dwarf_types.specs.Frames.{frames_bytes}
 use Rattle.dwarf_types.specs.Layout.{line_texts_of, numbered_units, texts_of}
-use Rattle.patches.specs.declared.outside.Placed.{Placed}
 use Rattle.unit_draft.specs.declared.unit.Draft.{Draft}
+use Rattle.unit_draft.specs.Drafted.{AreDrafts}
 use Rattle.layout.specs.declared.placing.PartPlaces.{PartPlaces}
 use Rattle.layout.specs.declared.placing.Placing.{Placing}
 use Rattle.layout.specs.declared.sizes.Sizes.{Sizes}
@@ -20,18 +20,18 @@ use Rattle.layout.specs.declared.starts.Starts.{Starts}
 use Rattle.layout.specs.declared.text.Texts.{Texts}
 use Rattle.layout.specs.declared.text.TextsOf.TheVariants as owners
 use Rattle.text_pool.specs.Joins.{place_in}
-use Rattle.layout.specs.Laid.{AreDrafts, Laid, laid, line_text_places, long_section, long_unit, sizes_of, text_places}
+use Rattle.layout.specs.Laid.{Laid, laid, line_text_places, long_section, long_unit, sizes_of, text_places}
 use Rattle.layout.specs.Pass.{AreBelow, behind_draft, long_back, long_front, long_other, no_starts, none_placed, sized, texts_by, texts_for, with_draft}
 use Rattle.layout.proofs.Behind.{same_below}
 use Rattle.layout.proofs.Limits.{ends_small, long_is}
-use Rattle.layout.proofs.OfDrafts.{AllPlaced, AsMany, as_many, at_end, ends_are, line_text_places_are, line_texts_are, none_long, placed_all, text_places_are, texts_are}
+use Rattle.layout.proofs.OfDrafts.{AllPlaced, as_many, at_end, ends_are, line_text_places_are, line_texts_are, none_long, placed_all, text_places_are, texts_are}
 use Rattle.layout.proofs.SectionLengths.{sizes_are}
 
-abbrev laid_by : List Placed → List PartPlaces → List ℕ → List (List ℕ) → List ℕ → List (List ℕ) → List ℕ → List ℕ → Sizes → List Draft → Laid
-laid_by units places texts text_places line_texts line_places aranges frames sizes drafts =
-    record { units = units; parts = places; texts = texts; text_places = text_places; line_texts = line_texts; line_text_places = line_places; aranges = aranges; frames = frames; sizes = sizes; drafts = drafts }
+abbrev laid_by : List ℕ → List PartPlaces → List ℕ → List (List ℕ) → List ℕ → List (List ℕ) → List ℕ → List ℕ → Sizes → List Draft → Laid
+laid_by starts places texts text_places line_texts line_places aranges frames sizes drafts =
+    record { starts = starts; parts = places; texts = texts; text_places = text_places; line_texts = line_texts; line_text_places = line_places; aranges = aranges; frames = frames; sizes = sizes; drafts = drafts }
 
-all_same : (drafts : List Draft) (a a' : List Placed) (b b' : List PartPlaces) (c c' : List ℕ) (d d' : List (List ℕ)) (e e' : List ℕ) (f f' : List (List ℕ)) (g g' h h' : List ℕ) (i i' : Sizes) → a ≡ a' → b ≡ b' → c ≡ c' → d ≡ d' → e ≡ e' → f ≡ f' → g ≡ g' → h ≡ h' → i ≡ i'
+all_same : (drafts : List Draft) (a a' : List ℕ) (b b' : List PartPlaces) (c c' : List ℕ) (d d' : List (List ℕ)) (e e' : List ℕ) (f f' : List (List ℕ)) (g g' h h' : List ℕ) (i i' : Sizes) → a ≡ a' → b ≡ b' → c ≡ c' → d ≡ d' → e ≡ e' → f ≡ f' → g ≡ g' → h ≡ h' → i ≡ i'
     → laid_by a b c d e f g h i drafts ≡ laid_by a' b' c' d' e' f' g' h' i' drafts
 all_same drafts a a' b b' c c' d d' e e' f f' g g' h h' i i' ea eb ec ed ee ef eg eh ei = rw (ea, eb, ec, ed, ee, ef, eg, eh, ei) refl
 
@@ -101,9 +101,9 @@ module _ (graph : Graph) (drafts : List Draft) (are : AreDrafts graph drafts) wh
 
         -- none is
         pub all_laid : (sizes : Sizes) → sizes ≡ sized ends texts line_texts (length placing.aranges) (length described) → long_other (length placing.aranges) (length described) ≡ None
-            → (laid_by placing.units placing.parts strings.section strings.places lines.section lines.places placing.aranges described sizes drafts ≡ laid graph drafts) × (long_unit graph ≡ None) × (long_section graph ≡ None) × AreDrafts graph drafts
+            → (laid_by placing.starts placing.parts strings.section strings.places lines.section lines.places placing.aranges described sizes drafts ≡ laid graph drafts) × (long_unit graph ≡ None) × (long_section graph ≡ None) × AreDrafts graph drafts
         all_laid sizes sizes_is e = (
-          all_same drafts _ _ _ _ _ _ _ _ _ _ _ _ _ _ _ _ _ _ (ap (λ (p : Placing). p.units) placing_is ∙ h.units) (ap (λ (p : Placing). p.parts) placing_is ∙ h.parts) texts_same
+          all_same drafts _ _ _ _ _ _ _ _ _ _ _ _ _ _ _ _ _ _ (ap (λ (p : Placing). p.starts) placing_is ∙ h.starts) (ap (λ (p : Placing). p.parts) placing_is ∙ h.parts) texts_same
               places_same line_texts_same line_places_same
               aranges_same described_same (sizes_is ∙ sizes_same line_texts _ _ (line_texts_is ∙ line_texts_size) (ap length aranges_same) (ap length described_same)),
           none_long graph drafts are,
@@ -128,13 +128,11 @@ module _ (drafts : List Draft) (ends : Starts) (ends_is : ends ≡ fold behind_d
     placing_below = same_below placing.at _ (2 ^ 32) (ap (λ (p : Placing). p.at) is ∙ at_end drafts none_placed) ends_below
 
     pub placing_whole : (info : ℕ) (strings lines : Texts) → info ≡ placing.at.info → strings ≡ texts_for owners.Entries drafts → lines ≡ texts_for owners.Lines drafts
-        → (info < 2 ^ 32) × (length placing.parts ≡ length placing.units) × (length strings.places ≡ length placing.units) × (length lines.places ≡ length placing.units)
+        → (info < 2 ^ 32) × (length placing.parts ≡ length drafts) × (length strings.places ≡ length drafts) × (length lines.places ≡ length drafts)
     placing_whole info strings lines info_is strings_are lines_are =
-        let many : AsMany (0 + length drafts) (fold with_draft none_placed drafts) = as_many drafts 0 none_placed (record { units = refl; parts = refl }) in
-        let units : length placing.units ≡ length drafts = omega (arith, ap (λ (p : Placing). length p.units) is, many.units) in
-        let parts : length placing.parts ≡ length drafts = omega (arith, ap (λ (p : Placing). length p.parts) is, many.parts) in (
+        let many : length (fold with_draft none_placed drafts).parts ≡ 0 + length drafts = as_many drafts none_placed in (
           omega (arith, info_is, placing_below.info),
-          parts ∙ sym units,
-          ap (λ (t : Texts). length t.places) strings_are ∙ length-map drafts _ ∙ sym units,
-          ap (λ (t : Texts). length t.places) lines_are ∙ length-map drafts _ ∙ sym units,
+          omega (arith, ap (λ (p : Placing). length p.parts) is, many),
+          ap (λ (t : Texts). length t.places) strings_are ∙ length-map drafts _,
+          ap (λ (t : Texts). length t.places) lines_are ∙ length-map drafts _,
         )

@@ -1,5 +1,5 @@
 -- Where the parts of a graph stand before it is written, each in its section, and how long the sections are.
-use Rattle.std.specs.Prelude.{◌≡◌, ℕ, ◌-◌, ◌^◌, List, [], ◌∷◌, length, map, Option, Some, None, nat_le, Result, Ok, Err, slice_get}
+use Rattle.std.specs.Prelude.{◌≡◌, ℕ, ◌-◌, ◌^◌, List, [], ◌∷◌, length, map, Option, Some, None, nat_le, Result, Ok, Err}
 use Rattle.std.specs.List.{find, flat_map}
 use Rattle.std.specs.Option.{option_map}
 use Rattle.std.specs.Str.{bytes_eq}
@@ -10,22 +10,13 @@ use Rattle.dwarf_types.specs.declared.graph.Graph.{Graph}
 use Rattle.dwarf_types.specs.declared.graph.OutUnit.{OutUnit}
 use Rattle.dwarf_types.specs.Encode.{abbrev_section, info_section, str_section, line_section, line_str_section, ranges_section, rnglists_section, loc_section, loclists_section, aranges_section, frame_section}
 use Rattle.dwarf_types.specs.Entries.{unit_len}
-use Rattle.dwarf_types.specs.Layout.{line_text_place, line_texts_of_unit, lines_place, lists_place, numbered_units, table_place, text_place, texts_of_node}
-use Rattle.patches.specs.declared.outside.Placed.{Placed}
+use Rattle.dwarf_types.specs.Layout.{line_text_place, line_texts_of_unit, lines_place, lists_place, numbered_units, table_place, text_place, texts_of_node, unit_start}
 use Rattle.unit_draft.specs.declared.unit.Draft.{Draft}
-use Rattle.unit_draft.specs.Drafted.{IsDraft}
-use Rattle.unit_draft.specs.Outside.{placed}
+use Rattle.unit_draft.specs.Drafted.{AreDrafts}
 use Rattle.layout.specs.declared.error.LayoutError.{LayoutError}
 use Rattle.layout.specs.declared.error.LayoutError.TheVariants as errors
 use Rattle.layout.specs.declared.placing.PartPlaces.{PartPlaces}
 use Rattle.layout.specs.declared.sizes.Sizes.{Sizes}
-
--- ---- drafts
-
--- as many drafts as units, each of its unit by its number
-pub record AreDrafts (graph : Graph) (drafts : List Draft) : Type 0 where
-  pub count : length drafts ≡ length graph.units
-  pub each : (u : ℕ) (unit : OutUnit) (draft : Draft) → slice_get graph.units u ≡ Some unit → slice_get drafts u ≡ Some draft → IsDraft u unit draft
 
 -- ---- units
 
@@ -80,8 +71,8 @@ size_in sizes _ = 0
 
 -- what is known of a graph whose units are drafted
 pub record Laid : Type 0 where
-  -- where each unit and its nodes stand, and its other parts
-  pub units : List Placed
+  -- where each unit starts, and its other parts
+  pub starts : List ℕ
   pub parts : List PartPlaces
   -- the bytes of the string section, and where the texts of each unit stand
   pub texts : List ℕ
@@ -97,7 +88,7 @@ pub record Laid : Type 0 where
 
 abbrev pub laid : Graph → List Draft → Laid
 laid graph drafts = record {
-  units = map (λ n. placed graph n.0 n.1) (numbered_units graph);
+  starts = map (λ n. unit_start graph n.0) (numbered_units graph);
   parts = map (λ n. part_places graph n.0 n.1) (numbered_units graph);
   texts = str_section graph;
   text_places = map (λ n. text_places graph n.1) (numbered_units graph);

@@ -16,7 +16,7 @@ use Rattle.text_pool.specs.declared.error.TextError.{TextError}
 use Rattle.text_pool.specs.declared.error.TextError.TheVariants as text_errors
 use Rattle.text_pool.specs.Joins.{place_in}
 use Rattle.unit_draft.specs.declared.unit.Draft.{Draft}
-use Rattle.unit_draft.specs.Drafted.{lines_len}
+use Rattle.unit_draft.specs.Drafted.{AreDrafts, lines_len}
 use Rattle.layout.specs.declared.error.LayoutError.{LayoutError}
 use Rattle.layout.specs.declared.error.LayoutError.TheVariants as errors
 use Rattle.layout.specs.declared.placing.PartPlaces.{PartPlaces}
@@ -26,7 +26,7 @@ use Rattle.layout.specs.declared.starts.Starts.{Starts}
 use Rattle.layout.specs.declared.text.Texts.{Texts}
 use Rattle.layout.specs.declared.text.TextsOf.{TextsOf}
 use Rattle.layout.specs.declared.text.TextsOf.TheVariants as owners
-use Rattle.layout.specs.Laid.{AreDrafts, long_unit, size_in}
+use Rattle.layout.specs.Laid.{long_unit, size_in}
 
 -- ---- places
 
@@ -147,14 +147,14 @@ refused part text_errors.NoMemory = errors.NoMemory
 
 abbrev pub with_draft : Placing → Draft → Placing
 with_draft p d = record {
-  units = p.units ++ record { start = p.at.info; nodes = d.places; len = d.len } ∷ [];
+  starts = p.starts ++ p.at.info ∷ [];
   parts = p.parts ++ parts_of d.version p.at ∷ [];
   aranges = p.aranges ++ aranges_bytes p.at.info d.code;
   at = behind_draft p.at d;
 }
 
 abbrev pub none_placed : Placing
-none_placed = record { units = []; parts = []; aranges = []; at = no_starts }
+none_placed = record { starts = []; parts = []; aranges = []; at = no_starts }
 
 -- ---- limits
 

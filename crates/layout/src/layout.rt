@@ -3,10 +3,11 @@
 ghost use Rattle.std.specs.Prelude.{◌≡◌, ◌-◌, ◌^◌, ◌<◌, ◌≤◌, fold, length, Some, None, Ok, slice_get};
 ghost use Rattle.dwarf_types.specs.declared.graph.Graph.{Graph as Program};
 ghost use Rattle.dwarf_types.specs.declared.graph.OutUnit.{OutUnit as Clone};
-ghost use Rattle.layout.specs.Laid.{AreDrafts, Measures, size_in};
+ghost use Rattle.layout.specs.Laid.{Measures, size_in};
 ghost use Rattle.layout.specs.declared.text.TextsOf.TheVariants as owners;
 ghost use Rattle.layout.specs.Pass.{AreBelow, MakesTexts, behind_draft, long_front, no_starts, refused, sized, texts_for};
 ghost use Rattle.unit_draft.specs.declared.unit.Draft.{Draft as ADraft};
+ghost use Rattle.unit_draft.specs.Drafted.{AreDrafts};
 ghost use Rattle.unit_draft.specs.Outside.{IsOutside};
 
 use crate::drafting::draft_units;
@@ -18,12 +19,11 @@ use crate::text::{Texts, TextsOf, texts_in, texts_in_by};
 use ds_base::{Bytes, List, Part};
 use dwarf_types::{Graph, OutFrames};
 use frame_write::append_frames;
-use patches::{Outside, Placed};
 use std::alloc::Global;
 use std::marker::Model;
 use std::thread::Threads;
 use text_pool::TextError;
-use unit_draft::Draft;
+use unit_draft::{Draft, Outside};
 
 /// The layout of a graph, with the drafts of its units.
 ///
@@ -31,7 +31,7 @@ use unit_draft::Draft;
 /// drafts.
 #[derive(Drop)]
 pub struct Layout {
-    units: List<Placed>,
+    starts: List<u32>,
     parts: List<PartPlaces>,
     texts: Texts,
     line_texts: Texts,
@@ -47,9 +47,9 @@ impl Model for Layout {
 
     ghost Value = { Laid };
 
-    ghost view = { λ a. record { units = a.units; parts = a.parts; texts = a.texts.section; text_places = a.texts.places; line_texts = a.line_texts.section; line_text_places = a.line_texts.places; aranges = a.aranges; frames = a.frames; sizes = a.sizes; drafts = a.drafts } };
+    ghost view = { λ a. record { starts = a.starts; parts = a.parts; texts = a.texts.section; text_places = a.texts.places; line_texts = a.line_texts.section; line_text_places = a.line_texts.places; aranges = a.aranges; frames = a.frames; sizes = a.sizes; drafts = a.drafts } };
 
-    ghost invariant = { λ a. (a.sizes.info < 2 ^ 32) × (length a.parts ≡ length a.units) × (length a.texts.places ≡ length a.units) × (length a.line_texts.places ≡ length a.units) };
+    ghost invariant = { λ a. (a.sizes.info < 2 ^ 32) × (length a.parts ≡ length a.drafts) × (length a.texts.places ≡ length a.drafts) × (length a.line_texts.places ≡ length a.drafts) };
 }
 
 /// Measures a graph: drafts its units, and gives the drafts their places.
@@ -163,7 +163,7 @@ fn place_behind(
     }
     let sizes = sizes_from(&placing, &texts.section, &line_texts.section, &described);
     Ok(Layout {
-        units: placing.units,
+        starts: placing.starts,
         parts: placing.parts,
         texts,
         line_texts,
@@ -206,7 +206,7 @@ fn sizes_from(placing: &Placing, texts: &Bytes, line_texts: &Bytes, frames: &Byt
 
 /// What stands outside of a unit, as its draft asks for it.
 pub fn outside_of(layout: &Layout, unit: u32) -> Outside<'_>
-    requires { unit < length layout.now.units }
+    requires { unit < length layout.now.drafts }
     ensures { (graph : Program) (it : Clone) (draft : ADraft) → Measures graph (Ok layout.now) → slice_get graph.units unit ≡ Some it → slice_get layout.now.drafts unit ≡ Some draft → IsOutside graph unit it draft.names draft.line_names result }
 {
     let parts = layout.parts.as_slice()[unit as usize];
@@ -217,7 +217,8 @@ pub fn outside_of(layout: &Layout, unit: u32) -> Outside<'_>
         locations: parts.locations,
         texts: layout.texts.places.as_slice()[unit as usize].as_slice(),
         line_texts: layout.line_texts.places.as_slice()[unit as usize].as_slice(),
-        units: layout.units.as_slice(),
+        starts: layout.starts.as_slice(),
+        drafts: layout.drafts.as_slice(),
         end: layout.sizes.info as u32,
     }
 }

@@ -9,7 +9,6 @@ use crate::sizes::LISTS_HEADER_LEN;
 use crate::starts::{Starts, behind, first_starts};
 use ds_base::dwarf::DWARF_5;
 use ds_base::{Bytes, List, NoMemory};
-use patches::Placed;
 use std::alloc::Global;
 use unit_draft::Draft;
 
@@ -29,7 +28,8 @@ pub(crate) struct PartPlaces {
 /// What is known of the first drafts.
 #[derive(Drop)]
 pub(crate) struct Placing {
-    pub(crate) units: List<Placed>,
+    /// The place of the header of each in `__debug_info`.
+    pub(crate) starts: List<u32>,
     pub(crate) parts: List<PartPlaces>,
     /// `__debug_aranges`.
     pub(crate) aranges: Bytes,
@@ -43,42 +43,28 @@ pub(crate) fn place_all(alloc: Global, drafts: &[Draft]) -> Result<Placing, NoMe
     ensures { IfOk result (λ placing. placing ≡ fold with_draft none_placed drafts.now) }
 {
     let mut placing = Placing {
-        units: List::with_capacity(alloc, drafts.len())?,
+        starts: List::with_capacity(alloc, drafts.len())?,
         parts: List::with_capacity(alloc, drafts.len())?,
         aranges: Bytes::new(alloc),
         at: first_starts(),
     };
     for draft in drafts {
-        place_draft(alloc, &mut placing, draft)?;
+        place_draft(&mut placing, draft)?;
     }
     Ok(placing)
 }
 
 /// Gives a draft its places, behind the first ones.
-fn place_draft(alloc: Global, placing: &mut Placing, draft: &Draft) -> Result<(), NoMemory>
+fn place_draft(placing: &mut Placing, draft: &Draft) -> Result<(), NoMemory>
     requires small { AreBelow (2 ^ 32) placing.old.at }
     ensures { OnOk result (placing.new ≡ with_draft placing.old draft.now) }
 {
     let at = placing.at;
-    let unit = placed_at(alloc, at, draft)?;
     append_aranges(&mut placing.aranges, at.info as u32, draft.code.as_slice())?;
-    placing.units.push(unit)?;
+    placing.starts.push(at.info as u32)?;
     placing.parts.push(parts_at(draft.version, at))?;
     placing.at = behind(at, draft);
     Ok(())
-}
-
-/// A draft's entries, whose header stands there.
-fn placed_at(alloc: Global, at: Starts, draft: &Draft) -> Result<Placed, NoMemory>
-    requires small { AreBelow (2 ^ 32) at }
-    ensures { IfOk result (λ placed. placed ≡ record { start = at.info; nodes = draft.now.places; len = draft.now.len }) }
-{
-    let nodes = Vec::from_slice(alloc, draft.places.as_slice())?;
-    Ok(Placed {
-        start: at.info as u32,
-        nodes: List::from_vec(nodes),
-        len: draft.len,
-    })
 }
 
 /// The other parts of a draft of a version that stand there.

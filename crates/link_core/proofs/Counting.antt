@@ -12,9 +12,9 @@ use Rattle.dwarf_types.specs.declared.graph.OutUnit.{OutUnit}
 use Rattle.dwarf_types.specs.Entries.{OutEntry, entries_of, entry_len, entry_of, node_place, unit_len}
 use Rattle.dwarf_types.specs.LinkedShape.{AreMarked}
 use Rattle.dwarf_types.specs.Sound.{IsSound}
-use Rattle.layout.specs.Laid.{AreDrafts}
 use Rattle.layout.proofs.OfDrafts.{From, from_graph}
 use Rattle.unit_draft.specs.declared.unit.Draft.{Draft}
+use Rattle.unit_draft.specs.Drafted.{AreDrafts}
 
 -- ---- entries
 

@@ -20,9 +20,10 @@ use Rattle.link_graph.specs.Pool.{pool_names, preorder}
 use Rattle.odr_names.specs.Making.{AreLiveRows}
 use Rattle.type_names.specs.Names.{Named}
 use Rattle.type_pool.specs.declared.closed.ClosedPool.{ClosedPool}
-use Rattle.layout.specs.Laid.{AreDrafts, long_unit}
+use Rattle.layout.specs.Laid.{long_unit}
 use Rattle.layout.proofs.DraftRuns.{Drafted, long_here, one_drafted}
 use Rattle.unit_draft.specs.declared.unit.Draft.{Draft}
+use Rattle.unit_draft.specs.Drafted.{AreDrafts}
 use Rattle.macho_read.specs.declared.image.Image.{Image}
 use Rattle.link_core.specs.declared.bundle.Counted.{Counted}
 use Rattle.link_core.specs.declared.graph.Shaped.{Shaped}

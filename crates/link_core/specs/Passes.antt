@@ -19,9 +19,9 @@ use Rattle.dwarf_types.specs.declared.shape.Shape.{Shape}
 use Rattle.dwarf_types.specs.declared.shape.ShapeUnit.{ShapeUnit}
 use Rattle.type_names.specs.Names.{Named}
 use Rattle.type_pool.specs.declared.closed.ClosedPool.{ClosedPool}
-use Rattle.layout.specs.Laid.{AreDrafts, Laid, Measures}
+use Rattle.layout.specs.Laid.{Laid, Measures}
 use Rattle.unit_draft.specs.declared.unit.Draft.{Draft}
-use Rattle.unit_draft.specs.Drafted.{IsDraft}
+use Rattle.unit_draft.specs.Drafted.{AreDrafts, IsDraft}
 use Rattle.dsym_write.specs.Bundle.{image_file}
 use Rattle.dsym_write.specs.Plist.{plist_bytes}
 use Rattle.link_core.specs.declared.bundle.Counted.{Counted}

@@ -3,11 +3,12 @@
 ghost use Rattle.std.specs.Prelude.{◌≡◌, ◌<◌, ◌≤◌, ◌^◌, ◌-◌, Bool, List as Listed, length, Ok};
 ghost use Rattle.dwarf_types.specs.declared.analysis.Analysis.{Analysis as Seen};
 ghost use Rattle.dwarf_types.specs.declared.graph.Graph.{Graph as AGraph};
-ghost use Rattle.layout.specs.Laid.{AreDrafts, IsMeasured, Measures};
+ghost use Rattle.layout.specs.Laid.{IsMeasured, Measures};
 ghost use Rattle.link_core.specs.Passes.{AreOfGraph, Images, IsDrafted, Lays, Links};
 ghost use Rattle.macho_read.specs.declared.kind.Role.TheVariants as roles;
 ghost use Rattle.macho_read.specs.Kind.{kind_of};
 ghost use Rattle.macho_read.specs.Sound.{IsSound};
+ghost use Rattle.unit_draft.specs.Drafted.{AreDrafts};
 
 use crate::bundle::{Counted, Counts, Linked};
 use crate::counts::count_nodes;

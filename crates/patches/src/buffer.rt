@@ -10,7 +10,7 @@ ghost use Rattle.patches.specs.Numbers.{patched, settled};
 
 use crate::fill::{fill_all_outer, fill_all_own};
 use crate::hole::{OFFSET_LEN, Outer, OuterPatch, Own, OwnPatch};
-use crate::outside::Outside;
+use crate::numbers::OuterNumbers;
 use ds_base::{Bytes, NoMemory, put_sleb, put_uleb, sleb_len, uleb_len};
 use std::alloc::Global;
 use std::marker::Model;
@@ -206,19 +206,19 @@ impl Buffer {
     }
 
     /// Fills what stands outside of the unit.
-    pub fn patch(&mut self, outside: &Outside)
+    pub fn patch<N: OuterNumbers>(&mut self, outside: &N)
         requires settled { self.old.own ≡ [] }
-        ensures { (f : Filling) → self.new.bytes ≡ filled self.old (patched f outside.now) }
+        ensures { (f : Filling) → self.new.bytes ≡ filled self.old (patched f (N.number outside.now)) }
     {
         fill_all_outer(self.bytes.as_mut_slice(), self.outer.as_slice(), outside);
         self.outer.clear();
     }
 
     /// Writes the bytes into a room of their size, with what stands outside of the unit. It takes no memory.
-    pub fn emit(&self, outside: &Outside, room: &mut [u8])
+    pub fn emit<N: OuterNumbers>(&self, outside: &N, room: &mut [u8])
         requires settled { self.now.own ≡ [] }
         requires fits { (f : Filling) → length room.old ≡ length (filled self.now f) }
-        ensures { (f : Filling) → room.new ≡ filled self.now (patched f outside.now) }
+        ensures { (f : Filling) → room.new ≡ filled self.now (patched f (N.number outside.now)) }
     {
         room.copy_from_slice(self.bytes.as_slice());
         fill_all_outer(room, self.outer.as_slice(), outside);

@@ -4,10 +4,10 @@ ghost use Rattle.std.specs.Prelude.{◌≡◌, ◌<◌, ◌≤◌, ◌+◌, ◌^
 ghost use Rattle.std.specs.List.{All};
 ghost use Rattle.ds_base.specs.Room.{put};
 ghost use Rattle.patches.specs.Filling.{fill_outer, fill_own, outer_bytes, own_bytes};
-ghost use Rattle.patches.specs.Numbers.{outer_number, own_number};
+ghost use Rattle.patches.specs.Numbers.{own_number};
 
 use crate::hole::{OFFSET_LEN, Outer, OuterPatch, Own, OwnPatch};
-use crate::outside::{Outside, outer_in, own_in};
+use crate::numbers::{OuterNumbers, own_in};
 use ds_base::{put_bytes, put_u32, put_uleb4};
 
 /// Fills what a unit of `len` bytes, whose nodes stand at `places`, tells.
@@ -37,22 +37,22 @@ fn fill_one_own(room: &mut [u8], at: usize, hole: Own, len: u32, places: &[u32])
 }
 
 /// Fills what stands outside of the unit.
-pub(crate) fn fill_all_outer(room: &mut [u8], patches: &[OuterPatch], outside: &Outside)
+pub(crate) fn fill_all_outer<N: OuterNumbers>(room: &mut [u8], patches: &[OuterPatch], outside: &N)
     requires inside { All (λ p. p.at + 4 ≤ length room.old) patches.now }
-    ensures { room.new ≡ fill_outer (outer_number outside.now) patches.now room.old }
+    ensures { room.new ≡ fill_outer (N.number outside.now) patches.now room.old }
 {
     for patch in patches {
         fill_one_outer(room, patch.at, patch.hole, outside);
     }
 }
 
-fn fill_one_outer(room: &mut [u8], at: usize, hole: Outer, outside: &Outside)
+fn fill_one_outer<N: OuterNumbers>(room: &mut [u8], at: usize, hole: Outer, outside: &N)
     requires inside { at + 4 ≤ length room.old }
-    ensures { room.new ≡ put room.old at (outer_bytes (outer_number outside.now) hole) }
+    ensures { room.new ≡ put room.old at (outer_bytes (N.number outside.now) hole) }
 {
     put_bytes(
         room,
         at,
-        &outer_in(outside, hole).to_le_bytes()[..OFFSET_LEN],
+        &outside.number_of(hole).to_le_bytes()[..OFFSET_LEN],
     );
 }

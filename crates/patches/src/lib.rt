@@ -4,15 +4,15 @@
 //! behind the one at hand, and all that stands outside of it. Each such number has four bytes, whatever it is. A
 //! [`Buffer`] leaves a hole there and keeps a patch, which says where the hole is and what belongs in it. Contracts say
 //! what a buffer is once each hole has its number: `filled` (`specs/Filling.antt`), for every `Filling`. What the unit
-//! itself tells ([`Own`]) is filled by `settle`, and what stands outside of it ([`Outer`]) by `patch` or `emit`, with the
-//! numbers of `specs/Numbers.antt`.
+//! itself tells ([`Own`]) is filled by `settle`, with the numbers of `specs/Numbers.antt`, and what stands outside of it
+//! ([`Outer`]) by `patch` or `emit`, with those that an [`OuterNumbers`] gives.
 #![tactic(auto)]
 
 mod buffer;
 mod fill;
 mod hole;
-mod outside;
+mod numbers;
 
 pub use buffer::Buffer;
 pub use hole::{Outer, OuterPatch, Own, OwnPatch};
-pub use outside::{Outside, Placed};
+pub use numbers::{OuterNumbers, place_or};

@@ -12,8 +12,8 @@ use Rattle.dwarf_types.specs.Layout.{numbered_units, places_of, stands_in}
 use Rattle.dwarf_types.specs.Lists.{behind_header}
 use Rattle.dwarf_types.specs.Places.{own_node}
 use Rattle.unit_draft.specs.declared.unit.Draft.{Draft}
-use Rattle.unit_draft.specs.Drafted.{IsDraft}
-use Rattle.layout.specs.Laid.{AreDrafts, Laid, Measures}
+use Rattle.unit_draft.specs.Drafted.{AreDrafts, IsDraft}
+use Rattle.layout.specs.Laid.{Laid, Measures}
 use Rattle.layout.specs.Pass.{in_five, in_others}
 use Rattle.layout.proofs.Limits.{lists_short}
 use Rattle.layout.proofs.OfDrafts.{From, from_graph}

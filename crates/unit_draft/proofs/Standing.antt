@@ -1,62 +1,71 @@
 -- A unit stands in its graph.
-use Rattle.std.proofs.Common.{◌≡◌, ◌≤◌, ℕ, ◌+◌, List, [], length, map, slice_get, slice_index_or, Option, Some, None, option_map, inl, inr, refl, sym, ap, ◌∙◌, arith}
+use Rattle.std.proofs.Common.{◌≡◌, ◌≤◌, ℕ, zero, suc, ◌+◌, List, [], ◌∷◌, length, map, slice_get, slice_index_or, Option, Some, None, inl, inr, refl, sym, ap, ◌∙◌, arith}
 use Rattle.std.specs.List.{sum_by}
 use Rattle.std.specs.Option.{option_map_or}
 use Rattle.std.proofs.lemmas.Bool.{cases_lt}
-use Rattle.std.proofs.lemmas.List.{take_all}
+use Rattle.std.proofs.lemmas.List.{get_or-map, get_or_past, length-map, take_all}
 use Rattle.std.proofs.lemmas.List.FromFn.{get_or-enumerate_from, length-enumerate_from}
-use Rattle.std.proofs.lemmas.Option.{get_or_from_slice_get, slice_get-get_or, slice_get-map, slice_get_past, slice_get_within}
+use Rattle.std.proofs.lemmas.Option.{slice_get_within}
 use Rattle.dwarf_types.specs.declared.graph.Graph.{Graph}
 use Rattle.dwarf_types.specs.declared.graph.OutUnit.{OutUnit}
 use Rattle.dwarf_types.specs.declared.graph.Target.{Target}
 use Rattle.dwarf_types.specs.Entries.{node_place, unit_len}
 use Rattle.dwarf_types.specs.Layout.{lists_place, numbered_units, places_of, table_place, target_place, unit_start}
-use Rattle.patches.specs.declared.outside.Outside.{Outside}
-use Rattle.patches.specs.declared.outside.Placed.{Placed}
-use Rattle.patches.specs.Numbers.{entry_number, outer_number}
+use Rattle.unit_draft.specs.declared.outside.Outside.{Outside}
+use Rattle.unit_draft.specs.declared.unit.Draft.{Draft}
+use Rattle.unit_draft.specs.Drafted.{AreDrafts, IsDraft, node_places}
+use Rattle.unit_draft.specs.Outside.{IsOutside, entry_number, outer_number}
 use Rattle.unit_draft.specs.World.{Stands, World}
-use Rattle.unit_draft.specs.Outside.{IsOutside, placed}
 use Rattle.unit_draft.proofs.Placing.{own_is}
 
 blank : OutUnit
 blank = record { version = 0; nodes = []; lines = None; ranges = [] }
 
-module _ (graph : Graph) where
-  numbered_at : (t : ℕ) (unit : OutUnit) → slice_get graph.units t ≡ Some unit → slice_get (numbered_units graph) t ≡ Some (t, unit)
-  numbered_at t unit at =
-      let lt = slice_get_within graph.units t unit at in
-      let zero_add : 0 + t ≡ t = omega arith in
-      slice_get-get_or (numbered_units graph) t (t, unit) (omega (arith, lt, length-enumerate_from 0 graph.units))
-      ∙ ap (λ (n : ℕ × OutUnit). Some n) (get_or-enumerate_from 0 graph.units t (t, unit) lt ∙ ap (λ (y : OutUnit). (0 + t, y)) (get_or_from_slice_get graph.units t unit unit at) ∙ ap (λ (j : ℕ). (j, unit)) zero_add)
+-- nothing stands behind the last item
+past : {X : Type 0} (xs : List X) (t : ℕ) → slice_get xs t ≡ None → length xs ≤ t
+past [] t none = omega arith
+past (x ∷ xs) zero none = absurd cc
+past (x ∷ xs) (suc t) none = let behind = past xs t none in omega (arith, behind)
 
+module _ (graph : Graph) where
   -- behind the last unit stands the end
   start_past : (t : ℕ) → length graph.units ≤ t → unit_start graph (length graph.units) ≡ unit_start graph t
   start_past t past =
       let len = length-enumerate_from 0 graph.units in
       ap (sum_by (λ (n : ℕ × OutUnit). unit_len n.0 n.1)) (take_all (length graph.units) (numbered_units graph) (omega (arith, len)) ∙ sym (take_all t (numbered_units graph) (omega (arith, past, len))))
 
-  entry_by : (target : Target) (o : Option OutUnit) → slice_get graph.units target.unit ≡ o
-      → entry_number (map (λ n. placed graph n.0 n.1) (numbered_units graph)) (unit_start graph (length graph.units)) target ≡ unit_start graph target.unit + target_place graph target
-  entry_by target (Some unit) at =
-      let t = target.unit in
-      ap (λ (p : Option Placed). option_map_or (λ (q : Placed). q.start + slice_index_or q.nodes target.node q.len) p (unit_start graph (length graph.units)))
-      (slice_get-map (λ (n : ℕ × OutUnit). placed graph n.0 n.1) (numbered_units graph) t ∙ ap (option_map (λ (n : ℕ × OutUnit). placed graph n.0 n.1)) (numbered_at t unit at))
-      ∙ ap (λ (n : ℕ). unit_start graph t + n) (own_is t unit target.node)
-      ∙ ap (λ (u : Option OutUnit). unit_start graph t + option_map_or (λ (v : OutUnit). node_place t v target.node) u 0) (sym at)
-  entry_by target None at =
-      let t = target.unit in
-      let past = past_from t at in
-      let none : slice_get (numbered_units graph) t ≡ None = slice_get_past (numbered_units graph) t (omega (arith, past, length-enumerate_from 0 graph.units)) in
-      let behind : unit_start graph t ≡ unit_start graph t + 0 = omega arith in
-      ap (λ (p : Option Placed). option_map_or (λ (q : Placed). q.start + slice_index_or q.nodes target.node q.len) p (unit_start graph (length graph.units)))
-      (slice_get-map (λ (n : ℕ × OutUnit). placed graph n.0 n.1) (numbered_units graph) t ∙ ap (option_map (λ (n : ℕ × OutUnit). placed graph n.0 n.1)) none)
-      ∙ start_past t past ∙ behind ∙ ap (λ (u : Option OutUnit). unit_start graph t + option_map_or (λ (v : OutUnit). node_place t v target.node) u 0) (sym at)
-    where
-      past_from : (t : ℕ) → slice_get graph.units t ≡ None → length graph.units ≤ t
-      past_from t at = elim (cases_lt t (length graph.units)) [
-        | inl lt ↦ let some = slice_get-get_or graph.units t blank lt in absurd cc
-        | inr le ↦ le
+  abbrev starts : List ℕ
+  starts = map (λ (n : ℕ × OutUnit). unit_start graph n.0) (numbered_units graph)
+
+  start_is : (t : ℕ) → slice_index_or starts t (unit_start graph (length graph.units)) ≡ unit_start graph t
+  start_is t =
+      let end = unit_start graph (length graph.units) in
+      let len = length-enumerate_from 0 graph.units in
+      let many = length-map (numbered_units graph) (λ (n : ℕ × OutUnit). unit_start graph n.0) in
+      let index : 0 + t ≡ t = omega arith in
+      elim (cases_lt t (length graph.units)) [
+        | inl lt ↦ get_or-map (λ (n : ℕ × OutUnit). unit_start graph n.0) (numbered_units graph) t (0, blank) end (omega (arith, lt, len))
+            ∙ ap (λ (n : ℕ × OutUnit). unit_start graph n.0) (get_or-enumerate_from 0 graph.units t (0, blank) lt) ∙ ap (unit_start graph) index
+        | inr le ↦ get_or_past starts t end (omega (arith, le, len, many)) ∙ start_past t le
       ]
+
+  -- a node of a unit stands where its draft has it
+  node_is : (drafts : List Draft) → AreDrafts graph drafts → (t k : ℕ) (a : Option Draft) (b : Option OutUnit) → slice_get drafts t ≡ a → slice_get graph.units t ≡ b
+      → option_map_or (λ (d : Draft). slice_index_or d.places k d.len) a 0 ≡ option_map_or (λ (v : OutUnit). node_place t v k) b 0
+  node_is drafts are t k (Some d) (Some v) there here =
+      let is : IsDraft t v d = are.each t v d here there in
+      ap (λ (ps : List ℕ). slice_index_or ps k d.len) is.places ∙ ap (slice_index_or (node_places t v) k) is.len ∙ own_is t v k
+  node_is drafts are t k (Some d) None there here = absurd (omega (arith, slice_get_within drafts t d there, past graph.units t here, are.count))
+  node_is drafts are t k None (Some v) there here = absurd (omega (arith, slice_get_within graph.units t v here, past drafts t there, are.count))
+  node_is drafts are t k None None there here = refl
+
+  entry_is : (o : Outside) (target : Target) → o.starts.now ≡ starts → AreDrafts graph o.drafts.now → o.end ≡ unit_start graph (length graph.units)
+      → entry_number o target ≡ unit_start graph target.unit + target_place graph target
+  entry_is o target starts_are are end =
+      let t = target.unit in
+      let node = option_map_or (λ (d : Draft). slice_index_or d.places target.node d.len) (slice_get o.drafts.now t) 0 in
+      ap (λ (ss : List ℕ). slice_index_or ss t o.end + node) starts_are ∙ ap (λ (n : ℕ). slice_index_or starts t n + node) end ∙ ap (λ (n : ℕ). n + node) (start_is t)
+      ∙ ap (λ (n : ℕ). unit_start graph t + n) (node_is o.drafts.now are t target.node (slice_get o.drafts.now t) (slice_get graph.units t) refl refl)
 
   abbrev pub world_of : ℕ → OutUnit → Outside → World
   world_of u clone o = record {
@@ -73,8 +82,7 @@ module _ (graph : Graph) where
     own = λ k. ap (λ (unit : Option OutUnit). option_map_or (λ (v : OutUnit). node_place u v k) unit 0) at;
     table = is.table;
     text = is.texts;
-    entry = λ target far. ap (λ (units : List Placed). entry_number units o.end target) is.units
-        ∙ ap (λ (n : ℕ). entry_number (map (λ (m : ℕ × OutUnit). placed graph m.0 m.1) (numbered_units graph)) n target) is.end ∙ entry_by target (slice_get graph.units target.unit) refl;
+    entry = λ target far. entry_is o target is.starts is.drafts is.end;
     ranges = λ n. ap (λ (m : ℕ). m + n) is.ranges;
     locations = λ n. ap (λ (m : ℕ). m + n) is.locations;
     lines = is.lines;

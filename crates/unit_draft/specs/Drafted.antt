@@ -1,8 +1,9 @@
 -- What the draft of a unit is: its parts of all sections, as far as they follow from the unit alone.
-use Rattle.std.specs.Prelude.{◌≡◌, ℕ, ◌^◌, ◌<◌, ◌≤◌, List, [], length, map, Result, Ok, Err}
+use Rattle.std.specs.Prelude.{◌≡◌, ℕ, ◌^◌, ◌<◌, ◌≤◌, List, [], length, map, Result, Ok, Err, slice_get, Some}
 use Rattle.std.specs.List.{enumerate_from, flat_map}
 use Rattle.std.specs.Str.{bytes_eq}
 use Rattle.ds_base.specs.FirstUse.{once}
+use Rattle.dwarf_types.specs.declared.graph.Graph.{Graph}
 use Rattle.dwarf_types.specs.declared.graph.OutUnit.{OutUnit}
 use Rattle.dwarf_types.specs.Abbreviations.{table_bytes}
 use Rattle.dwarf_types.specs.Encode.{unit_locations, unit_ranges}
@@ -50,3 +51,8 @@ abbrev pub Drafts : ℕ → OutUnit → Result Draft DraftError → Type 0
 Drafts number clone (Ok draft) = IsDraft number clone draft
 Drafts number clone (Err errors.Unit) = 2 ^ 28 ≤ unit_len number clone
 Drafts number clone (Err errors.NoMemory) = Unit {0}
+
+-- as many drafts as units, each of its unit by its number
+pub record AreDrafts (graph : Graph) (drafts : List Draft) : Type 0 where
+  pub count : length drafts ≡ length graph.units
+  pub each : (u : ℕ) (unit : OutUnit) (draft : Draft) → slice_get graph.units u ≡ Some unit → slice_get drafts u ≡ Some draft → IsDraft u unit draft

@@ -6,9 +6,10 @@
 //! order, so that no unit stands in memory as a whole; it needs no other unit, and no size is computed ahead. It goes
 //! stretch by stretch (`turns`): some nodes are asked for and declared (`preparer`), and then their entries are
 //! appended (`entries`). [`draft_unit_by_two`] does both at the same time, in two threads (`task`), for two stretches
-//! behind each other. What a draft is stands in `specs/Drafted.antt`. Once it is known where all stands, [`emit_draft`]
-//! copies the entries and fills the holes, so that they are `unit_bytes` (`dwarf_types/specs/Entries.antt`), and
-//! [`emit_lines`] does so with the line table, so that it is `lines_bytes` (`dwarf_types/specs/LineTable.antt`).
+//! behind each other. What a draft is stands in `specs/Drafted.antt`. Once it is known where all stands ([`Outside`]),
+//! [`emit_draft`] copies the entries and fills the holes, so that they are `unit_bytes`
+//! (`dwarf_types/specs/Entries.antt`), and [`emit_lines`] does so with the line table, so that it is `lines_bytes`
+//! (`dwarf_types/specs/LineTable.antt`).
 #![tactic(auto)]
 
 mod depths;
@@ -18,6 +19,7 @@ mod error;
 mod expression;
 mod lists;
 mod numbers;
+mod outside;
 mod parts;
 mod preparer;
 mod stretch;
@@ -28,4 +30,5 @@ mod values;
 mod whole;
 
 pub use error::DraftError;
+pub use outside::Outside;
 pub use unit::{Draft, draft_unit, draft_unit_by_two, emit_draft, emit_lines};

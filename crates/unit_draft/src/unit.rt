@@ -8,20 +8,21 @@ ghost use Rattle.dwarf_types.specs.Entries.{unit_bytes};
 ghost use Rattle.dwarf_types.specs.Layout.{line_text_place, lists_place, places_of, table_place};
 ghost use Rattle.dwarf_types.specs.LineTable.{lines_bytes};
 ghost use Rattle.patches.specs.Filling.{Filling, filled};
-ghost use Rattle.patches.specs.Numbers.{outer_number, settled};
+ghost use Rattle.patches.specs.Numbers.{settled};
 ghost use Rattle.unit_draft.specs.Drafted.{Drafts, IsDraft};
-ghost use Rattle.unit_draft.specs.Outside.{IsOutside};
+ghost use Rattle.unit_draft.specs.Outside.{IsOutside, outer_number};
 ghost use Rattle.unit_draft.specs.Settled.{Settles};
 ghost use Rattle.unit_draft.specs.Whole.{IsWhole};
 ghost use Rattle.unit_draft.specs.World.{Stands, World};
 
 use crate::error::DraftError;
+use crate::outside::Outside;
 use crate::parts::{DraftedLines, abbreviations_of, copy_of, lines_of};
 use crate::whole::{Whole, append_unit, append_unit_by_two};
 use ds_base::limits::UNIT_BYTES;
 use ds_base::{Bytes, List, NoMemory};
 use dwarf_types::Span;
-use patches::{Buffer, Outside};
+use patches::Buffer;
 use std::alloc::Global;
 use std::thread::Threads;
 use text_pool::Names;
@@ -163,7 +164,8 @@ fn nowhere<'a>() -> Outside<'a> {
         locations: 0,
         texts: &[],
         line_texts: &[],
-        units: &[],
+        starts: &[],
+        drafts: &[],
         end: 0,
     }
 }

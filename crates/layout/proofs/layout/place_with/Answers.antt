@@ -4,8 +4,9 @@ use Rattle.ds_base.specs.declared.fault.Part.TheVariants as parts
 use Rattle.dwarf_types.specs.declared.graph.Graph.{Graph}
 use Rattle.text_pool.specs.declared.error.TextError.{TextError}
 use Rattle.text_pool.specs.declared.error.TextError.TheVariants as text_errors
+use Rattle.unit_draft.specs.Drafted.{AreDrafts}
 use Rattle.layout.specs.declared.error.LayoutError.{LayoutError}
-use Rattle.layout.specs.Laid.{AreDrafts, Measures}
+use Rattle.layout.specs.Laid.{Measures}
 use Rattle.layout.specs.declared.text.Texts.{Texts}
 use Rattle.layout.specs.declared.text.TextsOf.TheVariants as owners
 use Rattle.layout.specs.Pass.{MakesTexts, behind_draft, long_front, no_starts, refused, texts_by, texts_for}

@@ -2,12 +2,9 @@ use Rattle.std.proofs.Common.{◌≡◌, ◌∙◌, Some, ap, get_or, length, re
 use Rattle.std.proofs.lemmas.Option.{slice_get_read}
 use Rattle.unit_draft.specs.Drafted.{IsDraft}
 use Rattle.layout.specs.Pass.{nothing}
-use Rattle.emit_info.proofs.Drafts.{its_draft, within_drafts}
+use Rattle.emit_info.proofs.Drafts.{its_draft}
 use Rattle.emit_info.proofs.UnitByUnit.{unit_of}
 use Rattle.section_write.proofs.lines.emit_table.Goals as goal
-
-pub outside_of-outside-requires : goal.outside_of-outside-requires
-outside_of-outside-requires c = within_drafts c.requires.measured.graph c.args.layout.now c.args.unit c.requires.measured.measured c.requires.within
 
 pub emit_lines-requires-clause-settled : goal.emit_lines-requires-clause-settled
 emit_lines-requires-clause-settled c =
