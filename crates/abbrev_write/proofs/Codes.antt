@@ -1,45 +1,51 @@
 -- The codes of declarations, of which one is put last.
 use Rattle.std.proofs.Common.{◌≡◌, ℕ, suc, ◌+◌, Bool, true, false, ◌||◌, ◌&&◌, List, [], ◌∷◌, ◌++◌, length, Option, Some, None, refl, sym, ap, ◌∙◌, arith}
 use Rattle.std.specs.Prelude.{nat_eq, is_some, if◌then◌else◌}
-use Rattle.std.specs.Cmp.Lexicographic.{nat_list_eq_equiv, pointwise}
-use Rattle.std.specs.List.{flat_map, list_any}
+use Rattle.std.specs.Bool.{Decides, one_answer}
+use Rattle.std.specs.Cmp.{booleans_Decides}
+use Rattle.std.specs.Cmp.Lexicographic.{pointwise}
+use Rattle.std.specs.List.{list_any, position, position_from}
 use Rattle.std.specs.Option.{option_map, option_or}
-use Rattle.std.specs.Str.{bytes_eq}
-use Rattle.indexmap.specs.IndexMap.{IndexMap, get_by}
+use mathlib.Core.Bool.{beq}
+use Rattle.std.proofs.lemmas.Bool.Decides.{Decides-and, Decides-eqb, Decides-like}
+use Rattle.std.proofs.lemmas.Iterator.Adapters.{position_from-zero}
+use Rattle.std.proofs.lemmas.List.{map_push}
+use Rattle.indexmap.specs.IndexSet.{insert_key}
 use Rattle.dwarf_types.specs.declared.abbrev.Declaration.{Declaration}
 use Rattle.dwarf_types.specs.Abbreviations.{code_in, same_declaration, same_flag}
+use Rattle.abbrev_write.specs.Feeding.{pairs_decide, same_pair}
 use Rattle.abbrev_write.specs.declared.key.Key.{Key}
-use Rattle.abbrev_write.specs.Keys.{AreKnown, code_among, key_of}
+use Rattle.abbrev_write.specs.Keys.{all_declared, code_among, declared_by}
 use Rattle.abbrev_write.specs.Table.{with_declaration}
 
-abbrev flat : List (ℕ × ℕ) → List ℕ
-flat pairs = flat_map (λ p. p.0 ∷ p.1 ∷ []) pairs
+-- ---- what is the same
 
-abbrev same_pair : ℕ × ℕ → ℕ × ℕ → Bool
-same_pair p q = nat_eq p.0 q.0 && nat_eq p.1 q.1
+flag_decides : (a b : Bool) → Decides (same_flag a b) (a ≡ b)
+flag_decides true true = (λ _. refl, λ _. refl)
+flag_decides true false = (λ e. sym e, λ e. sym e)
+flag_decides false true = (λ e. e, λ e. e)
+flag_decides false false = (λ _. refl, λ _. refl)
 
 and_assoc : (a b c : Bool) → (a && (b && c)) ≡ ((a && b) && c)
 and_assoc true b c = refl
 and_assoc false b c = refl
 
-flag_keys : (a b : Bool) → nat_eq (if a then 1 else 0) (if b then 1 else 0) ≡ same_flag a b
-flag_keys true true = refl
-flag_keys true false = refl
-flag_keys false true = refl
-flag_keys false false = refl
+-- the same are equal
+pub same_decides : (a b : Declaration) → Decides (same_declaration a b) (a ≡ b)
+same_decides a b =
+    let flags = same_flag a.children b.children in
+    let heads = Decides-and (nat_eq a.tag b.tag) flags (Decides-eqb a.tag b.tag) (flag_decides a.children b.children) in
+    let parts = Decides-and (nat_eq a.tag b.tag && flags) (pointwise same_pair a.attributes b.attributes) heads (pairs_decide a.attributes b.attributes) in
+    Decides-like (same_declaration a b) (λ h. made h.0.0 h.0.1 h.1) (λ e. ((ap (λ (d : Declaration). d.tag) e, ap (λ (d : Declaration). d.children) e), ap (λ (d : Declaration). d.attributes) e)) parts
+  where
+    made : a.tag ≡ b.tag → a.children ≡ b.children → a.attributes ≡ b.attributes → a ≡ b
+    made tag children attributes = λ i. record { tag = tag i; children = children i; attributes = attributes i }
 
-pairs_keys : (xs ys : List (ℕ × ℕ)) → pointwise nat_eq (flat xs) (flat ys) ≡ pointwise same_pair xs ys
-pairs_keys [] [] = refl
-pairs_keys [] (y ∷ ys) = refl
-pairs_keys (x ∷ xs) [] = refl
-pairs_keys (x ∷ xs) (y ∷ ys) = and_assoc (nat_eq x.0 y.0) (nat_eq x.1 y.1) (pointwise nat_eq (flat xs) (flat ys)) ∙ ap (λ (b : Bool). (nat_eq x.0 y.0 && nat_eq x.1 y.1) && b) (pairs_keys xs ys)
+pub same_itself : (d : Declaration) → same_declaration d d ≡ true
+same_itself d = (same_decides d d).1 refl
 
--- keys are equal exactly where declarations are the same
-pub same_keys : (a b : Declaration) → bytes_eq (key_of a) (key_of b) ≡ same_declaration a b
-same_keys a b =
-    ap (λ (c : Bool). nat_eq a.tag b.tag && (c && pointwise nat_eq (flat a.attributes) (flat b.attributes))) (flag_keys a.children b.children)
-    ∙ ap (λ (c : Bool). nat_eq a.tag b.tag && (same_flag a.children b.children && c)) (pairs_keys a.attributes b.attributes)
-    ∙ and_assoc (nat_eq a.tag b.tag) (same_flag a.children b.children) (pointwise same_pair a.attributes b.attributes)
+pub same_either_way : (a b : Declaration) → same_declaration a b ≡ same_declaration b a
+same_either_way a b = one_answer (same_declaration a b) (same_declaration b a) (same_decides a b) (Decides-like (same_declaration b a) (λ e. sym e) (λ e. sym e) (same_decides b a))
 
 -- ---- codes
 
@@ -84,9 +90,6 @@ with_known ds d n e = sym (rw (sym (among_any ds d), e) refl)
 pub with_new : (ds : List Declaration) (d : Declaration) → code_among ds d ≡ None → ds ++ d ∷ [] ≡ with_declaration ds d
 with_new ds d e = sym (rw (sym (among_any ds d), e) refl)
 
-same_itself : (d : Declaration) → same_declaration d d ≡ true
-same_itself d = sym (same_keys d d) ∙ nat_list_eq_equiv.refl (key_of d)
-
 pub new_code : (ds : List Declaration) (d : Declaration) → code_among ds d ≡ None → code_in (ds ++ d ∷ []) d ≡ length ds + 1
 new_code ds d e = among_is (ds ++ d ∷ []) d (length ds + 1) (among_push ds d d ∙ rw (e, same_itself d) refl)
 
@@ -100,7 +103,45 @@ with_among ds d = by (code_among ds d) refl
 
 -- ---- the look-up
 
-module _ {S : Type 0} where
-  -- what is found by a key
-  pub looked_up : (codes : IndexMap Key ℕ S) (ds : List Declaration) (d : Declaration) (key : List ℕ) → AreKnown codes ds → key ≡ key_of d → get_by (λ (k : Key). bytes_eq key k.numbers.items) codes ≡ code_among ds d
-  looked_up codes ds d key known is = ap (λ (ks : List ℕ). get_by (λ (k : Key). bytes_eq ks k.numbers.items) codes) is ∙ known d
+abbrev pub same_key : Key → Key → Bool
+same_key x y = nat_eq x.tag y.tag && (beq x.children y.children && pointwise same_pair x.attributes.items y.attributes.items)
+
+-- keys are equal where the declarations are the same
+same_declared : (key x : Key) → same_key key x ≡ same_declaration (declared_by x) (declared_by key)
+same_declared key x =
+    ap (λ (same : Bool). nat_eq key.tag x.tag && (same && pointwise same_pair key.attributes.items x.attributes.items)) (one_answer (beq key.children x.children) (same_flag key.children x.children) (booleans_Decides key.children x.children) (flag_decides key.children x.children))
+    ∙ and_assoc (nat_eq key.tag x.tag) (same_flag key.children x.children) (pointwise same_pair key.attributes.items x.attributes.items)
+    ∙ same_either_way (declared_by key) (declared_by x)
+
+-- the code of a key's declaration, among the keys from a place on
+code_from : (key : Key) (i : ℕ) (keys : List Key) → option_map suc (position_from (same_key key) i keys) ≡ option_map (λ n. i + n) (code_among (all_declared keys) (declared_by key))
+code_from key i [] = refl
+code_from key i (x ∷ keys) =
+    ap (λ (same : Bool). option_map suc (if same then Some i else position_from (same_key key) (i + 1) keys)) (same_declared key x)
+    ∙ by (same_declaration (declared_by x) (declared_by key)) (position_from (same_key key) (i + 1) keys) (code_among (all_declared keys) (declared_by key)) (code_from key (i + 1) keys)
+  where
+    by : (first : Bool) (there rest : Option ℕ) → option_map suc there ≡ option_map (λ n. i + 1 + n) rest
+        → option_map suc (if first then Some i else there) ≡ option_map (λ n. i + n) (if first then Some 1 else option_map suc rest)
+    by true there rest e = ap (λ (n : ℕ). Some n) (omega arith)
+    by false there None e = e
+    by false there (Some n) e = e ∙ ap (λ (m : ℕ). Some m) (omega arith)
+
+-- what is found by a key
+pub looked_up : (key : Key) (keys : List Key) → option_map suc (position (same_key key) keys) ≡ code_among (all_declared keys) (declared_by key)
+looked_up key keys = ap (option_map suc) (position_from-zero (same_key key) keys) ∙ code_from key 0 keys ∙ by (code_among (all_declared keys) (declared_by key))
+  where
+    by : (o : Option ℕ) → option_map (λ n. 0 + n) o ≡ o
+    by None = refl
+    by (Some n) = ap (λ (m : ℕ). Some m) (omega arith)
+
+any_key : (key : Key) (keys : List Key) → list_any (same_key key) keys ≡ is_some (code_among (all_declared keys) (declared_by key))
+any_key key keys = by keys ∙ sym (among_any (all_declared keys) (declared_by key))
+  where
+    by : (keys : List Key) → list_any (same_key key) keys ≡ list_any (λ x. same_declaration x (declared_by key)) (all_declared keys)
+    by [] = refl
+    by (x ∷ keys) =
+        ap (λ (same : Bool). same || list_any (same_key key) keys) (same_declared key x) ∙ ap (λ (rest : Bool). same_declaration (declared_by x) (declared_by key) || rest) (by keys)
+
+-- a key of a declaration that has no code goes last
+pub put_new : (key : Key) (keys : List Key) → code_among (all_declared keys) (declared_by key) ≡ None → all_declared (insert_key same_key keys key) ≡ all_declared keys ++ declared_by key ∷ []
+put_new key keys e = rw (any_key key keys, e) (map_push declared_by keys key)

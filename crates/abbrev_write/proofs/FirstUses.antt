@@ -2,25 +2,23 @@
 use Rattle.std.proofs.Common.{◌≡◌, ℕ, ◌+◌, Bool, true, false, not, ◌||◌, ◌&&◌, List, [], ◌∷◌, ◌++◌, length, filter, fold, Option, Some, None, if◌then◌else◌, refl, sym, ap, ◌∙◌, append_assoc}
 use Rattle.std.specs.List.{list_any}
 use Rattle.std.specs.Option.{option_or}
-use Rattle.std.specs.Str.{bytes_eq}
 use Rattle.std.proofs.lemmas.Bool.{cond_both}
 use Rattle.std.proofs.lemmas.List.{append-nil}
 use Rattle.std.proofs.lemmas.List.Elements.{filter-append}
 use Rattle.std.proofs.lemmas.Map.Views.{any-filter_same}
-use Rattle.std.proofs.lemmas.Slice.Eq.{bytes_eq-Decides}
 use Rattle.ds_base.specs.FirstUse.{once}
 use Rattle.dwarf_types.specs.declared.abbrev.Declaration.{Declaration}
 use Rattle.dwarf_types.specs.Abbreviations.{code_in, same_declaration}
-use Rattle.abbrev_write.specs.Keys.{code_among, key_of}
+use Rattle.abbrev_write.specs.Keys.{code_among}
 use Rattle.abbrev_write.specs.Table.{with_declaration}
-use Rattle.abbrev_write.proofs.Codes.{among_is, among_push, same_keys}
+use Rattle.abbrev_write.proofs.Codes.{among_is, among_push, same_decides}
 
 abbrev other : Declaration → Declaration → Bool
 other x y = not (same_declaration x y)
 
 -- what is the same as another is the same as what that is
 same_on : (x y t : Declaration) → same_declaration y t ≡ true → same_declaration x y ≡ same_declaration x t
-same_on x y t e = sym (same_keys x y) ∙ ap (bytes_eq (key_of x)) ((bytes_eq-Decides (key_of y) (key_of t)).0 (same_keys y t ∙ e)) ∙ same_keys x t
+same_on x y t e = ap (same_declaration x) ((same_decides y t).0 e)
 
 any-others : (x t : Declaration) (ds : List Declaration) → list_any (λ y. same_declaration y t) (filter (other x) ds) ≡ (other x t && list_any (λ y. same_declaration y t) ds)
 any-others x t ds = any-filter_same (λ y. same_declaration y t) (other x) (other x t) (λ y e. ap not (same_on x y t e)) ds

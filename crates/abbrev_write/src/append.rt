@@ -4,14 +4,14 @@ ghost use Rattle.std.specs.Prelude.{◌≡◌, ◌++◌, ℕ, OnOk, if◌then◌
 ghost use Rattle.std.specs.List.{flat_map};
 ghost use Rattle.ds_base.specs.Leb.{uleb};
 ghost use Rattle.dwarf_types.specs.Abbreviations.{declaration_bytes, declarations_bytes};
+ghost use Rattle.abbrev_write.specs.Keys.{all_declared, declared_by};
 
 use crate::declarations::Declared;
+use crate::key::Key;
 use appending::append_uleb;
 use ds_base::{Bytes, NoMemory};
-use dwarf_types::Declaration;
 
-/// Puts the table of the declarations last: each with its code, and the zero byte that ends them. Where memory runs out,
-/// `out` begins with what stood in it, and first bytes of the table may follow.
+/// Puts the table of the declarations last: each with its code, and the zero byte that ends them.
 pub fn append_table(out: &mut Bytes, declared: &Declared) -> Result<(), NoMemory>
     ensures { OnOk result (out.new ≡ out.old ++ declarations_bytes declared.now) }
 {
@@ -20,8 +20,8 @@ pub fn append_table(out: &mut Bytes, declared: &Declared) -> Result<(), NoMemory
 }
 
 /// Puts declarations last, with the codes from 1, and what ends them.
-fn append_declarations(out: &mut Bytes, declarations: &[Declaration]) -> Result<(), NoMemory>
-    ensures { OnOk result (out.new ≡ out.old ++ declarations_bytes declarations.now) }
+fn append_declarations(out: &mut Bytes, declarations: &[Key]) -> Result<(), NoMemory>
+    ensures { OnOk result (out.new ≡ out.old ++ declarations_bytes (all_declared declarations.now)) }
 {
     for (i, declared) in declarations.iter().enumerate() {
         append_declaration(out, i as u64 + 1, declared)?;
@@ -31,8 +31,8 @@ fn append_declarations(out: &mut Bytes, declarations: &[Declaration]) -> Result<
 }
 
 /// Puts a declaration last, with its code.
-fn append_declaration(out: &mut Bytes, code: u64, declared: &Declaration) -> Result<(), NoMemory>
-    ensures { OnOk result (out.new ≡ out.old ++ declaration_bytes code declared.now) }
+fn append_declaration(out: &mut Bytes, code: u64, declared: &Key) -> Result<(), NoMemory>
+    ensures { OnOk result (out.new ≡ out.old ++ declaration_bytes code (declared_by declared.now)) }
 {
     append_uleb(out, code)?;
     append_uleb(out, u64::from(declared.tag))?;

@@ -1,49 +1,46 @@
-//! The keys by which declarations are looked up.
+//! Declarations as keys, by which they are looked up.
 
-ghost use Rattle.std.specs.Prelude.{◌≡◌};
-ghost use Rattle.std.specs.Hash as fed;
-ghost use Rattle.std.specs.Cmp.Lexicographic.{bytes_decides};
-ghost use Rattle.std.proofs.Common.{ap};
-ghost use Rattle.abbrev_write.specs.Keys.{mix, mixed, mixed_from};
+ghost use Rattle.std.specs.Prelude.{◌≡◌, fold};
+ghost use Rattle.abbrev_write.specs.Feeding.{fed, pair_fed, pairs_fed, same_fed};
 
 use std::hash::{Hash, Hasher};
 
-/// What each number is multiplied by.
-const FACTOR: u64 = 0x9e3779b97f4a7c15;
-
-/// What declares a node, as numbers.
+/// What declares a node, as a key.
 ///
-/// They are mixed into one, which is hashed; a vector would be hashed number by number.
+/// A name is hashed with its form as one number; a vector of pairs would be hashed half by half.
 #[derive(PartialEq, Eq, Drop)]
 pub(crate) struct Key {
-    pub(crate) numbers: Vec<u32>,
+    /// The `DW_TAG` number.
+    pub(crate) tag: u16,
+    /// Whether children follow.
+    pub(crate) children: bool,
+    /// The `DW_AT` number and the `DW_FORM` number of each attribute, in the order of their values.
+    pub(crate) attributes: Vec<(u16, u16)>,
 }
 
 impl Hash for Key {
-    ghost hash_input = { λ key. fed.u64 (mixed key.numbers.items) };
+    ghost hash_input = { λ key. fed key.tag key.children key.attributes.items };
 
-    ghost respects_eq = { λ x y same. ap (λ numbers. fed.u64 (mixed numbers)) ((bytes_decides x.numbers.items y.numbers.items).0 same) };
+    ghost respects_eq = { λ x y same. same_fed x.tag y.tag x.children y.children x.attributes.items y.attributes.items same };
 
     fn hash<H: Hasher>(&self, state: &mut H) {
-        state.write_u64(mix_all(0, self.numbers.as_slice()));
+        feed_pair(state, self.tag, if self.children { 1 } else { 0 });
+        feed_pairs(state, self.attributes.as_slice());
     }
 }
 
-/// What was mixed so far and numbers, one after the other.
-#[tactic(auto, unfolding(crate::specs::Keys::mixed_from))]
-fn mix_all(so_far: u64, numbers: &[u32]) -> u64
-    ensures { result ≡ mixed_from so_far numbers.now }
+/// Feeds pairs, one by one.
+fn feed_pairs<H: Hasher>(state: &mut H, pairs: &[(u16, u16)])
+    ensures { state.new ≡ fold H.write state.old (pairs_fed pairs.now) }
 {
-    let mut state = so_far;
-    for number in numbers {
-        state = mix(state, *number);
+    for (name, form) in pairs {
+        feed_pair(state, *name, *form);
     }
-    state
 }
 
-/// What was mixed so far and a number.
-fn mix(so_far: u64, number: u32) -> u64
-    ensures { result ≡ mix so_far number }
+/// Feeds a pair as one number.
+fn feed_pair<H: Hasher>(state: &mut H, first: u16, second: u16)
+    ensures { state.new ≡ H.write state.old (pair_fed first second) }
 {
-    so_far.wrapping_add(u64::from(number)).wrapping_mul(FACTOR)
+    state.write_u32(u32::from(first) * 0x10000 + u32::from(second));
 }

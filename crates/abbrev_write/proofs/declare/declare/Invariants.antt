@@ -1,8 +1,0 @@
-use Rattle.std.proofs.Common.{◌≡◌, ◌++◌, drop, map}
-use Rattle.dwarf_types.specs.Forms.{form_of}
-use Rattle.unit_source.specs.Given.{attr_given}
-use Rattle.abbrev_write.proofs.declare.declare.Given as goal
-
-abbrev pub invariant-loop-attr : goal.invariant-loop-attr
-invariant-loop-attr l =
-    l.attributes ++ map (λ a. (a.name, form_of l.number a.value)) (map attr_given (drop l.attr-index l.attrs)) ≡ map (λ a. (a.name, form_of l.number a.value)) (map attr_given l.attrs)
