@@ -3,19 +3,19 @@ use Rattle.std.specs.Prelude.{ℕ, ◌+◌, List, [], ◌∷◌, ◌++◌, lengt
 use Rattle.std.specs.Map.{lookup}
 use Rattle.std.specs.Option.{unwrap_or}
 use Rattle.std.specs.Str.{bytes_eq}
-use Rattle.std.specs.declared.vec.Vec.{Vec}
 use Rattle.byteorder.specs.Endian.{little_bytes}
 use Rattle.indexmap.specs.IndexMap.{IndexMap}
 use Rattle.ds_base.specs.declared.dwarf.TheConstants.{DW_CIE_ID}
+use Rattle.ds_base.specs.declared.text_key.TextKey.{TextKey}
 use Rattle.dwarf_types.specs.declared.frames.OutFrame.{OutFrame}
 
 -- the contents of the CIEs so far, each with its place
 abbrev pub Known : Type 0
 Known = List (List ℕ × ℕ)
 
-module _ {A S : Type 0} where
-  abbrev pub known_in : IndexMap (Vec ℕ A) ℕ S → Known
-  known_in places = map (λ e. (e.0.items, e.1)) places.entries
+module _ {S : Type 0} where
+  abbrev pub known_in : IndexMap TextKey ℕ S → Known
+  known_in places = map (λ e. (e.0.text.now, e.1)) places.entries
 
 abbrev pub place_in : Known → List ℕ → Option ℕ
 place_in known cie = lookup (bytes_eq cie) known

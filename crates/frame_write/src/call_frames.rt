@@ -35,10 +35,10 @@ pub fn append_frames(alloc: Global, out: &mut Bytes, frames: &OutFrames) -> Resu
 }
 
 /// Puts a frame last, behind its CIE where that is new. `at` is how many bytes of the section are there.
-fn append_frame(
+fn append_frame<'a>(
     out: &mut Bytes,
-    known: &mut KnownCies,
-    frame: &FrameRef<'_>,
+    known: &mut KnownCies<'a>,
+    frame: &FrameRef<'a>,
     at: usize,
 ) -> Result<(), NoMemory>
     ensures known { OnOk result (known.new ≡ with_cie known.old frame.now.cie.now at) }

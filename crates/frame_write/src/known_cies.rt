@@ -5,7 +5,7 @@ ghost use Rattle.frame_write.specs.Known.{cie_bytes, new_bytes, place_in, told, 
 
 use appending::{append_offset, append_u32};
 use ds_base::dwarf::{DW_CIE_ID, OFFSET_SIZE};
-use ds_base::{Bytes, NoMemory};
+use ds_base::{Bytes, NoMemory, TextKey};
 use indexmap::IndexMap;
 use std::alloc::Global;
 use std::marker::Model;
@@ -17,11 +17,11 @@ const CIE_ID_LEN: usize = OFFSET_SIZE as usize;
 ///
 /// A contract sees each content, and the place of its entry in the section.
 #[derive(Drop)]
-pub(crate) struct KnownCies {
-    places: IndexMap<Vec<u8>, usize>,
+pub(crate) struct KnownCies<'a> {
+    places: IndexMap<TextKey<'a>, usize>,
 }
 
-impl Model for KnownCies {
+impl<'a> Model for KnownCies<'a> {
     ghost use Rattle.frame_write.specs.Known.{Known, known_in};
 
     ghost Value = { Known };
@@ -30,7 +30,7 @@ impl Model for KnownCies {
 }
 
 /// No entries.
-pub(crate) fn no_cies(alloc: Global) -> KnownCies
+pub(crate) fn no_cies<'a>(alloc: Global) -> KnownCies<'a>
     ensures { result ≡ [] }
 {
     KnownCies {
@@ -39,10 +39,10 @@ pub(crate) fn no_cies(alloc: Global) -> KnownCies
 }
 
 /// The place of an entry in the section, of which so many bytes are there. It is put last where it is new.
-pub(crate) fn append_cie(
+pub(crate) fn append_cie<'a>(
     out: &mut Bytes,
-    known: &mut KnownCies,
-    cie: &[u8],
+    known: &mut KnownCies<'a>,
+    cie: &'a [u8],
     at: usize,
 ) -> Result<usize, NoMemory>
     ensures place { IfOk result (λ place. place ≡ told known.old cie.now at) }
@@ -58,19 +58,18 @@ pub(crate) fn append_cie(
 }
 
 /// The place of the entry of a content, if it was put.
-fn place_of(known: &KnownCies, cie: &[u8]) -> Option<usize>
+fn place_of(known: &KnownCies<'_>, cie: &[u8]) -> Option<usize>
     ensures { result ≡ place_in known.now cie.now }
 {
-    known.places.get(cie).copied()
+    known.places.get(&TextKey { text: cie }).copied()
 }
 
 /// Keeps the place of an entry that is new.
-fn add(known: &mut KnownCies, cie: &[u8], place: usize) -> Result<(), NoMemory>
+fn add<'a>(known: &mut KnownCies<'a>, cie: &'a [u8], place: usize) -> Result<(), NoMemory>
     requires new { place_in known.old cie.now ≡ None }
     ensures { OnOk result (known.new ≡ known.old ++ (cie.now, place) ∷ []) }
 {
-    let key = Vec::from_slice(*known.places.allocator(), cie)?;
-    known.places.insert(key, place)?;
+    known.places.insert(TextKey { text: cie }, place)?;
     Ok(())
 }
 
