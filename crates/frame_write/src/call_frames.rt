@@ -20,8 +20,6 @@ const DESCRIBED_LEN: usize = OFFSET_SIZE as usize + 2 * ADDRESS_SIZE as usize;
 ///
 /// Places of CIEs count from the first frame's, where the section begins. A length or a place that has no four bytes
 /// is written by its lowest four.
-///
-/// Where memory runs out, `out` begins with what stood in it, and first bytes of the frames may follow.
 pub fn append_frames(alloc: Global, out: &mut Bytes, frames: &OutFrames) -> Result<(), NoMemory>
     ensures { OnOk result (out.new ≡ out.old ++ frames_bytes frames.now) }
 {

@@ -38,9 +38,6 @@ const STANDARD_OPCODE_LENGTHS: [u8; 12] = [0, 1, 1, 1, 1, 0, 0, 0, 1, 0, 0, 1];
 /// In version 5 the place of a text is a hole with the text's number among `names`, which grow by the directories and
 /// then the files. In version 4 nothing is written of a file's digest. A length that has no place in four bytes is
 /// written by its lowest four.
-///
-/// Where memory runs out, `out` begins with what stood in it, and first bytes of the table may follow; `names` begin with
-/// those that there were.
 pub fn append_lines<'a>(
     alloc: Global,
     out: &mut Buffer,
