@@ -15,8 +15,8 @@ use Rattle.macho_read.specs.declared.image.Image.{Image}
 use Rattle.macho_read.specs.ImageSpelling.{command_of}
 use Rattle.macho_read.specs.Spelling.{command_bytes, padded, section_bytes, segment_fields, spelled}
 use Rattle.macho_read.specs.Fields.{before_zero}
-use Rattle.dsym_write.specs.Bundle.{contents, dwarf_command, dwarf_sections, end_of, name_of_part, page_end}
-use Rattle.dsym_write.specs.Pieces.{count_of, dwarf_section, records_from, segment_with, sized, total}
+use Rattle.dsym_write.specs.Bundle.{contents, dwarf_command, dwarf_section, dwarf_sections, end_of, name_of_part, page_end}
+use Rattle.dsym_write.specs.Pieces.{count_of, records_from, segment_with, sized, total}
 use Rattle.dsym_write.proofs.SegmentCommands.{length-section}
 
 abbrev pub told : Written → Part × ℕ

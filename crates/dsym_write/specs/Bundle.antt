@@ -81,15 +81,14 @@ name_of_part _ = []
 abbrev pub contents : List Written → List ℕ
 contents sections = flat_map (λ s. s.bytes) sections
 
--- sections that follow one another, the first at an address and at an offset of the file
-abbrev pub dwarf_sections : ℕ → ℕ → List Written → List Section
-dwarf_sections addr offset [] = []
-dwarf_sections addr offset (s ∷ sections) =
+-- the record of a part of a size, at an address and an offset of the file
+abbrev pub dwarf_section : ℕ → ℕ → Part → ℕ → Section
+dwarf_section addr offset part size =
     record {
-      name = name_of_part s.part;
+      name = name_of_part part;
       segment = before_zero SEG_DWARF;
       addr = addr;
-      size = length s.bytes;
+      size = size;
       offset = offset;
       align = 0;
       reloff = 0;
@@ -99,7 +98,11 @@ dwarf_sections addr offset (s ∷ sections) =
       reserved2 = 0;
       reserved3 = 0;
     }
-    ∷ dwarf_sections (addr + length s.bytes) (offset + length s.bytes) sections
+
+-- sections that follow one another, the first at an address and at an offset of the file
+abbrev pub dwarf_sections : ℕ → ℕ → List Written → List Section
+dwarf_sections addr offset [] = []
+dwarf_sections addr offset (s ∷ sections) = dwarf_section addr offset s.part (length s.bytes) ∷ dwarf_sections (addr + length s.bytes) (offset + length s.bytes) sections
 
 -- the segment stands behind those of the program, and its bytes at an offset of the file; it may be read, written and run at most, and is read and written
 abbrev pub dwarf_command : Image → ℕ → List Written → LoadCommand

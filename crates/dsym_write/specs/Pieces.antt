@@ -4,7 +4,7 @@ use Rattle.std.specs.List.{flat_map}
 use Rattle.std.specs.Option.{option_map_or}
 use Rattle.byteorder.specs.Endian.{little_bytes}
 use Rattle.ds_base.specs.declared.fault.Part.{Part}
-use Rattle.ds_base.specs.declared.macho.TheConstants.{LC_SEGMENT_64, LC_SYMTAB, MACH_HEADER_64_SIZE, MH_DSYM, MH_MAGIC_64, NLIST_64_SIZE, SECTION_64_SIZE, SEGMENT_COMMAND_64_SIZE, SEG_DWARF, SYMTAB_COMMAND_SIZE, S_ATTR_DEBUG, UUID_COMMAND_SIZE, VM_PROT_ALL, VM_PROT_DEFAULT}
+use Rattle.ds_base.specs.declared.macho.TheConstants.{LC_SEGMENT_64, LC_SYMTAB, MACH_HEADER_64_SIZE, MH_DSYM, MH_MAGIC_64, NLIST_64_SIZE, SECTION_64_SIZE, SEGMENT_COMMAND_64_SIZE, SEG_DWARF, SYMTAB_COMMAND_SIZE, UUID_COMMAND_SIZE, VM_PROT_ALL, VM_PROT_DEFAULT}
 use Rattle.ds_base.specs.Texts.{ended}
 use Rattle.layout.specs.declared.sizes.Sizes.{Sizes}
 use Rattle.layout.specs.Laid.{size_in}
@@ -13,7 +13,6 @@ use Rattle.macho_read.specs.declared.image.Section.{Section}
 use Rattle.macho_read.specs.declared.image.Segment.{Segment}
 use Rattle.macho_read.specs.declared.image.Symbol.{Symbol}
 use Rattle.macho_read.specs.Commands.{last_end}
-use Rattle.macho_read.specs.Fields.{before_zero}
 use Rattle.macho_read.specs.ImageSpelling.{LoadCommand, command_of, nlist_bytes}
 use Rattle.macho_read.specs.Spelling.{command_bytes, section_bytes, segment_fields, spelled}
 use Rattle.macho_read.specs.Standings.{is_stab}
@@ -23,7 +22,7 @@ use Rattle.dsym_write.specs.declared.segments.SectionNumbers.{SectionNumbers}
 use Rattle.dsym_write.specs.declared.segments.SegmentNumbers.{SegmentNumbers}
 use Rattle.dsym_write.specs.declared.dwarf.TheConstants.{WRITTEN_PARTS}
 use Rattle.dsym_write.specs.declared.places.Places.{Places}
-use Rattle.dsym_write.specs.Bundle.{end_of, is_empty, kept_symbols, name_of_part, page_end, segment_commands, uuid_command}
+use Rattle.dsym_write.specs.Bundle.{dwarf_section, end_of, is_empty, kept_symbols, page_end, segment_commands, uuid_command}
 
 -- ---- segments
 
@@ -54,24 +53,6 @@ abbrev pub commands_text : List LoadCommand → List ℕ
 commands_text commands = flat_map command_bytes (map command_of commands)
 
 -- ---- segment `__DWARF`
-
--- the record of a part of a size, at an address and an offset of the file
-abbrev pub dwarf_section : ℕ → ℕ → Part → ℕ → Section
-dwarf_section addr offset part size =
-    record {
-      name = name_of_part part;
-      segment = before_zero SEG_DWARF;
-      addr = addr;
-      size = size;
-      offset = offset;
-      align = 0;
-      reloff = 0;
-      nreloc = 0;
-      flags = S_ATTR_DEBUG;
-      reserved1 = 0;
-      reserved2 = 0;
-      reserved3 = 0;
-    }
 
 -- of a part without bytes nothing is written
 abbrev pub sized_bytes : ℕ → ℕ → Part → ℕ → List ℕ

@@ -4,8 +4,8 @@ ghost use Rattle.std.specs.Prelude.{◌≡◌, ◌+◌, ◌<◌, ◌≤◌, ◌^
 ghost use Rattle.ds_base.specs.Room.{Adds};
 ghost use Rattle.layout.specs.Laid.{size_in};
 ghost use Rattle.macho_read.specs.Spelling.{padded, section_bytes};
-ghost use Rattle.dsym_write.specs.Bundle.{name_of_part};
-ghost use Rattle.dsym_write.specs.Pieces.{dwarf_section, records_from, sized_bytes, total, with_size};
+ghost use Rattle.dsym_write.specs.Bundle.{dwarf_section, name_of_part};
+ghost use Rattle.dsym_write.specs.Pieces.{records_from, sized_bytes, total, with_size};
 
 use crate::segments::{SectionNumbers, emit_section_numbers};
 use ds_base::macho::{

@@ -12,8 +12,9 @@ use Rattle.dwarf_types.specs.Encode.{abbrev_section, aranges_section, encode, fr
 use Rattle.layout.specs.declared.sizes.Sizes.{Sizes}
 use Rattle.layout.specs.Laid.{long_section, size_in, sizes_of}
 use Rattle.dsym_write.specs.declared.dwarf.TheConstants.{WRITTEN_PARTS}
+use Rattle.dsym_write.specs.Pieces.{with_size}
 use Rattle.sample_objects.specs.ObjectFile.{sized_of}
-use Rattle.sample_objects.specs.Sized.{has_size, with_size}
+use Rattle.sample_objects.specs.Sized.{has_size}
 
 size_told : (ws : List Written) → sum_by (λ s. s.1) (sized_of ws) ≡ length (contents ws)
 size_told [] = refl

@@ -3,7 +3,7 @@ use Rattle.std.specs.Prelude.{ℕ, ◌+◌, ◌*◌, ◌%◌, ◌==◌, not, Boo
 use Rattle.std.specs.Fmt.{decimal}
 use Rattle.std.specs.List.{filter, flat_map, range_with_len}
 use Rattle.std.specs.Option.{option_map_or}
-use Rattle.ds_base.specs.declared.macho.TheConstants.{CPU_TYPE_ARM64, MH_EXECUTE, N_EXT, N_FUN, N_OSO, N_SECT, SECT_TEXT, SEG_TEXT}
+use Rattle.ds_base.specs.declared.macho.TheConstants.{CPU_TYPE_ARM64, MH_EXECUTE, N_EXT, N_FUN, N_OSO, N_SECT, SEG_TEXT}
 use Rattle.ds_base.specs.Leb.{uleb_len_of}
 use Rattle.dwarf_types.specs.declared.graph.OutUnit.{OutUnit}
 use Rattle.dwarf_types.specs.Entries.{entries_of, node_place}
@@ -18,7 +18,7 @@ use Rattle.stab_map.specs.declared.object.MapObject.{MapObject}
 use Rattle.sample_objects.specs.declared.program.Generated.{Generated}
 use Rattle.sample_objects.specs.declared.spec.ObjectSpec.{ObjectSpec}
 use Rattle.sample_objects.specs.GeneratedUnit.{all_numbers, function_name, function_node, unit_of}
-use Rattle.sample_objects.specs.ObjectFile.{counts_from_text, object_bytes}
+use Rattle.sample_objects.specs.ObjectFile.{counts_from_text, object_bytes, text_section}
 
 -- ---- objects
 
@@ -86,21 +86,7 @@ text_segment = record { name = before_zero SEG_TEXT; vmaddr = 0x100000000; vmsiz
 
 -- its one section, which is as large
 abbrev pub code_section : Section
-code_section =
-    record {
-      name = before_zero SECT_TEXT;
-      segment = before_zero SEG_TEXT;
-      addr = 0x100000000;
-      size = 0x1000000;
-      offset = 0;
-      align = 0;
-      reloff = 0;
-      nreloc = 0;
-      flags = 0;
-      reserved1 = 0;
-      reserved2 = 0;
-      reserved3 = 0;
-    }
+code_section = record text_section { addr = 0x100000000; size = 0x1000000 }
 
 -- the program of so many objects, whose UUID is the bytes 0 to 15
 abbrev pub program_of : ℕ → Image

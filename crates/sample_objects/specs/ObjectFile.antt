@@ -4,8 +4,8 @@ use Rattle.std.specs.List.{flat_map}
 use Rattle.std.specs.Option.{option_map_or}
 use Rattle.ds_base.specs.declared.fault.Part.{Part}
 use Rattle.ds_base.specs.declared.fault.Part.TheVariants as parts
-use Rattle.ds_base.specs.declared.macho.TheConstants.{MACH_HEADER_64_SIZE, MH_OBJECT, NLIST_64_SIZE, RELOCATION_INFO_SIZE, RELOC_LENGTH_8, SECTION_64_SIZE, SECT_TEXT, SEGMENT_COMMAND_64_SIZE, SEG_DWARF, SEG_TEXT, SYMTAB_COMMAND_SIZE, S_ATTR_DEBUG, VM_PROT_EXECUTE, VM_PROT_READ, VM_PROT_WRITE}
-use Rattle.dsym_write.specs.Bundle.{contents, name_of_part, strings_bytes, symbols_bytes, with_places}
+use Rattle.ds_base.specs.declared.macho.TheConstants.{MACH_HEADER_64_SIZE, MH_OBJECT, NLIST_64_SIZE, RELOCATION_INFO_SIZE, RELOC_LENGTH_8, SECTION_64_SIZE, SECT_TEXT, SEGMENT_COMMAND_64_SIZE, SEG_TEXT, SYMTAB_COMMAND_SIZE, VM_PROT_EXECUTE, VM_PROT_READ, VM_PROT_WRITE}
+use Rattle.dsym_write.specs.Bundle.{contents, dwarf_section, strings_bytes, symbols_bytes, with_places}
 use Rattle.dwarf_types.specs.declared.graph.Graph.{Graph}
 use Rattle.dwarf_types.specs.declared.graph.OutUnit.{OutUnit}
 use Rattle.dwarf_types.specs.declared.graph.Written.{Written}
@@ -141,21 +141,7 @@ nreloc_in places _ = 0
 
 -- the section of a part of a size, whose bytes stand at an offset of the file
 abbrev pub debug_section : Places → ℕ → Part → ℕ → Section
-debug_section places offset part size =
-    record {
-      name = name_of_part part;
-      segment = before_zero SEG_DWARF;
-      addr = 0;
-      size = size;
-      offset = offset;
-      align = 0;
-      reloff = reloff_in places part;
-      nreloc = nreloc_in places part;
-      flags = S_ATTR_DEBUG;
-      reserved1 = 0;
-      reserved2 = 0;
-      reserved3 = 0;
-    }
+debug_section places offset part size = record (dwarf_section 0 offset part size) { reloff = reloff_in places part; nreloc = nreloc_in places part }
 
 -- parts that follow one another, each with its size, the first at an offset of the file
 abbrev pub debug_sections : Places → ℕ → List (Part × ℕ) → List Section

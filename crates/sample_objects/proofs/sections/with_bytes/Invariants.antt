@@ -1,6 +1,7 @@
 use Rattle.std.proofs.Common.{◌≡◌, ◌≤◌, ◌++◌, drop, length, map}
 use Rattle.std.specs.List.{filter}
-use Rattle.sample_objects.specs.Sized.{has_size, with_size}
+use Rattle.dsym_write.specs.Pieces.{with_size}
+use Rattle.sample_objects.specs.Sized.{has_size}
 use Rattle.sample_objects.proofs.sections.with_bytes.Given as goal
 
 abbrev pub invariant-loop-part : goal.invariant-loop-part
