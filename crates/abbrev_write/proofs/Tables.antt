@@ -1,15 +1,15 @@
 -- A table, declaration by declaration.
-use Rattle.std.proofs.Common.{◌≡◌, ℕ, suc, ◌+◌, ◌≤◌, Bool, true, false, List, [], ◌∷◌, ◌++◌, length, drop, fold, drop-cons, map, slice_get, Some, refl, sym, ap, ◌∙◌, append_assoc, arith}
+use Rattle.std.proofs.Common.{◌≡◌, ℕ, suc, ◌+◌, ◌≤◌, Bool, true, false, List, [], ◌∷◌, ◌++◌, length, drop, fold, drop-cons, map, slice_get, Some, sym, ap, ◌∙◌, arith}
 use Rattle.std.specs.Prelude.{if◌then◌else◌}
 use Rattle.std.specs.List.{enumerate_from, list_any}
-use Rattle.std.proofs.lemmas.List.{append-nil, drop_all, length_push}
+use Rattle.std.proofs.lemmas.List.{length_push}
 use Rattle.std.proofs.lemmas.Option.{get_or_from_slice_get, slice_get_within}
 use Rattle.dwarf_types.specs.declared.abbrev.Declaration.{Declaration}
 use Rattle.dwarf_types.specs.declared.graph.Node.{Node}
 use Rattle.dwarf_types.specs.declared.graph.OutAttr.{OutAttr}
 use Rattle.dwarf_types.specs.Abbreviations.{code_in, declaration_of, has_children, same_declaration, table_of}
 use Rattle.abbrev_write.specs.Keys.{code_among}
-use Rattle.abbrev_write.specs.Table.{declared, declaring, unit_codes, with_declaration}
+use Rattle.abbrev_write.specs.Table.{declared, declaring, with_declaration}
 use Rattle.abbrev_write.proofs.Codes.{with_among}
 use Rattle.abbrev_write.proofs.FirstUses.{all_once, code_stays}
 
@@ -50,21 +50,3 @@ node_step u nodes i code node children attrs before after table at parent given 
     let w = with_among before mine in
     let there : code_among after mine ≡ Some w.0 = ap (λ (ds : List Declaration). code_among ds mine) grown ∙ w.1 in
     (rest, code_is ∙ ap (code_in after) same ∙ sym (code_stays after more mine w.0 there) ∙ ap (λ (ds : List Declaration). code_in ds mine) rest)
-
--- its code goes behind those so far
-pub codes_step : (u : ℕ) (nodes : List Node) (i code : ℕ) (node : Node) (table : List Declaration) (codes all : List ℕ) → slice_get nodes i ≡ Some node → code ≡ code_in table (declaration_of u nodes i node)
-    → codes ++ map (code_in table) (declared_from u nodes i (drop i nodes)) ≡ all → (codes ++ code ∷ []) ++ map (code_in table) (declared_from u nodes (i + 1) (drop (i + 1) nodes)) ≡ all
-codes_step u nodes i code node table codes all at is coded =
-    let more = map (code_in table) (declared_from u nodes (i + 1) (drop (i + 1) nodes)) in
-    append_assoc codes (code ∷ []) more ∙ ap (λ (n : ℕ). codes ++ n ∷ more) is ∙ ap (λ (ds : List Declaration). codes ++ map (code_in table) ds) (sym (declared_more u nodes i node at)) ∙ coded
-
-length_declared : (u : ℕ) (nodes : List Node) (k : ℕ) (ns : List Node) (f : Declaration → ℕ) → length (map f (declared_from u nodes k ns)) ≡ length ns
-length_declared u nodes k [] f = refl
-length_declared u nodes k (n ∷ ns) f = ap suc (length_declared u nodes (k + 1) ns f)
-
-codes_each : (u : ℕ) (nodes : List Node) → length (unit_codes u nodes) ≡ length nodes
-codes_each u nodes = length_declared u nodes 0 nodes (code_in (table_of u nodes))
-
-pub codes_end : (u : ℕ) (nodes : List Node) (k : ℕ) (codes : List ℕ) → length nodes ≤ k → codes ++ map (code_in (table_of u nodes)) (declared_from u nodes k (drop k nodes)) ≡ unit_codes u nodes → length codes ≡ length nodes
-codes_end u nodes k codes le so_far =
-    ap length (sym (append-nil codes) ∙ ap (λ (ns : List Node). codes ++ map (code_in (table_of u nodes)) (declared_from u nodes k ns)) (sym (drop_all k nodes le)) ∙ so_far) ∙ codes_each u nodes

@@ -1,10 +1,10 @@
--- The declarations of an output unit, node by node, and the code of each of its nodes (DWARF 4, section 7.5.3).
+-- The declarations of an output unit, node by node (DWARF 4, section 7.5.3).
 use Rattle.std.specs.Prelude.{ℕ, Bool, List, [], ◌∷◌, ◌++◌, map, if◌then◌else◌}
 use Rattle.std.specs.List.{enumerate_from, list_any}
 use Rattle.dwarf_types.specs.declared.abbrev.Declaration.{Declaration}
 use Rattle.dwarf_types.specs.declared.graph.Node.{Node}
 use Rattle.dwarf_types.specs.declared.graph.OutAttr.{OutAttr}
-use Rattle.dwarf_types.specs.Abbreviations.{code_in, declaration_of, same_declaration, table_of}
+use Rattle.dwarf_types.specs.Abbreviations.{declaration_of, same_declaration}
 use Rattle.dwarf_types.specs.Forms.{form_of}
 
 -- what declares a node of the unit of a number, by its tag, with or without children, and by its attributes
@@ -18,7 +18,3 @@ with_declaration ds d = if list_any (λ x. same_declaration x d) ds then ds else
 -- the declarations of all nodes of the unit of a number
 abbrev pub declared : ℕ → List Node → List Declaration
 declared u nodes = map (λ n. declaration_of u nodes n.0 n.1) (enumerate_from 0 nodes)
-
--- the codes of all nodes of the unit of a number
-abbrev pub unit_codes : ℕ → List Node → List ℕ
-unit_codes u nodes = map (code_in (table_of u nodes)) (declared u nodes)

@@ -4,18 +4,15 @@
 //! attributes in the same forms (DWARF 4, section 7.5.3). [`Declared`] takes the nodes of a unit one by one: it keeps the
 //! declarations by first use, each once, and tells the code of each node, from 1, which later nodes don't change. Which
 //! nodes have children is told ahead, by [`parents_in`]. [`append_table`] puts `declarations_bytes` of the declarations
-//! last (`dwarf_types/specs/Abbreviations.antt`). Each unit has a table of its own. [`codes_in`] makes the codes alone
-//! (`specs/Table.antt`).
+//! last (`dwarf_types/specs/Abbreviations.antt`). Each unit has a table of its own.
 #![tactic(auto)]
 
 mod append;
 mod declarations;
 mod declare;
 mod key;
-mod node_codes;
 mod parents;
 
 pub use append::append_table;
 pub use declarations::Declared;
-pub use node_codes::codes_in;
 pub use parents::parents_in;

@@ -107,7 +107,7 @@ module _ (most : ℕ) where
   each_node f h zero a fits = tt
   each_node f h (suc n) a fits = (h a (omega (arith, fits)), each_node f h n (a + 1) (omega (arith, fits)))
 
-structures_len : (i n a : ℕ) → length (flat_map (structure_tree i) (range_with_len a n)) ≡ n * 13
+pub structures_len : (i n a : ℕ) → length (flat_map (structure_tree i) (range_with_len a n)) ≡ n * 13
 structures_len i zero a = refl
 structures_len i (suc n) a = omega (arith, length-append (structure_tree i a) (flat_map (structure_tree i) (range_with_len (a + 1) n)), structures_len i n (a + 1))
 

@@ -1,7 +1,6 @@
 //! What the files of the generated objects are made of.
 
 ghost use Rattle.std.specs.Prelude.{◌≡◌, ◌<◌, ◌≤◌, ◌+◌, ◌++◌, ◌∷◌, [], IfOk, OnOk, map, length, slice_index};
-ghost use Rattle.abbrev_write.specs.Table.{unit_codes};
 ghost use Rattle.unit_draft.specs.Drafted.{IsDraft};
 ghost use Rattle.sample_objects.specs.GeneratedProgram;
 ghost use Rattle.sample_objects.specs.GeneratedProgram.{reloc_of, spec_of, symbol_of};
@@ -13,17 +12,16 @@ use crate::functions::function_name;
 use crate::spec::ObjectSpec;
 use crate::texts::SYMBOL;
 use crate::unit::{FUNCTION_SIZE, STRUCTURES, function_node, unit_of};
-use abbrev_write::codes_in;
 use ds_base::macho::{CPU_TYPE_ARM64, N_EXT, N_SECT};
-use ds_base::{Bytes, List, NoMemory, uleb_len};
+use ds_base::{Bytes, List, NoMemory};
 use dwarf_types::OutUnit;
 use macho_read::Symbols;
 use reloc_table::Reloc;
 use std::alloc::Global;
 use unit_draft::{Draft, DraftError, draft_unit};
 
-/// How many bytes the place of a text has.
-const TEXT_PLACE_SIZE: u32 = 4;
+/// How many bytes the low_pc of a function and what follows it in its entry have: an address, and the high_pc in 4 bytes.
+const LOW_PC_AND_BEHIND: u32 = 8 + 4;
 
 /// What the file of an object is made of.
 pub(crate) fn spec_for(alloc: Global, i: u32) -> Result<ObjectSpec, NoMemory>
@@ -79,11 +77,10 @@ fn relocs_for(alloc: Global, unit: &OutUnit, i: u32) -> Result<List<Reloc>, NoMe
     requires unit { unit.now ≡ GeneratedUnit.unit_of i }
     ensures { IfOk result (λ relocs. relocs ≡ map (reloc_of i) all_numbers) }
 {
-    let codes = codes_in(alloc, unit, 0)?;
     let draft = draft_of(alloc, unit, i)?;
     let mut relocs = List::new(alloc);
     for j in 0..STRUCTURES {
-        let reloc = reloc_for(&draft, codes.as_slice(), i, j);
+        let reloc = reloc_for(&draft, i, j);
         relocs.push(reloc)?;
     }
     Ok(relocs)
@@ -102,18 +99,16 @@ fn draft_of(alloc: Global, unit: &OutUnit, i: u32) -> Result<Draft, NoMemory>
     }
 }
 
-/// The relocation of the low_pc of function `j`, by the draft of its unit and by the codes of the unit's entries.
-fn reloc_for(draft: &Draft, codes: &[u32], i: u32, j: u32) -> Reloc
+/// The relocation of the low_pc of function `j`, by the draft of its unit: behind the entry stands its first variable.
+fn reloc_for(draft: &Draft, i: u32, j: u32) -> Reloc
     requires number { j < 100 }
     requires draft { IsDraft 0 (GeneratedUnit.unit_of i) draft.now }
-    requires codes { codes.now ≡ unit_codes 0 (GeneratedUnit.unit_nodes i) }
     ensures { result ≡ reloc_of i j }
 {
-    let node = function_node(j);
-    let code_len = uleb_len(u64::from(codes[node as usize]));
-    let entry = draft.places.as_slice()[node as usize];
+    let variable = function_node(j) + 1;
+    let end = draft.places.as_slice()[variable as usize];
     Reloc {
-        place: entry + code_len as u32 + TEXT_PLACE_SIZE,
+        place: end - LOW_PC_AND_BEHIND,
         symbol: u32::from(TEXT_SECTION),
         outer: false,
     }
