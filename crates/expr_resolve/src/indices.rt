@@ -11,7 +11,7 @@ ghost use Rattle.expr_resolve.specs.Expressions.{indices_tried, op_indexed, op_s
 use crate::context::ExprContext;
 use crate::entry::is_lost;
 use crate::operand::fault_at;
-use crate::operations::{inner_first, outer_part};
+use crate::operations::inner_first;
 use ds_base::{Fault, Kind};
 use dwarf_types::{InnerOpRef, InnerOpsRef, OpRef, OpsRef};
 
@@ -39,7 +39,7 @@ fn try_op(context: &ExprContext, place: u64, op: &OpRef<'_>) -> Result<(), Fault
     requires inside { place + length op.now.bytes.now < 2 ^ 32 }
     ensures { Finds (λ _. tt) result (op_indexed (context_in context.now) place (op_seen op.now)) }
 {
-    try_plain(context, place, &outer_part(op))?;
+    try_plain(context, place, &op.outside())?;
     let first = inner_first(place, op);
     try_inner(context, first, &op.inner)
 }

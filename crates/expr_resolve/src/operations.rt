@@ -3,7 +3,6 @@
 ghost use Rattle.std.specs.Prelude.{◌≡◌, ◌+◌, ◌^◌, ◌<◌, ◌≤◌, [], length, OnOk};
 ghost use Rattle.std.specs.List.{All, sum_by};
 ghost use Rattle.ds_base.specs.Reading.{Gives};
-ghost use Rattle.dwarf_types.specs.LinkedExpressions.{outside};
 ghost use Rattle.dwarf_types.specs.Seen.{inner_seen, op_seen};
 ghost use Rattle.expr_resolve.specs.Context.{context_in};
 ghost use Rattle.expr_resolve.specs.Steps.{IsCut, IsPlainCut, IsSoundContext, put_behind, with_meaning};
@@ -50,7 +49,7 @@ fn resolve_op(
     requires inside { place + length op.now.bytes.now < 2 ^ 32 }
     ensures { Gives (λ _. ops.new) result (put_behind ops.old.ops (op_meant (context_in context.now) place (op_seen op.now))) }
 {
-    let outer = outer_part(op);
+    let outer = op.outside();
     let meaning = meaning_of(context, place, &outer)?;
     let first = inner_first(place, op);
     resolve_inner(context, first, &op.inner, ops)?;
@@ -80,18 +79,6 @@ fn with_meaning<'a>(op: &InnerOpRef<'a>, meaning: &'a Meaning) -> InnerOpRef<'a>
             address: *address,
             base: *base,
         },
-    }
-}
-
-/// An operation without those inside.
-pub(crate) fn outer_part<'a>(op: &OpRef<'a>) -> InnerOpRef<'a>
-    ensures { inner_seen result ≡ outside (op_seen op.now) }
-{
-    InnerOpRef {
-        code: op.code,
-        bytes: op.bytes,
-        address: op.address,
-        base: op.base,
     }
 }
 
