@@ -9,7 +9,7 @@ use Rattle.macho_read.specs.Kind.{kind_of}
 use Rattle.stab_map.specs.declared.object.MapObject.{MapObject}
 use Rattle.stab_map.specs.declared.object.MapError.{MapError}
 use Rattle.stab_map.specs.declared.object.MapError.TheVariants as map_errors
-use Rattle.stab_map.specs.DebugMap.{map_of}
+use Rattle.stab_map.specs.DebugMap.{map_of, max_objects}
 use Rattle.link_core.specs.declared.refusal.Refusal.{Refusal}
 use Rattle.link_core.specs.declared.refusal.Refusal.TheVariants as refusals
 use Rattle.link_core.specs.declared.refusal.LimitKind.TheVariants as limits
@@ -30,10 +30,6 @@ program_image bytes = do
   image ← image_of bytes
   _ ← kind_of image roles.Program
   Ok image
-
--- how many objects are too many
-abbrev pub max_objects : ℕ
-max_objects = 65536
 
 abbrev pub map_refusal : MapError → Refusal
 map_refusal (map_errors.Faulty fault) = refusals.Faulty 0 fault

@@ -37,6 +37,9 @@ use std::thread::Threads;
 /// and write its sections. Each passes `gate` once for an object before it reads it and before it bids for its names, and
 /// once for a unit before it clones it and before it drafts it. Nothing that is written depends on the number of threads:
 /// the closed table alone may have a name at another cell.
+///
+/// Where more than one thread may work, what is needed no more goes in threads that nobody waits for: they give back memory
+/// alone, and may end behind the call.
 pub fn link_objects<R: Threads + Sync, G: Gate + Sync>(
     rt: &R,
     alloc: Global,
