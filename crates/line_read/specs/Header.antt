@@ -1,5 +1,5 @@
 -- The header of a line table (DWARF 4 and DWARF 5, section 6.2.4), from the table's first byte.
-use Rattle.std.specs.Prelude.{ℕ, ◌+◌, ◌-◌, ◌==◌, ◌||◌, not, [], List, length, nat_lt, nat_le, Option, Some, None, Result, Ok, Err, if◌then◌else◌}
+use Rattle.std.specs.Prelude.{ℕ, ◌+◌, ◌-◌, ◌==◌, ◌||◌, not, [], List, length, nat_lt, nat_le, Result, Ok, Err, if◌then◌else◌}
 use Rattle.std.specs.Int.{cast_signed, w8}
 use Rattle.ds_base.specs.declared.fault.Fault.{Fault}
 use Rattle.ds_base.specs.declared.fault.Kind.TheVariants as kinds
@@ -83,11 +83,9 @@ fields_at first version s = do
     lengths.1,
   )
 
--- a number that is there
-abbrev pub there : Result (ℕ × Spot) Fault → Option ℕ
-there (Ok n) = Some n.0
-there (Err f) = None
-
--- the version that the table at a place of the section tells, where its bytes are there
-abbrev pub version_of : SectionBytes → ℕ → Option ℕ
-version_of sections offset = there (number_at 4 (line_at sections.line offset) >>= λ len. number_at 2 len.1)
+-- the version of the table at a place of the section, of a unit of a version
+abbrev pub version_of : SectionBytes → ℕ → ℕ → Result ℕ Fault
+version_of sections unit offset = do
+  s ← table_at (line_at sections.line offset)
+  version ← version_at unit s
+  Ok version.0

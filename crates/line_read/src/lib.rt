@@ -7,7 +7,7 @@
 //! them (`specs/Names.antt`) or by the entry formats of version 5 (`specs/Formats.antt`, `specs/Entries.antt`), one
 //! operation from its bytes (`specs/Operation.antt`), what an operation does to the registers (`specs/Registers.antt`),
 //! and the matrix of rows that the list of operations gives, cut into sequences (`specs/Program.antt`). Addresses stay the
-//! object's: `moved_parts` moves them, by an address map. [`table_version`] tells a table's own version. No byte of a
+//! object's: `moved_parts` moves them, by an address map. [`table_version`] tells a table's own version alone. No byte of a
 //! program that is read is left out ([`operations_fill_the_program`]), and faults are of the kinds that
 //! [`kinds_of_line_faults`] names.
 #![tactic(auto)]

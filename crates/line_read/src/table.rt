@@ -2,7 +2,7 @@
 
 ghost use Rattle.std.specs.Prelude.{◌≡◌, ◌<◌, ◌^◌, length, IfOk};
 ghost use Rattle.std.specs.List.{All};
-ghost use Rattle.ds_base.specs.Reading.{Gives, ReadsUnlessFull};
+ghost use Rattle.ds_base.specs.Reading.{Finds, Gives, ReadsUnlessFull};
 ghost use Rattle.dwarf_types.specs.SectionBytes.{bytes_in};
 ghost use Rattle.macho_read.specs.Sound.{IsSound as IsSoundImage};
 ghost use Rattle.reloc_table.specs.Sound.{IsSound};
@@ -17,7 +17,7 @@ use crate::header::{
 };
 use crate::names::{HeaderEnd, read_dirs, read_files};
 use crate::program::read_sequences;
-use ds_base::{Cursor, Kind, ReadError};
+use ds_base::{Cursor, Fault, Kind, ReadError};
 use dwarf_types::{FileNames, Paths, RawLines, Sections, SharedTexts};
 use macho_read::Image;
 use reloc_table::Relocs;
@@ -77,15 +77,16 @@ pub fn read_lines(
     read_sequences(alloc, &header, bytes, relocs, image, program, dirs, files)
 }
 
-/// The version that the table at `offset` of `__debug_line` tells, or `None` where its bytes are not there. Directories
-/// and files are numbered from 0 in tables of version 5, and from 1 in those before.
-pub fn table_version(sections: &Sections, offset: u32) -> Option<u16>
+/// The version of the line table at `offset` of `__debug_line`, of a unit of version `version`. Directories and files are
+/// numbered from 0 in tables of version 5, and from 1 in those before.
+///
+/// It stands before all but the table's length, so a fault here is the one that [`read_lines`] finds there.
+pub fn table_version(sections: &Sections, offset: u32, version: u16) -> Result<u16, Fault>
     requires inside { offset < length sections.now.line.now }
-    ensures { result ≡ version_of (bytes_in sections.now) offset }
+    ensures { Finds (λ table. table) result (version_of (bytes_in sections.now) version offset) }
 {
-    let mut cursor = line_cursor(sections.line, u64::from(offset));
-    cursor.u32().ok()?;
-    cursor.u16().ok()
+    let mut cursor = open_table(sections.line, u64::from(offset))?;
+    Ok(read_version(&mut cursor, version)?)
 }
 
 /// The directories, as the table's version has them.

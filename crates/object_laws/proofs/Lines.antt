@@ -1,6 +1,6 @@
 -- What a unit's line table keeps to, as it is read, and as what of it went to the linked program.
-use Rattle.std.proofs.Common.{◌≡◌, ℕ, ◌-◌, ◌≤◌, Bool, true, false, List, [], ◌∷◌, length, take, Option, None, Ok, refl, sym, subst, arith}
-use Rattle.std.specs.Prelude.{◌==◌, ◌&&◌, if◌then◌else◌}
+use Rattle.std.proofs.Common.{◌≡◌, ℕ, ◌-◌, ◌≤◌, Bool, true, false, List, [], ◌∷◌, length, take, None, Ok, refl, sym, subst, arith}
+use Rattle.std.specs.Prelude.{◌==◌, ◌&&◌, nat_lt, if◌then◌else◌}
 use Rattle.std.specs.List.{AllByRecursion}
 use Rattle.std.proofs.lemmas.Bool.{eqb-true}
 use Rattle.std.proofs.lemmas.List.Elements.{All-from_recursion}
@@ -23,7 +23,7 @@ use Rattle.line_read.specs.Tables.{dirs_at, files_at}
 use Rattle.line_read.proofs.EntryTables.{AreTexts}
 use Rattle.line_read.proofs.OperationPlaces.{program_onward, sizes_onward, version_onward}
 use Rattle.moved_parts.specs.Lines.{lines_moved}
-use Rattle.object_view.specs.Attributes.{counted_from_0, is_older, lines_as}
+use Rattle.object_view.specs.Attributes.{counted_from_0, lines_as}
 use Rattle.object_view.specs.Opened.{Opened}
 use Rattle.object_laws.proofs.Forms.{IsVersion}
 use Rattle.object_laws.proofs.LinesHeader.{behind_lies, fields_lie, table_lies, table_version}
@@ -88,8 +88,8 @@ raw_if unit true older dir lines is text raw =
     let five : 5 ≡ unit = sym (eqb-true unit 5 is) in
     subst (λ (v : ℕ). IsRawTable v (if older then counted_from_0 dir lines else lines)) five (raw_counted older dir lines text (subst (λ (v : ℕ). IsRawTable v lines) (sym five) raw))
 
-raw_as : (unit : ℕ) (table : Option ℕ) (dir : List ℕ) (lines : RawLines) → AreTextBytes dir → IsRawTable unit lines → IsRawTable unit (lines_as unit table dir lines)
-raw_as unit table dir lines text raw = raw_if unit (unit == 5) (is_older table) dir lines refl text raw
+raw_as : (unit table : ℕ) (dir : List ℕ) (lines : RawLines) → AreTextBytes dir → IsRawTable unit lines → IsRawTable unit (lines_as unit table dir lines)
+raw_as unit table dir lines text raw = raw_if unit (unit == 5) (nat_lt table 5) dir lines refl text raw
 
 -- ---- what of it went to the linked program
 
@@ -109,7 +109,8 @@ raw_moved version map lines sound raw = record {
 
 pub tables_are : (o : Opened) (m : AddrMap) → IsSound m → AreTexts o.sections → AreBytes o.sections.line → AreTables o m
 tables_are o m sound texts are version dir place lines known text e =
-    let raw = bind_ok (lines_of o.image o.relocs.line o.sections version place) _ lines e in
-    subst (IsLineTable version) (ok_is (lines_moved m (lines_as version (version_of o.sections place) dir raw.0)) lines raw.2)
-    (raw_moved version m (lines_as version (version_of o.sections place) dir raw.0) sound
-    (raw_as version (version_of o.sections place) dir raw.0 text (lines_raw o.image o.relocs.line o.sections version place raw.0 texts known are raw.1)))
+    let table = bind_ok (version_of o.sections version place) _ lines e in
+    let raw = bind_ok (lines_of o.image o.relocs.line o.sections version place) _ lines table.2 in
+    subst (IsLineTable version) (ok_is (lines_moved m (lines_as version table.0 dir raw.0)) lines raw.2)
+    (raw_moved version m (lines_as version table.0 dir raw.0) sound
+    (raw_as version table.0 dir raw.0 text (lines_raw o.image o.relocs.line o.sections version place raw.0 texts known are raw.1)))

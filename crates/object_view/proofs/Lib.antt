@@ -25,4 +25,3 @@ pub mod SpelledAnalysis
 pub mod Trees
 pub mod Trying
 pub mod Understood
-pub mod Versions

@@ -34,7 +34,8 @@ use Rattle.reloc_table.specs.declared.relocation.Relocs.{Relocs}
 use Rattle.reloc_table.specs.Table.{relocs_of}
 use Rattle.addr_map.specs.declared.map.AddrMap.{AddrMap}
 use Rattle.addr_map.specs.Ranges.{map_of}
-use Rattle.line_read.specs.Program.{lines_of}
+use Rattle.line_read.specs.Header.{line_at, table_at, version_at, version_of}
+use Rattle.line_read.specs.Program.{lines_from, lines_of}
 use Rattle.frame_table.specs.Frames.{frames_of}
 use Rattle.range_lists.specs.Reading.{range_faults, ranges_of}
 use Rattle.loc_lists.specs.Reading.{location_faults, locations_of}
@@ -54,6 +55,20 @@ use Rattle.object_view.specs.Units.{unit_context}
 
 abbrev IsOne : Kind → Type 0
 IsOne = Contains object_kinds
+
+-- a line table's version stands before the rest: its fault is the table's
+before_rest : {S V X : Type 0} (table : Result S Fault) (at : S → Result (ℕ × V) Fault) (rest : S → ℕ × V → Result X Fault) (f : Fault)
+    → (table >>= λ s. at s >>= λ version. Ok version.0) ≡ Err f → (table >>= λ s. at s >>= λ version. rest s version) ≡ Err f
+before_rest (Err g) at rest f e = cc
+before_rest {V = V} {X = X} (Ok s) at rest f e = by (at s) (rest s) e
+  where
+    by : (version : Result (ℕ × V) Fault) (rest : ℕ × V → Result X Fault) → (version >>= λ version. Ok version.0) ≡ Err f → (version >>= rest) ≡ Err f
+    by (Err g) rest e = cc
+    by (Ok version) rest e = absurd cc
+
+version_first : (image : Image) (relocs : Relocs) (sections : SectionBytes) (unit place : ℕ) (f : Fault) → version_of sections unit place ≡ Err f → lines_of image relocs sections unit place ≡ Err f
+unfolding lines_from
+version_first image relocs sections unit place f e = before_rest (table_at (line_at sections.line place)) (version_at unit) _ f e
 
 -- what the laws of the readers of an object's parts say
 pub record Laws : Type 0 where
@@ -205,9 +220,11 @@ module _ (laws : Laws) where
   table_kinds : (o : Opened) (map : AddrMap) (version : ℕ) (dir : List ℕ) (place : ℕ) → FaultsAre IsOne (lines_meant o map version dir place)
   table_kinds o map version dir place =
       let some : List Kind = kinds.Truncated ∷ kinds.LebTooWide ∷ kinds.BadOffset ∷ kinds.LineVersion ∷ kinds.BadLineHeader ∷ kinds.VliwLine ∷ kinds.BadLineOp ∷ kinds.LineBackwards ∷ kinds.BadEntryFormat ∷ [] in
-      bind_kinds IsOne (lines_of o.image o.relocs.line o.sections version place) _
-      (λ f e. All-contains IsOne some f.kind (All-from_recursion IsOne some (cut, (wide, ((4, omega arith, refl), ((33, omega arith, refl), ((34, omega arith, refl), ((35, omega arith, refl), ((36, omega arith, refl), ((37, omega arith, refl), ((40, omega arith, refl), tt))))))))))
-      (laws.lines o.image o.relocs.line o.sections version place f e)) (λ lines. ok_kinds IsOne _)
+      let of_lines : FaultsAre IsOne (lines_of o.image o.relocs.line o.sections version place) = λ f e.
+      All-contains IsOne some f.kind (All-from_recursion IsOne some (cut, (wide, ((4, omega arith, refl), ((33, omega arith, refl), ((34, omega arith, refl), ((35, omega arith, refl), ((36, omega arith, refl), ((37, omega arith, refl), ((40, omega arith, refl), tt))))))))))
+      (laws.lines o.image o.relocs.line o.sections version place f e) in
+      bind_kinds IsOne (version_of o.sections version place) _ (λ f e. of_lines f (version_first o.image o.relocs.line o.sections version place f e))
+      (λ table. bind_kinds IsOne (lines_of o.image o.relocs.line o.sections version place) _ of_lines (λ lines. ok_kinds IsOne _))
 
   lines_kinds : (o : Opened) (map : AddrMap) (unit : InUnit) (dir : List ℕ) (place : Option ℕ) → FaultsAre IsOne (unit_with_table o map unit dir place)
   lines_kinds o map unit dir None = ok_kinds IsOne _

@@ -1,5 +1,5 @@
 -- The attributes of an object's entries with what their values mean, step by step: each step goes over all attributes in document order.
-use Rattle.std.specs.Prelude.{ℕ, ◌-◌, ◌^◌, ◌==◌, ◌&&◌, Bool, false, not, List, [], ◌∷◌, ◌++◌, length, map, slice_get, take, Option, Some, None, is_none, is_some, Result, Ok, nat_lt, if◌then◌else◌}
+use Rattle.std.specs.Prelude.{ℕ, ◌-◌, ◌^◌, ◌==◌, ◌&&◌, Bool, not, List, [], ◌∷◌, ◌++◌, length, map, slice_get, take, Option, Some, None, is_none, is_some, Result, Ok, nat_lt, if◌then◌else◌}
 use Rattle.std.specs.List.{filter_map, find, flat_map}
 use Rattle.std.specs.Option.{option_and_then, option_map, option_map_or, unwrap_or}
 use Rattle.ds_base.specs.declared.dwarf.TheConstants.{DW_AT_comp_dir, DW_AT_low_pc, DW_AT_stmt_list, DW_FORM_exprloc, DW_FORM_sec_offset}
@@ -179,18 +179,16 @@ comp_dir root = option_map_or text_in (value_of DW_AT_comp_dir root) []
 abbrev pub counted_from_0 : List ℕ → RawLines → RawLines
 counted_from_0 dir lines = record lines { dirs = dir ∷ lines.dirs; files = take 1 lines.files ++ lines.files }
 
-abbrev pub is_older : Option ℕ → Bool
-is_older version = option_map_or (λ v. nat_lt v DWARF_5) version false
-
 -- a table of a version, as a unit of a version has it that was compiled in a directory
-abbrev pub lines_as : ℕ → Option ℕ → List ℕ → RawLines → RawLines
-lines_as unit table dir lines = if unit == DWARF_5 && is_older table then counted_from_0 dir lines else lines
+abbrev pub lines_as : ℕ → ℕ → List ℕ → RawLines → RawLines
+lines_as unit table dir lines = if unit == DWARF_5 && nat_lt table DWARF_5 then counted_from_0 dir lines else lines
 
 -- the line table at a place, of a unit of a version that was compiled in a directory
 abbrev pub lines_meant : Opened → AddrMap → ℕ → List ℕ → ℕ → Result OutLines Fault
 lines_meant o map version dir place = do
+  table ← version_of o.sections version place
   lines ← lines_of o.image o.relocs.line o.sections version place
-  Ok (lines_moved map (lines_as version (version_of o.sections place) dir lines))
+  Ok (lines_moved map (lines_as version table dir lines))
 
 -- a unit with the line table that its root names, if there is one
 abbrev pub unit_with_table : Opened → AddrMap → InUnit → List ℕ → Option ℕ → Result InUnit Fault

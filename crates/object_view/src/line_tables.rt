@@ -1,6 +1,6 @@
 //! The line tables of units (DWARF 4 and 5, section 3.1.1, the statement list).
 
-ghost use Rattle.std.specs.Prelude.{◌≡◌, ◌<◌, ◌^◌, ◌∷◌, ◌++◌, length, slice_get, slice_set, take, true, Some, IfOk, IfSome, IsSome, OnOk};
+ghost use Rattle.std.specs.Prelude.{◌≡◌, ◌<◌, ◌∷◌, ◌++◌, length, slice_get, slice_set, take, true, Some, IfOk, IfSome, OnOk};
 ghost use Rattle.std.specs.List.{All};
 ghost use Rattle.ds_base.specs.Reading.{Gives};
 ghost use Rattle.dwarf_types.specs.SectionBytes.{bytes_in};
@@ -8,7 +8,6 @@ ghost use Rattle.dwarf_types.specs.Plain.{is_offset};
 ghost use Rattle.dwarf_types.specs.Seen.{attr_seen, value_seen};
 ghost use Rattle.dwarf_types.specs.declared.entry.Attr.{Attr as AnAttr};
 ghost use Rattle.dwarf_types.specs.declared.entry.Entry.{Entry as AnEntry};
-ghost use Rattle.line_read.specs.Header.{version_of};
 ghost use Rattle.object_view.specs.Attributes;
 ghost use Rattle.object_view.specs.Opened.{opened_seen};
 ghost use Rattle.object_view.specs.Ready.{HasRoot, IsFirstList, IsLinesInside, IsMarkedAt, IsOpen};
@@ -18,10 +17,10 @@ use addr_map::AddrMap;
 use ds_base::dwarf::{DW_AT_comp_dir, DW_AT_stmt_list, DW_FORM_sec_offset, DWARF_5};
 use ds_base::{List, NoMemory, ReadError};
 use dwarf_types::{
-    AttrRef, Entries, EntryRef, FileNames, InUnit, NewValue, OutLines, Paths, RawLines, Sections,
+    AttrRef, Entries, EntryRef, FileNames, InUnit, NewValue, OutLines, Paths, RawLines,
     SharedTexts, ValueRef,
 };
-use line_read::{operations_fill_the_program, read_lines, table_version};
+use line_read::{read_lines, table_version};
 use moved_parts::move_lines;
 use std::alloc::Global;
 
@@ -100,6 +99,7 @@ fn lines_at(
     requires inside { place < length object.now.sections.line.now }
     ensures { Gives (λ lines. lines) result (Attributes.lines_meant (opened_seen object.now) map.now version dir.now place) }
 {
+    let table = table_version(&object.sections, place as u32, version)?;
     let lines = read_lines(
         alloc,
         &object.sections,
@@ -109,24 +109,8 @@ fn lines_at(
         place as u32,
         version,
     )?;
-    // A table that was read tells its version.
-    operations_fill_the_program();
-    let table = version_told(&object.sections, place);
     let lines = lines_as(alloc, version, table, dir, lines)?;
     Ok(move_lines(alloc, map, lines)?)
-}
-
-/// The version that the table at a place tells, which was read.
-fn version_told(sections: &Sections, place: u64) -> u16
-    requires inside { place < length sections.now.line.now }
-    requires small { place < 2 ^ 32 }
-    requires told { IsSome (version_of (bytes_in sections.now) place) }
-    ensures { version_of (bytes_in sections.now) place ≡ Some result }
-{
-    match table_version(sections, place as u32) {
-        Some(version) => version,
-        None => unreachable!(),
-    }
 }
 
 /// A line table of a version, as a unit of another has it that was compiled in a directory. A table before version 5
@@ -138,7 +122,7 @@ fn lines_as(
     dir: &[u8],
     lines: RawLines,
 ) -> Result<RawLines, NoMemory>
-    ensures is { IfOk result (λ made. made ≡ Attributes.lines_as unit (Some table) dir.now lines) }
+    ensures is { IfOk result (λ made. made ≡ Attributes.lines_as unit table dir.now lines) }
 
     // Its sequences stay.
     ensures sequences { IfOk result (λ made. made.sequences ≡ lines.sequences) }
