@@ -28,7 +28,7 @@ pub(crate) fn append_sequences(out: &mut Bytes, sequences: &Sequences) -> Result
 }
 
 /// Puts a sequence last: it sets the address, appends the rows and ends.
-fn append_sequence(out: &mut Bytes, sequence: SequenceRef<'_>) -> Result<(), NoMemory>
+pub fn append_sequence(out: &mut Bytes, sequence: SequenceRef<'_>) -> Result<(), NoMemory>
     ensures { OnOk result (out.new ≡ out.old ++ sequence_bytes (sequence_seen sequence.entry)) }
 {
     let first = first_of(sequence.rows);

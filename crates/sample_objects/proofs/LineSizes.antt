@@ -30,14 +30,10 @@ size_in_bytes s = length (sequence_bytes s)
 abbrev program_place : ℕ → OutLines → ℕ
 program_place version lines = 8 + length (version_bytes version) + length (fields_bytes version (λ text. 0) lines)
 
-pub table_len : (version : ℕ) (lines : OutLines) → length (line_table_bytes version (λ text. 0) lines) ≡ program_place version lines + length (program_bytes lines)
+table_len : (version : ℕ) (lines : OutLines) → length (line_table_bytes version (λ text. 0) lines) ≡ program_place version lines + length (program_bytes lines)
 table_len version lines =
     let fields = fields_bytes version (λ text. 0) lines in
     omega (arith, length-append (version_bytes version) (little_bytes 4 (length fields) ++ (fields ++ program_bytes lines)), length-append fields (program_bytes lines))
-
--- a table of one sequence
-pub measured : (s : Sequence) → length (line_table_bytes 4 (λ text. 0) (record { dirs = []; files = []; sequences = s ∷ [] })) ≡ 30 + size_in_bytes s
-measured s = omega (arith, table_len 4 (record { dirs = []; files = []; sequences = s ∷ [] }), ap length (append-nil (sequence_bytes s)))
 
 -- a number of bytes that is known to be short by another name
 pub below_limit : (n m : ℕ) → n ≡ m → m < 2 ^ 32 - 1 → n < 2 ^ 32

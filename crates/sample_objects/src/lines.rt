@@ -1,31 +1,21 @@
 //! The relocations of a line table.
 
-ghost use Rattle.std.specs.Prelude.{◌≡◌, ◌≤◌, ◌<◌, ◌+◌, ◌^◌, ◌++◌, [], ◌∷◌, length, map, IfOk, OnOk};
+ghost use Rattle.std.specs.Prelude.{◌≡◌, ◌≤◌, ◌<◌, ◌+◌, ◌^◌, length, map, IfOk};
 ghost use Rattle.std.specs.List.{All, sum_by};
 ghost use Rattle.dwarf_types.specs.LineProgram.{sequence_bytes};
 ghost use Rattle.dwarf_types.specs.LineTable.{line_table_bytes};
-ghost use Rattle.dwarf_types.specs.SeenLines.{rows_seen, sequence_seen};
+ghost use Rattle.dwarf_types.specs.SeenLines.{sequence_seen};
 ghost use Rattle.sample_objects.specs.Lines.{places_by};
 ghost use Rattle.sample_objects.specs.ObjectFile;
 ghost use Rattle.sample_objects.specs.ObjectFile.{counts_from_text, operands_of};
 ghost use Rattle.unit_draft.specs.Drafted.{lines_len};
 
 use crate::file::TEXT_SECTION;
-use ds_base::{List, NoMemory};
-use dwarf_types::{
-    FileNames, OutLines, OutUnit, Paths, Rows, SequenceBuilder, SequenceRef, Sequences,
-};
-use line_write::append_lines;
-use patches::Buffer;
+use ds_base::{Bytes, List, NoMemory};
+use dwarf_types::{OutLines, OutUnit, SequenceRef, Sequences};
+use line_write::append_sequence;
 use reloc_table::Reloc;
 use std::alloc::Global;
-use text_pool::Naming;
-
-/// The version of a table in which a sequence is measured; sequences are written alike in all.
-const MEASURED_VERSION: u16 = 4;
-
-/// The size of such a table without directories, files and sequences.
-const EMPTY_TABLE_SIZE: u64 = 30;
 
 /// Where the operand of a set_address stands, from its first byte on.
 const OPERAND_OFFSET: u32 = 3;
@@ -70,40 +60,13 @@ fn sizes_of(alloc: Global, sequences: &Sequences) -> Result<List<u64>, NoMemory>
     Ok(sizes)
 }
 
-/// The size of a sequence: that of a table which has it alone, but for the header.
+/// The size of a sequence in bytes.
 fn size_of(alloc: Global, sequence: SequenceRef<'_>) -> Result<u64, NoMemory>
     ensures { IfOk result (λ size. size ≡ length (sequence_bytes (sequence_seen sequence.entry))) }
 {
-    let table = table_of(alloc, sequence)?;
-    let mut bytes = Buffer::new(alloc);
-    let mut names = Naming::new(alloc);
-    append_lines(alloc, &mut bytes, &mut names, MEASURED_VERSION, &table)?;
-    let size = bytes.len() as u64;
-    Ok(size - EMPTY_TABLE_SIZE)
-}
-
-/// A table of a copy of one sequence.
-fn table_of(alloc: Global, sequence: SequenceRef<'_>) -> Result<OutLines, NoMemory>
-    ensures { IfOk result (λ lines. lines ≡ record { dirs = []; files = []; sequences = sequence_seen sequence.entry ∷ [] }) }
-{
-    let mut sequences = SequenceBuilder::new(alloc);
-    add_rows(&mut sequences, sequence.rows)?;
-    sequences.close(sequence.end)?;
-    Ok(OutLines {
-        dirs: Paths::new(alloc),
-        files: FileNames::new(alloc),
-        sequences: sequences.finish(),
-    })
-}
-
-/// Puts rows behind those of the next sequence.
-fn add_rows(sequences: &mut SequenceBuilder, rows: Rows<'_>) -> Result<(), NoMemory>
-    ensures { OnOk result (sequences.new ≡ record sequences.old { rows = sequences.old.rows ++ rows_seen rows.entry }) }
-{
-    for i in 0..rows.len() {
-        sequences.push(rows.row(i))?;
-    }
-    Ok(())
+    let mut bytes = Bytes::new(alloc);
+    append_sequence(&mut bytes, sequence)?;
+    Ok(bytes.len() as u64)
 }
 
 /// The sum of sizes.
