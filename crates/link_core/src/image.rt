@@ -14,7 +14,7 @@ use crate::bundle::{Counted, Counts, Linked};
 use crate::counts::count_nodes;
 use crate::refusal::{LimitKind, Refusal};
 use crate::room::{Rooming, let_go, start_room, started_room};
-use ds_base::limits::{IMAGE_BYTES, SECTION_BYTES, UNIT_BYTES};
+use ds_base::limits::{IMAGE_BYTES, SECTION_BYTES};
 use ds_base::{Bytes, List};
 use dsym_write::{WriteError, image_in, plist_text};
 use dwarf_types::OutFrames;
@@ -93,8 +93,8 @@ fn image_of<R: Threads + Sync>(
     Ok(image)
 }
 
-/// The layout of the graph of these drafts and frames, or the first limit that it reaches. At most `workers` threads look
-/// the texts up, which take the place of a room.
+/// The layout of the graph of these drafts and frames, or the first limit that it reaches. No unit is too long, since each
+/// has a draft. At most `workers` threads look the texts up, which take the place of a room.
 fn layout_of<R: Threads + Sync>(
     rt: &R,
     alloc: Global,
@@ -105,14 +105,12 @@ fn layout_of<R: Threads + Sync>(
 ) -> Result<Layout, Refusal>
     requires workers { 1 ≤ workers }
     requires few { length drafts < 2 ^ 32 - 1 }
+    requires drafted { AreOfGraph drafts frames.now }
     ensures { (graph : AGraph) → AreDrafts graph drafts → graph.frames ≡ frames.now → Lays graph result }
 {
     match place_drafts_by(rt, alloc, room, workers, drafts, frames) {
         Ok(layout) => Ok(layout),
-        Err(LayoutError::Unit { .. }) => Err(Refusal::Limit {
-            which: LimitKind::Unit,
-            number: UNIT_BYTES,
-        }),
+        Err(LayoutError::Unit { .. }) => unreachable!(),
         Err(LayoutError::Section { .. }) => Err(Refusal::Limit {
             which: LimitKind::Section,
             number: SECTION_BYTES,
