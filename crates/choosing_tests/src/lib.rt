@@ -1,6 +1,7 @@
-//! Tables over the calls that choose entries and name them: `liveness`, `odr_names`, `name_bids`.
+//! Tables over the calls that choose entries, name them and give them their units: `liveness`, `odr_names`, `name_bids`,
+//! `link_graph`.
 //!
-//! Layer: names. There is nothing here but tests.
+//! Layer: output graph. There is nothing here but tests.
 #![tactic(auto)]
 
 #[cfg(test)]
@@ -9,6 +10,8 @@ mod live;
 mod names;
 #[cfg(test)]
 mod rows;
+#[cfg(test)]
+mod shape;
 #[cfg(test)]
 mod shared;
 #[cfg(test)]

@@ -54,7 +54,7 @@ impl Gate for HoldsFirst {
 }
 
 /// Three types, of which one is only declared and one stands in a namespace.
-fn first() -> [Row; 8] {
+pub(crate) fn first() -> [Row; 8] {
     [
         root(),
         user(4),
@@ -73,7 +73,7 @@ fn first() -> [Row; 8] {
 }
 
 /// The same types in another order, and all defined.
-fn second() -> [Row; 8] {
+pub(crate) fn second() -> [Row; 8] {
     [
         root(),
         user(5),
@@ -87,7 +87,7 @@ fn second() -> [Row; 8] {
 }
 
 /// The object of these rows.
-fn object(rt: &impl Abort, alloc: Global, rows: &[Row]) -> Analysis
+pub(crate) fn object(rt: &impl Abort, alloc: Global, rows: &[Row]) -> Analysis
     ensures { IsSound result }
 {
     sound(
