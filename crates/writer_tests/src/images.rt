@@ -1,23 +1,27 @@
 //! Images of programs, laid out by hand (mach-o/loader.h, mach-o/nlist.h), and the text of an Info.plist.
 
+ghost use Rattle.std.specs.Prelude.{◌≡◌, Ok};
+ghost use Rattle.layout.specs.Laid.{IsMeasured};
+ghost use Rattle.macho_read.specs.declared.kind.Role.TheVariants as roles;
+ghost use Rattle.macho_read.specs.Kind.{kind_of};
 ghost use Rattle.macho_read.specs.Sound.{IsSound};
 
 use crate::parts::{add, has_at, one, same};
-use crate::samples::{add_file, made, one_sequence, row};
+use crate::samples::{add_file, one_sequence, row};
 use crate::units::{add_attr, bytes, node, text};
 use ds_base::dwarf::{
     DW_AT_high_pc, DW_AT_language, DW_AT_location, DW_AT_low_pc, DW_AT_name, DW_AT_ranges,
     DW_AT_stmt_list, DW_FORM_data2, DW_FORM_data4, DW_OP_dup, DW_OP_stack_value,
     DW_TAG_compile_unit, DW_TAG_subprogram, DW_TAG_variable,
 };
-use ds_base::macho::{CPU_TYPE_ARM64, MH_EXECUTE, N_EXT, N_FUN, N_OSO, N_SECT};
-use ds_base::{Bytes, List, bytes_from, cut};
+use ds_base::macho::{CPU_TYPE_ARM64, MH_EXECUTE, N_EXT, N_FUN, N_SECT};
+use ds_base::{Bytes, List, bytes_from};
 use dsym_write::{image_in, plist_text};
 use dwarf_types::{
     ExprPart, FileNames, Graph, Node, OutFrames, OutLines, OutLocation, OutUnit, OutValue, Paths,
     Sequences, Span,
 };
-use layout::measure;
+use layout::{Layout, measure};
 use macho_read::{Image, Role, Section, Segment, Symbols, check_kind, read_image};
 use sample_objects::program_file;
 use std::alloc::Global;
@@ -62,10 +66,9 @@ fn text_section(rt: &impl Abort, alloc: Global) -> Section {
     }
 }
 
-// Two stabs and `_main`.
+// A stab and `_main`.
 fn symbols(rt: &impl Abort, alloc: Global) -> Symbols {
     let mut symbols = Symbols::new(alloc);
-    symbols.push(b"/m", N_OSO, 3, 1, 0).expect(rt, "memory");
     symbols
         .push(b"_main", N_FUN, 1, 0, MAIN)
         .expect(rt, "memory");
@@ -75,7 +78,7 @@ fn symbols(rt: &impl Abort, alloc: Global) -> Symbols {
     symbols
 }
 
-// The file of a program with a UUID, a segment with a section, a function, and the stabs of the object that has it.
+// The file of a program with a UUID, a segment with a section, and a function with its stab.
 fn file(rt: &impl Abort, alloc: Global) -> Bytes {
     let image = Image {
         cpu: CPU_TYPE_ARM64,
@@ -86,54 +89,54 @@ fn file(rt: &impl Abort, alloc: Global) -> Bytes {
         sections: one(rt, alloc, text_section(rt, alloc)),
         symbols: symbols(rt, alloc),
     };
-    program_file(alloc, &image).expect(rt, "memory for a file")
+    let file = program_file(alloc, &image).expect(rt, "memory for a file");
+    drop(image);
+    file
 }
 
-// The program as its file is read.
+// The program as its file is read, without debug information.
 fn program(rt: &impl Abort, alloc: Global) -> Image
-    ensures { IsSound result }
+    ensures sound { IsSound result }
+    ensures kind { kind_of result roles.Program ≡ Ok tt }
 {
     let file = file(rt, alloc);
-    read_image(alloc, file.as_slice()).expect(rt, "a program")
+    let program = read_image(alloc, file.as_slice()).expect(rt, "a program");
+    drop(file);
+    check_kind(&program, Role::Program).expect(rt, "no debug information");
+    program
 }
 
-// The image of a program without debug information and of a graph, by four threads: two write the units.
-fn image_of<R: Threads + Abort + Sync>(
-    rt: &R,
-    alloc: Global,
-    program: &Image,
-    graph: &Graph,
-) -> Bytes
-    requires { IsSound program.now }
+// The layout of a graph of at most two units.
+fn layout_of(rt: &impl Abort, alloc: Global, graph: &Graph) -> Layout
+    ensures { IsMeasured result }
 {
     assert!(rt; graph.units.len() <= 2);
-    check_kind(program, Role::Program).expect(rt, "no debug information");
-    let layout = measure(alloc, graph).expect(rt, "a layout");
-    image_in(rt, Vec::new(alloc), 4, program, &layout).expect(rt, "an image")
+    measure(alloc, graph).expect(rt, "a layout")
 }
 
-// The image of a generated program and a graph.
-fn image_with<R: Threads + Abort + Sync>(rt: &R, alloc: Global, graph: &Graph) -> Bytes {
-    let made = made(rt, alloc, 1);
-    image_of(rt, alloc, &made.program, graph)
+// The image of the program and of a graph, by four threads: two write the units.
+fn image_with<R: Threads + Abort + Sync>(rt: &R, alloc: Global, graph: Graph) -> Bytes {
+    let layout = layout_of(rt, alloc, &graph);
+    drop(graph);
+    let program = program(rt, alloc);
+    let image = image_in(rt, Vec::new(alloc), 4, &program, &layout).expect(rt, "an image");
+    drop(layout);
+    drop(program);
+    image
 }
 
-// An image begins with some bytes, and has zeros behind them up to 4096.
-fn begins_with(rt: &impl Abort, image: &[u8], front: &[u8]) {
-    assert!(rt; front.len() <= 4096 && image.len() >= 4096);
-    same(rt, "the front", cut(image, 0, front.len()), front);
-    let zeros = are_zeros(cut(image, front.len(), 4096 - front.len()));
-    same(rt, "whether zeros follow", zeros, true);
-}
-
-// From 4096 on an image has its sections, one behind the other.
-fn sections_are(rt: &impl Abort, image: &[u8], sections: &[u8]) {
+// The image of the program and of a graph has these sections, one behind the other from 4096 on.
+fn has_sections<R: Threads + Abort + Sync>(
+    rt: &R,
+    alloc: Global,
+    label: &str,
+    graph: Graph,
+    sections: &[u8],
+) {
+    let image = image_with(rt, alloc, graph);
     assert!(rt; image.len() >= 4096);
-    same(rt, "the sections", bytes_from(image, 4096), sections);
-}
-
-fn are_zeros(bytes: &[u8]) -> bool {
-    bytes.iter().all(|b| *b == 0)
+    same(rt, label, bytes_from(image.as_slice(), 4096), sections);
+    drop(image);
 }
 
 // ---- graphs of one function
@@ -183,6 +186,9 @@ const FRONT: [u8; 727] = [
     1, 0, 0, 0,  0x0f, 1,  0, 0,  0x50, 0x3f, 0, 0, 1, 0, 0, 0,
     0,  b'_', b'm', b'a', b'i', b'n', 0,
 ];
+
+// The zeros between the front and the sections, which begin at 4096.
+const PADDING: [u8; 3369] = [0; 3369];
 
 // The sections of a unit of one function, in version 4.
 #[rattlefmt::skip]
@@ -251,22 +257,20 @@ fn unit(rt: &impl Abort, alloc: Global, version: u16) -> OutUnit {
     }
 }
 
-// A graph of one unit, without frames.
-fn graph_of(rt: &impl Abort, alloc: Global, unit: OutUnit) -> Graph {
+// A graph of one unit of one function, without frames.
+fn small_graph(rt: &impl Abort, alloc: Global, version: u16) -> Graph {
     Graph {
-        units: one(rt, alloc, unit),
+        units: one(rt, alloc, unit(rt, alloc, version)),
         frames: OutFrames::new(alloc),
     }
 }
 
-#[test]
-fn an_image_has_the_commands_of_its_program_and_the_sections_of_its_graph(rt: HostRuntime) {
-    let alloc = rt.alloc();
-    let graph = graph_of(&rt, alloc, unit(&rt, alloc, 4));
-    let program = program(&rt, alloc);
-    let image = image_of(&rt, alloc, &program, &graph);
-    begins_with(&rt, image.as_slice(), &FRONT);
-    sections_are(&rt, image.as_slice(), &SECTIONS_4);
+// The image of the program and of a graph of one function begins with the front and the padding.
+fn has_front<R: Threads + Abort + Sync>(rt: &R, alloc: Global) {
+    let image = image_with(rt, alloc, small_graph(rt, alloc, 4));
+    has_at(rt, image.as_slice(), 0, &FRONT);
+    has_at(rt, image.as_slice(), FRONT.len(), &PADDING);
+    drop(image);
 }
 
 // Those of such a unit in version 5.
@@ -294,11 +298,23 @@ const SECTIONS_5: [u8; 161] = [
 ];
 
 #[test]
-fn the_ranges_of_a_unit_of_version_5_stand_behind_a_header(rt: HostRuntime) {
+fn an_image_has_the_commands_of_its_program_and_the_sections_of_its_graph(rt: HostRuntime) {
     let alloc = rt.alloc();
-    let graph = graph_of(&rt, alloc, unit(&rt, alloc, 5));
-    let image = image_with(&rt, alloc, &graph);
-    sections_are(&rt, image.as_slice(), &SECTIONS_5);
+    has_front(&rt, alloc);
+    has_sections(
+        &rt,
+        alloc,
+        "version 4",
+        small_graph(&rt, alloc, 4),
+        &SECTIONS_4,
+    );
+    has_sections(
+        &rt,
+        alloc,
+        "version 5",
+        small_graph(&rt, alloc, 5),
+        &SECTIONS_5,
+    );
 }
 
 // ---- graphs with a part in each section
@@ -407,14 +423,6 @@ const EIGHT: [u8; 249] = [
     0x14, 0, 0, 0,  0, 0, 0, 0,  0, 0x10, 0, 0, 0, 0, 0, 0,  0x10, 0, 0, 0, 0, 0, 0, 0,
 ];
 
-#[test]
-fn eight_sections_stand_one_behind_the_other(rt: HostRuntime) {
-    let alloc = rt.alloc();
-    let graph = full_graph(&rt, alloc);
-    let image = image_with(&rt, alloc, &graph);
-    sections_are(&rt, image.as_slice(), &EIGHT);
-}
-
 // Those of such a unit before one of version 5, and of frames.
 #[rattlefmt::skip]
 const ELEVEN: [u8; 511] = [
@@ -470,22 +478,38 @@ const ELEVEN: [u8; 511] = [
     0x14, 0, 0, 0,  0, 0, 0, 0,  0, 0x10, 0, 0, 0, 0, 0, 0,  0x10, 0, 0, 0, 0, 0, 0, 0,
 ];
 
+// A unit of version 4 and one of version 5, and frames.
+fn fuller_graph(rt: &impl Abort, alloc: Global) -> Graph {
+    let mut graph = full_graph(rt, alloc);
+    let unit = full_unit(rt, alloc, 5, lines(rt, alloc));
+    add(rt, &mut graph.units, unit);
+    graph
+}
+
 #[test]
-fn eleven_sections_stand_one_behind_the_other(rt: HostRuntime) {
+fn sections_stand_one_behind_the_other(rt: HostRuntime) {
     let alloc = rt.alloc();
-    let mut graph = full_graph(&rt, alloc);
-    let second = full_unit(&rt, alloc, 5, lines(&rt, alloc));
-    add(&rt, &mut graph.units, second);
-    let image = image_with(&rt, alloc, &graph);
-    sections_are(&rt, image.as_slice(), &ELEVEN);
+    has_sections(&rt, alloc, "eight sections", full_graph(&rt, alloc), &EIGHT);
+    has_sections(
+        &rt,
+        alloc,
+        "eleven sections",
+        fuller_graph(&rt, alloc),
+        &ELEVEN,
+    );
 }
 
 // ---- the text of an Info.plist
 
+fn names_program(rt: &impl Abort, alloc: Global) {
+    let text = plist_text(alloc, "a&b").expect(rt, "memory for a text");
+    same(rt, "its size", text.len(), 636);
+    let want = b"<string>com.apple.xcode.dsym.a&amp;b</string>\n\t\t<key>CFBundle";
+    has_at(rt, text.as_slice(), 281, want);
+    drop(text);
+}
+
 #[test]
 fn a_property_list_names_the_program(rt: HostRuntime) {
-    let text = plist_text(rt.alloc(), "a&b").expect(&rt, "memory for a text");
-    same(&rt, "its size", text.len(), 636);
-    let want = b"<string>com.apple.xcode.dsym.a&amp;b</string>\n\t\t<key>CFBundle";
-    has_at(&rt, text.as_slice(), 281, want);
+    names_program(&rt, rt.alloc());
 }

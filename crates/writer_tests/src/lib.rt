@@ -9,8 +9,6 @@ mod images;
 #[cfg(test)]
 mod parts;
 #[cfg(test)]
-mod rows;
-#[cfg(test)]
 mod samples;
 #[cfg(test)]
 mod units;

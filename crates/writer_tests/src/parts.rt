@@ -1,6 +1,6 @@
 //! What the tables share: how what a call answers is compared, and lists.
 
-use ds_base::{Bytes, List, cut};
+use ds_base::{List, cut};
 use std::alloc::Global;
 use std::fmt::Debug;
 use std::process::Abort;
@@ -10,16 +10,10 @@ pub(crate) fn same<T: Copy + PartialEq + Debug>(rt: &impl Abort, label: &str, se
     assert_eq!(rt; seen, want, "{label}");
 }
 
-// The bytes are these.
-pub(crate) fn same_bytes(rt: &impl Abort, label: &str, seen: &Bytes, want: &[u8]) {
-    same(rt, label, seen.as_slice(), want);
-}
-
 // From a place on a file has these bytes.
 pub(crate) fn has_at(rt: &impl Abort, file: &[u8], at: usize, want: &[u8]) {
     assert!(rt; at <= file.len() && want.len() <= file.len() - at);
-    let seen = cut(file, at, want.len());
-    same(rt, "bytes at a place", (at, seen), (at, want));
+    same(rt, "bytes at a place", cut(file, at, want.len()), want);
 }
 
 // Puts an item last.

@@ -1,30 +1,22 @@
 //! The generated program, read back, and its files against what another program makes of the same description.
 
-ghost use Rattle.std.specs.Prelude.{◌<◌, ◌^◌};
+ghost use Rattle.std.specs.Prelude.{◌≤◌, ◌<◌, ◌^◌};
 ghost use Rattle.std.specs.List.{All};
-ghost use Rattle.macho_read.specs.Sound.{IsSound};
 
-use crate::parts::{has_at, one, same, same_bytes};
+use crate::parts::{has_at, one, same};
 use crate::units::node;
 use ds_base::dwarf::{DW_AT_stmt_list, DW_TAG_compile_unit};
-use ds_base::macho::{CPU_TYPE_ARM64, CPU_TYPE_X86_64, MH_OBJECT};
+use ds_base::macho::CPU_TYPE_X86_64;
 use ds_base::{Bytes, List};
 use dwarf_types::{
     FileNameRef, FileNames, OutAttr, OutLines, OutUnit, OutValue, Paths, Row, SequenceBuilder,
     Sequences,
 };
 use macho_read::{Image, Section, Symbols, read_image};
-use sample_objects::{Generated, ObjectSpec, generated, is_within_limits, object};
+use sample_objects::{ObjectSpec, generated, generated_file, is_within_limits, object};
 use stab_map::{MapObject, debug_map};
 use std::alloc::Global;
 use std::process::Abort;
-
-pub(crate) fn made(rt: &impl Abort, alloc: Global, count: u32) -> Generated
-    ensures { IsSound result.program }
-{
-    assert!(rt; 1 <= count && count <= 1000);
-    generated(alloc, count).expect(rt, "memory for a program")
-}
 
 // ---- files
 
@@ -37,54 +29,32 @@ fn checksum(bytes: &[u8]) -> u32 {
     sum
 }
 
-fn file_is(rt: &impl Abort, program: &Generated, k: usize, len: usize, sum: u32) {
-    let file = program.files.get(k).expect(rt, "a file");
-    let found = (k, file.len(), checksum(file.as_slice()));
-    same(rt, "a file", found, (k, len, sum));
+// The file of an object of a generated program, by its number, has this size and this sum.
+fn file_is(rt: &impl Abort, alloc: Global, number: u32, len: usize, sum: u32)
+    requires { number ≤ 1000 }
+{
+    let file = generated_file(alloc, number).expect(rt, "memory for a file");
+    let found = (number, file.len(), checksum(file.as_slice()));
+    same(rt, "a file", found, (number, len, sum));
+    drop(file);
 }
 
 #[test]
 fn files_are_those_of_another_program(rt: HostRuntime) {
-    let program = made(&rt, rt.alloc(), 2);
-    same(&rt, "files", program.files.len(), 2);
-    file_is(&rt, &program, 0, 23382, 3116305248);
-    file_is(&rt, &program, 1, 23388, 546868958);
-}
-
-// The section of an image at a place, counted from 0, which has this name.
-fn section<'a>(rt: &impl Abort, image: &'a Image, i: usize, name: &[u8]) -> &'a Section {
-    let section = image.sections.get(i).expect(rt, "a section");
-    same_bytes(rt, "the name of a section", &section.name, name);
-    section
-}
-
-// An object file has `__text`, three debug sections, a hundred symbols and as many relocations.
-fn is_object(rt: &impl Abort, image: &Image) {
-    same(rt, "the CPU type", image.cpu, CPU_TYPE_ARM64);
-    same(rt, "the file type", image.filetype, MH_OBJECT);
-    same(rt, "segments", image.segments.len(), 1);
-    same(rt, "sections", image.sections.len(), 4);
-    same(rt, "symbols", image.symbols.len(), 100);
-    let info = section(rt, image, 2, b"__debug_info");
-    same(rt, "relocations", info.nreloc, 100);
-}
-
-#[test]
-fn a_file_is_read_as_an_object(rt: HostRuntime) {
-    let program = made(&rt, rt.alloc(), 1);
-    let file = program.files.get(0).expect(&rt, "a file");
-    let image = read_image(rt.alloc(), file.as_slice()).expect(&rt, "an image");
-    is_object(&rt, &image);
+    file_is(&rt, rt.alloc(), 1, 23382, 3116305248);
+    file_is(&rt, rt.alloc(), 2, 23388, 546868958);
 }
 
 // ---- the debug map
 
 fn entry_is(rt: &impl Abort, object: &MapObject, i: usize, name: &[u8], linked: u64) {
     let entry = object.entries.get(i).expect(rt, "an entry");
-    let found = (entry.name.as_slice(), entry.linked, entry.size);
-    same(rt, "an entry", found, (name, linked, Some(16)));
+    same(rt, "the name of an entry", entry.name.as_slice(), name);
+    same(rt, "where it is linked", entry.linked, linked);
+    same(rt, "its size", entry.size, Some(16));
 }
 
+// An object that is no member of an archive has 75 entries.
 fn object_is(
     rt: &impl Abort,
     objects: &List<MapObject>,
@@ -94,8 +64,8 @@ fn object_is(
     linked: u64,
 ) {
     let object = objects.get(i).expect(rt, "an object");
-    same_bytes(rt, "its path", &object.path, path);
-    same_bytes(rt, "its file", &object.file, path);
+    same(rt, "its path", object.path.as_slice(), path);
+    same(rt, "its file", object.file.as_slice(), path);
     same(rt, "whether it is no member", object.member.is_none(), true);
     same(rt, "entries", object.entries.len(), 75);
     entry_is(rt, object, 74, last, linked);
@@ -108,12 +78,19 @@ fn is_map(rt: &impl Abort, objects: &List<MapObject>) {
     object_is(rt, objects, 1, b"gen/2.o", b"_f2_98", 0x1_0000_2620);
 }
 
+// The stabs of a program of two objects say its map.
+fn stabs_say_map(rt: &impl Abort, alloc: Global) {
+    let made = generated(alloc, 2).expect(rt, "memory for a program");
+    is_map(rt, &made.objects);
+    let read = debug_map(alloc, &made.program).expect(rt, "a debug map");
+    drop(made);
+    is_map(rt, &read);
+    drop(read);
+}
+
 #[test]
 fn the_stabs_say_the_map(rt: HostRuntime) {
-    let program = made(&rt, rt.alloc(), 2);
-    let read = debug_map(rt.alloc(), &program.program).expect(&rt, "a debug map");
-    is_map(&rt, &read);
-    is_map(&rt, &program.objects);
+    stabs_say_map(&rt, rt.alloc());
 }
 
 // ---- a line table
@@ -154,14 +131,16 @@ pub(crate) fn one_sequence(rt: &impl Abort, alloc: Global, rows: &[Row], end: u6
     sequences.finish()
 }
 
-// One file, and a sequence of one row.
+// One file, and a sequence of two rows. The second has a discriminator of more than 16 bits, so it is kept whole.
 fn table(rt: &impl Abort, alloc: Global) -> OutLines {
     let mut files = FileNames::new(alloc);
     add_file(rt, &mut files);
+    let mut wide = row(0x14, 4);
+    wide.discriminator = 0x1_0000;
     OutLines {
         dirs: Paths::new(alloc),
         files,
-        sequences: one_sequence(rt, alloc, &[row(0x10, 3)], 0x18),
+        sequences: one_sequence(rt, alloc, &[row(0x10, 3), wide], 0x18),
     }
 }
 
@@ -179,6 +158,18 @@ fn unit_with_lines(rt: &impl Abort, alloc: Global) -> OutUnit {
     }
 }
 
+// An object of the unit, without symbols.
+fn object_with_lines(rt: &impl Abort, alloc: Global) -> ObjectSpec
+    ensures { All (λ r. r.symbol < 2 ^ 24) result.relocs }
+{
+    ObjectSpec {
+        cpu: CPU_TYPE_X86_64,
+        unit: unit_with_lines(rt, alloc),
+        symbols: Symbols::new(alloc),
+        relocs: List::new(alloc),
+    }
+}
+
 // The file of an object, whose unit is short enough for it.
 fn file_of(rt: &impl Abort, alloc: Global, spec: &ObjectSpec) -> Bytes
     requires { All (λ r. r.symbol < 2 ^ 24) spec.now.relocs }
@@ -188,15 +179,18 @@ fn file_of(rt: &impl Abort, alloc: Global, spec: &ObjectSpec) -> Bytes
     object(alloc, spec).expect(rt, "memory for a file")
 }
 
-// An object of the unit, without symbols.
 fn file_with_lines(rt: &impl Abort, alloc: Global) -> Bytes {
-    let spec = ObjectSpec {
-        cpu: CPU_TYPE_X86_64,
-        unit: unit_with_lines(rt, alloc),
-        symbols: Symbols::new(alloc),
-        relocs: List::new(alloc),
-    };
-    file_of(rt, alloc, &spec)
+    let spec = object_with_lines(rt, alloc);
+    let file = file_of(rt, alloc, &spec);
+    drop(spec);
+    file
+}
+
+// The section of an image at a place, counted from 0, which has this name.
+fn section<'a>(rt: &impl Abort, image: &'a Image, i: usize, name: &[u8]) -> &'a Section {
+    let section = image.sections.get(i).expect(rt, "a section");
+    same(rt, "the name of a section", section.name.as_slice(), name);
+    section
 }
 
 // `__debug_info` has no relocations, and the one of `__debug_line` is that of the operand of the set_address.
@@ -204,7 +198,8 @@ fn file_with_lines(rt: &impl Abort, alloc: Global) -> Bytes {
 // The fields before the program are 37 bytes, and the operand is its fourth byte on.
 fn has_set_address(rt: &impl Abort, file: &[u8], image: &Image) {
     let info = section(rt, image, 2, b"__debug_info");
-    same(rt, "relocations", (info.nreloc, info.reloff), (0, 0));
+    same(rt, "relocations", info.nreloc, 0);
+    same(rt, "their place", info.reloff, 0);
     let line = section(rt, image, 3, b"__debug_line");
     same(rt, "relocations of lines", line.nreloc, 1);
     has_at(rt, file, line.reloff as usize, &[40, 0, 0, 0, 1, 0, 0, 6]);
@@ -212,9 +207,15 @@ fn has_set_address(rt: &impl Abort, file: &[u8], image: &Image) {
     has_at(rt, file, program, &[0, 9, 2, 0x10, 0, 0, 0, 0, 0, 0, 0]);
 }
 
+fn set_address_is_relocated(rt: &impl Abort, alloc: Global) {
+    let file = file_with_lines(rt, alloc);
+    let image = read_image(alloc, file.as_slice()).expect(rt, "an image");
+    has_set_address(rt, file.as_slice(), &image);
+    drop(image);
+    drop(file);
+}
+
 #[test]
 fn a_set_address_is_relocated(rt: HostRuntime) {
-    let file = file_with_lines(&rt, rt.alloc());
-    let image = read_image(rt.alloc(), file.as_slice()).expect(&rt, "an image");
-    has_set_address(&rt, file.as_slice(), &image);
+    set_address_is_relocated(&rt, rt.alloc());
 }
