@@ -8,10 +8,14 @@
 #[cfg(test)]
 mod expressions;
 #[cfg(test)]
+mod faults;
+#[cfg(test)]
 mod frames;
 #[cfg(test)]
 mod lines;
 #[cfg(test)]
 mod lists;
+#[cfg(test)]
+mod moves;
 #[cfg(test)]
 mod parts;

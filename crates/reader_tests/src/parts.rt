@@ -1,21 +1,49 @@
-//! What the tables of several readers share: sections, an image without symbols, relocations, and what is asked of a row.
+//! What the tables of several readers share: an object, its sections, and what is asked of a row.
 //!
 //! What owns memory goes by `drop`, right behind its last use: the end of a block is dearer to prove.
 
-ghost use Rattle.std.specs.Prelude.{◌≡◌, ◌+◌, ◌<◌, ◌≤◌, [], false, length};
+ghost use Rattle.std.specs.Prelude.{◌≡◌, ◌+◌, ◌<◌, ◌≤◌, ℕ, length};
+ghost use Rattle.dwarf_types.specs.SectionBytes.{bytes_in, location_bytes, range_bytes};
 ghost use Rattle.macho_read.specs.Sound.{IsSound as IsSoundImage};
 ghost use Rattle.reloc_table.specs.Sound.{IsSound};
 
-use ds_base::{Fault, Kind, List, Part, ReadError};
-use dwarf_types::{FileNames, Paths, Sections};
+use ds_base::List;
+use dwarf_types::Sections;
 use macho_read::{Image, Symbols};
 use reloc_table::{Reloc, Relocs};
 use std::alloc::Global;
 use std::fmt::Debug;
 use std::process::Abort;
 
+/// An object without sections and symbols.
+#[derive(Drop)]
+pub(crate) struct Object {
+    pub(crate) image: Image,
+    /// The relocations of the section that is read.
+    pub(crate) relocs: Relocs,
+    /// The relocations of [`ADDRESSES`].
+    pub(crate) addresses: Relocs,
+}
+
+/// An object in which two numbers of the section that is read are relocated, and all addresses.
+pub(crate) fn object_with(rt: &impl Abort, alloc: Global, first: u32, second: u32) -> Object
+    requires { first + 8 ≤ second }
+    ensures image { IsSoundImage result.image }
+    ensures relocs { IsSound result.image result.relocs }
+    ensures addresses { IsSound result.image result.addresses }
+{
+    let image = no_symbols(alloc);
+    let relocs = two_relocs(rt, alloc, &image, first, second);
+    let addresses = two_relocs(rt, alloc, &image, 8, 16);
+    Object {
+        image,
+        relocs,
+        addresses,
+    }
+}
+
 /// An image without sections and symbols.
-pub(crate) fn no_symbols(alloc: Global) -> Image
+fn no_symbols(alloc: Global) -> Image
     ensures { IsSoundImage result }
 {
     Image {
@@ -29,44 +57,35 @@ pub(crate) fn no_symbols(alloc: Global) -> Image
     }
 }
 
-/// The relocation of a number at a place, of a section.
-fn of_section(place: u32) -> Reloc
-    ensures place { result.place ≡ place }
-    ensures outer { result.outer ≡ false }
-{
-    Reloc {
-        place,
-        symbol: 1,
-        outer: false,
-    }
-}
-
 /// Two relocations, of a section, in an image.
-pub(crate) fn two_relocs(
-    rt: &impl Abort,
-    alloc: Global,
-    image: &Image,
-    first: u32,
-    second: u32,
-) -> Relocs
+fn two_relocs(rt: &impl Abort, alloc: Global, image: &Image, first: u32, second: u32) -> Relocs
     requires { first + 8 ≤ second }
     ensures { IsSound image.now result }
 {
-    let two = [of_section(first), of_section(second)];
+    let two = [
+        Reloc {
+            place: first,
+            symbol: 1,
+            outer: false,
+        },
+        Reloc {
+            place: second,
+            symbol: 1,
+            outer: false,
+        },
+    ];
     let list = List::from_vec(two.to_vec(alloc).expect(rt, "memory"));
     Relocs { list }
 }
 
-/// No relocations, in an image.
-pub(crate) fn no_relocs(alloc: Global, image: &Image) -> Relocs
-    ensures { IsSound image.now result }
-{
-    Relocs {
-        list: List::new(alloc),
-    }
-}
+/// A table of the addresses 0x18 and 0x20 (DWARF 5, section 7.27), whose base is 8.
+#[rattlefmt::skip]
+const ADDRESSES: &[u8; 24] = b"\x14\0\0\0\x05\0\x08\0\x18\0\0\0\0\0\0\0\x20\0\0\0\0\0\0\0";
 
-/// The bytes of a section, which are one at least and fewer than a thousand.
+/// The texts that line tables of version 5 name.
+pub(crate) const LINE_STR: &[u8; 9] = b"/src\0a.c\0";
+
+/// Some bytes, fewer than a thousand.
 pub(crate) fn few<'a>(rt: &impl Abort, bytes: &'a [u8]) -> &'a [u8]
     ensures some { 0 < length result.now }
     ensures few { length result.now < 1000 }
@@ -75,134 +94,32 @@ pub(crate) fn few<'a>(rt: &impl Abort, bytes: &'a [u8]) -> &'a [u8]
     bytes
 }
 
-/// Bytes with another one at a place.
-pub(crate) fn changed<const N: usize>(
-    rt: &impl Abort,
-    bytes: &[u8; N],
-    at: usize,
-    byte: u8,
-) -> [u8; N] {
-    let mut bytes = *bytes;
-    assert!(rt; at < N);
-    bytes[at] = byte;
-    bytes
-}
-
-/// An object's sections, of which these alone have bytes.
-pub(crate) fn sections<'a>(
-    line: &'a [u8],
-    ranges: &'a [u8],
-    loc: &'a [u8],
-    frame: &'a [u8],
-) -> Sections<'a>
-    ensures addr { result.addr.now ≡ [] }
-    ensures line { result.line.now ≡ line.now }
-    ensures ranges { result.ranges.now ≡ ranges.now }
-    ensures loc { result.loc.now ≡ loc.now }
-    ensures frame { result.frame.now ≡ frame.now }
+/// An object's sections, of which each that is read has these bytes, beside addresses and texts.
+pub(crate) fn sections<'a>(bytes: &'a [u8]) -> Sections<'a>
+    ensures addr { length result.addr.now ≡ 24 }
+    ensures line { result.line.now ≡ bytes.now }
+    ensures ranges { (version : ℕ) → range_bytes (bytes_in result) version ≡ bytes.now }
+    ensures locations { (version : ℕ) → location_bytes (bytes_in result) version ≡ bytes.now }
+    ensures frame { result.frame.now ≡ bytes.now }
 {
     Sections {
         info: b"",
         abbrev: b"",
         strings: b"",
         str_offs: b"",
-        addr: b"",
-        line,
-        line_str: b"",
-        ranges,
-        rnglists: b"",
-        loc,
-        loclists: b"",
+        addr: ADDRESSES,
+        line: bytes,
+        line_str: LINE_STR,
+        ranges: bytes,
+        rnglists: bytes,
+        loc: bytes,
+        loclists: bytes,
         aranges: b"",
-        frame,
+        frame: bytes,
     }
 }
-
-/// Sections of version 5: lists, and addresses.
-pub(crate) fn lists_5<'a>(rnglists: &'a [u8], loclists: &'a [u8], addr: &'a [u8]) -> Sections<'a>
-    ensures rnglists { result.rnglists.now ≡ rnglists.now }
-    ensures loclists { result.loclists.now ≡ loclists.now }
-    ensures addr { result.addr.now ≡ addr.now }
-{
-    Sections {
-        info: b"",
-        abbrev: b"",
-        strings: b"",
-        str_offs: b"",
-        addr,
-        line: b"",
-        line_str: b"",
-        ranges: b"",
-        rnglists,
-        loc: b"",
-        loclists,
-        aranges: b"",
-        frame: b"",
-    }
-}
-
-/// A line table, and the texts that it names.
-pub(crate) fn lines_5<'a>(line: &'a [u8], line_str: &'a [u8]) -> Sections<'a>
-    ensures line { result.line.now ≡ line.now }
-    ensures line_str { result.line_str.now ≡ line_str.now }
-{
-    Sections {
-        info: b"",
-        abbrev: b"",
-        strings: b"",
-        str_offs: b"",
-        addr: b"",
-        line,
-        line_str,
-        ranges: b"",
-        rnglists: b"",
-        loc: b"",
-        loclists: b"",
-        aranges: b"",
-        frame: b"",
-    }
-}
-
-/// A table of the addresses 0x18 and 0x20 (DWARF 5, section 7.27), whose base is 8 and whose relocations are those at 8
-/// and 16.
-#[rattlefmt::skip]
-pub(crate) const ADDRESSES: &[u8; 24] = b"\x14\0\0\0\x05\0\x08\0\x18\0\0\0\0\0\0\0\x20\0\0\0\0\0\0\0";
 
 /// What was read is what was wanted.
 pub(crate) fn same<T: Copy + PartialEq + Debug>(rt: &impl Abort, label: &str, read: T, want: T) {
     assert_eq!(rt; read, want, "{label}");
-}
-
-/// A reader refuses with this fault.
-pub(crate) fn assert_refused(
-    rt: &impl Abort,
-    label: &str,
-    error: Option<ReadError>,
-    section: Part,
-    kind: Kind,
-    place: u64,
-) {
-    let fault = Fault {
-        kind,
-        section,
-        place,
-    };
-    same(rt, label, error, Some(ReadError::Faulty(fault)));
-}
-
-/// A line table has a directory at a place, which is counted from 0.
-pub(crate) fn assert_dir(rt: &impl Abort, dirs: &Paths, i: usize, want: &[u8]) {
-    same(rt, "a directory", dirs.get(i), Some(want));
-}
-
-/// A line table has a file at a place, in a directory, and nothing more is told of it.
-pub(crate) fn assert_file(rt: &impl Abort, files: &FileNames, i: usize, want: (&[u8], u64)) {
-    let file = files.get(i).expect(rt, "a file");
-    same(rt, "name and directory", (file.name, file.dir), want);
-    same(
-        rt,
-        "time, size and digest",
-        (file.time, file.size, file.digest),
-        (0, 0, None),
-    );
 }
