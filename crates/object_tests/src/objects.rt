@@ -1,8 +1,8 @@
 //! An object of an assembler, and its analysis or its first fault.
 
-use crate::parts::{assert_dir, assert_file, assert_in_unit, assert_refused, changed, few, same};
-use ds_base::{Bytes, Kind, List, Part, ReadError};
-use dwarf_types::{Analysis, AttrRef, CodeRange, InUnit, OutLines, Span, ValueRef};
+use crate::parts::{assert_file, assert_in_unit, changed, same};
+use ds_base::{Bytes, Fault, Kind, List, Part, ReadError};
+use dwarf_types::{Analysis, AttrRef, CodeRange, InUnit, Span, ValueRef};
 use object_view::analyse;
 use stab_map::{MapEntry, MapObject};
 use std::alloc::Global;
@@ -178,10 +178,11 @@ fn map_object(rt: &impl Abort, alloc: Global) -> MapObject {
     }
 }
 
-/// The analysis of an object.
+/// The analysis of an object of fewer than a thousand bytes.
 fn analysed(rt: &impl Abort, alloc: Global, bytes: &[u8]) -> Result<Analysis, ReadError> {
+    assert!(rt; bytes.len() < 1000);
     let object = map_object(rt, alloc);
-    let analysis = analyse(alloc, few(rt, bytes), &object, CPU_TYPE_X86_64);
+    let analysis = analyse(alloc, bytes, &object, CPU_TYPE_X86_64);
     drop(object);
     analysis
 }
@@ -193,37 +194,25 @@ fn attr_of<'a>(rt: &impl Abort, analysis: &'a Analysis, entry: usize, attr: usiz
     entry.attr(attr)
 }
 
-/// An attribute of an entry leads to another entry.
-fn assert_leads(rt: &impl Abort, analysis: &Analysis, entry: usize, attr: usize, want: u32) {
-    let attr = attr_of(rt, analysis, entry, attr);
-    same(
-        rt,
-        "the entry to which an attribute leads",
-        target_of(&attr),
-        Some(want),
-    );
-}
-
-/// The number of the entry to which an attribute leads.
-fn target_of(attr: &AttrRef<'_>) -> Option<u32> {
+/// The number of the entry to which an attribute leads, or the text that it is.
+fn meaning<'a>(attr: &AttrRef<'a>) -> (Option<u32>, Option<&'a [u8]>) {
     match attr.value {
-        ValueRef::Ref(to) => Some(to),
-        _ => None,
+        ValueRef::Ref(to) => (Some(to), None),
+        ValueRef::Text(text) => (None, Some(text)),
+        _ => (None, None),
     }
 }
 
-/// The text that an attribute of an entry is.
-fn assert_text(rt: &impl Abort, analysis: &Analysis, entry: usize, attr: usize, want: &[u8]) {
+/// An attribute of an entry leads to another entry, or is a text.
+fn assert_attr(
+    rt: &impl Abort,
+    analysis: &Analysis,
+    entry: usize,
+    attr: usize,
+    want: (Option<u32>, Option<&[u8]>),
+) {
     let attr = attr_of(rt, analysis, entry, attr);
-    same(rt, "the text of an attribute", text_of(&attr), Some(want));
-}
-
-/// The text that an attribute is.
-fn text_of<'a>(attr: &AttrRef<'a>) -> Option<&'a [u8]> {
-    match attr.value {
-        ValueRef::Text(text) => Some(text),
-        _ => None,
-    }
+    same(rt, "the meaning of an attribute", meaning(&attr), want);
 }
 
 /// The entry of a number has this parent, unit, place and tag.
@@ -257,8 +246,8 @@ fn assert_object(rt: &impl Abort, analysis: &Analysis) {
     assert_entry(rt, analysis, 2, (Some(0), 0, 0x17, 0x2e));
     assert_entry(rt, analysis, 3, (Some(2), 0, 0x28, 0x34));
     assert_entry(rt, analysis, 4, (None, 1, 0x44, 0x11));
-    assert_leads(rt, analysis, 2, 2, 1);
-    assert_leads(rt, analysis, 3, 0, 1);
+    assert_attr(rt, analysis, 2, 2, (Some(1), None));
+    assert_attr(rt, analysis, 3, 0, (Some(1), None));
     same(rt, "units", analysis.units.len(), 2);
     assert_in_unit(rt, &analysis.units, 0, (0, 4, 4, 12));
     assert_in_unit(rt, &analysis.units, 1, (4, 1, 4, 0));
@@ -272,27 +261,12 @@ fn an_object_has_the_entries_that_llvm_dwarfdump_prints(rt: HostRuntime) {
     drop(analysis);
 }
 
-/// The object with another byte at a place is refused.
-fn refused(
-    rt: &impl Abort,
-    alloc: Global,
-    at: usize,
-    byte: u8,
-    kind: Kind,
-    section: Part,
-    place: u64,
-) {
-    let bytes = changed(rt, OBJECT, at, byte);
-    let error = analysed(rt, alloc, &bytes).err();
-    assert_refused(rt, "a byte", error, section, kind, place);
-}
-
 /// A unit of version 5, and its entries.
 fn assert_object_5(rt: &impl Abort, analysis: &Analysis) {
     same(rt, "entries", analysis.entries.len(), 2);
     assert_entry(rt, analysis, 0, (None, 0, 0x0c, 0x11));
     assert_entry(rt, analysis, 1, (Some(0), 0, 0x16, 0x2e));
-    assert_text(rt, analysis, 0, 2, b"m.c");
+    assert_attr(rt, analysis, 0, 2, (None, Some(b"m.c")));
     same(rt, "units", analysis.units.len(), 1);
     assert_in_unit(rt, &analysis.units, 0, (0, 2, 5, 0));
     assert_code(rt, analysis, 1);
@@ -305,58 +279,80 @@ fn indices_of_version_5_lead_to_texts_and_addresses(rt: HostRuntime) {
     drop(analysis);
 }
 
-/// A line table whose directory 0 is that of the unit, and whose file 0 is a second file 1.
-fn assert_older(rt: &impl Abort, lines: &OutLines) {
+/// A unit has a line table whose directory 0 is that of the unit, and whose file 0 is a second file 1.
+fn assert_older(rt: &impl Abort, unit: &InUnit) {
+    let lines = unit.lines.as_ref().expect(rt, "a line table");
     let counts = (lines.dirs.len(), lines.files.len(), lines.sequences.len());
     same(rt, "directories, files and sequences", counts, (2, 2, 0));
-    assert_dir(rt, &lines.dirs, 0, b"/d");
-    assert_dir(rt, &lines.dirs, 1, b"inc");
-    assert_file(rt, &lines.files, 0, (b"m.c", 1));
-    assert_file(rt, &lines.files, 1, (b"m.c", 1));
-}
-
-/// The line table of the only unit.
-fn only_lines<'a>(rt: &impl Abort, units: &'a List<InUnit>) -> &'a OutLines {
-    same(rt, "units", units.len(), 1);
-    let unit = units.get(0).expect(rt, "a unit");
-    unit.lines.as_ref().expect(rt, "a line table")
+    let (first, second): (&[u8], &[u8]) = (b"/d", b"inc");
+    let dirs = (lines.dirs.get(0), lines.dirs.get(1));
+    same(rt, "directories", dirs, (Some(first), Some(second)));
+    assert_file(rt, &lines.files, 0, b"m.c", 1);
+    assert_file(rt, &lines.files, 1, b"m.c", 1);
 }
 
 #[test]
 fn an_older_table_counts_from_0_in_a_unit_of_version_5(rt: HostRuntime) {
     let analysis = analysed(&rt, rt.alloc(), OBJECT_OLDER).expect(&rt, "an analysis");
-    assert_older(&rt, only_lines(&rt, &analysis.units));
+    assert_older(&rt, analysis.units.get(0).expect(&rt, "a unit"));
     drop(analysis);
 }
 
-/// The object of version 5 with another byte at a place of `__debug_info` is refused there.
-fn refused_5(rt: &impl Abort, alloc: Global, at: u8, byte: u8, kind: Kind, place: u64) {
-    let bytes = changed(rt, OBJECT_5, 0x2d7 + usize::from(at), byte);
+/// An object with another byte at a place is refused.
+fn refused<const N: usize>(
+    rt: &impl Abort,
+    alloc: Global,
+    object: &[u8; N],
+    at: usize,
+    byte: u8,
+    fault: (Part, Kind, u64),
+) {
+    let bytes = changed(rt, object, at, byte);
     let error = analysed(rt, alloc, &bytes).err();
-    assert_refused(rt, "a byte", error, Part::Info, kind, place);
-}
-
-#[test]
-#[rattlefmt::skip]
-fn the_first_part_of_version_5_that_is_wrong_is_told(rt: HostRuntime) {
-    let alloc = rt.alloc();
-    refused_5(&rt, alloc, 4, 6, Kind::UnsupportedVersion, 4);
-    refused_5(&rt, alloc, 6, 2, Kind::BadUnit, 0);
-    // A text, and an address, one past those that there are.
-    refused_5(&rt, alloc, 0x15, 1, Kind::BadIndex, 0x15);
-    refused_5(&rt, alloc, 0x17, 1, Kind::BadIndex, 0x17);
+    let want = Fault {
+        kind: fault.1,
+        section: fault.0,
+        place: fault.2,
+    };
+    same(rt, "an object", error, Some(ReadError::Faulty(want)));
 }
 
 #[test]
 #[rattlefmt::skip]
 fn the_first_part_that_is_wrong_is_told(rt: HostRuntime) {
     let alloc = rt.alloc();
-    refused(&rt, alloc, 0, 0, Kind::NotMachO, Part::Header, 0);
-    refused(&rt, alloc, 4, 0x0c, Kind::WrongCpu, Part::Header, 4);
-    refused(&rt, alloc, 0x24f, 0x16, Kind::RelocKind, Part::Info, 0);
-    refused(&rt, alloc, 0x207, 4, Kind::BadUnit, Part::Info, 0);
-    // A type that leads into the function.
-    refused(&rt, alloc, 0x221, 0x18, Kind::BadReference, Part::Info, 0x24);
-    refused(&rt, alloc, 0x22b, 0x01, Kind::UnknownOp, Part::Info, 0x2e);
-    refused(&rt, alloc, 0x241, 9, Kind::UnknownCode, Part::Info, 0x44);
+    refused(&rt, alloc, OBJECT, 0, 0, (Part::Header, Kind::NotMachO, 0));
+    refused(&rt, alloc, OBJECT, 4, 0x0c, (Part::Header, Kind::WrongCpu, 4));
+    refused(&rt, alloc, OBJECT, 0x24f, 0x16, (Part::Info, Kind::RelocKind, 0));
+    refused(&rt, alloc, OBJECT, 0x22b, 0x01, (Part::Info, Kind::UnknownOp, 0x2e));
+    // In version 5 a kind of units, and a text and an address, one past those that there are.
+    refused(&rt, alloc, OBJECT_5, 0x2dd, 2, (Part::Info, Kind::BadUnit, 0));
+    refused(&rt, alloc, OBJECT_5, 0x2ec, 1, (Part::Info, Kind::BadIndex, 0x15));
+    refused(&rt, alloc, OBJECT_5, 0x2ee, 1, (Part::Info, Kind::BadIndex, 0x17));
+}
+
+/// `__debug_abbrev` begins at 0x1d3: a declaration without a tag, one with a form alone, a code for the second time, and
+/// one that is cut.
+#[test]
+#[rattlefmt::skip]
+fn the_first_item_of_a_table_that_is_wrong_is_told(rt: HostRuntime) {
+    let alloc = rt.alloc();
+    refused(&rt, alloc, OBJECT, 0x1d4, 0, (Part::Abbrev, Kind::BadAbbrev, 0));
+    refused(&rt, alloc, OBJECT, 0x1d6, 0, (Part::Abbrev, Kind::BadAbbrev, 0));
+    refused(&rt, alloc, OBJECT, 0x1dc, 1, (Part::Abbrev, Kind::DuplicateCode, 9));
+    refused(&rt, alloc, OBJECT, 0x1fc, 6, (Part::Abbrev, Kind::Truncated, 0x2a));
+}
+
+/// Another version, another size of addresses, no table, a first entry of no unit, an unknown code, and a list that is
+/// open where the unit ends.
+#[test]
+#[rattlefmt::skip]
+fn the_first_item_of_a_unit_that_is_wrong_is_told(rt: HostRuntime) {
+    let alloc = rt.alloc();
+    refused(&rt, alloc, OBJECT, 0x201, 3, (Part::Info, Kind::UnsupportedVersion, 4));
+    refused(&rt, alloc, OBJECT, 0x207, 4, (Part::Info, Kind::BadUnit, 0));
+    refused(&rt, alloc, OBJECT, 0x203, 0x2a, (Part::Info, Kind::BadOffset, 6));
+    refused(&rt, alloc, OBJECT, 0x208, 2, (Part::Info, Kind::BadUnit, 0));
+    refused(&rt, alloc, OBJECT, 0x241, 9, (Part::Info, Kind::UnknownCode, 0x44));
+    refused(&rt, alloc, OBJECT, 0x1fd, 0x34, (Part::Info, Kind::UnclosedSiblings, 0x38));
 }

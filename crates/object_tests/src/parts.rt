@@ -1,19 +1,31 @@
 //! What the tables share: bytes, faults, and what is asked of a unit and of a line table.
 
-ghost use Rattle.std.specs.Prelude.{◌<◌, length};
+ghost use Rattle.std.specs.Prelude.{◌≡◌};
 
-use ds_base::{Fault, Kind, List, Part, ReadError};
-use dwarf_types::{FileNames, InUnit, Paths};
+use ds_base::List;
+use dwarf_types::{FileNames, InUnit, Sections};
 use std::fmt::Debug;
 use std::process::Abort;
 
-/// The bytes of a section, which are one at least and fewer than a thousand.
-pub(crate) fn few<'a>(rt: &impl Abort, bytes: &'a [u8]) -> &'a [u8]
-    ensures some { 0 < length result.now }
-    ensures few { length result.now < 1000 }
+/// Sections that have texts beside these.
+pub(crate) fn sections<'a>(info: &'a [u8], abbrev: &'a [u8]) -> Sections<'a>
+    ensures { result.info.now ≡ info.now }
 {
-    assert!(rt; !bytes.is_empty() && bytes.len() < 1000);
-    bytes
+    Sections {
+        info,
+        abbrev,
+        strings: b"m.c\0main\0",
+        str_offs: b"",
+        addr: b"",
+        line: b"",
+        line_str: b"a\0b",
+        ranges: b"",
+        rnglists: b"",
+        loc: b"",
+        loclists: b"",
+        aranges: b"",
+        frame: b"",
+    }
 }
 
 /// Bytes with another one at a place.
@@ -34,23 +46,6 @@ pub(crate) fn same<T: Copy + PartialEq + Debug>(rt: &impl Abort, label: &str, re
     assert_eq!(rt; read, want, "{label}");
 }
 
-/// A reader refuses with this fault.
-pub(crate) fn assert_refused(
-    rt: &impl Abort,
-    label: &str,
-    error: Option<ReadError>,
-    section: Part,
-    kind: Kind,
-    place: u64,
-) {
-    let fault = Fault {
-        kind,
-        section,
-        place,
-    };
-    same(rt, label, error, Some(ReadError::Faulty(fault)));
-}
-
 /// The unit at a place has this first entry, so many entries, this version and this language.
 pub(crate) fn assert_in_unit(
     rt: &impl Abort,
@@ -63,19 +58,14 @@ pub(crate) fn assert_in_unit(
     same(rt, "first entry, entries, version and language", read, want);
 }
 
-/// A line table has a directory at a place, which is counted from 0.
-pub(crate) fn assert_dir(rt: &impl Abort, dirs: &Paths, i: usize, want: &[u8]) {
-    same(rt, "a directory", dirs.get(i), Some(want));
-}
-
 /// A line table has a file at a place, in a directory, and nothing more is told of it.
-pub(crate) fn assert_file(rt: &impl Abort, files: &FileNames, i: usize, want: (&[u8], u64)) {
+pub(crate) fn assert_file(rt: &impl Abort, files: &FileNames, i: usize, name: &[u8], dir: u64) {
     let file = files.get(i).expect(rt, "a file");
-    same(rt, "name and directory", (file.name, file.dir), want);
+    let read = (file.name, file.dir, file.time, file.size, file.digest);
     same(
         rt,
-        "time, size and digest",
-        (file.time, file.size, file.digest),
-        (0, 0, None),
+        "name, directory, time, size and digest",
+        read,
+        (name, dir, 0, 0, None),
     );
 }

@@ -1,39 +1,20 @@
 //! Attribute values by their forms, and what they are or their first fault.
 
-use crate::parts::{assert_refused, same};
-use ds_base::{Cursor, Kind, Part, ReadError};
-use dwarf_types::{Field, RawValue, Sections};
+use crate::parts::{same, sections};
+use ds_base::{Cursor, Fault, Kind, Part};
+use dwarf_types::{Field, RawValue};
 use form_value::read_value;
 use std::process::Abort;
 
-/// Sections that have texts alone.
-fn texts<'a>() -> Sections<'a> {
-    Sections {
-        info: b"",
-        abbrev: b"",
-        strings: b"m.c\0main\0",
-        str_offs: b"",
-        addr: b"",
-        line: b"",
-        line_str: b"a\0b",
-        ranges: b"",
-        rnglists: b"",
-        loc: b"",
-        loclists: b"",
-        aranges: b"",
-        frame: b"",
-    }
-}
-
 /// The value of a form at the start of some bytes, in a unit of a version.
-fn read(version: u16, form: u16, bytes: &[u8]) -> Result<RawValue<'_>, ReadError> {
+fn read(version: u16, form: u16, bytes: &[u8]) -> Result<RawValue<'_>, Fault> {
     let mut cursor = Cursor::new(bytes, Part::Info, 0, bytes.len() as u64);
     let field = Field {
         name: 3,
         form,
         fixed: -2,
     };
-    Ok(read_value(&mut cursor, &field, version, &texts())?)
+    read_value(&mut cursor, &field, version, &sections(b"", b""))
 }
 
 /// The number that a value holds, and whether it is an offset.
@@ -48,29 +29,30 @@ fn number(value: RawValue) -> Option<(bool, u64)> {
 /// A value in a unit of version 5 is this number, or an offset.
 fn assert_number(rt: &impl Abort, form: u16, bytes: &[u8], want: (bool, u64)) {
     let value = read(5, form, bytes).expect(rt, "a value");
-    same(
-        rt,
-        "a form and its number",
-        (form, number(value)),
-        (form, Some(want)),
-    );
+    same(rt, "a number", number(value), Some(want));
 }
 
-#[test]
-#[rattlefmt::skip]
-fn numbers_are_read_by_their_forms(rt: HostRuntime) {
-    assert_number(&rt, 0x0b, b"\xff", (false, 0xff));
-    assert_number(&rt, 0x05, b"\xfe\xff", (false, 0xfffe));
-    assert_number(&rt, 0x06, b"\x01\x02\x03\x04", (false, 0x0403_0201));
-    assert_number(&rt, 0x0f, b"\x80\x01", (false, 0x80));
-    assert_number(&rt, 0x0d, b"\x7f", (false, 0xffff_ffff_ffff_ffff));
-    assert_number(&rt, 0x0c, b"\x02", (false, 2));
-    assert_number(&rt, 0x19, b"", (false, 1));
+/// Forms, bytes that begin with a value of each, and the value.
+const NUMBERS: [(u16, [u8; 4], (bool, u64)); 11] = [
+    (0x0b, *b"\xff\0\0\0", (false, 0xff)),
+    (0x05, *b"\xfe\xff\0\0", (false, 0xfffe)),
+    (0x06, *b"\x01\x02\x03\x04", (false, 0x0403_0201)),
+    (0x0f, *b"\x80\x01\0\0", (false, 0x80)),
+    (0x0d, *b"\x7f\0\0\0", (false, 0xffff_ffff_ffff_ffff)),
+    (0x0c, *b"\x02\0\0\0", (false, 2)),
+    (0x19, *b"\0\0\0\0", (false, 1)),
     // An implicit constant stands in the table.
-    assert_number(&rt, 0x21, b"", (false, 0xffff_ffff_ffff_fffe));
-    assert_number(&rt, 0x13, b"\x2a\0\0\0", (true, 0x2a));
-    assert_number(&rt, 0x10, b"\x2a\0\0\0", (true, 0x2a));
-    assert_number(&rt, 0x17, b"\x2a\0\0\0", (true, 0x2a));
+    (0x21, *b"\0\0\0\0", (false, 0xffff_ffff_ffff_fffe)),
+    (0x13, *b"\x2a\0\0\0", (true, 0x2a)),
+    (0x10, *b"\x2b\0\0\0", (true, 0x2b)),
+    (0x17, *b"\x2c\0\0\0", (true, 0x2c)),
+];
+
+#[test]
+fn numbers_are_read_by_their_forms(rt: HostRuntime) {
+    for (form, bytes, want) in NUMBERS {
+        assert_number(&rt, form, &bytes, want);
+    }
 }
 
 /// The bytes that a value lends, and their place among the texts of the sections.
@@ -86,12 +68,7 @@ fn lent(value: RawValue<'_>) -> Option<(&[u8], Option<u32>)> {
 /// A value in a unit of version 5 lends these bytes.
 fn assert_lent(rt: &impl Abort, form: u16, bytes: &[u8], want: (&[u8], Option<u32>)) {
     let value = read(5, form, bytes).expect(rt, "a value");
-    same(
-        rt,
-        "a form and its bytes",
-        (form, lent(value)),
-        (form, Some(want)),
-    );
+    same(rt, "bytes", lent(value), Some(want));
 }
 
 #[test]
@@ -107,8 +84,12 @@ fn texts_and_blocks_are_lent(rt: HostRuntime) {
 
 /// A value is refused so.
 fn refused(rt: &impl Abort, version: u16, form: u16, kind: Kind, place: u64, bytes: &[u8]) {
-    let error = read(version, form, bytes).err();
-    assert_refused(rt, "a value", error, Part::Info, kind, place);
+    let want = Fault {
+        kind,
+        section: Part::Info,
+        place,
+    };
+    same(rt, "a value", read(version, form, bytes).err(), Some(want));
 }
 
 #[test]
