@@ -1,10 +1,12 @@
 //! Units as drafts, and their bytes once all has its place.
 
-ghost use Rattle.std.specs.Prelude.{◌≡◌, Ok};
-ghost use Rattle.unit_draft.specs.Drafted.{Drafts};
+ghost use Rattle.std.specs.Prelude.{◌≡◌, [], length};
+ghost use Rattle.patches.specs.Filling.{Filling, filled};
 
 use crate::parts::{add, has_at, one, same, same_bytes};
-use crate::units::{add_attr, bytes, first_draft, node, number, text, unit, unit_of};
+use crate::units::{
+    add_attr, bytes, drafted, first_draft, node, number, outside, text, unit, unit_of,
+};
 use ds_base::dwarf::{
     DW_AT_abstract_origin, DW_AT_const_value, DW_AT_frame_base, DW_AT_location, DW_AT_name,
     DW_AT_type, DW_FORM_data4, DW_OP_convert, DW_OP_entry_value, DW_OP_reg5, DW_OP_stack_value,
@@ -16,65 +18,66 @@ use dwarf_types::{
 };
 use std::alloc::Global;
 use std::process::Abort;
-use unit_draft::{Draft, Outside, draft_unit, draft_unit_by_two, emit_draft};
+use std::thread::Threads;
+use unit_draft::{Draft, draft_unit_by_two, emit_draft};
 
 // ---- drafts
 
-// Writes a draft of a unit into a room of its size.
-fn put_draft(
-    rt: &impl Abort,
-    draft: &Draft,
-    number: u32,
-    unit: &OutUnit,
-    outside: &Outside,
-    room: &mut [u8],
-)
-    requires drafted { Drafts number unit.now (Ok draft.now) }
+// The bytes of a drafted unit, once all has its place.
+fn emitted(rt: &impl Abort, alloc: Global, draft: &Draft, drafts: &[Draft]) -> Bytes
+    requires settled { draft.now.info.own ≡ [] }
+    requires size { (f : Filling) → length (filled draft.now.info f) ≡ draft.now.len }
 {
-    assert_eq!(rt; draft.len as usize, room.len());
-    emit_draft(draft, outside, room);
+    let mut room = Bytes::zeros(alloc, draft.len as usize).expect(rt, "memory");
+    emit_draft(draft, &outside(drafts), room.as_mut_slice());
+    room
 }
 
-// What is wanted of a draft: its abbreviations, its bytes with what stands outside, how many texts it has, and its lists
-// and the places of its nodes, where they are looked at.
+// What is wanted of a draft: the bytes of the unit once all has its place, its abbreviations, how many texts it has, its
+// lists, and the places of its nodes.
 #[derive(Clone, Copy)]
 struct Want<'a> {
-    table: &'a [u8],
     info: &'a [u8],
+    table: &'a [u8],
     texts: usize,
-    ranges: Option<&'a [u8]>,
-    locations: Option<&'a [u8]>,
-    places: Option<&'a [u32]>,
+    ranges: &'a [u8],
+    locations: &'a [u8],
+    places: &'a [u32],
 }
 
-// A unit is drafted so.
+// A draft is so, beside others.
+fn has_parts(rt: &impl Abort, alloc: Global, draft: &Draft, drafts: &[Draft], want: Want)
+    requires settled { draft.now.info.own ≡ [] }
+    requires size { (f : Filling) → length (filled draft.now.info f) ≡ draft.now.len }
+{
+    same_bytes(rt, "its abbreviations", &draft.table, want.table);
+    same(rt, "its texts", draft.names.len(), want.texts);
+    same_bytes(rt, "its range lists", &draft.ranges, want.ranges);
+    same_bytes(rt, "its location lists", &draft.locations, want.locations);
+    same(rt, "its places", draft.places.as_slice(), want.places);
+    let info = emitted(rt, alloc, draft, drafts);
+    same_bytes(rt, "the unit", &info, want.info);
+}
+
+// The unit of a number is drafted so.
 fn is_drafted(
     rt: &impl Abort,
     alloc: Global,
     number: u32,
-    unit: &OutUnit,
-    outside: &Outside,
-    room: &mut [u8],
+    unit: OutUnit,
+    drafts: &[Draft],
     want: Want,
 ) {
-    let draft = draft_unit(alloc, unit, number).expect(rt, "a draft");
-    put_draft(rt, &draft, number, unit, outside, room);
-    same(rt, "the unit", &*room, want.info);
-    has_parts(rt, &draft, want);
+    let draft = drafted(rt, alloc, number, unit);
+    has_parts(rt, alloc, &draft, drafts, want);
 }
 
-fn has_parts(rt: &impl Abort, draft: &Draft, want: Want) {
-    same_bytes(rt, "its abbreviations", &draft.table, want.table);
-    same(rt, "its texts", draft.names.len(), want.texts);
-    if let Some(ranges) = want.ranges {
-        same_bytes(rt, "its range lists", &draft.ranges, ranges);
-    }
-    if let Some(locations) = want.locations {
-        same_bytes(rt, "its location lists", &draft.locations, locations);
-    }
-    if let Some(places) = want.places {
-        same(rt, "its places", draft.places.as_slice(), places);
-    }
+// The draft that two threads make of the first unit of a graph.
+fn drafted_by_two<R: Threads + Abort + Sync>(rt: &R, alloc: Global, unit: OutUnit) -> Draft
+    ensures settled { result.info.own ≡ [] }
+    ensures size { (f : Filling) → length (filled result.info f) ≡ result.len }
+{
+    draft_unit_by_two(rt, alloc, &unit, 0).expect(rt, "a draft")
 }
 
 // ---- units
@@ -159,27 +162,19 @@ fn constants(rt: &impl Abort, alloc: Global, count: u32) -> OutUnit {
 
 // ---- tables
 
-// Nothing stands outside of a unit but its end.
-fn ended<'a>(end: u32) -> Outside<'a> {
-    Outside {
-        table: 0,
-        lines: 0,
-        ranges: 0,
-        locations: 0,
-        texts: &[],
-        line_texts: &[],
-        starts: &[],
-        drafts: &[],
-        end,
-    }
-}
-
-// The unit of 20,000 constants has 100,013 bytes.
+// The bytes of a unit of 20,000 constants.
 //
 // The first stretch that one thread hands to the other ends at node 2^13, which is constant 8,191.
 fn has_constants(rt: &impl Abort, info: &[u8]) {
-    has_at(rt, info, 0, &[0xa9, 0x86, 1, 0, 4, 0, 0, 0, 0, 0, 8, 1]);
-    has_at(rt, info, 12, &[2, 0, 0, 0, 0, 2, 1, 0, 0, 0]);
+    same(rt, "how many bytes there are", info.len(), 100_013);
+    has_at(
+        rt,
+        info,
+        0,
+        &[
+            0xa9, 0x86, 1, 0, 4, 0, 0x20, 0, 0, 0, 8, 1, 2, 0, 0, 0, 0, 2, 1, 0, 0, 0,
+        ],
+    );
     has_at(
         rt,
         info,
@@ -192,11 +187,10 @@ fn has_constants(rt: &impl Abort, info: &[u8]) {
 #[test]
 fn two_threads_draft_a_long_unit(rt: HostRuntime) {
     let alloc = rt.alloc();
-    let unit = constants(&rt, alloc, 20_000);
-    let draft = draft_unit_by_two(&rt, alloc, &unit, 0).expect(&rt, "a draft");
-    let mut room = Bytes::zeros(alloc, 100_013).expect(&rt, "memory");
-    put_draft(&rt, &draft, 0, &unit, &ended(100_013), room.as_mut_slice());
-    has_constants(&rt, room.as_slice());
+    let draft = drafted_by_two(&rt, alloc, constants(&rt, alloc, 20_000));
+    let info = emitted(&rt, alloc, &draft, &[]);
+    drop(draft);
+    has_constants(&rt, info.as_slice());
 }
 
 // The abbreviations of a unit of one function.
@@ -210,9 +204,9 @@ const TABLE: [u8; 25] = [
 // Such a unit of version 4.
 #[rattlefmt::skip]
 const INFO_4: [u8; 48] = [
-    0x2c, 0, 0, 0,  4, 0,  0, 0, 0, 0,  8,
-    1,  0, 0, 0, 0,  0x0c, 0,  0, 0, 0, 0, 0, 0, 0, 0,  0, 0, 0, 0,
-    2,  0x50, 0x3f, 0, 0, 1, 0, 0, 0,  0x2a, 0, 0, 0,  4, 0, 0, 0,
+    0x2c, 0, 0, 0,  4, 0,  0x20, 0, 0, 0,  8,
+    1,  5, 0, 0, 0,  0x0c, 0,  0, 0, 0, 0, 0, 0, 0, 0,  0x40, 0, 0, 0,
+    2,  0x50, 0x3f, 0, 0, 1, 0, 0, 0,  0x2a, 0, 0, 0,  7, 0, 0, 0,
     0,
 ];
 
@@ -223,30 +217,12 @@ const RANGES_4: [u8; 32] = [
     0, 0, 0, 0, 0, 0, 0, 0,  0, 0, 0, 0, 0, 0, 0, 0,
 ];
 
-#[test]
-fn a_unit_of_one_function_is_drafted(rt: HostRuntime) {
-    let unit = unit(&rt, rt.alloc(), 4);
-    let outside = Outside {
-        texts: &[0, 4],
-        ..ended(48)
-    };
-    let want = Want {
-        table: &TABLE,
-        info: &INFO_4,
-        texts: 2,
-        ranges: Some(&RANGES_4),
-        locations: None,
-        places: Some(&[11, 30]),
-    };
-    is_drafted(&rt, rt.alloc(), 0, &unit, &outside, &mut [0; 48], want);
-}
-
 // Such a unit of version 5.
 #[rattlefmt::skip]
 const INFO_5: [u8; 49] = [
-    0x2d, 0, 0, 0,  5, 0,  1,  8,  0, 0, 0, 0,
-    1,  0, 0, 0, 0,  0x0c, 0,  0, 0, 0, 0, 0, 0, 0, 0,  0x0c, 0, 0, 0,
-    2,  0x50, 0x3f, 0, 0, 1, 0, 0, 0,  0x2a, 0, 0, 0,  4, 0, 0, 0,
+    0x2d, 0, 0, 0,  5, 0,  1,  8,  0x20, 0, 0, 0,
+    1,  5, 0, 0, 0,  0x0c, 0,  0, 0, 0, 0, 0, 0, 0, 0,  0x40, 0, 0, 0,
+    2,  0x50, 0x3f, 0, 0, 1, 0, 0, 0,  0x2a, 0, 0, 0,  7, 0, 0, 0,
     0,
 ];
 
@@ -255,23 +231,24 @@ const INFO_5: [u8; 49] = [
 const RANGES_5: [u8; 18] = [6,  0x50, 0x3f, 0, 0, 1, 0, 0, 0,  0x7a, 0x3f, 0, 0, 1, 0, 0, 0,  0];
 
 #[test]
-fn a_unit_of_version_5_is_drafted(rt: HostRuntime) {
-    let unit = unit(&rt, rt.alloc(), 5);
-    let outside = Outside {
-        ranges: 12,
-        locations: 12,
-        texts: &[0, 4],
-        ..ended(49)
-    };
-    let want = Want {
+fn a_unit_of_one_function_is_drafted(rt: HostRuntime) {
+    let alloc = rt.alloc();
+    let version_4 = Want {
+        info: &INFO_4,
         table: &TABLE,
-        info: &INFO_5,
         texts: 2,
-        ranges: Some(&RANGES_5),
-        locations: None,
-        places: Some(&[12, 31]),
+        ranges: &RANGES_4,
+        locations: &[],
+        places: &[11, 30],
     };
-    is_drafted(&rt, rt.alloc(), 0, &unit, &outside, &mut [0; 49], want);
+    is_drafted(&rt, alloc, 0, unit(&rt, alloc, 4), &[], version_4);
+    let version_5 = Want {
+        info: &INFO_5,
+        ranges: &RANGES_5,
+        places: &[12, 31],
+        ..version_4
+    };
+    is_drafted(&rt, alloc, 0, unit(&rt, alloc, 5), &[], version_5);
 }
 
 // The abbreviations of a unit of a base type and a variable.
@@ -303,23 +280,21 @@ const LOCATIONS: [u8; 37] = [
 #[test]
 fn a_unit_names_entries_texts_and_lists(rt: HostRuntime) {
     let alloc = rt.alloc();
-    let unit = second_unit(&rt, alloc);
-    let first = first_draft(&rt, alloc);
-    let outside = Outside {
-        table: 0x20,
-        locations: 0x30,
-        texts: &[5],
-        starts: &[0x100],
-        drafts: first.as_slice(),
-        ..ended(0x15a)
-    };
     let want = Want {
-        table: &TABLE_OF_TYPES,
         info: &INFO_OF_TYPES,
+        table: &TABLE_OF_TYPES,
         texts: 1,
-        ranges: None,
-        locations: Some(&LOCATIONS),
-        places: None,
+        ranges: &[],
+        locations: &LOCATIONS,
+        places: &[11, 12, 17],
     };
-    is_drafted(&rt, alloc, 1, &unit, &outside, &mut [0; 42], want);
+    let first = first_draft(&rt, alloc);
+    is_drafted(
+        &rt,
+        alloc,
+        1,
+        second_unit(&rt, alloc),
+        first.as_slice(),
+        want,
+    );
 }

@@ -2,13 +2,14 @@
 
 ghost use Rattle.std.specs.Prelude.{◌≡◌, []};
 
-use crate::parts::same;
-use crate::units::first_draft;
+use crate::parts::same_bytes;
+use crate::units::{first_draft, outside};
+use ds_base::Bytes;
 use dwarf_types::Target;
 use patches::{Buffer, Outer, Own};
 use std::alloc::Global;
 use std::process::Abort;
-use unit_draft::Outside;
+use unit_draft::Draft;
 
 // Fills what the unit tells: it has 16 bytes, and its nodes stand at 11 and 13.
 fn settle(buffer: &mut Buffer)
@@ -17,13 +18,13 @@ fn settle(buffer: &mut Buffer)
     buffer.settle(16, &[11, 13]);
 }
 
-// A settled buffer has these bytes, with what stands outside.
-fn is_filled(rt: &impl Abort, buffer: &Buffer, outside: &Outside, room: &mut [u8], bytes: &[u8])
+// The bytes of a settled buffer, with what stands outside.
+fn is_filled(rt: &impl Abort, alloc: Global, buffer: &Buffer, drafts: &[Draft], want: &[u8])
     requires settled { buffer.now.own ≡ [] }
 {
-    assert_eq!(rt; buffer.len(), room.len());
-    buffer.emit(outside, room);
-    same(rt, "the bytes with those outside", &*room, bytes);
+    let mut room = Bytes::zeros(alloc, buffer.len()).expect(rt, "memory");
+    buffer.emit(&outside(drafts), room.as_mut_slice());
+    same_bytes(rt, "the bytes with those outside", &room, want);
 }
 
 // A hole for a base, and one for a text, where another byte had been put.
@@ -69,21 +70,19 @@ const FILLED: [u8; 41] = [
 ];
 
 // The bytes of a buffer, once its holes are filled.
-fn is_patched(rt: &impl Abort, mut buffer: Buffer, outside: &Outside, want: &[u8])
+fn is_patched(rt: &impl Abort, mut buffer: Buffer, drafts: &[Draft], want: &[u8])
     requires settled { buffer.own ≡ [] }
 {
-    buffer.patch(outside);
-    same(rt, "the bytes", buffer.into_bytes().as_slice(), want);
+    buffer.patch(&outside(drafts));
+    same_bytes(rt, "the bytes", &buffer.into_bytes(), want);
 }
 
-#[rattlefmt::skip]
 #[test]
 fn holes_are_filled_where_they_were_left(rt: HostRuntime) {
     let alloc = rt.alloc();
+    let first = first_draft(&rt, alloc);
     let mut buffer = holey(&rt, alloc);
     settle(&mut buffer);
-    let first = first_draft(&rt, alloc);
-    let outside = Outside { table: 0, lines: 0, ranges: 0x40, locations: 0, texts: &[0, 7], line_texts: &[0, 9], starts: &[0x100], drafts: first.as_slice(), end: 0x200 };
-    is_filled(&rt, &buffer, &outside, &mut [0; 41], &FILLED);
-    is_patched(&rt, buffer, &outside, &FILLED);
+    is_filled(&rt, alloc, &buffer, first.as_slice(), &FILLED);
+    is_patched(&rt, buffer, first.as_slice(), &FILLED);
 }

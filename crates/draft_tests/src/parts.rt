@@ -7,7 +7,7 @@ use std::process::Abort;
 
 // What was seen is what was wanted.
 pub(crate) fn same<T: Copy + PartialEq + Debug>(rt: &impl Abort, label: &str, seen: T, want: T) {
-    assert_eq!(rt; seen, want, "{label}");
+    assert!(rt; seen == want, "{label}: {seen:?}");
 }
 
 // The bytes are these.

@@ -1,4 +1,7 @@
-//! Attributes, entries, and a unit of one function, of which drafts are made.
+//! Attributes, entries, and a unit of one function, of which drafts are made, and where all stands outside of a unit.
+
+ghost use Rattle.std.specs.Prelude.{◌≡◌, [], length};
+ghost use Rattle.patches.specs.Filling.{Filling, filled};
 
 use crate::parts::{add, one};
 use ds_base::dwarf::{
@@ -9,7 +12,7 @@ use ds_base::{Bytes, List};
 use dwarf_types::{Node, OutAttr, OutUnit, OutValue, Span};
 use std::alloc::Global;
 use std::process::Abort;
-use unit_draft::{Draft, draft_unit};
+use unit_draft::{Draft, Outside, draft_unit};
 
 pub(crate) fn bytes(rt: &impl Abort, alloc: Global, from: &[u8]) -> Bytes {
     Bytes::from_slice(alloc, from).expect(rt, "memory")
@@ -77,9 +80,30 @@ pub(crate) fn unit(rt: &impl Abort, alloc: Global, version: u16) -> OutUnit {
     unit_of(rt, alloc, version, nodes)
 }
 
-// The draft of such a unit, which is the first of a graph: its nodes stand at 11 and 30, and it has 48 bytes.
+// The draft of the unit of a number.
+pub(crate) fn drafted(rt: &impl Abort, alloc: Global, number: u32, unit: OutUnit) -> Draft
+    ensures settled { result.info.own ≡ [] }
+    ensures size { (f : Filling) → length (filled result.info f) ≡ result.len }
+{
+    draft_unit(alloc, &unit, number).expect(rt, "a draft")
+}
+
+// The draft of a unit of one function, which is the first of a graph: its nodes stand at 11 and 30, and it has 48 bytes.
 pub(crate) fn first_draft(rt: &impl Abort, alloc: Global) -> List<Draft> {
-    let unit = unit(rt, alloc, 4);
-    let draft = draft_unit(alloc, &unit, 0).expect(rt, "a draft");
-    one(rt, alloc, draft)
+    one(rt, alloc, drafted(rt, alloc, 0, unit(rt, alloc, 4)))
+}
+
+// Where all stands outside of a unit. That of the first draft starts at 0x100.
+pub(crate) fn outside<'a>(drafts: &'a [Draft]) -> Outside<'a> {
+    Outside {
+        table: 0x20,
+        lines: 0,
+        ranges: 0x40,
+        locations: 0x30,
+        texts: &[5, 7],
+        line_texts: &[0, 9],
+        starts: &[0x100],
+        drafts,
+        end: 0x200,
+    }
 }
