@@ -9,6 +9,8 @@ mod live;
 #[cfg(test)]
 mod names;
 #[cfg(test)]
+mod parts;
+#[cfg(test)]
 mod rows;
 #[cfg(test)]
 mod shape;
@@ -16,5 +18,3 @@ mod shape;
 mod shared;
 #[cfg(test)]
 mod sound;
-#[cfg(test)]
-mod words;

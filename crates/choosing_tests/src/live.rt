@@ -5,9 +5,9 @@ ghost use Rattle.dwarf_types.specs.Sound.{IsSound};
 ghost use Rattle.choosing_tests.specs.TwoObjects.{AreSound};
 ghost use Rattle.odr_names.specs.Making.{AreLiveRows, IsLiveRow};
 
+use crate::parts::same;
 use crate::rows::{NONE, Row, Says, analysis_in, bare, one, root, two};
 use crate::sound::sound;
-use crate::words::{assert_words, put};
 use ds_base::BitRow;
 use ds_base::dwarf::{
     DW_AT_abstract_origin, DW_AT_const_value, DW_AT_import, DW_AT_low_pc, DW_AT_sibling,
@@ -54,22 +54,26 @@ pub(crate) fn two_objects(
     }
 }
 
-/// So many marks of a row, as a byte for each.
-fn marks_of(rt: &impl Abort, alloc: Global, row: &BitRow, count: u32) -> Vec<u8>
+/// So many marks of a row are these.
+fn are_marks(rt: &impl Abort, label: &str, row: &BitRow, count: u32, want: &[u8])
     requires { count ≤ length row.now }
 {
-    let mut marks = Vec::new(alloc);
+    same(rt, label, count as usize, want.len());
     for k in 0..count {
-        put(rt, &mut marks, if row.get(k) { b'x' } else { b'.' });
+        let mark = if row.get(k) { b'x' } else { b'.' };
+        same(
+            rt,
+            label,
+            (k, Some(mark)),
+            (k, want.get(k as usize).copied()),
+        );
     }
-    marks
 }
 
 fn assert_live(rt: &impl Abort, alloc: Global, label: &str, rows: &[Row], want: &[u8]) {
     let seen = sound(rt, label, analysis_in(rt, alloc, DW_LANG_C99, rows));
     let row = live_row(rt, alloc, &seen);
-    let marks = marks_of(rt, alloc, &row, seen.entries.len() as u32);
-    assert_words(rt, label, &marks, want);
+    are_marks(rt, label, &row, seen.entries.len() as u32, want);
 }
 
 /// A linked function right under the first unit, that says one thing more.

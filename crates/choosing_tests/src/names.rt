@@ -1,16 +1,9 @@
 //! The names of two small objects.
-//!
-//! What is wanted has a line for each name: its object, counted from 1, its entry, its bid, and the number of the name
-//! that wins its path. Numbers are in hexadecimal.
 
-ghost use Rattle.std.specs.Prelude.{◌<◌, length};
-ghost use Rattle.choosing_tests.specs.TwoObjects.{AreSound};
-ghost use Rattle.odr_names.specs.Making.{AreLiveRows};
-
-use crate::live::{Objects, two_objects};
+use crate::live::two_objects;
+use crate::parts::same;
 use crate::rows::{Row, Says, analysis_in, bare, called, one, root, two, user};
 use crate::sound::sound;
-use crate::words::{assert_words, put, put_number};
 use ds_base::dwarf::{
     DW_AT_declaration, DW_AT_low_pc, DW_AT_name, DW_AT_specification, DW_AT_type,
     DW_FORM_flag_present, DW_LANG_C_plus_plus, DW_LANG_C99, DW_TAG_base_type, DW_TAG_const_type,
@@ -22,40 +15,19 @@ use odr_names::{PathBook, book, count, number, occurrence, winners_plain};
 use std::alloc::Global;
 use std::process::Abort;
 
-/// A name, and the name that wins its path.
-fn put_name(rt: &impl Abort, line: &mut Vec<u8>, names: &PathBook, x: u32, winner: Option<u32>)
-    requires { x < length names.now }
-{
-    let at = occurrence(names, x);
-    put_number(rt, line, u64::from(at.object));
-    put(rt, line, b'.');
-    put_number(rt, line, u64::from(at.entry));
-    put(rt, line, b'=');
-    put_number(rt, line, number(names, x));
-    put(rt, line, b'>');
-    if let Some(winner) = winner {
-        put_number(rt, line, u64::from(winner));
-    }
-    put(rt, line, b'\n');
-}
+/// A name: its object, counted from 1, its entry, its bid, and the number of the name that wins its path.
+type Name = (u32, u32, u64, u32);
 
-/// The names of a book, in words.
-fn names_of(rt: &impl Abort, alloc: Global, names: &PathBook) -> Vec<u8> {
+/// The names of a book.
+fn are_named(rt: &impl Abort, alloc: Global, label: &str, names: &PathBook, wanted: &[Name]) {
     let winners = winners_plain(alloc, names).expect(rt, "memory");
-    let mut line = Vec::new(alloc);
+    same(rt, label, count(names) as usize, wanted.len());
     for x in 0..count(names) {
-        put_name(rt, &mut line, names, x, winners.get(x as usize).copied());
+        let at = occurrence(names, x);
+        let winner = winners.get(x as usize).copied().expect(rt, "a winner");
+        let seen = (at.object, at.entry, number(names, x), winner);
+        same(rt, label, Some(seen), wanted.get(x as usize).copied());
     }
-    line
-}
-
-/// The names of two objects, in words.
-fn both(rt: &impl Abort, alloc: Global, label: &str, odr: bool, objects: &Objects) -> Vec<u8>
-    requires sound { AreSound objects.now.seen objects.now.live }
-    requires live { AreLiveRows objects.now.seen objects.now.live }
-{
-    let names = book(alloc, &objects.seen, &objects.live, odr).expect(rt, label);
-    names_of(rt, alloc, &names)
 }
 
 /// The names of an object of C++ and of one of a language.
@@ -67,12 +39,13 @@ fn assert_names(
     first: &[Row],
     language: u16,
     second: &[Row],
-    wanted: &[u8],
+    wanted: &[Name],
 ) {
     let first = sound(rt, label, analysis_in(rt, alloc, CPP, first));
     let second = sound(rt, label, analysis_in(rt, alloc, language, second));
     let objects = two_objects(rt, alloc, first, second);
-    assert_words(rt, label, &both(rt, alloc, label, odr, &objects), wanted);
+    let names = book(alloc, &objects.seen, &objects.live, odr).expect(rt, label);
+    are_named(rt, alloc, label, &names, wanted);
 }
 
 fn of_type(parent: u16, tag: u16, target: u32) -> Row {
@@ -91,6 +64,42 @@ fn defined(target: u32) -> Row {
 
 const CPP: u16 = DW_LANG_C_plus_plus;
 
+/// The declaration, and the definition with its member.
+#[rattlefmt::skip]
+const DECLARED: [Name; 3] = [
+    (1, 7, 0x8000_0001_0000_0007, 1), (2, 18, 0x2_0000_0012, 1), (2, 19, 0x2_0000_0013, 2),
+];
+
+/// The definition with its member.
+#[rattlefmt::skip]
+const DEAD: [Name; 2] = [
+    (2, 18, 0x2_0000_0012, 0), (2, 19, 0x2_0000_0013, 1),
+];
+
+/// The definitions of both objects with their members.
+#[rattlefmt::skip]
+const EQUAL: [Name; 4] = [
+    (1, 18, 0x1_0000_0012, 0), (1, 19, 0x1_0000_0013, 1), (2, 18, 0x2_0000_0012, 0),
+    (2, 19, 0x2_0000_0013, 1),
+];
+
+/// What a constructor leads to, and in the second object a copy constructor too.
+#[rattlefmt::skip]
+const CONSTRUCTORS: [Name; 15] = [
+    (1, 1, 0x1_0000_0001, 0), (1, 2, 0x1_0000_0002, 1), (1, 3, 0x1_0000_0003, 2),
+    (1, 4, 0x1_0000_0004, 3), (1, 6, 0x1_0000_0006, 4), (2, 1, 0x2_0000_0001, 0),
+    (2, 2, 0x2_0000_0002, 6), (2, 3, 0x2_0000_0003, 7), (2, 4, 0x2_0000_0004, 8),
+    (2, 5, 0x2_0000_0005, 1), (2, 6, 0x2_0000_0006, 2), (2, 7, 0x2_0000_0007, 3),
+    (2, 8, 0x2_0000_0008, 4), (2, 9, 0x2_0000_0009, 13), (2, 10, 0x2_0000_000a, 14),
+];
+
+/// Namespaces and what stands in them.
+#[rattlefmt::skip]
+const SPACED: [Name; 4] = [
+    (1, 6, 0x1_0000_0006, 0), (1, 7, 0x1_0000_0007, 1), (2, 1, 0x2_0000_0001, 2),
+    (2, 4, 0x2_0000_0004, 3),
+];
+
 #[test]
 #[rattlefmt::skip]
 fn definitions_win_over_declarations_and_earlier_objects_over_later_ones(rt: HostRuntime) {
@@ -100,12 +109,12 @@ fn definitions_win_over_declarations_and_earlier_objects_over_later_ones(rt: Hos
     let whole = [root(), user(18), int, int, int, int, int, int, int, int, int, int, int, int, int, int, int, int, called(0, DW_TAG_structure_type, b'A'), of_type(18, DW_TAG_member, 2)];
     let dead = [root(), called(0, DW_TAG_structure_type, b'A')];
     assert_names(&rt, a, "declared as entry 7 and defined as entry 18", true, &declared, CPP, &whole,
-        b"1.7=8000000100000007>1\n2.12=200000012>1\n2.13=200000013>2\n");
+        &DECLARED);
     assert_names(&rt, a, "dead in the first object", true, &dead, CPP, &whole,
-        b"2.12=200000012>0\n2.13=200000013>1\n");
+        &DEAD);
     assert_names(&rt, a, "of equal definitions the first", true, &whole, CPP, &whole,
-        b"1.12=100000012>0\n1.13=100000013>1\n2.12=200000012>0\n2.13=200000013>1\n");
-    assert_names(&rt, a, "no types are merged", false, &whole, CPP, &whole, b"");
+        &EQUAL);
+    assert_names(&rt, a, "no types are merged", false, &whole, CPP, &whole, &[]);
 }
 
 #[test]
@@ -122,7 +131,7 @@ fn constructors_are_told_apart_by_their_parameters(rt: HostRuntime) {
         of_type(0, DW_TAG_pointer_type, 1), of_type(0, DW_TAG_reference_type, 10), of_type(0, DW_TAG_const_type, 1), called(0, DW_TAG_base_type, b'i'), defined(5),
     ];
     assert_names(&rt, a, "a constructor in both, and a copy constructor before it in the second", true, &of_int, CPP, &copied_before,
-        b"1.1=100000001>0\n1.2=100000002>1\n1.3=100000003>2\n1.4=100000004>3\n1.6=100000006>4\n2.1=200000001>0\n2.2=200000002>6\n2.3=200000003>7\n2.4=200000004>8\n2.5=200000005>1\n2.6=200000006>2\n2.7=200000007>3\n2.8=200000008>4\n2.9=200000009>d\n2.a=20000000a>e\n");
+        &CONSTRUCTORS);
 }
 
 #[test]
@@ -135,9 +144,9 @@ fn what_has_no_name_in_the_whole_program_is_not_pooled(rt: HostRuntime) {
         user(7), called(0, DW_TAG_structure_type, b'A'), bare(7, DW_TAG_template_type_parameter),
     ];
     let plain = [root(), user(2), called(0, DW_TAG_structure_type, b'A')];
-    assert_names(&rt, a, "below a namespace without a name, in a function, a template without its arguments, and of C", true, &hidden, DW_LANG_C99, &plain, b"");
+    assert_names(&rt, a, "below a namespace without a name, in a function, a template without its arguments, and of C", true, &hidden, DW_LANG_C99, &plain, &[]);
     let spaced = [root(), user(3), called(0, DW_TAG_namespace, b'n'), called(2, DW_TAG_structure_type, b'A'), bare(3, DW_TAG_template_type_parameter), user(6), called(0, DW_TAG_structure_type, b'<'), bare(6, DW_TAG_template_type_parameter)];
     let shared = [root(), called(0, DW_TAG_namespace, b'n'), one(1, DW_TAG_subprogram, Says::Moved(DW_AT_low_pc, 0x1000)), user(4), called(1, DW_TAG_structure_type, b'A')];
     assert_names(&rt, a, "namespaces above types, and arguments in a name", true, &spaced, CPP, &shared,
-        b"1.6=100000006>0\n1.7=100000007>1\n2.1=200000001>2\n2.4=200000004>3\n");
+        &SPACED);
 }

@@ -1,4 +1,4 @@
-//! Small analyses: a row is an entry, in the order of their numbers, the root of a unit or an entry under another.
+//! Small analyses of one unit: a row is an entry, in the order of their numbers, the root or an entry under another.
 
 ghost use Rattle.std.specs.Prelude.{◌≡◌, ◌<◌, ◌≤◌, ◌+◌, ◌-◌, ◌^◌, [], length, slice_get, Some, IfSome, OnOk};
 ghost use Rattle.std.specs.Bool.{OnTrue};
@@ -159,12 +159,12 @@ fn push_said(built: &mut Builder, says: Says) -> Result<(), NoMemory>
         }
         Says::Text(name, byte) => push_text(built, name, &[byte]),
         Says::Number(name, form, bits) => built.push(name, form % 256, 0, RawValue::Number(bits)),
-        Says::Refers(name, _) => built.push(name, DW_FORM_ref4, 0, RawValue::Ref(0)),
-        Says::Ranges(_) => push_offset(built, DW_AT_ranges),
+        Says::Refers(name, k) => built.push(name, DW_FORM_ref4, 0, RawValue::Ref(k)),
+        Says::Ranges(_) => built.push(DW_AT_ranges, DW_FORM_sec_offset, 0, RawValue::Offset(9)),
         Says::At(_) | Says::Computed => {
             built.push(DW_AT_location, DW_FORM_exprloc, 0, RawValue::Block(&[]))
         }
-        Says::List => push_offset(built, DW_AT_location),
+        Says::List => built.push(DW_AT_location, DW_FORM_sec_offset, 0, RawValue::Offset(9)),
     }
 }
 
@@ -182,17 +182,8 @@ fn push_text(built: &mut Builder, name: u16, bytes: &[u8]) -> Result<(), NoMemor
     )
 }
 
-fn push_offset(built: &mut Builder, name: u16) -> Result<(), NoMemory>
-    requires few { length built.old.attrs < MOST_FIELDS }
-    requires room { length built.old.entries < MOST_ENTRIES }
-    ensures few { OnOk result (length built.new.attrs ≤ length built.old.attrs + 1) }
-    ensures entries { OnOk result (built.new.entries ≡ built.old.entries) }
-{
-    built.push(name, DW_FORM_sec_offset, 0, RawValue::Offset(9))
-}
-
 /// Makes an entry of a row, as a reader finds it.
-fn push_row(rt: &impl Abort, built: &mut Builder, row: &Row, unit: u32)
+fn push_row(rt: &impl Abort, built: &mut Builder, row: &Row)
     requires { built.old.attrs ≡ [] }
     ensures { built.new.attrs ≡ [] }
 {
@@ -201,7 +192,7 @@ fn push_row(rt: &impl Abort, built: &mut Builder, row: &Row, unit: u32)
         push_said(built, *says).expect(rt, "memory");
     }
     built
-        .close(number_of(row.parent), unit, 0, row.tag)
+        .close(number_of(row.parent), 0, 0, row.tag)
         .expect(rt, "memory");
 }
 
@@ -218,12 +209,8 @@ fn number_of(parent: Option<u16>) -> Option<u32>
 /// Puts what the values of rows mean in the place of what was read.
 fn understand(rt: &impl Abort, alloc: Global, entries: &mut Entries, rows: &[Row]) {
     for (i, row) in rows.iter().enumerate() {
-        let mut j: usize = 0;
-        for says in &row.says {
+        for (j, says) in row.says.iter().enumerate() {
             set_said(rt, alloc, entries, i, j, *says);
-            if !matches!(says, Says::Nothing) {
-                j = j.wrapping_add(1);
-            }
         }
     }
 }
@@ -233,8 +220,6 @@ fn set_said(rt: &impl Abort, alloc: Global, entries: &mut Entries, i: usize, j: 
     match says {
         Says::Moved(_, to) => set(rt, entries, i, j, NewValue::Address(place(Some(to), None))),
         Says::Ended(_, to) => set(rt, entries, i, j, NewValue::Address(place(None, Some(to)))),
-        Says::Stayed(_) => set(rt, entries, i, j, NewValue::Address(place(None, None))),
-        Says::Refers(_, k) => set(rt, entries, i, j, NewValue::Ref(k)),
         Says::Ranges(count) => set_ranges(rt, alloc, entries, i, j, count),
         Says::At(moved) => set_expression(rt, alloc, entries, i, j, Some(field(moved))),
         Says::Computed => set_expression(rt, alloc, entries, i, j, None),
@@ -313,56 +298,35 @@ fn has_attr(entries: &Entries, i: usize, j: usize) -> bool
     }
 }
 
-/// The analysis of these rows, where all units are of one language. There is no code, and no line table.
+/// The analysis of these rows, which are one unit of a language. There is no code, and no line table.
 pub(crate) fn analysis_in(rt: &impl Abort, alloc: Global, language: u16, rows: &[Row]) -> Analysis {
+    let count = u32::try_from(rows.len()).expect(rt, "few rows");
     Analysis {
-        units: units(rt, alloc, language, rows),
+        units: unit_of(rt, alloc, language, count),
         entries: entries(rt, alloc, rows),
         code: List::new(alloc),
         frames: OutFrames::new(alloc),
     }
 }
 
-fn units(rt: &impl Abort, alloc: Global, language: u16, rows: &[Row]) -> List<InUnit> {
-    let mut units = Vec::new(alloc);
-    let mut number: u32 = 0;
-    for row in rows {
-        if row.parent.is_none() {
-            push_unit(rt, &mut units, number, language);
-        }
-        count_entry(&mut units);
-        number = number.wrapping_add(1);
-    }
-    List::from_vec(units)
-}
-
-/// Puts a unit of version 4 that begins with the entry of a number.
-fn push_unit(rt: &impl Abort, units: &mut Vec<InUnit>, first: u32, language: u16) {
+/// A unit of version 4 that has so many entries.
+fn unit_of(rt: &impl Abort, alloc: Global, language: u16, count: u32) -> List<InUnit> {
+    let mut units = List::new(alloc);
     let unit = InUnit {
-        first,
-        count: 0,
+        first: 0,
+        count,
         version: 4,
         language,
         lines: None,
     };
     units.push(unit).expect(rt, "memory");
-}
-
-/// One entry more in the last unit.
-fn count_entry(units: &mut [InUnit]) {
-    if let Some(unit) = units.last_mut() {
-        unit.count = unit.count.wrapping_add(1);
-    }
+    units
 }
 
 fn entries(rt: &impl Abort, alloc: Global, rows: &[Row]) -> Entries {
     let mut built = Builder::new(alloc, &[], &[], 0).expect(rt, "memory");
-    let mut unit = u32::MAX;
     for row in rows {
-        if row.parent.is_none() {
-            unit = unit.wrapping_add(1);
-        }
-        push_row(rt, &mut built, row, unit);
+        push_row(rt, &mut built, row);
     }
     let mut entries = built.finish().into_entries();
     understand(rt, alloc, &mut entries, rows);

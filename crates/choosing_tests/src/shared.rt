@@ -6,6 +6,7 @@ ghost use Rattle.choosing_tests.specs.TwoObjects.{AreSound};
 ghost use Rattle.odr_names.specs.Making.{AreLiveRows};
 
 use crate::live::{Objects, two_objects};
+use crate::parts::same;
 use crate::rows::{Row, Says, analysis_in, called, root, two, user};
 use crate::sound::sound;
 use ds_base::dwarf::{
@@ -15,7 +16,7 @@ use ds_base::dwarf::{
 use ds_files::{Gate, OpenGate};
 use dwarf_types::Analysis;
 use name_bids::{BID, open_table, shared_winners};
-use odr_names::{book, count};
+use odr_names::{PathBook, book, count};
 use std::alloc::Global;
 use std::hint::spin_loop;
 use std::process::Abort;
@@ -54,7 +55,7 @@ impl Gate for HoldsFirst {
 }
 
 /// Three types, of which one is only declared and one stands in a namespace.
-pub(crate) fn first() -> [Row; 8] {
+fn first() -> [Row; 8] {
     [
         root(),
         user(4),
@@ -73,7 +74,7 @@ pub(crate) fn first() -> [Row; 8] {
 }
 
 /// The same types in another order, and all defined.
-pub(crate) fn second() -> [Row; 8] {
+fn second() -> [Row; 8] {
     [
         root(),
         user(5),
@@ -87,33 +88,21 @@ pub(crate) fn second() -> [Row; 8] {
 }
 
 /// The object of these rows.
-pub(crate) fn object(rt: &impl Abort, alloc: Global, rows: &[Row]) -> Analysis
+fn object(rt: &impl Abort, alloc: Global, rows: &[Row]) -> Analysis
     ensures { IsSound result }
 {
-    sound(
-        rt,
-        "an object",
-        analysis_in(rt, alloc, DW_LANG_C_plus_plus, rows),
-    )
+    let seen = analysis_in(rt, alloc, DW_LANG_C_plus_plus, rows);
+    sound(rt, "an object", seen)
 }
 
-/// Of each name of two objects the winner, by so many threads.
-fn winners_of<R: Threads + Abort + Sync, G: Gate + Sync>(
-    rt: &R,
-    alloc: Global,
-    workers: u32,
-    gate: &G,
-    objects: &Objects,
-) -> Vec<u32>
-    requires workers { (1 ≤ workers) × (workers ≤ 64) }
-    requires sound { AreSound objects.now.seen objects.now.live }
-    requires live { AreLiveRows objects.now.seen objects.now.live }
+/// Both objects.
+pub(crate) fn both_objects(rt: &impl Abort, alloc: Global) -> Objects
+    ensures sound { AreSound result.seen result.live }
+    ensures live { AreLiveRows result.seen result.live }
 {
-    let names = book(alloc, &objects.seen, &objects.live, true).expect(rt, "a book");
-    let table = open_table(alloc, count(&names)).expect(rt, "memory");
-    shared_winners(rt, alloc, workers, gate, &names, table)
-        .expect(rt, "memory")
-        .0
+    let first = object(rt, alloc, &first());
+    let second = object(rt, alloc, &second());
+    two_objects(rt, alloc, first, second)
 }
 
 /// So many threads give the winners: the only definition in the second object, and else the names of the first.
@@ -122,38 +111,40 @@ fn assert_winners<R: Threads + Abort + Sync, G: Gate + Sync>(
     alloc: Global,
     workers: u32,
     gate: &G,
+    names: &PathBook,
 )
     requires { (1 ≤ workers) × (workers ≤ 64) }
 {
-    let first = object(rt, alloc, &first());
-    let second = object(rt, alloc, &second());
-    let objects = two_objects(rt, alloc, first, second);
-    let winners = winners_of(rt, alloc, workers, gate, &objects);
-    are_winners(rt, workers, &winners, &[7, 1, 2, 3, 2, 3, 1, 7]);
+    let table = open_table(alloc, count(names)).expect(rt, "memory");
+    let made = shared_winners(rt, alloc, workers, gate, names, table).expect(rt, "memory");
+    let wanted = [7, 1, 2, 3, 2, 3, 1, 7];
+    same(rt, "the winners", made.0.as_slice(), &wanted);
 }
 
-fn are_winners(rt: &impl Abort, workers: u32, winners: &[u32], wanted: &[u32]) {
-    assert!(rt; winners == wanted, "{workers} workers: {winners:?}");
+/// Any number of threads gives them, and so do two that bid for two objects beside each other.
+fn assert_all_winners<R: Threads + Abort + Sync>(rt: &R, alloc: Global, names: &PathBook) {
+    let open = OpenGate::new();
+    assert_winners(rt, alloc, 1, &open, names);
+    assert_winners(rt, alloc, 2, &open, names);
+    assert_winners(rt, alloc, 8, &open, names);
+    let gate = HoldsFirst {
+        second_passed: AtomicBool::new(false),
+        gave_up: AtomicBool::new(false),
+    };
+    assert_winners(rt, alloc, 2, &gate, names);
+    let gave_up = gate.gave_up.load(SeqCst);
+    same(
+        rt,
+        "whether the first object waited for all turns",
+        gave_up,
+        false,
+    );
 }
 
 #[test]
 fn any_number_of_workers_gives_the_same_winners(rt: HostRuntime) {
     let alloc = rt.alloc();
-    let gate = OpenGate::new();
-    assert_winners(&rt, alloc, 1, &gate);
-    assert_winners(&rt, alloc, 2, &gate);
-    assert_winners(&rt, alloc, 8, &gate);
-}
-
-#[test]
-fn two_workers_bid_for_two_objects_beside_each_other(rt: HostRuntime) {
-    let gate = HoldsFirst {
-        second_passed: AtomicBool::new(false),
-        gave_up: AtomicBool::new(false),
-    };
-    assert_winners(&rt, rt.alloc(), 2, &gate);
-    assert!(rt;
-        !gate.gave_up.load(SeqCst),
-        "the first object waited for all turns"
-    );
+    let objects = both_objects(&rt, alloc);
+    let names = book(alloc, &objects.seen, &objects.live, true).expect(&rt, "a book");
+    assert_all_winners(&rt, alloc, &names);
 }

@@ -1,0 +1,9 @@
+//! What the tables share: how what a call answers is compared.
+
+use std::fmt::Debug;
+use std::process::Abort;
+
+/// What was seen is what was wanted.
+pub(crate) fn same<T: Copy + PartialEq + Debug>(rt: &impl Abort, label: &str, seen: T, want: T) {
+    assert!(rt; seen == want, "{label}: {seen:?}, and not {want:?}");
+}
