@@ -1,5 +1,4 @@
-//! Tables over the calls that choose entries, name them and give them their units: `liveness`, `odr_names`, `name_bids`,
-//! `link_graph`.
+//! Tables over the calls that choose entries, name them and give them their units: `liveness`, `odr_names`, `link_graph`.
 //!
 //! Layer: output graph. There is nothing here but tests.
 #![tactic(auto)]
@@ -14,7 +13,5 @@ mod parts;
 mod rows;
 #[cfg(test)]
 mod shape;
-#[cfg(test)]
-mod shared;
 #[cfg(test)]
 mod sound;

@@ -74,6 +74,8 @@ fn assert_live(rt: &impl Abort, alloc: Global, label: &str, rows: &[Row], want: 
     let seen = sound(rt, label, analysis_in(rt, alloc, DW_LANG_C99, rows));
     let row = live_row(rt, alloc, &seen);
     are_marks(rt, label, &row, seen.entries.len() as u32, want);
+    drop(row);
+    drop(seen);
 }
 
 /// A linked function right under the first unit, that says one thing more.

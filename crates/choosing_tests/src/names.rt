@@ -28,6 +28,7 @@ fn are_named(rt: &impl Abort, alloc: Global, label: &str, names: &PathBook, want
         let seen = (at.object, at.entry, number(names, x), winner);
         same(rt, label, Some(seen), wanted.get(x as usize).copied());
     }
+    drop(winners);
 }
 
 /// The names of an object of C++ and of one of a language.
@@ -46,6 +47,8 @@ fn assert_names(
     let objects = two_objects(rt, alloc, first, second);
     let names = book(alloc, &objects.seen, &objects.live, odr).expect(rt, label);
     are_named(rt, alloc, label, &names, wanted);
+    drop(names);
+    drop(objects);
 }
 
 fn of_type(parent: u16, tag: u16, target: u32) -> Row {
