@@ -1,6 +1,6 @@
 //! LEB numbers: the examples of DWARF 4, figures 22 and 23, padded ones, and the limits.
 
-ghost use Rattle.std.specs.Prelude.{◌+◌, ◌<◌, length};
+ghost use Rattle.std.specs.Prelude.{◌+◌, ◌<◌, ◌^◌, length};
 
 use crate::parts::{fault, same};
 use ds_base::{Cursor, Kind, Part, put_sleb, put_uleb, put_uleb4, sleb_len, uleb_len};
@@ -21,8 +21,9 @@ fn reads_sleb(rt: &impl Abort, bytes: &[u8], want: i64) {
 }
 
 /// The number behind the first byte is refused, and the cursor stays.
-fn refuses_uleb(rt: &impl Abort, bytes: &[u8], kind: Kind) {
-    assert!(rt; !bytes.is_empty());
+fn refuses_uleb(rt: &impl Abort, bytes: &[u8], kind: Kind)
+    requires { 0 < length bytes.now }
+{
     let mut cursor = Cursor::new(bytes, Part::Info, 1, bytes.len() as u64);
     let found = (cursor.uleb(), cursor.place());
     let want = (Err(fault(kind, Part::Info, 1)), 1);
@@ -30,8 +31,9 @@ fn refuses_uleb(rt: &impl Abort, bytes: &[u8], kind: Kind) {
 }
 
 /// The signed number behind the first byte is refused, and the cursor stays.
-fn refuses_sleb(rt: &impl Abort, bytes: &[u8], kind: Kind) {
-    assert!(rt; !bytes.is_empty());
+fn refuses_sleb(rt: &impl Abort, bytes: &[u8], kind: Kind)
+    requires { 0 < length bytes.now }
+{
     let mut cursor = Cursor::new(bytes, Part::Info, 1, bytes.len() as u64);
     let found = (cursor.sleb(), cursor.place());
     let want = (Err(fault(kind, Part::Info, 1)), 1);
@@ -42,9 +44,13 @@ fn refuses_sleb(rt: &impl Abort, bytes: &[u8], kind: Kind) {
 fn holds(rt: &impl Abort, room: &[u8], len: usize, want: &[u8])
     requires { len + 1 < length room.now }
 {
-    same(rt, "the bytes", &room[1..1 + len], want);
-    let around = (room[0], room[1 + len]);
-    same(rt, "those around them", around, (0x55, 0x55));
+    let seen = (room[0], &room[1..1 + len], room[1 + len]);
+    same(
+        rt,
+        "the bytes, and those around them",
+        seen,
+        (0x55, want, 0x55),
+    );
 }
 
 /// A number is written as these bytes and no others, and they are read as the number.
@@ -66,8 +72,9 @@ fn is_sleb(rt: &impl Abort, n: i64, want: &[u8]) {
 }
 
 /// A number is written as these four bytes and no others, and they are read as the number.
-fn is_uleb4(rt: &impl Abort, n: u32, want: &[u8]) {
-    assert!(rt; n < 1 << 28);
+fn is_uleb4(rt: &impl Abort, n: u32, want: &[u8])
+    requires { n < 2 ^ 28 }
+{
     let mut room = [0x55; 6];
     put_uleb4(&mut room, 1, n);
     holds(rt, &room, 4, want);

@@ -1,5 +1,4 @@
-//! Tables of what the ground answers: lists, bytes, numbers, items and LEB numbers, and files and a sink in memory or read
-//! ahead.
+//! Tables of what the ground answers: lists, bytes, numbers, items and LEB numbers, and files that are read ahead.
 //!
 //! Layer: ground. Expected values were written out by hand from the standards. There is nothing here but tests, so `ds_base`
 //! is proved without them.

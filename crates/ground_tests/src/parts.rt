@@ -1,17 +1,11 @@
 //! What the tables share: how what a call answers is compared, and faults.
 
-use ds_base::{Bytes, Fault, Kind, Part};
-use std::fmt::Debug;
+use ds_base::{Fault, Kind, Part};
 use std::process::Abort;
 
 /// What was seen is what was wanted.
-pub(crate) fn same<T: Copy + PartialEq + Debug>(rt: &impl Abort, label: &str, seen: T, want: T) {
-    assert_eq!(rt; seen, want, "{label}");
-}
-
-/// The bytes are these.
-pub(crate) fn same_bytes(rt: &impl Abort, label: &str, seen: &Bytes, want: &[u8]) {
-    same(rt, label, seen.as_slice(), want);
+pub(crate) fn same<T: Copy + PartialEq>(rt: &impl Abort, label: &str, seen: T, want: T) {
+    assert!(rt; seen == want, "{label}");
 }
 
 pub(crate) fn fault(kind: Kind, section: Part, place: u64) -> Fault {
