@@ -3,29 +3,27 @@
 ghost use Rattle.std.specs.Prelude.{◌≡◌, ◌%◌, length, slice_index};
 ghost use Rattle.std.proofs.Common.{rules};
 
-use ds_base::List;
 use pool_core::NameBook;
 
 /// A book of keys. Names are equal where their keys are, and start at the cell of the key.
 #[derive(Drop)]
-pub struct KeyedBook {
-    pub keys: List<u32>,
+pub struct KeyedBook<'a> {
+    pub keys: &'a [u32],
 }
 
-impl NameBook for KeyedBook {
-    ghost size = { λ book. length book.keys };
+impl<'a> NameBook for KeyedBook<'a> {
+    ghost size = { λ book. length book.keys.now };
 
-    ghost same = { λ book a b. slice_index book.keys a ≡ slice_index book.keys b };
+    ghost same = { λ book a b. slice_index book.keys.now a ≡ slice_index book.keys.now b };
 
-    ghost start_of = { λ book x cells. slice_index book.keys x % cells };
+    ghost start_of = { λ book x cells. slice_index book.keys.now x % cells };
 
     fn equal(&self, a: u32, b: u32) -> bool {
-        let keys = self.keys.as_slice();
-        keys[a as usize] == keys[b as usize]
+        self.keys[a as usize] == self.keys[b as usize]
     }
 
     fn start(&self, x: u32, cells: u32) -> u32 {
-        self.keys.as_slice()[x as usize] % cells
+        self.keys[x as usize] % cells
     }
 
     ghost reflexive = { λ _ a g. Prim.search rules };

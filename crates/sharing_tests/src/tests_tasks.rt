@@ -3,6 +3,7 @@
 ghost use Rattle.std.specs.Prelude.{◌≡◌, ◌<◌, ◌≤◌, length, slice_index};
 ghost use Rattle.work_share.specs.Seats.{Belongs};
 
+use crate::parts::same;
 use ds_base::{List, NoMemory};
 use ds_files::{Gate, OpenGate};
 use std::alloc::Global;
@@ -58,11 +59,10 @@ impl Gate for HoldsFirst {
     }
 }
 
-/// What so many workers gave are the numbers.
-fn are_given(rt: &impl Abort, workers: u32, outs: Result<List<u32>, NoMemory>, numbers: &[u32]) {
+/// What workers gave are the numbers.
+fn are_given(rt: &impl Abort, outs: Result<List<u32>, NoMemory>, numbers: &[u32]) {
     let outs = outs.expect(rt, "memory");
-    let outs = outs.as_slice();
-    assert!(rt; outs == numbers, "{workers} workers gave {outs:?}");
+    same(rt, "what workers gave", outs.as_slice(), numbers);
 }
 
 /// So many workers give each number at its place.
@@ -76,8 +76,9 @@ fn gives_all<R: Threads + Abort + Sync, G: Gate + Sync>(
     requires { (1 ≤ workers) × (workers ≤ 64) × (length numbers.now < 100) }
 {
     let job = NumberAt { numbers };
-    let outs = each(rt, alloc, workers, numbers.len() as u32, 0, gate, &job);
-    are_given(rt, workers, outs, numbers);
+    let count = numbers.len() as u32;
+    let outs = each(rt, alloc, workers, count, 0, gate, &job);
+    are_given(rt, outs, numbers);
 }
 
 /// Three workers give each number at its place, in whatever order the items are begun.
@@ -91,8 +92,9 @@ fn gives_all_in_order<R: Threads + Abort + Sync>(
 {
     let job = NumberAt { numbers };
     let gate = OpenGate::new();
-    let outs = each_in_order(rt, alloc, 3, numbers.len() as u32, order, 0, &gate, &job);
-    are_given(rt, 3, outs, numbers);
+    let count = numbers.len() as u32;
+    let outs = each_in_order(rt, alloc, 3, count, order, 0, &gate, &job);
+    are_given(rt, outs, numbers);
 }
 
 /// A counter of so many numbers with its first seat.
@@ -109,42 +111,22 @@ fn other(rt: &impl Abort, counter: &Tasks, seat: &mut TaskSeat) -> TaskSeat
     counter.split(seat).expect(rt, "a share to split")
 }
 
-fn has_share(rt: &impl Abort, seat: &TaskSeat, want: u32) {
-    let share = seat.share();
-    assert!(rt; share == want, "a share of {share}");
-}
-
 /// The seat draws the number, or none.
 fn draws(rt: &impl Abort, counter: &Tasks, seat: &mut TaskSeat, want: Option<u32>)
     requires { Belongs counter.now seat.old }
     ensures { Belongs counter.now seat.new }
 {
-    let number = counter.claim(seat);
-    assert!(rt; number == want, "drew {number:?}");
-}
-
-#[test]
-fn one_seat_draws_each_number_and_then_none(rt: HostRuntime) {
-    let (counter, mut seat) = counter(&rt, rt.alloc(), 2);
-    draws(&rt, &counter, &mut seat, Some(0));
-    draws(&rt, &counter, &mut seat, Some(1));
-    draws(&rt, &counter, &mut seat, None);
-    draws(&rt, &counter, &mut seat, None);
+    same(rt, "the number that is drawn", counter.claim(seat), want);
 }
 
 #[test]
 fn seats_share_the_numbers(rt: HostRuntime) {
     let (counter, mut left) = counter(&rt, rt.alloc(), 3);
     let mut right = other(&rt, &counter, &mut left);
-    has_share(&rt, &left, 32);
-    has_share(&rt, &right, 32);
     draws(&rt, &counter, &mut right, Some(0));
     draws(&rt, &counter, &mut left, Some(1));
     draws(&rt, &counter, &mut right, Some(2));
     draws(&rt, &counter, &mut right, None);
-    counter.join(&mut left, right);
-    has_share(&rt, &left, 64);
-    draws(&rt, &counter, &mut left, None);
 }
 
 #[test]
@@ -173,5 +155,10 @@ fn two_workers_run_two_items_beside_each_other(rt: HostRuntime) {
         gave_up: AtomicBool::new(false),
     };
     gives_all(&rt, rt.alloc(), 2, &[4, 6], &gate);
-    assert!(&rt; !gate.gave_up.load(SeqCst), "item 0 waited for all turns");
+    same(
+        &rt,
+        "whether item 0 waited for all turns",
+        gate.gave_up.load(SeqCst),
+        false,
+    );
 }

@@ -5,12 +5,10 @@ ghost use Rattle.std.specs.Thread.{IsSync};
 ghost use Rattle.type_pool.specs.Seats.{Belongs, known};
 
 use crate::keyed::KeyedBook;
-use crate::parts::{closed, open};
-use ds_base::List;
-use std::alloc::Global;
+use crate::parts::{bid_for, closed, open, other, same};
 use std::process::Abort;
 use std::thread::{Threads, join};
-use type_pool::{ClosedPool, Placing, Pool, PoolSeat, find};
+use type_pool::{ClosedPool, Pool, PoolSeat, find};
 
 const NAMES: u32 = 1000;
 
@@ -23,31 +21,25 @@ fn number_of(x: u64, thread: u64) -> u64 {
         % 100_003
 }
 
-// A book in which 300 of the names are equal to others.
-fn thousand_names(rt: &impl Abort, alloc: Global) -> KeyedBook
-    ensures { length result.keys ≡ 1000 }
-{
-    let mut keys = Vec::new(alloc);
+// The keys of names of which 300 are equal to others.
+fn thousand_keys() -> [u32; 1000] {
+    let mut keys = [0; 1000];
     for x in 0..NAMES {
-        keys.push(x % 700 * 11).expect(rt, "memory");
+        keys[x as usize] = x % 700 * 11;
     }
-    KeyedBook {
-        keys: List::from_vec(keys),
-    }
+    keys
 }
 
 // Places every name, and bids for it.
-fn bid_all(pool: &Pool, mut seat: PoolSeat, book: &KeyedBook, thread: u64) -> PoolSeat
+fn bid_all(pool: &Pool, mut seat: PoolSeat, keys: &[u32], thread: u64) -> PoolSeat
     requires belongs { Belongs pool.now seat }
-    requires book { (length book.now.keys ≡ 1000) × (pool.now.names ≡ 1000) }
+    requires keys { (length keys.now ≡ 1000) × (pool.now.names ≡ 1000) }
     ensures belongs { Belongs pool.now result }
     ensures share { (known result).share ≡ (known seat).share }
 {
+    let book = KeyedBook { keys };
     for x in 0..NAMES {
-        match pool.place(&mut seat, book, x) {
-            Placing::Cell(cell) => pool.bid(&mut seat, cell, number_of(u64::from(x), thread)),
-            Placing::Crowded => {}
-        }
+        bid_for(pool, &mut seat, &book, x, number_of(u64::from(x), thread));
     }
     seat
 }
@@ -56,25 +48,23 @@ fn bid_all(pool: &Pool, mut seat: PoolSeat, book: &KeyedBook, thread: u64) -> Po
 //
 // A thread of number n goes on as number 2n, and starts number 2n + 1.
 #[cycle(bidders)]
-fn bid_by<R: Threads + Sync>(
+fn bid_by<R: Threads + Abort + Sync>(
     rt: &R,
     pool: &Pool,
     mut seat: PoolSeat,
-    book: &KeyedBook,
+    keys: &[u32],
     forks: u32,
     thread: u64,
 ) -> PoolSeat
     requires belongs { Belongs pool.now seat }
-    requires book { (length book.now.keys ≡ 1000) × (pool.now.names ≡ 1000) }
+    requires keys { (length keys.now ≡ 1000) × (pool.now.names ≡ 1000) }
     ensures belongs { Belongs pool.now result }
     ensures share { (known result).share ≡ (known seat).share }
 {
     if forks == 0 {
-        return bid_all(pool, seat, book, thread);
+        return bid_all(pool, seat, keys, thread);
     }
-    let Some(other) = pool.split(&mut seat) else {
-        return bid_all(pool, seat, book, thread);
-    };
+    let other = other(rt, pool, &mut seat);
     let left = forks - 1;
     let even = thread.wrapping_mul(2);
     let odd = even.wrapping_add(1);
@@ -83,17 +73,17 @@ fn bid_by<R: Threads + Sync>(
         move || -> PoolSeat
             requires rt { IsSync R.row }
             requires belongs { Belongs pool.now seat }
-            requires book { (length book.now.keys ≡ 1000) × (pool.now.names ≡ 1000) }
+            requires keys { (length keys.now ≡ 1000) × (pool.now.names ≡ 1000) }
             ensures belongs { Belongs pool.entry.now result }
             ensures share { (known result).share ≡ (known seat).share }
-        { bid_by(rt, pool, seat, book, left, even) },
+        { bid_by(rt, pool, seat, keys, left, even) },
         move || -> PoolSeat
             requires rt { IsSync R.row }
             requires belongs { Belongs pool.now other }
-            requires book { (length book.now.keys ≡ 1000) × (pool.now.names ≡ 1000) }
+            requires keys { (length keys.now ≡ 1000) × (pool.now.names ≡ 1000) }
             ensures belongs { Belongs pool.entry.now result }
             ensures share { (known result).share ≡ (known other).share }
-        { bid_by(rt, pool, other, book, left, odd) },
+        { bid_by(rt, pool, other, keys, left, odd) },
     );
     pool.join(&mut seat, other);
     seat
@@ -113,23 +103,21 @@ fn plain_least(keys: &[u32], key: u32) -> u64 {
 }
 
 // The name is found, with the plain minimum.
-fn has_plain_minimum(rt: &impl Abort, closed: &ClosedPool, book: &KeyedBook, x: u32)
-    requires { (length book.now.keys ≡ closed.now.names) × (x < closed.now.names) }
+fn has_plain_minimum(rt: &impl Abort, closed: &ClosedPool, keys: &[u32], x: u32)
+    requires { (length keys.now ≡ closed.now.names) × (x < closed.now.names) }
 {
-    let keys = book.keys.as_slice();
     let wanted = plain_least(keys, keys[x as usize]);
-    let least = find(closed, book, x).expect(rt, "a cell").least;
-    assert!(rt; least == wanted, "name {x}: {least}, and not {wanted}");
+    let found = find(closed, &KeyedBook { keys }, x).expect(rt, "a cell");
+    same(rt, "the least of a name", found.least, wanted);
 }
 
 #[test]
 fn four_threads_leave_the_plain_minimum(rt: HostRuntime) {
-    let alloc = rt.alloc();
-    let book = thousand_names(&rt, alloc);
-    let (pool, seat) = open(&rt, alloc, CELLS, NAMES);
-    let seat = bid_by(&rt, &pool, seat, &book, 2, 0);
+    let keys = thousand_keys();
+    let (pool, seat) = open(&rt, rt.alloc(), CELLS, NAMES);
+    let seat = bid_by(&rt, &pool, seat, &keys, 2, 0);
     let closed = closed(pool, seat);
     for x in 0..NAMES {
-        has_plain_minimum(&rt, &closed, &book, x);
+        has_plain_minimum(&rt, &closed, &keys, x);
     }
 }
