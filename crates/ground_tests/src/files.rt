@@ -83,7 +83,7 @@ fn are_answered<R: Abort + Threads + Sync + rt::Files, F: Files + Sync>(
 fn files_that_were_read_ahead_are_answered_as_others(rt: HostRuntime) {
     let alloc = rt.alloc();
     let mut files = HostFiles::new(&rt);
-    for workers in [1, 2] {
+    for workers in 1..3 {
         are_answered(&rt, alloc, workers, &mut files);
     }
 }
