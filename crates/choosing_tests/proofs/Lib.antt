@@ -1,2 +1,3 @@
-pub mod NamesTests
 pub mod SoundTests
+pub mod TwoObjects
+pub mod WorkedMoves

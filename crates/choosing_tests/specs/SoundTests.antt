@@ -1,17 +1,22 @@
--- What is asked of the values of an analysis that is made by hand.
-use Rattle.std.specs.Prelude.{ℕ, Bool, true, ◌&&◌, is_none, nat_lt}
+-- What is asked of the entries of an analysis that is made by hand: one unit, without expressions.
+use Rattle.std.specs.Prelude.{ℕ, ◌==◌, ◌&&◌, Bool, true, false, Option, Some, None, nat_lt}
 use Rattle.std.specs.List.{list_all}
-use Rattle.dwarf_types.specs.declared.expr.Op.{Op}
+use Rattle.dwarf_types.specs.declared.entry.Entry.{Entry}
 use Rattle.dwarf_types.specs.declared.value.Value.{Value}
 use Rattle.dwarf_types.specs.declared.value.Value.TheVariants as values
 
--- the operation names no base type, nor does one inside it
-abbrev pub has_no_base : Op → Bool
-has_no_base op = is_none op.base && list_all (λ inner. is_none inner.base) op.inner
-
--- it names no base type, and a reference leads to one of so many entries
+-- a reference leads to one of so many entries, and there is no expression
 abbrev pub is_within : ℕ → Value → Bool
 is_within count (values.Ref k) = nat_lt k count
-is_within count (values.Expr ops) = list_all has_no_base ops
-is_within count (values.Locations items) = list_all (λ item. list_all has_no_base item.ops) items
+is_within count (values.Expr ops) = false
+is_within count (values.Locations items) = false
 is_within count value = true
+
+-- entry k is the root, or stands behind its parent
+abbrev pub is_below : ℕ → Option ℕ → Bool
+is_below k None = k == 0
+is_below k (Some p) = nat_lt p k
+
+-- entry k of a unit of so many
+abbrev pub is_sound : ℕ → ℕ → Entry → Bool
+is_sound count k e = e.unit == 0 && is_below k e.parent && list_all (λ a. is_within count a.value) e.attrs

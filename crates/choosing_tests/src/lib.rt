@@ -4,14 +4,12 @@
 #![tactic(auto)]
 
 #[cfg(test)]
-mod live;
+mod linked;
 #[cfg(test)]
-mod names;
+mod live;
 #[cfg(test)]
 mod parts;
 #[cfg(test)]
 mod rows;
-#[cfg(test)]
-mod shape;
 #[cfg(test)]
 mod sound;

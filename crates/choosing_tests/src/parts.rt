@@ -1,9 +1,12 @@
 //! What the tables share: how what a call answers is compared.
 
-use std::fmt::Debug;
+ghost use Rattle.std.specs.Prelude.{◌≡◌};
+
 use std::process::Abort;
 
-/// What was seen is what was wanted.
-pub(crate) fn same<T: Copy + PartialEq + Debug>(rt: &impl Abort, label: &str, seen: T, want: T) {
-    assert!(rt; seen == want, "{label}: {seen:?}, and not {want:?}");
+/// What was seen at a place of a row is what was wanted.
+pub(crate) fn same(rt: &impl Abort, label: &str, at: usize, seen: u64, want: u64)
+    ensures { seen ≡ want }
+{
+    assert!(rt; seen == want, "{label}, at {at}: {seen}");
 }
