@@ -2,42 +2,29 @@
 
 ghost use Rattle.std.specs.Prelude.{◌+◌, ◌<◌, ◌^◌, length};
 
-use crate::parts::{fault, same};
-use ds_base::{Cursor, Kind, Part, put_sleb, put_uleb, put_uleb4, sleb_len, uleb_len};
+use crate::parts::same;
+use ds_base::{Cursor, Fault, Kind, Part, put_sleb, put_uleb, put_uleb4, sleb_len, uleb_len};
 use std::process::Abort;
 
-/// Bytes mean a number without a sign, which the cursor passes.
-fn reads_uleb(rt: &impl Abort, bytes: &[u8], want: u64) {
+/// What bytes mean as a number without a sign.
+fn reads_uleb(rt: &impl Abort, bytes: &[u8], want: Result<u64, Fault>) {
     let mut cursor = Cursor::new(bytes, Part::Info, 0, bytes.len() as u64);
-    let found = (cursor.uleb(), cursor.left());
-    same(rt, "a number and what is left", found, (Ok(want), 0));
+    same(rt, "a number", cursor.uleb(), want);
 }
 
-/// Bytes mean a number with a sign, which the cursor passes.
-fn reads_sleb(rt: &impl Abort, bytes: &[u8], want: i64) {
+/// What bytes mean as a number with a sign.
+fn reads_sleb(rt: &impl Abort, bytes: &[u8], want: Result<i64, Fault>) {
     let mut cursor = Cursor::new(bytes, Part::Info, 0, bytes.len() as u64);
-    let found = (cursor.sleb(), cursor.left());
-    same(rt, "a number and what is left", found, (Ok(want), 0));
+    same(rt, "a number", cursor.sleb(), want);
 }
 
-/// The number behind the first byte is refused, and the cursor stays.
-fn refuses_uleb(rt: &impl Abort, bytes: &[u8], kind: Kind)
-    requires { 0 < length bytes.now }
-{
-    let mut cursor = Cursor::new(bytes, Part::Info, 1, bytes.len() as u64);
-    let found = (cursor.uleb(), cursor.place());
-    let want = (Err(fault(kind, Part::Info, 1)), 1);
-    same(rt, "a fault, and the place", found, want);
-}
-
-/// The signed number behind the first byte is refused, and the cursor stays.
-fn refuses_sleb(rt: &impl Abort, bytes: &[u8], kind: Kind)
-    requires { 0 < length bytes.now }
-{
-    let mut cursor = Cursor::new(bytes, Part::Info, 1, bytes.len() as u64);
-    let found = (cursor.sleb(), cursor.place());
-    let want = (Err(fault(kind, Part::Info, 1)), 1);
-    same(rt, "a fault, and the place", found, want);
+/// A fault at the first byte.
+fn fault(kind: Kind) -> Fault {
+    Fault {
+        kind,
+        section: Part::Info,
+        place: 0,
+    }
 }
 
 /// From 1 on a room of 0x55 has these bytes and no others.
@@ -59,7 +46,7 @@ fn is_uleb(rt: &impl Abort, n: u64, want: &[u8]) {
     let mut room = [0x55; 12];
     put_uleb(&mut room, 1, n);
     holds(rt, &room, len, want);
-    reads_uleb(rt, want, n);
+    reads_uleb(rt, want, Ok(n));
 }
 
 /// A number with a sign is written as these bytes and no others, and they are read as the number.
@@ -68,7 +55,7 @@ fn is_sleb(rt: &impl Abort, n: i64, want: &[u8]) {
     let mut room = [0x55; 12];
     put_sleb(&mut room, 1, n);
     holds(rt, &room, len, want);
-    reads_sleb(rt, want, n);
+    reads_sleb(rt, want, Ok(n));
 }
 
 /// A number is written as these four bytes and no others, and they are read as the number.
@@ -78,7 +65,7 @@ fn is_uleb4(rt: &impl Abort, n: u32, want: &[u8])
     let mut room = [0x55; 6];
     put_uleb4(&mut room, 1, n);
     holds(rt, &room, 4, want);
-    reads_uleb(rt, want, u64::from(n));
+    reads_uleb(rt, want, Ok(u64::from(n)));
 }
 
 #[test]
@@ -120,9 +107,9 @@ fn signed_numbers_are_spelled_as_in_the_standard(rt: HostRuntime) {
 
 #[test]
 fn padded_numbers_are_read(rt: HostRuntime) {
-    reads_uleb(&rt, &[0x80, 0x80, 0x00], 0);
-    reads_uleb(&rt, &[0xff, 0x80, 0x00], 127);
-    reads_sleb(&rt, &[0xff, 0xff, 0x7f], -1);
+    reads_uleb(&rt, &[0x80, 0x80, 0x00], Ok(0));
+    reads_uleb(&rt, &[0xff, 0x80, 0x00], Ok(127));
+    reads_sleb(&rt, &[0xff, 0xff, 0x7f], Ok(-1));
 }
 
 #[test]
@@ -134,33 +121,29 @@ fn four_bytes_are_padded(rt: HostRuntime) {
 
 #[test]
 fn numbers_past_64_bits_are_refused(rt: HostRuntime) {
-    refuses_uleb(
+    let wide = fault(Kind::LebTooWide);
+    reads_uleb(
         &rt,
-        &[
-            0, 0xff, 0xff, 0xff, 0xff, 0xff, 0xff, 0xff, 0xff, 0xff, 0x02,
-        ],
-        Kind::LebTooWide,
+        &[0xff, 0xff, 0xff, 0xff, 0xff, 0xff, 0xff, 0xff, 0xff, 0x02],
+        Err(wide),
     );
-    refuses_sleb(
+    reads_sleb(
         &rt,
-        &[
-            0, 0x80, 0x80, 0x80, 0x80, 0x80, 0x80, 0x80, 0x80, 0x80, 0x01,
-        ],
-        Kind::LebTooWide,
+        &[0x80, 0x80, 0x80, 0x80, 0x80, 0x80, 0x80, 0x80, 0x80, 0x01],
+        Err(wide),
     );
-    refuses_sleb(
+    reads_sleb(
         &rt,
-        &[
-            0, 0xff, 0xff, 0xff, 0xff, 0xff, 0xff, 0xff, 0xff, 0xff, 0x7e,
-        ],
-        Kind::LebTooWide,
+        &[0xff, 0xff, 0xff, 0xff, 0xff, 0xff, 0xff, 0xff, 0xff, 0x7e],
+        Err(wide),
     );
 }
 
 #[test]
 fn numbers_without_an_end_are_refused(rt: HostRuntime) {
-    refuses_uleb(&rt, &[0], Kind::Truncated);
-    refuses_uleb(&rt, &[0, 0x80, 0xff], Kind::Truncated);
-    refuses_sleb(&rt, &[0], Kind::Truncated);
-    refuses_sleb(&rt, &[0, 0x80, 0xff], Kind::Truncated);
+    let cut = fault(Kind::Truncated);
+    reads_uleb(&rt, &[], Err(cut));
+    reads_uleb(&rt, &[0x80, 0xff], Err(cut));
+    reads_sleb(&rt, &[], Err(cut));
+    reads_sleb(&rt, &[0x80, 0xff], Err(cut));
 }
