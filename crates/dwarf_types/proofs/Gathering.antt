@@ -1,5 +1,5 @@
 -- Operations that are put one behind the other: what their rows stand for as columns grow, and as rows are put.
-use Rattle.std.proofs.Common.{◌≡◌, ℕ, ◌-◌, ◌≤◌, List, [], ◌∷◌, ◌++◌, map, length, drop, take, ap, ap₂, ◌∙◌, arith}
+use Rattle.std.proofs.Common.{◌≡◌, ℕ, ◌-◌, ◌≤◌, List, [], ◌∷◌, ◌++◌, map, length, drop, ap, ap₂, ◌∙◌, arith}
 use Rattle.std.proofs.lemmas.List.{drop-append-le, drop_all, length-drop, length_push, map_push, take_all}
 use Rattle.std.proofs.lemmas.List.Elements.{All-nil, All-push}
 use Rattle.dwarf_types.specs.declared.expr.Op.{Op}
@@ -7,11 +7,10 @@ use Rattle.dwarf_types.specs.declared.expr.PlainOp.{PlainOp}
 use Rattle.dwarf_types.specs.declared.sides.InnerRow.{InnerRow}
 use Rattle.dwarf_types.specs.declared.sides.OpRow.{OpRow}
 use Rattle.dwarf_types.specs.declared.sides.Sides.{Sides}
-use Rattle.dwarf_types.specs.declared.runs.Run.{Run}
 use Rattle.dwarf_types.specs.Cells.{Grows, InnerWithin, OpWithin, inner_of, op_of}
 use Rattle.dwarf_types.specs.Gathered.{AreRows, Gathered, gathered_of}
-use Rattle.dwarf_types.specs.Runs.{InRun, run_of}
-use Rattle.dwarf_types.proofs.Kept.{inners_kept, inners_within, ops_kept, ops_within}
+use Rattle.dwarf_types.specs.Runs.{InRun, run_between, run_of}
+use Rattle.dwarf_types.proofs.Kept.{between_same, inners_kept, inners_within, ops_kept, ops_within}
 
 abbrev gathered_with : List Op → List PlainOp → Gathered
 gathered_with ops inner = record { ops = ops; inner = inner }
@@ -50,10 +49,10 @@ gathered_inner s t rows at r g more a =
 -- ---- an operation that takes those inside
 
 -- the run up to the end
-pub open_part : {A : Type 0} (items : List A) (s : Run) (at : ℕ) → s.from ≡ at → s.to ≡ length items → at ≤ length items → (run_of items s ≡ drop at items) × InRun items s
-open_part items s at from to few =
-    let tail : drop s.from items ≡ drop at items = ap (λ n. drop n items) from in
-    (ap (take (s.to - s.from)) tail ∙ take_all (s.to - s.from) (drop at items) (omega (arith, length-drop at items)), (omega arith, omega arith))
+pub open_part : {A : Type 0} (items : List A) (at : ℕ) → at ≤ length items → (run_of items (run_between at (length items)) ≡ drop at items) × InRun items (run_between at (length items))
+open_part items at few =
+    let same = between_same items at (length items) few (omega arith) in
+    (same.0 ∙ take_all (length items - at) (drop at items) (omega (arith, length-drop at items)), same.1)
 
 pub rows_put : (s : Sides) (rows : List OpRow) (at : ℕ) (r : OpRow) → OpWithin s r → AreRows s rows at → AreRows s (rows ++ r ∷ []) (length s.inner.items)
 rows_put s rows at r w a = record {

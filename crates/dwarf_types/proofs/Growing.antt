@@ -80,7 +80,7 @@ abbrev pub inner_column : Sides → List InnerRow
 inner_column s = s.inner.items
 
 abbrev pub op_column : Sides → List OpRow
-op_column s = s.ops.items
+op_column s = s.ops
 
 abbrev pub item_column : Sides → List ItemRow
 item_column s = s.items.items

@@ -2,7 +2,7 @@
 use Rattle.std.proofs.Common.{inl, inr, ◌≡◌, ℕ, suc, nat_lt, if◌then◌else◌, ◌+◌, ◌-◌, ◌<◌, ◌≤◌, List, [], ◌∷◌, ◌++◌, map, length, drop, take, get_or, All, refl, ap, ap₂, subst, sym, arith, slice_range, ◌∙◌, Option, Some, None, Bool, true, false}
 use Rattle.std.specs.Prelude.{IsSome}
 use Rattle.std.specs.Option.{option_map, unwrap_or}
-use Rattle.std.proofs.lemmas.Bool.{cases_lt}
+use Rattle.std.proofs.lemmas.Bool.{cases_lt, le-ltb, lt-ltb}
 use Rattle.std.proofs.lemmas.List.{drop-append-le, drop_at, take-append-le, take_all, drop_all, length-drop, length-append, length_push, get_or_append_left, get_or_push}
 use Rattle.std.proofs.lemmas.List.Elements.{All-head, All-tail, All-weaker}
 use Rattle.ds_base.specs.Reading.{index_below, text_of}
@@ -21,7 +21,7 @@ use Rattle.dwarf_types.specs.declared.runs.Run.{Run}
 use Rattle.dwarf_types.specs.declared.value.Value.TheVariants as values
 use Rattle.dwarf_types.specs.Cells.{Begins, Grows, InnerWithin, IsAddress, IsList, IsRun, IsWithin, ItemWithin, KeepsOthers, OpWithin, address_at, held_value, inner_of, item_of, list_at, no_place, op_of, run_at}
 use Rattle.dwarf_types.specs.Put.{number_form}
-use Rattle.dwarf_types.specs.Runs.{InRun, no_run, run_of}
+use Rattle.dwarf_types.specs.Runs.{InRun, no_run, run_between, run_of}
 
 pub range_begins : {A : Type 0} (old new : List A) (from to : ℕ) → Begins old new → from ≤ to → to ≤ length old → slice_range new from to ≡ slice_range old from to
 range_begins old new from to b up within =
@@ -225,6 +225,16 @@ appended xs ys zs s is from to =
     let tail : drop s.from zs ≡ ys = rw (is, from) (drop_at xs ys (length xs) refl) in
     let all : length zs ≡ length xs + length ys = ap length is ∙ length-append xs ys in
     (ap (take (s.to - s.from)) tail ∙ take_all (s.to - s.from) ys (omega arith), (omega arith, omega arith))
+
+-- the run between two places has what stands there, also where that is nothing
+pub between_same : {A : Type 0} (items : List A) (from to : ℕ) → from ≤ to → to ≤ length items → (run_of items (run_between from to) ≡ slice_range items from to) × InRun items (run_between from to)
+between_same items from to up within =
+    elim (cases_lt from to) [
+      | inl lt ↦ rw (lt-ltb from to lt) (refl, (up, within))
+      | inr le ↦
+          let none : to - from ≡ 0 = omega arith in
+          rw (le-ltb from to le) (sym (ap (λ n. take n (drop from items)) none), (omega arith, omega arith))
+    ]
 
 -- bytes and an address stay, as columns grow
 pub parts_kept : (s t : Sides) (bytes : Run) (at : Option ℕ) → Grows s t → InRun s.bytes.items bytes → IsAddress s at → ((run_of t.bytes.items bytes ≡ run_of s.bytes.items bytes) × (address_at t at ≡ address_at s at)) × (InRun t.bytes.items bytes × IsAddress t at)

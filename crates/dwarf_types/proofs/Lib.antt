@@ -9,6 +9,7 @@ pub mod Heads
 pub mod Kept
 pub mod Lengths
 pub mod LineRows
+pub mod PackedOps
 pub mod Placing
 pub mod PlainCells
 pub mod Readers

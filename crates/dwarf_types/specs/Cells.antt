@@ -49,7 +49,7 @@ abbrev pub op_of : Sides → OpRow → Op
 op_of s r = record { code = r.code; bytes = run_of s.bytes.items r.bytes; address = address_at s r.address; base = r.base; inner = map (inner_of s) (run_of s.inner.items r.inner) }
 
 abbrev pub item_of : Sides → ItemRow → Location
-item_of s r = record { span = r.span; ops = map (op_of s) (run_of s.ops.items r.ops) }
+item_of s r = record { span = r.span; ops = map (op_of s) (run_of s.ops r.ops) }
 
 -- ---- values
 
@@ -64,7 +64,7 @@ held_value s kinds.Block form i = values.Block form (run_of s.bytes.items (run_a
 held_value s kinds.Stored form n = values.Address (stored_place n)
 held_value s kinds.Address form i = values.Address (get_or s.places.items i no_place)
 held_value s kinds.Ref form n = values.Ref n
-held_value s kinds.Expr form i = values.Expr (map (op_of s) (run_of s.ops.items (list_at s i)))
+held_value s kinds.Expr form i = values.Expr (map (op_of s) (run_of s.ops (list_at s i)))
 held_value s kinds.Ranges form i = values.Ranges (run_of s.spans.items (list_at s i))
 held_value s kinds.Locations form i = values.Locations (map (item_of s) (run_of s.items.items (list_at s i)))
 held_value s kinds.Lines form n = values.Lines
@@ -83,7 +83,7 @@ abbrev pub OpWithin : Sides → OpRow → Type 0
 OpWithin s r = (InRun s.bytes.items r.bytes × IsAddress s r.address) × (InRun s.inner.items r.inner × All (InnerWithin s) (run_of s.inner.items r.inner))
 
 abbrev pub ItemWithin : Sides → ItemRow → Type 0
-ItemWithin s r = InRun s.ops.items r.ops × All (OpWithin s) (run_of s.ops.items r.ops)
+ItemWithin s r = InRun s.ops r.ops × All (OpWithin s) (run_of s.ops r.ops)
 
 -- the place of a run, which lies in its column
 abbrev pub IsRun : {A : Type 0} → Sides → List A → ℕ → Type 0
@@ -102,7 +102,7 @@ IsWithin s kinds.Block i = IsRun s s.bytes.items i
 IsWithin s kinds.Stored n = ⊤
 IsWithin s kinds.Address i = i < length s.places.items
 IsWithin s kinds.Ref n = ⊤
-IsWithin s kinds.Expr i = IsList s s.ops.items i × All (OpWithin s) (run_of s.ops.items (list_at s i))
+IsWithin s kinds.Expr i = IsList s s.ops i × All (OpWithin s) (run_of s.ops (list_at s i))
 IsWithin s kinds.Ranges i = IsList s s.spans.items i
 IsWithin s kinds.Locations i = IsList s s.items.items i × All (ItemWithin s) (run_of s.items.items (list_at s i))
 IsWithin s kinds.Lines n = ⊤
@@ -123,7 +123,7 @@ pub record Grows (old new : Sides) : Type 0 where
   pub places : Begins old.places.items new.places.items
   pub addresses : Begins old.addresses.items new.addresses.items
   pub spans : Begins old.spans.items new.spans.items
-  pub ops : Begins old.ops.items new.ops.items
+  pub ops : Begins old.ops new.ops
   pub inner : Begins old.inner.items new.inner.items
   pub items : Begins old.items.items new.items.items
 

@@ -26,6 +26,7 @@ pub mod Live
 pub mod Moves
 pub mod Operations
 pub mod Packed
+pub mod PackedOps
 pub mod Places
 pub mod PlaceSteps
 pub mod Plain

@@ -1,11 +1,15 @@
 -- Runs of items of a column.
-use Rattle.std.specs.Prelude.{ℕ, ◌≤◌, List, length, slice_range}
+use Rattle.std.specs.Prelude.{ℕ, ◌≤◌, List, length, slice_range, nat_lt, if◌then◌else◌}
 use Rattle.dwarf_types.specs.declared.runs.Run.{Run}
 use Rattle.dwarf_types.specs.declared.runs.TextRun.{TextRun}
 use Rattle.dwarf_types.specs.declared.runs.TextRun.TheVariants as texts
 
 abbrev pub no_run : Run
 no_run = record { from = 0; to = 0 }
+
+-- from one place up to another; where there is nothing between, the one empty run
+abbrev pub run_between : ℕ → ℕ → Run
+run_between from to = if nat_lt from to then record { from = from; to = to } else no_run
 
 -- the items of a run
 abbrev pub run_of : {A : Type 0} → List A → Run → List A

@@ -4,7 +4,8 @@ ghost use Rattle.std.specs.Prelude.{◌≡◌, ◌<◌, [], ◌∷◌, ◌++◌,
 ghost use Rattle.dwarf_types.specs.Seen.{inner_seen, op_seen};
 
 use crate::address::Span;
-use crate::runs::Run;
+use crate::op_rows::OpRows;
+use crate::runs::run_between;
 use crate::seen::{InnerOpRef, LocationsRef, OpRef, OpsRef};
 use crate::sides::{ItemRow, OpRow, Sides};
 use ds_base::NoMemory;
@@ -16,7 +17,7 @@ use std::marker::Model;
 /// It is made once and cleared for each expression, so that no expression asks for memory of its own.
 #[derive(Drop)]
 pub struct Ops {
-    rows: Vec<OpRow>,
+    rows: OpRows,
     /// Bytes, addresses and the operations inside; no others.
     sides: Sides,
     /// The place of the first operation inside that is no operation's yet.
@@ -30,9 +31,9 @@ impl Model for Ops {
 
     ghost use Rattle.dwarf_types.specs.Gathered.{AreRows, gathered_of};
 
-    ghost view = { λ o. gathered_of o.sides o.rows.items o.open_from };
+    ghost view = { λ o. gathered_of o.sides o.rows o.open_from };
 
-    ghost invariant = { λ o. AreRows o.sides o.rows.items o.open_from };
+    ghost invariant = { λ o. AreRows o.sides o.rows o.open_from };
 }
 
 impl Ops {
@@ -41,7 +42,7 @@ impl Ops {
         ensures { result ≡ record { ops = []; inner = [] } }
     {
         Ops {
-            rows: Vec::new(alloc),
+            rows: OpRows::new(alloc),
             sides: Sides::new(alloc),
             open_from: 0,
         }
@@ -67,7 +68,7 @@ impl Ops {
     pub fn as_ref(&self) -> OpsRef<'_>
         ensures { result ≡ self.now.ops }
     {
-        OpsRef::new(&self.sides, &self.rows)
+        OpsRef::new(&self.sides, self.rows.whole())
     }
 
     /// The operation at a place, counted from 0.
@@ -94,16 +95,12 @@ impl Ops {
     {
         let (bytes, address) = self.sides.store_parts(op.bytes, op.address)?;
         let end = self.sides.inner.len();
-        let inner = Run {
-            from: self.open_from,
-            to: end,
-        };
         self.rows.push(OpRow {
             code: op.code,
             bytes,
             address,
             base: op.base,
-            inner,
+            inner: run_between(self.open_from, end),
         })?;
         self.open_from = end;
         Ok(())

@@ -2,7 +2,7 @@
 
 ghost use Rattle.std.specs.Prelude.{◌≡◌, ◌+◌, ◌++◌, length, IfOk, IfSome, OnOk, OnErr};
 ghost use Rattle.dwarf_types.specs.Cells.{Begins};
-ghost use Rattle.dwarf_types.specs.Runs.{InRun, InTexts, run_of, text_of};
+ghost use Rattle.dwarf_types.specs.Runs.{InRun, InTexts, run_between, run_of, text_of};
 
 use ds_base::NoMemory;
 
@@ -26,6 +26,17 @@ pub(crate) fn part_of<T>(column: &[T], run: Run) -> &[T]
     ensures { result.now ≡ run_of column.now run }
 {
     &column[run.from..run.to]
+}
+
+/// The run from one place up to another; where there is nothing between, the one empty run.
+pub(crate) fn run_between(from: usize, to: usize) -> Run
+    ensures { result ≡ run_between from to }
+{
+    if from < to {
+        Run { from, to }
+    } else {
+        Run { from: 0, to: 0 }
+    }
 }
 
 /// Puts items last, and answers where they lie.

@@ -14,6 +14,7 @@ ghost use Rattle.dwarf_types.specs.Seen.{attr_seen, inner_seen, location_seen, o
 use crate::address::{Addr, Place, Span};
 use crate::columns::Cell;
 use crate::expr::Base;
+use crate::op_rows::OpRowsPart;
 use crate::runs::part_of;
 use crate::sides::{InnerRow, ItemRow, Kind, OpRow, Sides};
 use ds_base::dwarf::{DW_FORM_implicit_const, DW_FORM_sdata};
@@ -85,7 +86,7 @@ pub struct RawAttrRef<'a> {
 #[derive(Drop)]
 pub struct OpsRef<'a> {
     sides: &'a Sides,
-    rows: &'a [OpRow],
+    rows: OpRowsPart<'a>,
 }
 
 impl<'a> Model for OpsRef<'a> {
@@ -100,9 +101,9 @@ impl<'a> Model for OpsRef<'a> {
 
     ghost use Rattle.dwarf_types.specs.Cells.{OpWithin, op_of};
 
-    ghost view = { λ o. map (op_of o.sides.now) o.rows.now };
+    ghost view = { λ o. map (op_of o.sides.now) o.rows };
 
-    ghost invariant = { λ o. All (OpWithin o.sides.now) o.rows.now };
+    ghost invariant = { λ o. All (OpWithin o.sides.now) o.rows };
 }
 
 /// An operation where it stands.
@@ -121,9 +122,9 @@ pub struct OpRef<'a> {
 }
 
 impl<'a> OpsRef<'a> {
-    pub(crate) fn new(sides: &'a Sides, rows: &'a [OpRow]) -> OpsRef<'a>
-        requires { All (OpWithin sides.now) rows.now }
-        ensures { result ≡ map (op_of sides.now) rows.now }
+    pub(crate) fn new(sides: &'a Sides, rows: OpRowsPart<'a>) -> OpsRef<'a>
+        requires { All (OpWithin sides.now) rows }
+        ensures { result ≡ map (op_of sides.now) rows.entry }
     {
         OpsRef { sides, rows }
     }
@@ -140,7 +141,7 @@ impl<'a> OpsRef<'a> {
         requires { k < length self.now }
         ensures { op_seen result ≡ slice_index_or self.now k (op_seen result) }
     {
-        op_in(self.sides, self.rows[k])
+        op_in(self.sides, self.rows.row(k))
     }
 }
 
@@ -319,7 +320,7 @@ fn item_in<'a>(sides: &'a Sides, row: ItemRow) -> LocationRef<'a>
 {
     LocationRef {
         span: row.span,
-        ops: OpsRef::new(sides, part_of(&sides.ops, row.ops)),
+        ops: OpsRef::new(sides, sides.ops.part(row.ops)),
     }
 }
 
@@ -365,7 +366,7 @@ pub(crate) fn value_in<'a>(sides: &'a Sides, cell: Cell) -> ValueRef<'a>
         Kind::Address => ValueRef::Address(sides.places[at]),
         Kind::Ref => ValueRef::Ref(cell.payload),
         Kind::Expr => {
-            let rows = part_of(&sides.ops, sides.lists[at]);
+            let rows = sides.ops.part(sides.lists[at]);
             ValueRef::Expr(OpsRef::new(sides, rows))
         }
         Kind::Ranges => ValueRef::Ranges(part_of(&sides.spans, sides.lists[at])),

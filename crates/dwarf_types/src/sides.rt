@@ -14,8 +14,9 @@ ghost use Rattle.dwarf_types.specs.declared.value.Value.TheVariants as values;
 
 use crate::address::{Addr, Place, Span};
 use crate::expr::Base;
+use crate::op_rows::OpRows;
 use crate::put::{NewValue, RawValue};
-use crate::runs::{Run, append};
+use crate::runs::{Run, append, run_between};
 use crate::seen::{InnerOpRef, InnerOpsRef, LocationRef, LocationsRef, OpRef, OpsRef};
 use ds_base::{NoMemory, text_in};
 use std::alloc::Global;
@@ -107,7 +108,7 @@ pub(crate) struct Sides {
     /// Those of operations.
     pub(crate) addresses: Vec<Place>,
     pub(crate) spans: Vec<Span>,
-    pub(crate) ops: Vec<OpRow>,
+    pub(crate) ops: OpRows,
     pub(crate) inner: Vec<InnerRow>,
     pub(crate) items: Vec<ItemRow>,
 }
@@ -126,7 +127,7 @@ impl Sides {
             places: Vec::new(alloc),
             addresses: Vec::new(alloc),
             spans: Vec::new(alloc),
-            ops: Vec::new(alloc),
+            ops: OpRows::new(alloc),
             inner: Vec::new(alloc),
             items: Vec::new(alloc),
         }
@@ -405,7 +406,7 @@ impl Sides {
 
     /// Operations, each in a row.
     pub(crate) fn store_ops(&mut self, ops: &OpsRef<'_>) -> Result<Run, NoMemory>
-        ensures rows { IfOk result (λ at. InRun self.new.ops.items at × (map (op_of self.new) (run_of self.new.ops.items at) ≡ ops.now) × All (OpWithin self.new) (run_of self.new.ops.items at)) }
+        ensures rows { IfOk result (λ at. InRun self.new.ops at × (map (op_of self.new) (run_of self.new.ops at) ≡ ops.now) × All (OpWithin self.new) (run_of self.new.ops at)) }
         ensures few { AreAsMany self.old self.new }
         ensures grows { Grows self.old self.new }
         ensures others { self.new.items.items ≡ self.old.items.items }
@@ -420,7 +421,7 @@ impl Sides {
 
     /// The row of an operation, behind the others.
     fn store_op(&mut self, op: &OpRef<'_>) -> Result<(), NoMemory>
-        ensures row { OnOk result ((r : ARow) × (self.new.ops.items ≡ self.old.ops.items ++ r ∷ []) × (op_of self.new r ≡ op_seen op.now) × OpWithin self.new r) }
+        ensures row { OnOk result ((r : ARow) × (self.new.ops ≡ self.old.ops ++ r ∷ []) × (op_of self.new r ≡ op_seen op.now) × OpWithin self.new r) }
         ensures few { AreAsMany self.old self.new }
         ensures grows { Grows self.old self.new }
         ensures others { self.new.items.items ≡ self.old.items.items }
@@ -447,7 +448,7 @@ impl Sides {
         ensures within { IfOk result (λ at. InRun self.new.bytes.items at.0 × IsAddress self.new at.1) }
         ensures few { AreAsMany self.old self.new }
         ensures grows { Grows self.old self.new }
-        ensures others { (self.new.ops.items ≡ self.old.ops.items) × (self.new.inner.items ≡ self.old.inner.items) × (self.new.items.items ≡ self.old.items.items) }
+        ensures others { (self.new.ops ≡ self.old.ops) × (self.new.inner.items ≡ self.old.inner.items) × (self.new.items.items ≡ self.old.items.items) }
     {
         let bytes = append(&mut self.bytes, bytes)?;
         let address = self.store_field(address)?;
@@ -460,7 +461,7 @@ impl Sides {
         ensures within { IfOk result (λ at. IsAddress self.new at) }
         ensures few { AreAsMany self.old self.new }
         ensures grows { Grows self.old self.new }
-        ensures others { (self.new.bytes.items ≡ self.old.bytes.items) × (self.new.ops.items ≡ self.old.ops.items) × (self.new.inner.items ≡ self.old.inner.items) × (self.new.items.items ≡ self.old.items.items) }
+        ensures others { (self.new.bytes.items ≡ self.old.bytes.items) × (self.new.ops ≡ self.old.ops) × (self.new.inner.items ≡ self.old.inner.items) × (self.new.items.items ≡ self.old.items.items) }
     {
         match address {
             Some(place) => {
@@ -477,14 +478,14 @@ impl Sides {
         ensures rows { IfOk result (λ at. InRun self.new.inner.items at × (map (inner_of self.new) (run_of self.new.inner.items at) ≡ ops.now) × All (InnerWithin self.new) (run_of self.new.inner.items at)) }
         ensures few { AreAsMany self.old self.new }
         ensures grows { Grows self.old self.new }
-        ensures others { (self.new.ops.items ≡ self.old.ops.items) × (self.new.items.items ≡ self.old.items.items) }
+        ensures others { (self.new.ops ≡ self.old.ops) × (self.new.items.items ≡ self.old.items.items) }
     {
         let from = self.inner.len();
         for k in 0..ops.len() {
             self.store_inner(&ops.op(k))?;
         }
         let to = self.inner.len();
-        Ok(Run { from, to })
+        Ok(run_between(from, to))
     }
 
     /// The row of an operation inside another, behind the others.
@@ -492,7 +493,7 @@ impl Sides {
         ensures row { OnOk result ((r : AnInner) × (self.new.inner.items ≡ self.old.inner.items ++ r ∷ []) × (inner_of self.new r ≡ inner_seen op.now) × InnerWithin self.new r) }
         ensures few { AreAsMany self.old self.new }
         ensures grows { Grows self.old self.new }
-        ensures others { (self.new.ops.items ≡ self.old.ops.items) × (self.new.items.items ≡ self.old.items.items) }
+        ensures others { (self.new.ops ≡ self.old.ops) × (self.new.items.items ≡ self.old.items.items) }
         ensures unchanged { OnErr result (self.new.inner.items ≡ self.old.inner.items) }
     {
         let (bytes, address) = self.store_parts(op.bytes, op.address)?;

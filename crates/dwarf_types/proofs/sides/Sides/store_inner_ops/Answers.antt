@@ -1,9 +1,9 @@
-use Rattle.std.proofs.Common.{◌≡◌, ◌<◌, length, arith, refl, take, ◌∙◌}
+use Rattle.std.proofs.Common.{◌≡◌, ◌<◌, length, map, arith, refl, ap, take, ◌∙◌}
 use Rattle.std.proofs.lemmas.List.{take_all, take_more}
 use Rattle.dwarf_types.specs.Cells.{inner_of, InnerWithin}
 use Rattle.dwarf_types.specs.Seen.{inner_seen}
 use Rattle.dwarf_types.proofs.Growing.{inner_column, as_many, as_many_on, grows_on, rows_more, rows_none, rows_run}
-use Rattle.dwarf_types.proofs.Kept.{inners_kept, inners_within}
+use Rattle.dwarf_types.proofs.Kept.{between_same, inners_kept, inners_within}
 use Rattle.dwarf_types.proofs.sides.Sides.store_inner_ops.Goals as goal
 
 pub loop-k-init : goal.loop-k-init
@@ -28,7 +28,8 @@ returns-clause-rows c =
     let to : c.len-to.result ≡ length c.loop-k.self.inner.items = omega arith in
     let whole : take c.loop-k.k c.args.ops.now ≡ c.args.ops.now = take_all c.loop-k.k c.args.ops.now (omega arith) in
     let all = rows_run inner_column inner_of InnerWithin c.args.self.now c.loop-k.self (take c.loop-k.k c.args.ops.now) (record { from = c.len-from.result; to = c.len-to.result }) c.loop-k.invariant.1.0 from to in
-    (all.0, all.1 ∙ whole, all.2)
+    let same = between_same c.loop-k.self.inner.items c.len-from.result c.len-to.result all.0.0 all.0.1 in
+    rw c.run_between.ensures (same.1, ap (map (inner_of c.loop-k.self)) same.0 ∙ (all.1 ∙ whole), rw same.0 all.2)
 
 pub returns-in_err-store_inner-clause-few : goal.returns-in_err-store_inner-clause-few
 returns-in_err-store_inner-clause-few c = as_many_on c.args.self.now c.loop-k.self c.store_inner.new.self c.loop-k.invariant.0 c.store_inner.ensures.few

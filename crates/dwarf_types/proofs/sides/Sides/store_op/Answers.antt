@@ -19,4 +19,4 @@ returns-clause-row c =
     let with_parts : List ℕ → Option Place → Op = λ bytes address. record { code = c.args.op.now.code; bytes = bytes; address = address; base = c.args.op.now.base; inner = c.args.op.now.inner } in
     let with_inner : List PlainOp → Op = λ inner. record { code = c.args.op.now.code; bytes = run_of c.store_inner_ops.new.self.bytes.items bytes; address = address_at c.store_inner_ops.new.self at; base = c.args.op.now.base; inner = inner } in
     let means = ap with_inner rows.1 ∙ ap₂ with_parts (kept.0.0 ∙ own.value.0) (kept.0.1 ∙ own.value.1) in
-    (row, c.in_ok-push.ensures.items ∙ ap (λ (rows : List OpRow). rows ++ row ∷ []) (c.store_inner_ops.ensures.others.0 ∙ c.store_parts.ensures.others.0), means, ((kept.1.0, kept.1.1), (rows.0, rows.2)))
+    (row, c.in_ok-push.ensures.ok ∙ ap (λ (rows : List OpRow). rows ++ row ∷ []) (c.store_inner_ops.ensures.others.0 ∙ c.store_parts.ensures.others.0), means, ((kept.1.0, kept.1.1), (rows.0, rows.2)))

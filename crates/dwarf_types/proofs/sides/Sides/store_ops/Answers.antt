@@ -24,8 +24,8 @@ loop-k-preserved c =
 
 pub returns-clause-rows : goal.returns-clause-rows
 returns-clause-rows c =
-    let from : c.len-from.result ≡ length c.args.self.now.ops.items = omega arith in
-    let to : c.len-to.result ≡ length c.loop-k.self.ops.items = omega arith in
+    let from : c.len-from.result ≡ length c.args.self.now.ops = omega arith in
+    let to : c.len-to.result ≡ length c.loop-k.self.ops = omega arith in
     let whole : take c.loop-k.k c.args.ops.now ≡ c.args.ops.now = take_all c.loop-k.k c.args.ops.now (omega arith) in
     let all = rows_run op_column op_of OpWithin c.args.self.now c.loop-k.self (take c.loop-k.k c.args.ops.now) (record { from = c.len-from.result; to = c.len-to.result }) c.loop-k.invariant.1.0 from to in
     (all.0, all.1 ∙ whole, all.2)
