@@ -143,7 +143,7 @@ impl Builder {
             unit,
             place,
             first: self.open_from as u32,
-            count: (self.cells.len() - self.open_from) as u32,
+            count: (self.cells.len() - self.open_from) as u16,
             tag,
         };
         self.heads.push(head)?;

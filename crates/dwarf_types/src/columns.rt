@@ -17,9 +17,12 @@ pub(crate) struct Head {
     pub(crate) unit: u32,
     pub(crate) place: u32,
     pub(crate) first: u32,
-    pub(crate) count: u32,
+    /// At most `MOST_FIELDS`.
+    pub(crate) count: u16,
     pub(crate) tag: u16,
 }
+
+const _: () = prove!(size_of::<Head>() == 20);
 
 /// An attribute.
 #[derive(Clone, Copy)]
@@ -29,6 +32,8 @@ pub(crate) struct Cell {
     pub(crate) kind: Kind,
     pub(crate) payload: u32,
 }
+
+const _: () = prove!(size_of::<Cell>() == 8);
 
 impl Head {
     /// The number of the parent, if there is one.
@@ -61,7 +66,7 @@ pub(crate) fn cells_in<'a, C>(cells: &'a [C], head: &Head) -> &'a [C]
     ensures { result.now ≡ cells_of cells.now head.now }
 {
     let first = head.first as usize;
-    &cells[first..first + head.count as usize]
+    &cells[first..first + usize::from(head.count)]
 }
 
 /// The cells from a place on.
