@@ -1,6 +1,4 @@
 pub mod FileRoom
-pub mod KeptSymbols
-pub mod Left
 pub mod Records
 pub mod RoomAbove
 pub mod SegmentCommands

@@ -1,5 +1,5 @@
 -- The records of segment `__DWARF`, one at a time.
-use Rattle.std.proofs.Common.{◌≡◌, ℕ, ◌+◌, ◌<◌, List, ◌++◌, length, drop, map, get_or, sym, ap, ◌∙◌}
+use Rattle.std.proofs.Common.{◌≡◌, ℕ, ◌+◌, ◌<◌, List, ◌++◌, length, drop, map, get_or, append_assoc, sym, ap, ◌∙◌}
 use Rattle.ds_base.specs.declared.fault.Part.{Part}
 use Rattle.ds_base.proofs.Walking.{drop_one}
 use Rattle.layout.specs.declared.sizes.Sizes.{Sizes}
@@ -8,10 +8,17 @@ use Rattle.dsym_write.specs.Pieces.{records_from, sized_bytes, total, with_size}
 
 module _ (sizes : Sizes) (parts : List Part) (i : ℕ) (p : Part) (size : ℕ) (lt : i < length parts) (is : p ≡ get_or parts i p) (size_is : size ≡ size_in sizes p) where
   -- what is left begins with the record of the next part
-  pub records_step : (addr offset : ℕ) → records_from addr offset (map (with_size sizes) (drop i parts)) ≡ sized_bytes addr offset p size ++ records_from (addr + size) (offset + size) (map (with_size sizes) (drop (i + 1) parts))
+  records_step : (addr offset : ℕ) → records_from addr offset (map (with_size sizes) (drop i parts)) ≡ sized_bytes addr offset p size ++ records_from (addr + size) (offset + size) (map (with_size sizes) (drop (i + 1) parts))
   records_step addr offset =
       ap (λ (ps : List Part). records_from addr offset (map (with_size sizes) ps)) (drop_one parts i p lt is)
       ∙ ap (λ (n : ℕ). sized_bytes addr offset p n ++ records_from (addr + n) (offset + n) (map (with_size sizes) (drop (i + 1) parts))) (sym size_is)
+
+  pub records_more : (addr offset wide : ℕ) (out new all : List ℕ) → wide ≡ size → new ≡ out ++ sized_bytes addr offset p size → out ++ records_from addr offset (map (with_size sizes) (drop i parts)) ≡ all
+      → new ++ records_from (addr + size) (offset + wide) (map (with_size sizes) (drop (i + 1) parts)) ≡ all
+  records_more addr offset wide out new all same one h =
+      let rest : List ℕ = records_from (addr + size) (offset + size) (map (with_size sizes) (drop (i + 1) parts)) in
+      ap (λ (n : ℕ). new ++ records_from (addr + size) (offset + n) (map (with_size sizes) (drop (i + 1) parts))) same
+      ∙ ap (λ (front : List ℕ). front ++ rest) one ∙ append_assoc out (sized_bytes addr offset p size) rest ∙ ap (λ (back : List ℕ). out ++ back) (sym (records_step addr offset)) ∙ h
 
   pub total_step : total (map (with_size sizes) (drop i parts)) ≡ size + total (map (with_size sizes) (drop (i + 1) parts))
   total_step =

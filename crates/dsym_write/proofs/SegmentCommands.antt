@@ -1,79 +1,64 @@
--- A program's segments, one command at a time, and how long they are.
-use Rattle.std.proofs.Common.{◌≡◌, ℕ, suc, ◌+◌, ◌*◌, ◌-◌, ◌≤◌, ◌<◌, List, [], ◌∷◌, ◌++◌, length, take, drop, map, get_or, replicate, append_assoc, append-nil, arith, refl, sym, ap, ◌∙◌, length-append}
-use Rattle.std.specs.List.{All, flat_map}
-use Rattle.std.proofs.lemmas.List.{length-replicate}
-use Rattle.byteorder.specs.Endian.{little_bytes}
-use Rattle.ds_base.specs.declared.macho.TheConstants.{LC_SEGMENT_64}
-use Rattle.ds_base.proofs.Walking.{drop_one}
+-- How long the commands of a program's segments are.
+use Rattle.std.proofs.Common.{◌≡◌, suc, ◌+◌, ◌*◌, false, List, [], ◌∷◌, ◌++◌, length, take, drop, arith, refl, ap, length-append, append-nil}
+use Rattle.std.specs.List.{All, flat_map, sum_by}
+use Rattle.std.proofs.lemmas.List.{length-drop, length-take-le}
+use Rattle.std.proofs.lemmas.List.Elements.{All-drop, All-take}
+use Rattle.std.proofs.lemmas.List.Sums.{sum_by-cons}
 use Rattle.macho_read.specs.declared.image.Section.{Section}
 use Rattle.macho_read.specs.declared.image.Segment.{Segment}
-use Rattle.macho_read.specs.ImageSpelling.{SegmentCommand, command_of}
+use Rattle.macho_read.specs.ImageSpelling.{command_of}
 use Rattle.macho_read.specs.Sound.{IsSoundSection, IsSoundSegment}
-use Rattle.macho_read.specs.Spelling.{command_bytes, padded, section_bytes, section_fields, segment_fields, spelled}
-use Rattle.dsym_write.specs.Bundle.{segment_commands, without_file}
-use Rattle.dsym_write.specs.Pieces.{commands_text}
+use Rattle.macho_read.specs.Spelling.{command_bytes, padded, section_bytes, segment_fields, spelled}
+use Rattle.macho_write.specs.Records.{commands_text, placed_section, placed_sections, segment_command, segment_commands}
+use Rattle.macho_write.proofs.Lengths.{length-section}
+use Rattle.macho_write.proofs.Padding.{length-padded}
 
-pub length-padded : (name : List ℕ) → length name ≤ 16 → length (padded name) ≡ 16
-length-padded name few = omega (arith, few, length-append name (replicate (16 - length name) 0), length-replicate {A = ℕ} (16 - length name) 0)
-
-pub length-section : (s : Section) → length s.name ≤ 16 → length s.segment ≤ 16 → length (section_bytes s) ≡ 80
-length-section s name segment =
-    omega (
-      arith,
-      length-append (padded s.name ++ padded s.segment) (spelled (section_fields s)),
-      length-append (padded s.name) (padded s.segment),
-      length-padded s.name name,
-      length-padded s.segment segment,
-    )
-
-abbrev pub own_bytes : List Section → List ℕ
-own_bytes own = flat_map (λ s. section_bytes (without_file s)) own
-
-own_same : (own : List Section) → flat_map section_bytes (map without_file own) ≡ own_bytes own
-own_same [] = refl
-own_same (s ∷ own) = ap (λ (rest : List ℕ). section_bytes (without_file s) ++ rest) (own_same own)
-
-pub length-own : (own : List Section) → All IsSoundSection own → length (own_bytes own) ≡ 80 * length own
+length-own : (own : List Section) → All IsSoundSection own → length (flat_map section_bytes (placed_sections false own)) ≡ 80 * length own
 length-own [] sound = refl
 length-own (s ∷ own) sound =
     let first = sound 0 s (omega arith) in
     omega (
       arith,
-      length-append (section_bytes (without_file s)) (own_bytes own),
-      length-section (without_file s) first.name first.segment,
+      length-append (section_bytes (placed_section false s)) (flat_map section_bytes (placed_sections false own)),
+      length-section (placed_section false s) first.name first.segment,
       length-own own (λ k d lt. sound (suc k) d (omega (arith, lt))),
     )
 
-module _ (s : Segment) (own : List Section) (segment : IsSoundSegment s) (sections : All IsSoundSection own) where
-  body : (padded s.name ++ (spelled (segment_fields 0 0 s))) ++ (flat_map section_bytes (map without_file own) ++ []) ≡ (padded s.name ++ (spelled (segment_fields 0 0 s))) ++ own_bytes own
-  body = ap (λ (back : List ℕ). (padded s.name ++ (spelled (segment_fields 0 0 s))) ++ back) (append-nil (flat_map section_bytes (map without_file own)) ∙ own_same own)
+length-segment : (s : Segment) (own : List Section) → IsSoundSegment s → All IsSoundSection own → length (command_bytes (command_of (segment_command false (s, own)))) ≡ 72 + 80 * length own
+length-segment s own segment sections =
+    let front = padded s.name ++ spelled (segment_fields 0 0 s) in
+    let records = flat_map section_bytes (placed_sections false own) in
+    omega (
+      arith,
+      length-append front (records ++ []),
+      length-append (padded s.name) (spelled (segment_fields 0 0 s)),
+      ap length (append-nil records),
+      length-padded s.name segment.name,
+      length-own own sections,
+    )
 
-  body_len : 8 + length ((padded s.name ++ (spelled (segment_fields 0 0 s))) ++ (flat_map section_bytes (map without_file own) ++ [])) ≡ 72 + 80 * length own
-  body_len =
-      omega (
-        arith,
-        ap length body,
-        length-append (padded s.name ++ (spelled (segment_fields 0 0 s))) (own_bytes own),
-        length-append (padded s.name) (spelled (segment_fields 0 0 s)),
-        length-padded s.name segment.name,
-        length-own own sections,
-      )
+pub length-commands : (segments : List Segment) (sections : List Section) → All IsSoundSegment segments → All IsSoundSection sections → sum_by (λ s. s.sections) segments ≡ length sections
+    → length (commands_text (segment_commands false segments sections)) ≡ 72 * length segments + 80 * length sections
+length-commands [] sections segment section counts = omega (arith, counts)
+length-commands (s ∷ segments) sections segment section counts =
+    let own = take s.sections sections in
+    let rest = drop s.sections sections in
+    let all = counts in
+    let cons = sum_by-cons (λ (it : Segment). it.sections) s segments in
+    let here : length own ≡ s.sections = length-take-le s.sections sections (omega (arith, all, cons)) in
+    let there = length-drop s.sections sections in
+    let more : sum_by (λ (it : Segment). it.sections) segments ≡ length rest = omega (arith, all, cons, there) in
+    omega (
+      arith,
+      length-append (command_bytes (command_of (segment_command false (s, own)))) (commands_text (segment_commands false segments rest)),
+      length-segment s own (segment 0 s (omega arith)) (All-take IsSoundSection s.sections sections section),
+      length-commands segments rest (λ k d lt. segment (suc k) d (omega (arith, lt))) (All-drop IsSoundSection s.sections sections section) more,
+      here,
+      there,
+      all,
+      cons,
+    )
 
-  pub length-segment : length (command_bytes (command_of (SegmentCommand s 0 0 (map without_file own) []))) ≡ 72 + 80 * length own
-  length-segment = omega (arith, body_len)
-
-  -- its number and size, its name, its numbers and its sections
-  pub segment_is : flat_map (little_bytes 4) (LC_SEGMENT_64 ∷ (72 + 80 * length own) ∷ []) ++ (padded s.name ++ (spelled (segment_fields 0 0 s) ++ own_bytes own))
-      ≡ command_bytes (command_of (SegmentCommand s 0 0 (map without_file own) []))
-  segment_is =
-      ap (λ (n : ℕ). spelled ((4, LC_SEGMENT_64) ∷ (4, n) ∷ []) ++ (padded s.name ++ ((spelled (segment_fields 0 0 s)) ++ own_bytes own))) (sym body_len)
-      ∙ ap (λ (back : List ℕ). spelled ((4, LC_SEGMENT_64) ∷ (4, 8 + length ((padded s.name ++ (spelled (segment_fields 0 0 s))) ++ (flat_map section_bytes (map without_file own) ++ []))) ∷ []) ++ back)
-      (sym (append_assoc (padded s.name) (spelled (segment_fields 0 0 s)) (own_bytes own)) ∙ sym body)
-
--- what is left begins with the next segment's command
-pub segments_step : (segments : List Segment) (left own others : List Section) (i : ℕ) (s : Segment) → i < length segments → s ≡ get_or segments i s → own ≡ take s.sections left → others ≡ drop s.sections left
-    → commands_text (segment_commands (drop i segments) left) ≡ command_bytes (command_of (SegmentCommand s 0 0 (map without_file own) [])) ++ commands_text (segment_commands (drop (i + 1) segments) others)
-segments_step segments left own others i s lt is own_is others_is =
-    ap (λ (ss : List Segment). commands_text (segment_commands ss left)) (drop_one segments i s lt is)
-    ∙ ap (λ (mine : List Section). command_bytes (command_of (SegmentCommand s 0 0 (map without_file mine) [])) ++ commands_text (segment_commands (drop (i + 1) segments) (drop s.sections left))) (sym own_is)
-    ∙ ap (λ (more : List Section). command_bytes (command_of (SegmentCommand s 0 0 (map without_file own) [])) ++ commands_text (segment_commands (drop (i + 1) segments) more)) (sym others_is)
+pub count-commands : (segments : List Segment) (sections : List Section) → length (segment_commands false segments sections) ≡ length segments
+count-commands [] sections = refl
+count-commands (s ∷ segments) sections = let h = count-commands segments (drop s.sections sections) in omega (arith, h)

@@ -2,10 +2,9 @@
 use Rattle.std.proofs.Common.{◌≡◌, ℕ, ◌+◌, ◌*◌, ◌≤◌, ◌==◌, Bool, true, false, not, List, [], ◌∷◌, ◌++◌, length, map, filter, if◌then◌else◌, arith, refl, sym, ap, ◌∙◌, append-nil, length-append}
 use Rattle.std.specs.List.{flat_map}
 use Rattle.std.proofs.lemmas.Bool.{eqb-true}
-use Rattle.byteorder.specs.Endian.{little_bytes}
 use Rattle.ds_base.specs.declared.fault.Part.{Part}
 use Rattle.ds_base.specs.declared.fault.Part.TheVariants as parts
-use Rattle.ds_base.specs.declared.macho.TheConstants.{LC_SEGMENT_64, SEG_DWARF, VM_PROT_ALL, VM_PROT_DEFAULT}
+use Rattle.ds_base.specs.declared.macho.TheConstants.{VM_PROT_ALL, VM_PROT_DEFAULT}
 use Rattle.dwarf_types.specs.declared.graph.Graph.{Graph}
 use Rattle.dwarf_types.specs.declared.graph.Written.{Written}
 use Rattle.dwarf_types.specs.Encode.{abbrev_section, aranges_section, encode, frame_section, has_bytes, info_section, line_section, line_str_section, loc_section, loclists_section, ranges_section, rnglists_section, str_section}
@@ -13,11 +12,11 @@ use Rattle.layout.specs.declared.sizes.Sizes.{Sizes}
 use Rattle.layout.specs.Laid.{sizes_of}
 use Rattle.macho_read.specs.declared.image.Image.{Image}
 use Rattle.macho_read.specs.ImageSpelling.{command_of}
-use Rattle.macho_read.specs.Spelling.{command_bytes, padded, section_bytes, segment_fields, spelled}
-use Rattle.macho_read.specs.Fields.{before_zero}
+use Rattle.macho_read.specs.Spelling.{command_bytes, section_bytes}
+use Rattle.macho_write.specs.declared.records.SegmentNumbers.{SegmentNumbers}
+use Rattle.macho_write.proofs.Lengths.{length-section}
 use Rattle.dsym_write.specs.Bundle.{contents, dwarf_command, dwarf_section, dwarf_sections, end_of, name_of_part, page_end}
-use Rattle.dsym_write.specs.Pieces.{count_of, records_from, segment_with, sized, total}
-use Rattle.dsym_write.proofs.SegmentCommands.{length-section}
+use Rattle.dsym_write.specs.Pieces.{count_of, dwarf_with, records_from, sized, total}
 
 abbrev pub told : Written → Part × ℕ
 told s = (s.part, length s.bytes)
@@ -76,7 +75,7 @@ graph_told graph =
 
 -- ---- segment `__DWARF`
 
-name_short : (part : Part) → length (name_of_part part) ≤ 16
+pub name_short : (part : Part) → length (name_of_part part) ≤ 16
 name_short parts.Abbrev = omega arith
 name_short parts.Info = omega arith
 name_short parts.Str = omega arith
@@ -101,36 +100,19 @@ length-dwarf (s ∷ ws) addr offset =
       length-dwarf ws (addr + length s.bytes) (offset + length s.bytes),
     )
 
-abbrev pub dwarf_with : ℕ → ℕ → ℕ → ℕ → List ℕ → List ℕ
-dwarf_with vmaddr offset size count records =
-    flat_map (little_bytes 4) (LC_SEGMENT_64 ∷ (72 + 80 * count) ∷ [])
-    ++ (SEG_DWARF
-    ++ (spelled
-    (segment_fields offset size
-    (segment_with []
-    (record {
-      vmaddr = vmaddr;
-      vmsize = page_end size;
-      fileoff = offset;
-      filesize = size;
-      maxprot = VM_PROT_ALL;
-      initprot = VM_PROT_DEFAULT;
-      sections = count;
-      flags = 0;
-    })))
-    ++ records))
+-- the numbers of segment `__DWARF` at an address and an offset of the file, of a size and so many sections
+abbrev pub numbers : ℕ → ℕ → ℕ → ℕ → SegmentNumbers
+numbers vmaddr offset size count = record { vmaddr = vmaddr; vmsize = page_end size; fileoff = offset; filesize = size; maxprot = VM_PROT_ALL; initprot = VM_PROT_DEFAULT; sections = count; flags = 0 }
 
 module _ (program : Image) (offset : ℕ) (ws : List Written) where
-  abbrev pub mine : List ℕ
-  mine = flat_map section_bytes (dwarf_sections (page_end (end_of program.segments)) offset ws)
+  abbrev start : ℕ
+  start = page_end (end_of program.segments)
 
-  pub dwarf_is : dwarf_with (page_end (end_of program.segments)) offset (length (contents ws)) (length ws) mine ≡ command_bytes (command_of (dwarf_command program offset ws))
-  dwarf_is =
-      let numbers = spelled (segment_fields offset (length (contents ws)) (segment_with [] (record { vmaddr = page_end (end_of program.segments); vmsize = page_end (length (contents ws)); fileoff = offset; filesize = length (contents ws); maxprot = VM_PROT_ALL; initprot = VM_PROT_DEFAULT; sections = length ws; flags = 0 }))) in
-      let body = (padded (before_zero SEG_DWARF) ++ numbers) ++ (mine ++ []) in
-      let size : 72 + 80 * length ws ≡ 8 + length body = omega (arith, ap length (append-nil mine), length-dwarf ws (page_end (end_of program.segments)) offset) in
-      ap (λ (n : ℕ). flat_map (little_bytes 4) (LC_SEGMENT_64 ∷ n ∷ []) ++ (SEG_DWARF ++ (numbers ++ mine))) size
-      ∙ ap (λ (back : List ℕ). flat_map (little_bytes 4) (LC_SEGMENT_64 ∷ (8 + length body) ∷ []) ++ (SEG_DWARF ++ (numbers ++ back))) (sym (append-nil mine))
+  abbrev pub mine : List ℕ
+  mine = flat_map section_bytes (dwarf_sections start offset ws)
+
+  pub dwarf_is : dwarf_with (numbers start offset (length (contents ws)) (length ws)) mine ≡ command_bytes (command_of (dwarf_command program offset ws))
+  dwarf_is = ap (dwarf_with (numbers start offset (length (contents ws)) (length ws))) (sym (append-nil mine))
 
   pub length-dwarf_with : length (command_bytes (command_of (dwarf_command program offset ws))) ≡ 72 + 80 * length ws
-  length-dwarf_with = omega (arith, ap length (append-nil mine), length-dwarf ws (page_end (end_of program.segments)) offset)
+  length-dwarf_with = omega (arith, ap length (append-nil mine), length-dwarf ws start offset)

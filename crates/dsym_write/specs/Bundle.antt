@@ -1,11 +1,10 @@
 -- The image file of a bundle: a Mach-O file of debugging information alone (mach-o/loader.h), with the commands and the symbols of the program for which it stands.
-use Rattle.std.specs.Prelude.{◌≡◌, ℕ, ◌+◌, ◌-◌, ◌*◌, ◌/◌, ◌<◌, ◌≤◌, ◌^◌, ◌==◌, not, max, Bool, List, [], ◌∷◌, ◌++◌, length, map, take, drop, replicate, Option, Result, Ok, Err, if◌then◌else◌}
-use Rattle.std.specs.List.{filter, flat_map}
-use Rattle.std.specs.Option.{option_map, option_map_or, option_to_list}
+use Rattle.std.specs.Prelude.{◌≡◌, ℕ, ◌+◌, ◌-◌, ◌*◌, ◌/◌, ◌<◌, ◌≤◌, ◌^◌, max, false, List, [], ◌∷◌, ◌++◌, length, replicate, Result, Ok, Err}
+use Rattle.std.specs.List.{flat_map}
+use Rattle.std.specs.Option.{option_map_or}
 use Rattle.ds_base.specs.declared.fault.Part.{Part}
 use Rattle.ds_base.specs.declared.fault.Part.TheVariants as parts
 use Rattle.ds_base.specs.declared.macho.TheConstants.{MACH_HEADER_64_SIZE, MH_DSYM, NLIST_64_SIZE, SECT_DEBUG_ABBREV, SECT_DEBUG_ARANGES, SECT_DEBUG_FRAME, SECT_DEBUG_INFO, SECT_DEBUG_LINE, SECT_DEBUG_LINE_STR, SECT_DEBUG_LOC, SECT_DEBUG_LOCLISTS, SECT_DEBUG_RANGES, SECT_DEBUG_RNGLISTS, SECT_DEBUG_STR, SECTION_64_SIZE, SEGMENT_COMMAND_64_SIZE, SEG_DWARF, SYMTAB_COMMAND_SIZE, S_ATTR_DEBUG, UUID_COMMAND_SIZE, VM_PROT_EXECUTE, VM_PROT_READ, VM_PROT_WRITE}
-use Rattle.ds_base.specs.Texts.{section_of}
 use Rattle.dwarf_types.specs.declared.graph.Graph.{Graph}
 use Rattle.dwarf_types.specs.declared.graph.Written.{Written}
 use Rattle.dwarf_types.specs.Encode.{encode}
@@ -14,9 +13,10 @@ use Rattle.macho_read.specs.declared.image.Section.{Section}
 use Rattle.macho_read.specs.declared.image.Segment.{Segment}
 use Rattle.macho_read.specs.declared.image.Symbol.{Symbol}
 use Rattle.macho_read.specs.Fields.{before_zero}
-use Rattle.macho_read.specs.ImageSpelling.{File, LoadCommand, SegmentCommand, SymtabCommand, UuidCommand, commands_bytes, header_fields, nlist_bytes}
+use Rattle.macho_read.specs.ImageSpelling.{File, LoadCommand, SegmentCommand, commands_bytes, header_fields}
 use Rattle.macho_read.specs.Spelling.{spelled}
-use Rattle.macho_read.specs.Standings.{is_stab}
+use Rattle.macho_write.specs.Records.{segment_commands, symbol_table, uuid_command}
+use Rattle.macho_write.specs.SymbolTable.{chosen, strings_bytes, symbols_bytes, with_places}
 use Rattle.dsym_write.specs.declared.error.WriteError.{WriteError}
 use Rattle.dsym_write.specs.declared.error.WriteError.TheVariants as errors
 
@@ -24,33 +24,7 @@ use Rattle.dsym_write.specs.declared.error.WriteError.TheVariants as errors
 
 -- those of the program that are not stabs
 abbrev pub kept_symbols : Image → List Symbol
-kept_symbols program = filter (λ s. not (is_stab s)) program.symbols
-
-abbrev pub is_empty : List ℕ → Bool
-is_empty name = length name == 0
-
--- the strings: a zero byte, then the names that are not empty, each ended by one
-abbrev pub strings_bytes : List Symbol → List ℕ
-strings_bytes symbols = 0 ∷ section_of (filter (λ name. not (is_empty name)) (map (λ s. s.name) symbols))
-
--- symbols with the places of their names in the strings, from a place on; an empty name has the place 0
-abbrev pub with_places : ℕ → List Symbol → List (ℕ × Symbol)
-with_places at [] = []
-with_places at (s ∷ symbols) = if is_empty s.name then (0, s) ∷ with_places at symbols else (at, s) ∷ with_places (at + length s.name + 1) symbols
-
-abbrev pub symbols_bytes : List Symbol → List ℕ
-symbols_bytes symbols = flat_map nlist_bytes (with_places 1 symbols)
-
--- ---- the program's segments
-
--- a section without what it has in the program's file
-abbrev pub without_file : Section → Section
-without_file s = record s { offset = 0; reloff = 0; nreloc = 0 }
-
--- the segments with their sections, which follow one another
-abbrev pub segment_commands : List Segment → List Section → List LoadCommand
-segment_commands [] sections = []
-segment_commands (s ∷ segments) sections = SegmentCommand s 0 0 (map without_file (take s.sections sections)) [] ∷ segment_commands segments (drop s.sections sections)
+kept_symbols program = chosen false program.symbols
 
 -- ---- segment `__DWARF`
 
@@ -143,22 +117,12 @@ sections_place program sections = page_end (strings_end program sections)
 -- ---- the file
 
 abbrev pub symtab_command : Image → List Written → LoadCommand
-symtab_command program sections =
-    SymtabCommand
-    (record {
-      symoff = symbols_place program sections;
-      nsyms = length (kept_symbols program);
-      stroff = strings_place program sections;
-      strsize = length (strings_bytes (kept_symbols program));
-    }) []
-
-abbrev pub uuid_command : Option (List ℕ) → List LoadCommand
-uuid_command uuid = option_to_list (option_map (λ bytes. UuidCommand bytes []) uuid)
+symtab_command program sections = symbol_table (symbols_place program sections) (length (kept_symbols program)) (length (strings_bytes (kept_symbols program)))
 
 abbrev pub commands_of : Image → List Written → List LoadCommand
 commands_of program sections =
     uuid_command program.uuid ++ (symtab_command program sections
-    ∷ (segment_commands program.segments program.sections ++ (dwarf_command program (sections_place program sections) sections ∷ [])))
+    ∷ (segment_commands false program.segments program.sections ++ (dwarf_command program (sections_place program sections) sections ∷ [])))
 
 abbrev pub file_of : Image → List Written → File
 file_of program sections =

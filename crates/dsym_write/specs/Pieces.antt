@@ -1,56 +1,23 @@
 -- Stations between the code and the definitions: the parts of an image file, as they are written.
-use Rattle.std.specs.Prelude.{◌≡◌, ℕ, ◌+◌, ◌*◌, ◌<◌, ◌≤◌, ◌^◌, ◌==◌, ◌||◌, Bool, List, [], ◌∷◌, ◌++◌, length, map, Option, if◌then◌else◌}
-use Rattle.std.specs.List.{flat_map}
+use Rattle.std.specs.Prelude.{◌≡◌, ℕ, ◌+◌, ◌*◌, ◌<◌, ◌≤◌, ◌^◌, ◌==◌, false, List, [], ◌∷◌, ◌++◌, length, map, if◌then◌else◌}
 use Rattle.std.specs.Option.{option_map_or}
-use Rattle.byteorder.specs.Endian.{little_bytes}
 use Rattle.ds_base.specs.declared.fault.Part.{Part}
-use Rattle.ds_base.specs.declared.macho.TheConstants.{LC_SEGMENT_64, LC_SYMTAB, MACH_HEADER_64_SIZE, MH_DSYM, MH_MAGIC_64, NLIST_64_SIZE, SECTION_64_SIZE, SEGMENT_COMMAND_64_SIZE, SEG_DWARF, SYMTAB_COMMAND_SIZE, UUID_COMMAND_SIZE, VM_PROT_ALL, VM_PROT_DEFAULT}
-use Rattle.ds_base.specs.Texts.{ended}
+use Rattle.ds_base.specs.declared.macho.TheConstants.{LC_SEGMENT_64, MACH_HEADER_64_SIZE, MH_DSYM, NLIST_64_SIZE, SECTION_64_SIZE, SEGMENT_COMMAND_64_SIZE, SEG_DWARF, SYMTAB_COMMAND_SIZE, UUID_COMMAND_SIZE, VM_PROT_ALL, VM_PROT_DEFAULT}
 use Rattle.layout.specs.declared.sizes.Sizes.{Sizes}
 use Rattle.layout.specs.Laid.{size_in}
 use Rattle.macho_read.specs.declared.image.Image.{Image}
-use Rattle.macho_read.specs.declared.image.Section.{Section}
 use Rattle.macho_read.specs.declared.image.Segment.{Segment}
-use Rattle.macho_read.specs.declared.image.Symbol.{Symbol}
 use Rattle.macho_read.specs.Commands.{last_end}
-use Rattle.macho_read.specs.ImageSpelling.{LoadCommand, command_of, nlist_bytes}
-use Rattle.macho_read.specs.Spelling.{command_bytes, section_bytes, segment_fields, spelled}
-use Rattle.macho_read.specs.Standings.{is_stab}
+use Rattle.macho_read.specs.ImageSpelling.{command_of}
+use Rattle.macho_read.specs.Spelling.{command_bytes, padded, section_bytes, segment_fields, spelled}
+use Rattle.macho_write.specs.declared.records.SegmentNumbers.{SegmentNumbers}
+use Rattle.macho_write.specs.Records.{IsUuidLen, commands_text, header_bytes, segment_commands, segment_with, symbol_table, uuid_command}
+use Rattle.macho_write.specs.SymbolTable.{strings_bytes}
 use Rattle.dsym_write.specs.declared.error.WriteError.{WriteError}
 use Rattle.dsym_write.specs.declared.error.WriteError.TheVariants as errors
-use Rattle.dsym_write.specs.declared.segments.SectionNumbers.{SectionNumbers}
-use Rattle.dsym_write.specs.declared.segments.SegmentNumbers.{SegmentNumbers}
 use Rattle.dsym_write.specs.declared.dwarf.TheConstants.{WRITTEN_PARTS}
 use Rattle.dsym_write.specs.declared.places.Places.{Places}
-use Rattle.dsym_write.specs.Bundle.{dwarf_section, end_of, is_empty, kept_symbols, page_end, segment_commands, uuid_command}
-
--- ---- segments
-
--- a segment of a name and these numbers
-abbrev pub segment_with : List ℕ → SegmentNumbers → Segment
-segment_with name n =
-    record { name = name; vmaddr = n.vmaddr; vmsize = n.vmsize; maxprot = n.maxprot; initprot = n.initprot; flags = n.flags; sections = n.sections }
-
--- a section of two names and these numbers
-abbrev pub section_with : List ℕ → List ℕ → SectionNumbers → Section
-section_with name segment n =
-    record {
-      name = name;
-      segment = segment;
-      addr = n.addr;
-      size = n.size;
-      offset = n.offset;
-      align = n.align;
-      reloff = 0;
-      nreloc = 0;
-      flags = n.flags;
-      reserved1 = n.reserved1;
-      reserved2 = n.reserved2;
-      reserved3 = n.reserved3;
-    }
-
-abbrev pub commands_text : List LoadCommand → List ℕ
-commands_text commands = flat_map command_bytes (map command_of commands)
+use Rattle.dsym_write.specs.Bundle.{dwarf_section, end_of, kept_symbols, page_end}
 
 -- ---- segment `__DWARF`
 
@@ -79,35 +46,12 @@ count_of (p ∷ parts) = if p.1 == 0 then count_of parts else 1 + count_of parts
 abbrev pub sized : Sizes → List (Part × ℕ)
 sized sizes = map (with_size sizes) WRITTEN_PARTS
 
--- ---- symbols
-
--- it has no name in the strings
-abbrev pub has_no_text : Symbol → Bool
-has_no_text s = is_stab s || is_empty s.name
-
--- what a symbol has in the strings
-abbrev pub text_of : Symbol → List ℕ
-text_of s = if has_no_text s then [] else ended s.name
-
--- and in the table, its name at a place of the strings
-abbrev pub entry_of : ℕ → Symbol → List ℕ
-entry_of place s = if is_stab s then [] else nlist_bytes ((if is_empty s.name then 0 else place), s)
-
--- symbols that follow one another, the texts of the first from a place on
-abbrev pub entries_from : ℕ → List Symbol → List ℕ
-entries_from place [] = []
-entries_from place (s ∷ symbols) = entry_of place s ++ entries_from (place + length (text_of s)) symbols
-
 -- ---- places
 
 -- the size of the commands, where `__DWARF` has so many sections
 abbrev pub commands_size : Image → ℕ → ℕ
 commands_size program sections =
     option_map_or (λ uuid. UUID_COMMAND_SIZE) program.uuid 0 + SYMTAB_COMMAND_SIZE + SEGMENT_COMMAND_64_SIZE * (length program.segments + 1) + SECTION_64_SIZE * (length program.sections + sections)
-
--- a UUID has 16 bytes
-abbrev pub IsUuidLen : Option (List ℕ) → Type 0
-IsUuidLen uuid = option_map_or (λ bytes. length bytes) uuid 16 ≡ 16
 
 -- a segment has room above it
 abbrev pub HasRoomAbove : Segment → Type 0
@@ -121,7 +65,7 @@ pub record ArePlaces (program : Image) (sizes : Sizes) (p : Places) : Type 0 whe
   pub symoff : p.symoff ≡ MACH_HEADER_64_SIZE + p.commands
   pub nsyms : p.nsyms ≡ length (kept_symbols program)
   pub stroff : p.stroff ≡ p.symoff + NLIST_64_SIZE * p.nsyms
-  pub strsize : p.strsize ≡ 1 + length (flat_map text_of program.symbols)
+  pub strsize : p.strsize ≡ length (strings_bytes (kept_symbols program))
   pub offset : p.offset ≡ page_end (p.stroff + p.strsize)
   pub size : p.size ≡ p.offset + p.contents
   pub vmaddr : p.vmaddr ≡ page_end (end_of program.segments)
@@ -137,13 +81,7 @@ HasNoRoom size errors.NoMemory = size < 2 ^ 32
 
 -- how many commands there are
 abbrev pub commands_count : Image → ℕ
-commands_count program = option_map_or (λ uuid. 1) program.uuid 0 + 2 + length program.segments
-
-abbrev pub header_words : Image → Places → List ℕ
-header_words program p = MH_MAGIC_64 ∷ program.cpu ∷ program.sub ∷ MH_DSYM ∷ commands_count program ∷ p.commands ∷ 0 ∷ 0 ∷ []
-
-abbrev pub symtab_words : Places → List ℕ
-symtab_words p = LC_SYMTAB ∷ SYMTAB_COMMAND_SIZE ∷ p.symoff ∷ p.nsyms ∷ p.stroff ∷ p.strsize ∷ []
+commands_count program = length (uuid_command program.uuid) + 2 + length program.segments
 
 abbrev pub dwarf_numbers : Places → SegmentNumbers
 dwarf_numbers p =
@@ -158,21 +96,18 @@ dwarf_numbers p =
       flags = 0;
     }
 
--- segment `__DWARF` with its sections
-abbrev pub dwarf_text : Places → Sizes → List ℕ
-dwarf_text p sizes =
-    flat_map (little_bytes 4) (LC_SEGMENT_64 ∷ (SEGMENT_COMMAND_64_SIZE + SECTION_64_SIZE * p.sections) ∷ [])
-    ++ (SEG_DWARF
-    ++ (spelled (segment_fields (dwarf_numbers p).fileoff (dwarf_numbers p).filesize (segment_with [] (dwarf_numbers p)))
-    ++ records_from p.vmaddr p.offset (sized sizes)))
+-- segment `__DWARF` with the records of its sections
+abbrev pub dwarf_with : SegmentNumbers → List ℕ → List ℕ
+dwarf_with n records = command_bytes (record { cmd = LC_SEGMENT_64; body = (padded SEG_DWARF ++ spelled (segment_fields n.fileoff n.filesize (segment_with SEG_DWARF n))) ++ records })
 
--- the file up to the zeros behind the strings
-abbrev pub front_text : Image → Places → Sizes → List ℕ
-front_text program p sizes =
-    flat_map (little_bytes 4) (header_words program p)
+abbrev pub dwarf_text : Places → Sizes → List ℕ
+dwarf_text p sizes = dwarf_with (dwarf_numbers p) (records_from p.vmaddr p.offset (sized sizes))
+
+-- the header and the commands
+abbrev pub commands_front : Image → Places → Sizes → List ℕ
+commands_front program p sizes =
+    header_bytes program.cpu program.sub MH_DSYM (commands_count program) p.commands
     ++ (commands_text (uuid_command program.uuid)
-    ++ (flat_map (little_bytes 4) (symtab_words p)
-    ++ (commands_text (segment_commands program.segments program.sections)
-    ++ (dwarf_text p sizes
-    ++ (entries_from 1 program.symbols
-    ++ (0 ∷ flat_map text_of program.symbols))))))
+    ++ (command_bytes (command_of (symbol_table p.symoff p.nsyms p.strsize))
+    ++ (commands_text (segment_commands false program.segments program.sections)
+    ++ dwarf_text p sizes)))

@@ -1,132 +1,92 @@
 //! The header and the load commands (mach-o/loader.h).
 
-ghost use Rattle.std.specs.Prelude.{◌≡◌, ◌+◌, ◌*◌, ◌<◌, ◌≤◌, ◌^◌, length};
-ghost use Rattle.ds_base.specs.declared.macho.TheConstants.{SECTION_64_SIZE as section_record, SEGMENT_COMMAND_64_SIZE as segment_command};
-ghost use Rattle.ds_base.specs.Room.{Adds};
-ghost use Rattle.macho_read.specs.Sound.{IsSound};
-ghost use Rattle.dsym_write.specs.Bundle.{uuid_command};
+ghost use Rattle.std.specs.Prelude.{◌≡◌, ◌+◌, ◌<◌, ◌^◌, ◌++◌, IfOk, OnOk};
 ghost use Rattle.dsym_write.specs.Pieces;
-ghost use Rattle.dsym_write.specs.Pieces.{ArePlaces, commands_count, commands_text, dwarf_text, front_text};
+ghost use Rattle.dsym_write.specs.Pieces.{ArePlaces, commands_count, commands_front, dwarf_text};
 
-use crate::dwarf::{WRITTEN_PARTS, emit_records};
-use crate::fields::emit_words;
+use crate::dwarf::{WRITTEN_PARTS, append_parts};
 use crate::page::page_end;
 use crate::places::Places;
-use crate::segments::{SegmentNumbers, emit_segment_numbers, emit_segments};
-use crate::symbols::{emit_strings, emit_symbols};
-use ds_base::emit_bytes;
-use ds_base::macho::{
-    LC_SEGMENT_64, LC_SYMTAB, LC_UUID, MH_DSYM, MH_MAGIC_64, SECTION_64_SIZE, SEG_DWARF,
-    SEGMENT_COMMAND_64_SIZE, SYMTAB_COMMAND_SIZE, UUID_COMMAND_SIZE, VM_PROT_ALL, VM_PROT_DEFAULT,
-};
+use ds_base::macho::{LC_SEGMENT_64, MH_DSYM, SEG_DWARF, VM_PROT_ALL, VM_PROT_DEFAULT};
+use ds_base::{Bytes, NoMemory};
 use layout::Layout;
 use macho_read::Image;
+use macho_write::{
+    SegmentNumbers, append_command, append_header, append_segment, append_segments, append_symtab,
+    append_uuid, count_uuid,
+};
+use std::alloc::Global;
 
-/// Writes the file up to the end of the strings.
-pub(crate) fn emit_front(program: &Image, layout: &Layout, places: Places, room: &mut [u8]) -> usize
-    requires sound { IsSound program.now }
+/// The header and the load commands of the file.
+pub(crate) fn commands_of(
+    alloc: Global,
+    program: &Image,
+    layout: &Layout,
+    places: Places,
+) -> Result<Bytes, NoMemory>
     requires places { ArePlaces program.now layout.now.sizes places }
     requires small { places.size < 2 ^ 32 }
-    requires size { length room.old ≡ places.size }
-    requires fits { length (front_text program.now places layout.now.sizes) ≤ length room.old }
-    ensures { Adds room.old 0 (front_text program.now places layout.now.sizes) room.new result }
+    ensures { IfOk result (λ bytes. bytes ≡ commands_front program.now places layout.now.sizes) }
 {
-    let at = emit_words(room, 0, &header_words(program, places));
-    let at = emit_uuid(&program.uuid, room, at);
-    let at = emit_words(room, at, &symtab_words(places));
-    let at = emit_segments(
-        program.segments.as_slice(),
-        program.sections.as_slice(),
-        room,
-        at,
-    );
-    let at = emit_dwarf(layout, places, room, at);
-    let at = emit_symbols(&program.symbols, room, at);
-    emit_strings(&program.symbols, room, at)
-}
-
-/// The fields of the header (`mach_header_64`).
-fn header_words(program: &Image, places: Places) -> [u32; 8]
-    requires commands { places.commands < 2 ^ 32 }
-    requires count { commands_count program.now < 2 ^ 32 }
-    ensures { result ≡ Pieces.header_words program.now places }
-{
-    let uuids = match program.uuid {
-        Some(_) => 1,
-        None => 0,
-    };
-    // The symbol table's and segment `__DWARF`'s stand beside the program's own.
-    let count = uuids + 2 + program.segments.len();
-    [
-        MH_MAGIC_64,
+    let mut out = Bytes::new(alloc);
+    let count = count_commands(program);
+    append_header(
+        &mut out,
         program.cpu,
         program.sub,
         MH_DSYM,
-        count as u32,
-        places.commands as u32,
-        0,
-        0,
-    ]
+        count,
+        places.commands,
+    )?;
+    append_uuid(&mut out, &program.uuid)?;
+    append_symtab(&mut out, places.symoff, places.nsyms, places.strsize)?;
+    append_segments(
+        alloc,
+        &mut out,
+        program.segments.as_slice(),
+        program.sections.as_slice(),
+        false,
+    )?;
+    append_dwarf(alloc, &mut out, layout, places)?;
+    Ok(out)
 }
 
-/// The fields of the symbol table command (`symtab_command`).
-fn symtab_words(places: Places) -> [u32; 6]
-    requires symbols { places.symoff < 2 ^ 32 }
-    requires nsyms { places.nsyms < 2 ^ 32 }
-    requires strings { places.stroff < 2 ^ 32 }
-    requires strsize { places.strsize < 2 ^ 32 }
-    ensures { result ≡ Pieces.symtab_words places }
+/// How many commands there are. The symbol table's and segment `__DWARF`'s stand beside the program's own.
+fn count_commands(program: &Image) -> u128
+    ensures { result ≡ commands_count program.now }
 {
-    [
-        LC_SYMTAB,
-        SYMTAB_COMMAND_SIZE,
-        places.symoff as u32,
-        places.nsyms as u32,
-        places.stroff as u32,
-        places.strsize as u32,
-    ]
+    count_uuid(&program.uuid) + 2 + program.segments.len() as u128
 }
 
-/// Writes a UUID command, if there is a UUID (`uuid_command`).
-fn emit_uuid(uuid: &Option<[u8; 16]>, room: &mut [u8], at: usize) -> usize
-    requires fits { at + length (commands_text (uuid_command uuid.now)) ≤ length room.old }
-    ensures { Adds room.old at (commands_text (uuid_command uuid.now)) room.new result }
-{
-    let Some(bytes) = uuid else {
-        return at;
-    };
-    let at = emit_words(room, at, &[LC_UUID, UUID_COMMAND_SIZE]);
-    emit_bytes(room, at, bytes)
-}
-
-/// Writes segment `__DWARF` with its sections.
-fn emit_dwarf(layout: &Layout, places: Places, room: &mut [u8], at: usize) -> usize
+/// Puts segment `__DWARF` last, with its sections.
+fn append_dwarf(
+    alloc: Global,
+    out: &mut Bytes,
+    layout: &Layout,
+    places: Places,
+) -> Result<(), NoMemory>
     requires contents { places.contents ≡ Pieces.total (Pieces.sized layout.now.sizes) }
     requires above { places.vmaddr + places.contents < 2 ^ 64 }
     requires small { places.offset + places.contents < 2 ^ 32 }
-    requires few { segment_command + section_record * places.sections < 2 ^ 32 }
-    requires fits { at + length (dwarf_text places layout.now.sizes) ≤ length room.old }
-    ensures { Adds room.old at (dwarf_text places layout.now.sizes) room.new result }
+    ensures { OnOk result (out.new ≡ out.old ++ dwarf_text places layout.now.sizes) }
 {
-    let size = SEGMENT_COMMAND_64_SIZE as u64 + SECTION_64_SIZE as u64 * places.sections;
-    let at = emit_words(room, at, &[LC_SEGMENT_64, size as u32]);
-    let at = emit_bytes(room, at, &SEG_DWARF);
-    let at = emit_segment_numbers(room, at, dwarf_numbers(places));
-    emit_records(
+    let mut body = Bytes::new(alloc);
+    append_segment(&mut body, &SEG_DWARF, dwarf_numbers(places))?;
+    append_parts(
+        &mut body,
         &WRITTEN_PARTS,
         layout,
         places.vmaddr,
-        places.offset as u64,
-        room,
-        at,
-    )
+        places.offset,
+    )?;
+    append_command(out, LC_SEGMENT_64, body.as_slice())?;
+    Ok(())
 }
 
 /// The numbers of segment `__DWARF`. It may be read, written and run at most, and is read and written.
 fn dwarf_numbers(places: Places) -> SegmentNumbers
     requires contents { places.contents < 2 ^ 32 }
     requires offset { places.offset < 2 ^ 32 }
-    requires sections { places.sections < 2 ^ 32 }
     ensures { result ≡ Pieces.dwarf_numbers places }
 {
     SegmentNumbers {
@@ -136,7 +96,7 @@ fn dwarf_numbers(places: Places) -> SegmentNumbers
         filesize: places.contents as u64,
         maxprot: VM_PROT_ALL,
         initprot: VM_PROT_DEFAULT,
-        sections: places.sections as u32,
+        sections: u128::from(places.sections),
         flags: 0,
     }
 }

@@ -1,6 +1,6 @@
 //! The image file.
 
-ghost use Rattle.std.specs.Prelude.{◌≡◌, ◌+◌, ◌-◌, ◌<◌, ◌≤◌, ◌^◌, IfErr, IfOk, Ok, length, replicate};
+ghost use Rattle.std.specs.Prelude.{◌≡◌, ◌+◌, ◌-◌, ◌<◌, ◌≤◌, ◌^◌, IfErr, ◌++◌, IfOk, Ok, false, length, replicate};
 ghost use Rattle.ds_base.specs.Room.{Adds};
 ghost use Rattle.dwarf_types.specs.declared.graph.Graph.{Graph};
 ghost use Rattle.dwarf_types.specs.Encode.{encode};
@@ -9,24 +9,26 @@ ghost use Rattle.macho_read.specs.declared.kind.Role.TheVariants as roles;
 ghost use Rattle.macho_read.specs.Kind.{kind_of};
 ghost use Rattle.macho_read.specs.Sound.{IsSound};
 ghost use Rattle.dsym_write.specs.Bundle.{Writes, contents, image_file};
-ghost use Rattle.dsym_write.specs.Pieces.{ArePlaces, HasNoRoom};
+ghost use Rattle.dsym_write.specs.Pieces.{ArePlaces, HasNoRoom, commands_front};
+ghost use Rattle.macho_write.specs.SymbolTable.{chosen, strings_bytes, symbols_bytes};
 
-use crate::commands::emit_front;
+use crate::commands::commands_of;
 use crate::error::WriteError;
 use crate::places::{Places, places_of};
-use ds_base::{Bytes, NoMemory};
+use ds_base::{Bytes, NoMemory, emit_bytes};
 use layout::Layout;
-use macho_read::Image;
+use macho_read::{Image, Symbols};
+use macho_write::{emit_strings, emit_symbols};
 use section_write::emit_sections_by;
 use std::thread::Threads;
 
 /// The dSYM image of a program: the commands and the symbols of the program, and the sections of a graph that was
 /// measured (mach-o/loader.h).
 ///
-/// The program has no debug information yet. The file keeps its UUID, its segments and sections without their bytes, and
-/// the symbols that are not stabs. A file of 2^32 bytes or more is not made, and its size is told. The file takes the place
-/// of `room`, whatever that holds, and memory is asked for once, for what `room` has not. The sections are written by at
-/// most `workers` threads.
+/// The program has no debug information yet. The file keeps its UUID, its segments and sections without their bytes,
+/// and the symbols that are not stabs. A file of 2^32 bytes or more is not made, and its size is told. The file takes
+/// the place of `room`, whatever that holds, and memory is asked for once for what `room` has not, and for the
+/// commands. The sections are written by at most `workers` threads.
 pub fn image_in<R: Threads + Sync>(
     rt: &R,
     room: Vec<u8>,
@@ -42,7 +44,16 @@ pub fn image_in<R: Threads + Sync>(
 {
     let places = places_of(program, layout);
     let mut file = file_room(room, places.size)?;
-    write_image(rt, workers, program, layout, places, file.as_mut_slice());
+    let commands = commands_of(*file.allocator(), program, layout, places)?;
+    write_image(
+        rt,
+        workers,
+        program,
+        layout,
+        places,
+        commands.as_slice(),
+        file.as_mut_slice(),
+    );
     Ok(Bytes::from_vec(file))
 }
 
@@ -75,6 +86,7 @@ fn write_image<R: Threads + Sync>(
     program: &Image,
     layout: &Layout,
     places: Places,
+    commands: &[u8],
     room: &mut [u8],
 )
     requires workers { (1 ≤ workers) × (workers ≤ 64) }
@@ -82,12 +94,23 @@ fn write_image<R: Threads + Sync>(
     requires measured { IsMeasured layout.now }
     requires places { ArePlaces program.now layout.now.sizes places }
     requires small { places.size < 2 ^ 32 }
+    requires commands { commands.now ≡ commands_front program.now places layout.now.sizes }
     requires size { length room.old ≡ places.size }
     ensures { (graph : Graph) → Measures graph (Ok layout.now) → room.new ≡ image_file program.now graph }
 {
-    let at = emit_front(program, layout, places, room);
+    let at = emit_front(commands, &program.symbols, room);
     let at = emit_zeros(room, at, places.offset as usize);
     add_sections(rt, workers, layout, room, at);
+}
+
+/// Writes the file up to the end of the strings, with these bytes of the header and the commands.
+fn emit_front(commands: &[u8], symbols: &Symbols, room: &mut [u8]) -> usize
+    requires fits { length (commands.now ++ (symbols_bytes (chosen false symbols.now) ++ strings_bytes (chosen false symbols.now))) ≤ length room.old }
+    ensures { Adds room.old 0 (commands.now ++ (symbols_bytes (chosen false symbols.now) ++ strings_bytes (chosen false symbols.now))) room.new result }
+{
+    let at = emit_bytes(room, 0, commands);
+    let at = emit_symbols(symbols, false, room, at);
+    emit_strings(symbols, false, room, at)
 }
 
 /// Writes zeros up to a place.

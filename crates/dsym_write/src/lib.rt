@@ -9,15 +9,12 @@
 mod commands;
 mod dwarf;
 mod error;
-mod fields;
 mod image;
 mod page;
 mod places;
 mod plist;
-mod segments;
-mod symbols;
 
-pub use dwarf::{WRITTEN_PARTS, section_name};
+pub use dwarf::{WRITTEN_PARTS, append_part};
 pub use error::WriteError;
 pub use image::image_in;
 pub use plist::plist_text;

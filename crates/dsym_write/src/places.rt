@@ -1,26 +1,28 @@
 //! How large the parts of an image file are, and where they stand.
 
-ghost use Rattle.std.specs.Prelude.{◌≡◌, ◌+◌, ◌*◌, ◌<◌, ◌≤◌, ◌^◌, All, Ok, length, map};
+ghost use Rattle.std.specs.Prelude.{◌≡◌, ◌+◌, ◌*◌, ◌<◌, ◌≤◌, ◌^◌, All, Ok, filter, length, map, not};
 ghost use Rattle.std.specs.Option.{option_map_or};
 ghost use Rattle.ds_base.specs.declared.macho.TheConstants.{UUID_COMMAND_SIZE as uuid_command_size};
 ghost use Rattle.macho_read.specs.declared.kind.Role.TheVariants as roles;
 ghost use Rattle.macho_read.specs.Commands.{last_end};
 ghost use Rattle.macho_read.specs.Kind.{kind_of};
 ghost use Rattle.macho_read.specs.Sound.{IsSound};
+ghost use Rattle.macho_read.specs.Standings;
 ghost use Rattle.dsym_write.specs.Bundle;
 ghost use Rattle.dsym_write.specs.Bundle.{end_of};
-ghost use Rattle.dsym_write.specs.Pieces.{ArePlaces, HasRoomAbove, IsUuidLen, commands_size, count_of, total, with_size};
+ghost use Rattle.macho_write.specs.Records.{IsUuidLen};
+ghost use Rattle.dsym_write.specs.Pieces.{ArePlaces, HasRoomAbove, commands_size, count_of, total, with_size};
 
 use crate::dwarf::WRITTEN_PARTS;
 use crate::page::page_end;
-use crate::symbols::{count_kept, texts_size};
 use ds_base::Part;
 use ds_base::macho::{
     MACH_HEADER_64_SIZE, NLIST_64_SIZE, SECTION_64_SIZE, SEGMENT_COMMAND_64_SIZE,
     SYMTAB_COMMAND_SIZE,
 };
 use layout::{Layout, section_size};
-use macho_read::{Image, Segment};
+use macho_read::{Image, Segment, Symbols, is_stab};
+use macho_write::strings_size;
 
 /// The size of what all load commands begin with (`load_command`): the command, and its own size.
 const LOAD_COMMAND_SIZE: u64 = 8;
@@ -61,7 +63,7 @@ pub(crate) fn places_of(program: &Image, layout: &Layout) -> Places
     let symoff = u128::from(MACH_HEADER_64_SIZE) + commands;
     let nsyms = count_kept(&program.symbols);
     let stroff = symoff + u128::from(NLIST_64_SIZE) * u128::from(nsyms);
-    let strsize = 1 + texts_size(&program.symbols);
+    let strsize = strings_size(&program.symbols, false);
     let offset = page_end(stroff + strsize);
     Places {
         sections,
@@ -101,6 +103,20 @@ fn written_size(parts: &[Part], layout: &Layout) -> u128
         size += u128::from(section_size(layout, *part));
     }
     size
+}
+
+/// How many symbols are not stabs.
+fn count_kept(symbols: &Symbols) -> u64
+    ensures { result ≡ length (filter (λ s. not (Standings.is_stab s)) symbols.now) }
+{
+    let mut count = 0;
+    for i in 0..symbols.len() {
+        let symbol = symbols.symbol(i);
+        if !is_stab(symbol) {
+            count += 1;
+        }
+    }
+    count
 }
 
 /// The size of the commands, where `__DWARF` has so many sections.

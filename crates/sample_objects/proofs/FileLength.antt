@@ -1,19 +1,21 @@
 -- The files of the generated objects are short.
-use Rattle.std.proofs.Common.{◌∙◌, ◌≡◌, ◌≤◌, ◌<◌, ◌^◌, ◌+◌, ◌*◌, ℕ, zero, suc, List, [], ◌∷◌, ◌++◌, length, map, arith, refl, ap, length-append}
-use Rattle.std.specs.List.{All, AllByRecursion, range_with_len}
+use Rattle.std.proofs.Common.{◌∙◌, ◌≡◌, ◌≤◌, ◌<◌, ◌^◌, ◌+◌, ◌*◌, ℕ, zero, suc, Bool, true, false, if◌then◌else◌, List, [], ◌∷◌, ◌++◌, length, map, arith, refl, ap, length-append}
+use Rattle.std.specs.List.{All, AllByRecursion, flat_map, range_with_len}
 use Rattle.std.proofs.lemmas.List.{length-map}
 use Rattle.std.proofs.lemmas.List.Elements.{All-map}
 use Rattle.std.proofs.lemmas.List.FromFn.{get_or-range_with_len, length-range_with_len}
-use Rattle.dsym_write.specs.Bundle.{contents, strings_bytes, symbols_bytes, with_places}
-use Rattle.dsym_write.proofs.KeptSymbols.{length-nlists, length-placed}
+use Rattle.dsym_write.specs.Bundle.{contents}
+use Rattle.ds_base.specs.Texts.{ended}
 use Rattle.macho_read.specs.ImageSpelling.{commands_bytes, header_fields}
 use Rattle.macho_read.specs.Spelling.{spelled}
+use Rattle.macho_read.specs.declared.image.Symbol.{Symbol}
+use Rattle.macho_write.specs.SymbolTable.{is_empty, strings_bytes, symbols_bytes, text_of}
+use Rattle.macho_write.proofs.PlacedSymbols.{length-symbols, strings_are}
 use Rattle.reloc_table.specs.declared.relocation.Reloc.{Reloc}
 use Rattle.sample_objects.specs.declared.spec.ObjectSpec.{ObjectSpec}
 use Rattle.sample_objects.specs.GeneratedProgram.{generated_program, reloc_of, spec_of, symbol_of}
 use Rattle.sample_objects.specs.GeneratedUnit.{all_numbers}
 use Rattle.sample_objects.specs.ObjectFile.{commands_len, file_of, graph_of, line_relocs, object_bytes, relocs_bytes, sections_in, sections_of}
-use Rattle.sample_objects.proofs.PlacedSymbols.{texts_are, texts_few}
 use Rattle.sample_objects.proofs.Short.{AreShort, contents_few, sections_few}
 use Rattle.sample_objects.proofs.ShortNames.{symbol_short}
 use Rattle.sample_objects.proofs.Specs.{spec_short}
@@ -52,6 +54,15 @@ file_len spec =
     seven_len header commands sections relocs moved symbols strings
     ∙ ap (λ (n : ℕ). n + (length commands + (length sections + (length relocs + (length moved + (length symbols + length strings)))))) (length-header spec)
 
+-- short names make short strings
+texts_few : (symbols : List Symbol) → AllByRecursion (λ s. length s.name ≤ 12) symbols → length (flat_map (text_of true) symbols) ≤ 13 * length symbols
+texts_few [] short = omega arith
+texts_few (s ∷ symbols) short = by (is_empty s.name) short.0 (texts_few symbols short.1)
+  where
+    by : (b : Bool) → length s.name ≤ 12 → length (flat_map (text_of true) symbols) ≤ 13 * length symbols → length ((if b then [] else ended s.name) ++ flat_map (text_of true) symbols) ≤ 13 * length (s ∷ symbols)
+    by true few h = omega (arith, h)
+    by false few h = omega (arith, h, few, length-append (ended s.name) (flat_map (text_of true) symbols), length-append s.name (0 ∷ []))
+
 short_symbols : (i : ℕ) → i ≤ 1000 → (n a : ℕ) → a + n ≤ 100 → AllByRecursion (λ s. length s.name ≤ 12) (map (symbol_of i) (range_with_len a n))
 short_symbols i object zero a fits = tt
 short_symbols i object (suc n) a fits = (symbol_short i a object (omega (arith, fits)), short_symbols i object n (a + 1) (omega (arith, fits)))
@@ -83,8 +94,8 @@ object_short i object =
     whole_short _ _ (length (sections_of spec)) _ _ _ _ _ (file_len spec) (commands_length spec) (few_sections spec) (few_contents spec (spec_short i object))
     (omega (arith, length-relocs spec.relocs, length-map all_numbers (reloc_of i), numbers_len))
     refl
-    (omega (arith, length-nlists (with_places 1 spec.symbols), length-placed spec.symbols 1, symbols_len, numbers_len))
-    (omega (arith, ap length (texts_are spec.symbols), texts_few spec.symbols (names_short i object), symbols_len, numbers_len))
+    (omega (arith, length-symbols spec.symbols, symbols_len, numbers_len))
+    (omega (arith, ap length (strings_are true spec.symbols), texts_few spec.symbols (names_short i object), symbols_len, numbers_len))
 
 pub files_short : (count : ℕ) → count ≤ 1000 → All (λ file. length file < 2 ^ 32) (generated_program count).files
 files_short count few =

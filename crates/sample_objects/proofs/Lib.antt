@@ -2,7 +2,6 @@ pub mod FileLength
 pub mod LineSizes
 pub mod LowPlaces
 pub mod Modest
-pub mod PlacedSymbols
 pub mod ProgramCommands
 pub mod ProgramReadBack
 pub mod Ranges

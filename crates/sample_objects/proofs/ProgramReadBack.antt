@@ -5,9 +5,6 @@ use Rattle.std.proofs.lemmas.Bool.{eqb-true}
 use Rattle.std.proofs.lemmas.List.{drop_at, nil_from_length}
 use Rattle.ds_base.specs.declared.macho.TheConstants.{CPU_TYPE_ARM64, CPU_TYPE_X86_64}
 use Rattle.ds_base.specs.Texts.{ended}
-use Rattle.dsym_write.specs.Bundle.{is_empty, strings_bytes, symbols_bytes, uuid_command, with_places}
-use Rattle.dsym_write.specs.Pieces.{IsUuidLen, commands_text}
-use Rattle.dsym_write.proofs.KeptSymbols.{length-nlists, length-placed}
 use Rattle.macho_read.specs.declared.image.Image.{Image}
 use Rattle.macho_read.specs.declared.image.Section.{Section}
 use Rattle.macho_read.specs.declared.image.Segment.{Segment}
@@ -19,11 +16,12 @@ use Rattle.macho_read.specs.Spelling.{Command, command_bytes, spelled}
 use Rattle.macho_read.proofs.ImageReadBack.{images_again}
 use Rattle.macho_read.proofs.ReadBack.{length_command}
 use Rattle.macho_read.proofs.Soundness.{all_own}
-use Rattle.sample_objects.specs.ObjectFile.{symbol_table}
-use Rattle.sample_objects.specs.ProgramFile.{FitsFile, SymbolFits, commands_of, file_of, first_commands, program_bytes, segment_command, symbols_place, symtab_command}
-use Rattle.sample_objects.specs.Symbols.{text_of}
-use Rattle.sample_objects.proofs.PlacedSymbols.{texts_are}
-use Rattle.sample_objects.proofs.ProgramCommands.{commands_append, commands_length}
+use Rattle.macho_write.specs.Records.{IsUuidLen, commands_text, segment_command, symbol_table, uuid_command}
+use Rattle.macho_write.specs.SymbolTable.{is_empty, strings_bytes, symbols_bytes, text_of, with_places}
+use Rattle.macho_write.proofs.OwnCommands.{commands_append}
+use Rattle.macho_write.proofs.PlacedSymbols.{length-placed, length-symbols, strings_are as all_strings}
+use Rattle.sample_objects.specs.ProgramFile.{FitsFile, SymbolFits, commands_of, file_of, first_commands, program_bytes, symbols_place, symtab_command}
+use Rattle.sample_objects.proofs.ProgramCommands.{commands_length}
 
 -- ---- what is kept of the commands
 
@@ -35,36 +33,36 @@ module _ (place count size : ℕ) where
   abbrev last : List LoadCommand
   last = symbol_table place count size ∷ []
 
-  own_uuid : (own : List (Segment × List Section)) → (kept (map segment_command own ++ last)).uuid ≡ None
+  own_uuid : (own : List (Segment × List Section)) → (kept (map (segment_command true) own ++ last)).uuid ≡ None
   own_uuid [] = refl
   own_uuid (s ∷ own) = own_uuid own
 
-  own_symtab : (own : List (Segment × List Section)) → (kept (map segment_command own ++ last)).symtab ≡ Some (record { symoff = place; nsyms = count; stroff = place + 16 * count; strsize = size })
+  own_symtab : (own : List (Segment × List Section)) → (kept (map (segment_command true) own ++ last)).symtab ≡ Some (record { symoff = place; nsyms = count; stroff = place + 16 * count; strsize = size })
   own_symtab [] = refl
   own_symtab (s ∷ own) = own_symtab own
 
-  own_segments : (own : List (Segment × List Section)) → (kept (map segment_command own ++ last)).segments ≡ map (λ s. s.0) own
+  own_segments : (own : List (Segment × List Section)) → (kept (map (segment_command true) own ++ last)).segments ≡ map (λ s. s.0) own
   own_segments [] = refl
   own_segments (s ∷ own) = ap (λ (others : List Segment). s.0 ∷ others) (own_segments own)
 
-  own_sections : (own : List (Segment × List Section)) → (kept (map segment_command own ++ last)).sections ≡ flat_map (λ s. s.1) own
+  own_sections : (own : List (Segment × List Section)) → (kept (map (segment_command true) own ++ last)).sections ≡ flat_map (λ s. s.1) own
   own_sections [] = refl
   own_sections (s ∷ own) = ap (λ (others : List Section). s.1 ++ others) (own_sections own)
 
-  uuid_kept : (uuid : Option (List ℕ)) (own : List (Segment × List Section)) → (kept ((uuid_command uuid ++ map segment_command own) ++ last)).uuid ≡ uuid
+  uuid_kept : (uuid : Option (List ℕ)) (own : List (Segment × List Section)) → (kept ((uuid_command uuid ++ map (segment_command true) own) ++ last)).uuid ≡ uuid
   uuid_kept None own = own_uuid own
   uuid_kept (Some bytes) own = refl
 
   symtab_kept : (uuid : Option (List ℕ)) (own : List (Segment × List Section))
-      → (kept ((uuid_command uuid ++ map segment_command own) ++ last)).symtab ≡ Some (record { symoff = place; nsyms = count; stroff = place + 16 * count; strsize = size })
+      → (kept ((uuid_command uuid ++ map (segment_command true) own) ++ last)).symtab ≡ Some (record { symoff = place; nsyms = count; stroff = place + 16 * count; strsize = size })
   symtab_kept None own = own_symtab own
   symtab_kept (Some bytes) own = own_symtab own
 
-  all_segments_kept : (uuid : Option (List ℕ)) (own : List (Segment × List Section)) → (kept ((uuid_command uuid ++ map segment_command own) ++ last)).segments ≡ map (λ s. s.0) own
+  all_segments_kept : (uuid : Option (List ℕ)) (own : List (Segment × List Section)) → (kept ((uuid_command uuid ++ map (segment_command true) own) ++ last)).segments ≡ map (λ s. s.0) own
   all_segments_kept None own = own_segments own
   all_segments_kept (Some bytes) own = own_segments own
 
-  all_sections_kept : (uuid : Option (List ℕ)) (own : List (Segment × List Section)) → (kept ((uuid_command uuid ++ map segment_command own) ++ last)).sections ≡ flat_map (λ s. s.1) own
+  all_sections_kept : (uuid : Option (List ℕ)) (own : List (Segment × List Section)) → (kept ((uuid_command uuid ++ map (segment_command true) own) ++ last)).sections ≡ flat_map (λ s. s.1) own
   all_sections_kept None own = own_sections own
   all_sections_kept (Some bytes) own = own_sections own
 
@@ -74,11 +72,11 @@ commands_few : (cs : List LoadCommand) → length cs ≤ length (commands_text c
 commands_few [] = omega arith
 commands_few (c ∷ cs) = omega (arith, commands_few cs, length-append (command_bytes (command_of c)) (commands_text cs), length_command (command_of c))
 
-segments_load : (own : List (Segment × List Section)) → AllByRecursion (λ s. IsSegment s.0 0 0 s.1) own → length (commands_text (map segment_command own)) < 2 ^ 32 → AllByRecursion IsLoadCommand (map segment_command own)
+segments_load : (own : List (Segment × List Section)) → AllByRecursion (λ s. IsSegment s.0 0 0 s.1) own → length (commands_text (map (segment_command true) own)) < 2 ^ 32 → AllByRecursion IsLoadCommand (map (segment_command true) own)
 segments_load [] all small = tt
 segments_load (s ∷ own) all small =
-    let c : Command = command_of (segment_command s) in
-    let rest : List ℕ = commands_text (map segment_command own) in
+    let c : Command = command_of (segment_command true s) in
+    let rest : List ℕ = commands_text (map (segment_command true) own) in
     let len : length (command_bytes c) ≡ 8 + length c.body = length_command c in
     let both : length (command_bytes c ++ rest) ≡ length (command_bytes c) + length rest = length-append (command_bytes c) rest in
     (record { fits = (omega arith, (omega (arith, small, len, both), tt)); holds = all.0 }, segments_load own all.1 (omega (arith, small, both)))
@@ -105,10 +103,10 @@ symbols_kept (s ∷ symbols) place = by (is_empty s.name) (symbols_kept symbols)
     by false h = ap (λ (others : List Symbol). s ∷ others) (h (place + length s.name + 1))
 
 -- their names stand in the strings, behind the bytes before
-symbols_stand : (symbols : List Symbol) (before : List ℕ) → 0 < length before → AllByRecursion SymbolFits symbols → length (before ++ flat_map text_of symbols) < 2 ^ 32
-    → AllByRecursion (IsSymbol (before ++ flat_map text_of symbols)) (with_places (length before) symbols)
+symbols_stand : (symbols : List Symbol) (before : List ℕ) → 0 < length before → AllByRecursion SymbolFits symbols → length (before ++ flat_map (text_of true) symbols) < 2 ^ 32
+    → AllByRecursion (IsSymbol (before ++ flat_map (text_of true) symbols)) (with_places (length before) symbols)
 symbols_stand [] before filled all small = tt
-symbols_stand (s ∷ symbols) before filled all small = by (is_empty s.name) refl (flat_map text_of symbols) (λ front more fits. symbols_stand symbols front more all.1 fits) small
+symbols_stand (s ∷ symbols) before filled all small = by (is_empty s.name) refl (flat_map (text_of true) symbols) (λ front more fits. symbols_stand symbols front more all.1 fits) small
   where
     by : (b : Bool) → is_empty s.name ≡ b → (others : List ℕ) → ((front : List ℕ) → 0 < length front → length (front ++ others) < 2 ^ 32 → AllByRecursion (IsSymbol (front ++ others)) (with_places (length front) symbols))
         → length (before ++ ((if b then [] else ended s.name) ++ others)) < 2 ^ 32
@@ -159,7 +157,7 @@ module _ (image : Image) (fits : FitsFile image) where
   header_len = refl
 
   symbols_len : length symbols ≡ 16 * length image.symbols
-  symbols_len = omega (arith, length-nlists (with_places 1 image.symbols), length-placed image.symbols 1)
+  symbols_len = length-symbols image.symbols
 
   -- the symbols stand behind the commands
   front_len : length (header ++ commands) ≡ symbols_place image
@@ -181,10 +179,10 @@ module _ (image : Image) (fits : FitsFile image) where
   file_len : length (program_bytes image) ≡ strings_place + length strings
   file_len = ap length parts_too ∙ whole_len
 
-  strings_are : strings ≡ (0 ∷ []) ++ flat_map text_of image.symbols
-  strings_are = ap (λ (texts : List ℕ). 0 ∷ texts) (texts_are image.symbols)
+  strings_are : strings ≡ (0 ∷ []) ++ flat_map (text_of true) image.symbols
+  strings_are = all_strings true image.symbols
 
-  strings_cut : take (length strings) (drop strings_place (program_bytes image)) ≡ (0 ∷ []) ++ flat_map text_of image.symbols
+  strings_cut : take (length strings) (drop strings_place (program_bytes image)) ≡ (0 ∷ []) ++ flat_map (text_of true) image.symbols
   strings_cut =
       ap (λ (bytes : List ℕ). take (length strings) (drop strings_place bytes)) parts_too ∙ ap (take (length strings)) (drop_at ((header ++ commands) ++ symbols) strings strings_place behind_len)
       ∙ take_all (length strings) strings (omega arith) ∙ strings_are
@@ -207,13 +205,13 @@ module _ (image : Image) (fits : FitsFile image) where
 
   commands_load : AllByRecursion IsLoadCommand (commands_of image)
   commands_load =
-      let first : length (commands_text (first_commands image)) ≡ length (commands_text (uuid_command image.uuid)) + length (commands_text (map segment_command own)) =
-      ap length (commands_append (uuid_command image.uuid) (map segment_command own)) ∙ length-append (commands_text (uuid_command image.uuid)) (commands_text (map segment_command own)) in
+      let first : length (commands_text (first_commands image)) ≡ length (commands_text (uuid_command image.uuid)) + length (commands_text (map (segment_command true) own)) =
+      ap length (commands_append (uuid_command image.uuid) (map (segment_command true) own)) ∙ length-append (commands_text (uuid_command image.uuid)) (commands_text (map (segment_command true) own)) in
       let small : strings_place + length strings < 2 ^ 32 = omega (arith, file_len, fits.small) in
       let last : IsLoadCommand (symtab_command image) =
       record { fits = (omega arith, (omega arith, tt)); holds = (omega (arith, small), (omega (arith, small), (omega (arith, small), (omega (arith, small), tt)))) } in
       both_load (first_commands image) (symtab_command image ∷ [])
-      (both_load (uuid_command image.uuid) (map segment_command own) (uuid_loads image.uuid fits.uuid) (segments_load own fits.segments (omega (arith, first, small))))
+      (both_load (uuid_command image.uuid) (map (segment_command true) own) (uuid_loads image.uuid fits.uuid) (segments_load own fits.segments (omega (arith, first, small))))
       (last, tt)
 
   spells : SpellsFile (program_bytes image) (file_of image)

@@ -1,35 +1,20 @@
 -- The commands of an object file, and the whole file from its parts.
-use Rattle.std.proofs.Common.{◌≡◌, ◌≤◌, ◌+◌, ◌-◌, ◌*◌, ℕ, List, [], ◌∷◌, ◌++◌, length, replicate, append_assoc, append-nil, arith, refl, sym, ap, ◌∙◌, length-append}
+use Rattle.std.proofs.Common.{◌≡◌, ◌+◌, ◌-◌, ◌*◌, ℕ, List, [], ◌∷◌, ◌++◌, length, append_assoc, append-nil, arith, refl, sym, ap, ◌∙◌, length-append}
 use Rattle.std.specs.List.{flat_map}
-use Rattle.byteorder.specs.Endian.{little_bytes}
+use Rattle.std.proofs.lemmas.List.{length-map}
 use Rattle.ds_base.specs.declared.fault.Part.{Part}
-use Rattle.ds_base.specs.declared.fault.Part.TheVariants as parts
-use Rattle.ds_base.specs.declared.macho.TheConstants.{LC_SEGMENT_64, MH_OBJECT}
-use Rattle.dsym_write.specs.Bundle.{contents, name_of_part, strings_bytes, symbols_bytes}
-use Rattle.dsym_write.proofs.SegmentCommands.{length-section}
-use Rattle.macho_read.specs.declared.image.Segment.{Segment}
+use Rattle.ds_base.specs.declared.macho.TheConstants.{MH_OBJECT}
+use Rattle.dsym_write.specs.Bundle.{contents}
+use Rattle.dsym_write.proofs.Told.{name_short}
 use Rattle.macho_read.specs.ImageSpelling.{command_of, commands_bytes, header_fields}
-use Rattle.macho_read.specs.Spelling.{command_bytes, padded, section_bytes, segment_fields, spelled}
+use Rattle.macho_read.specs.Spelling.{command_bytes, section_bytes, spelled}
+use Rattle.macho_write.specs.Records.{header_bytes}
+use Rattle.macho_write.specs.SymbolTable.{strings_bytes, symbols_bytes}
+use Rattle.macho_write.proofs.Lengths.{length-section}
 use Rattle.reloc_table.specs.declared.relocation.Reloc.{Reloc}
 use Rattle.sample_objects.specs.declared.places.Places.{Places}
 use Rattle.sample_objects.specs.declared.spec.ObjectSpec.{ObjectSpec}
-use Rattle.sample_objects.specs.ObjectFile.{all_protections, commands_len, debug_section, debug_sections, file_of, line_relocs, object_bytes, places_of, relocs_bytes, sections_of, segment_command, sized_of, symtab_command, text_section}
-use Rattle.sample_objects.specs.Records.{header_bytes}
-use Rattle.std.proofs.lemmas.List.{length-map}
-
-name_short : (part : Part) → length (name_of_part part) ≤ 16
-name_short parts.Abbrev = omega arith
-name_short parts.Info = omega arith
-name_short parts.Str = omega arith
-name_short parts.Line = omega arith
-name_short parts.LineStr = omega arith
-name_short parts.Ranges = omega arith
-name_short parts.Rnglists = omega arith
-name_short parts.Loc = omega arith
-name_short parts.Loclists = omega arith
-name_short parts.Aranges = omega arith
-name_short parts.Frame = omega arith
-name_short _ = omega arith
+use Rattle.sample_objects.specs.ObjectFile.{commands_len, debug_section, debug_sections, file_of, line_relocs, object_bytes, places_of, relocs_bytes, sections_of, segment_command, sized_of, symtab_command}
 
 length-records : (places : Places) (sized : List (Part × ℕ)) (offset : ℕ) → length (flat_map section_bytes (debug_sections places offset sized)) ≡ 80 * length sized
 length-records places [] offset = refl
@@ -43,27 +28,8 @@ length-records places (s ∷ sized) offset =
     )
 
 module _ (places : Places) (sized : List (Part × ℕ)) (commands : places.commands ≡ commands_len (length sized)) where
-  abbrev pub records : List ℕ
+  abbrev records : List ℕ
   records = flat_map section_bytes (debug_sections places places.offset sized)
-
-  abbrev pub record_of : Segment
-  record_of = record { name = []; vmaddr = 0; vmsize = places.contents; maxprot = all_protections; initprot = all_protections; flags = 0; sections = 1 + places.sections }
-
-  -- the fields of the segment, by its size
-  abbrev pub segment_front : ℕ → List ℕ
-  segment_front size =
-      flat_map (little_bytes 4) (LC_SEGMENT_64 ∷ size ∷ []) ++ (replicate 16 0 ++ (spelled (segment_fields places.offset places.contents record_of) ++ section_bytes text_section))
-
-  abbrev body : List ℕ
-  body = (padded [] ++ spelled (segment_fields places.offset places.contents record_of)) ++ ((section_bytes text_section ++ records) ++ [])
-
-  body_len : 8 + length body ≡ places.commands - 24
-  body_len = omega (arith, commands, ap length (append-nil records), length-records places sized places.offset)
-
-  pub segment_is : segment_front (places.commands - 24) ++ records ≡ command_bytes (command_of (segment_command places sized))
-  segment_is =
-      ap (λ (n : ℕ). segment_front n ++ records) (sym body_len)
-      ∙ ap (λ (back : List ℕ). segment_front (8 + length body) ++ back) (sym (append-nil records))
 
   pub segment_len : length (command_bytes (command_of (segment_command places sized))) ≡ places.commands - 24
   segment_len = omega (arith, ap length (append-nil records), length-records places sized places.offset, commands)
@@ -111,38 +77,30 @@ module _ (spec : ObjectSpec) where
 
 -- ---- parts that were put one behind the other
 
-pub five_in_turn : (o a b c d e : List ℕ) → ((((o ++ a) ++ b) ++ c) ++ d) ++ e ≡ o ++ ((a ++ (b ++ (c ++ d))) ++ e)
-five_in_turn o a b c d e = simp append_assoc
-
-pub three_in_turn : (o a b c : List ℕ) → ((o ++ a) ++ b) ++ c ≡ o ++ ((a ++ b) ++ c)
-three_in_turn o a b c = simp append_assoc
-
-eight_in_turn : (o h a b c r m s t p1 p2 p3 p4 p5 p6 p7 p8 : List ℕ) → o ≡ [] → h ≡ o ++ p1 → a ≡ h ++ p2 → b ≡ a ++ p3 → c ≡ b ++ p4 → r ≡ c ++ p5 → m ≡ r ++ p6 → s ≡ m ++ p7 → t ≡ s ++ p8
-    → t ≡ p1 ++ (p2 ++ (p3 ++ (p4 ++ (p5 ++ (p6 ++ (p7 ++ p8))))))
-eight_in_turn o h a b c r m s t p1 p2 p3 p4 p5 p6 p7 p8 eo eh ea eb ec er em es et = rw (et, es, em, er, ec, eb, ea, eh, eo) (simp append_assoc)
+seven_in_turn : (o h a b c r m t p1 p2 p3 p4 p5 p6 p7 : List ℕ) → o ≡ [] → h ≡ o ++ p1 → a ≡ h ++ p2 → b ≡ a ++ p3 → c ≡ b ++ p4 → r ≡ c ++ p5 → m ≡ r ++ p6 → t ≡ m ++ p7 → t ≡ p1 ++ (p2 ++ (p3 ++ (p4 ++ (p5 ++ (p6 ++ p7)))))
+seven_in_turn o h a b c r m t p1 p2 p3 p4 p5 p6 p7 eo eh ea eb ec er em et = rw (et, em, er, ec, eb, ea, eh, eo) (simp append_assoc)
 
 module _ (spec : ObjectSpec) where
   abbrev parts_with : Places → List (Part × ℕ) → List ℕ → List Reloc → List Reloc → List ℕ → List ℕ
-  parts_with places all bytes relocs moved strings =
+  parts_with places all bytes relocs moved symbols =
       header_with spec places.commands
-      ++ (command_bytes (command_of (segment_command places all))
-      ++ (command_bytes (command_of (symtab_command places)) ++ (bytes ++ (relocs_bytes relocs ++ (relocs_bytes moved ++ (symbols_bytes spec.symbols ++ strings))))))
+      ++ (command_bytes (command_of (segment_command places all)) ++ (command_bytes (command_of (symtab_command places)) ++ (bytes ++ (relocs_bytes relocs ++ (relocs_bytes moved ++ symbols)))))
 
-  module _ (places : Places) (all : List (Part × ℕ)) (bytes strings : List ℕ) (relocs moved : List Reloc) (told : places ≡ places_of spec) (sizes : all ≡ sized_of (sections_of spec))
-      (sections : bytes ≡ contents (sections_of spec)) (texts : strings ≡ strings_bytes spec.symbols) (own : relocs ≡ spec.relocs) (line : moved ≡ line_relocs spec.unit) where
-    parts_are : parts_with places all bytes relocs moved strings ≡ object_bytes spec
+  module _ (places : Places) (all : List (Part × ℕ)) (bytes symbols : List ℕ) (relocs moved : List Reloc) (told : places ≡ places_of spec) (sizes : all ≡ sized_of (sections_of spec)) (sections : bytes ≡ contents (sections_of spec))
+      (texts : symbols ≡ symbols_bytes spec.symbols ++ strings_bytes spec.symbols) (own : relocs ≡ spec.relocs) (line : moved ≡ line_relocs spec.unit) where
+    parts_are : parts_with places all bytes relocs moved symbols ≡ object_bytes spec
     parts_are =
-        ap (λ (p : Places). parts_with p all bytes relocs moved strings) told
-        ∙ ap (λ (l : List (Part × ℕ)). parts_with (places_of spec) l bytes relocs moved strings) sizes
-        ∙ ap (λ (l : List ℕ). parts_with (places_of spec) (sized_of (sections_of spec)) l relocs moved strings) sections
-        ∙ ap (λ (l : List Reloc). parts_with (places_of spec) (sized_of (sections_of spec)) (contents (sections_of spec)) l moved strings) own
-        ∙ ap (λ (l : List Reloc). parts_with (places_of spec) (sized_of (sections_of spec)) (contents (sections_of spec)) spec.relocs l strings) line
+        ap (λ (p : Places). parts_with p all bytes relocs moved symbols) told
+        ∙ ap (λ (l : List (Part × ℕ)). parts_with (places_of spec) l bytes relocs moved symbols) sizes
+        ∙ ap (λ (l : List ℕ). parts_with (places_of spec) (sized_of (sections_of spec)) l relocs moved symbols) sections
+        ∙ ap (λ (l : List Reloc). parts_with (places_of spec) (sized_of (sections_of spec)) (contents (sections_of spec)) l moved symbols) own
+        ∙ ap (λ (l : List Reloc). parts_with (places_of spec) (sized_of (sections_of spec)) (contents (sections_of spec)) spec.relocs l symbols) line
         ∙ ap (λ (l : List ℕ). parts_with (places_of spec) (sized_of (sections_of spec)) (contents (sections_of spec)) spec.relocs (line_relocs spec.unit) l) texts
         ∙ file_is spec
 
-    pub whole : (o h a b c r m s t : List ℕ) → o ≡ [] → h ≡ o ++ header_bytes spec.cpu 0 MH_OBJECT 2 places.commands
+    pub whole : (o h a b c r m t : List ℕ) → o ≡ [] → h ≡ o ++ header_bytes spec.cpu 0 MH_OBJECT 2 places.commands
         → a ≡ h ++ command_bytes (command_of (segment_command places all)) → b ≡ a ++ command_bytes (command_of (symtab_command places)) → c ≡ b ++ bytes → r ≡ c ++ relocs_bytes relocs
-        → m ≡ r ++ relocs_bytes moved → s ≡ m ++ symbols_bytes spec.symbols → t ≡ s ++ strings → t ≡ object_bytes spec
-    whole o h a b c r m s t eo eh ea eb ec er em es et =
-        eight_in_turn o h a b c r m s t (header_with spec places.commands) (command_bytes (command_of (segment_command places all))) (command_bytes (command_of (symtab_command places))) bytes (relocs_bytes relocs)
-        (relocs_bytes moved) (symbols_bytes spec.symbols) strings eo eh ea eb ec er em es et ∙ parts_are
+        → m ≡ r ++ relocs_bytes moved → t ≡ m ++ symbols → t ≡ object_bytes spec
+    whole o h a b c r m t eo eh ea eb ec er em et =
+        seven_in_turn o h a b c r m t (header_with spec places.commands) (command_bytes (command_of (segment_command places all))) (command_bytes (command_of (symtab_command places))) bytes (relocs_bytes relocs)
+        (relocs_bytes moved) symbols eo eh ea eb ec er em et ∙ parts_are

@@ -3,6 +3,4 @@ pub mod GeneratedUnit
 pub mod Lines
 pub mod ObjectFile
 pub mod ProgramFile
-pub mod Records
 pub mod Sized
-pub mod Symbols

@@ -4,8 +4,8 @@ use Rattle.std.specs.List.{flat_map}
 use Rattle.std.specs.Option.{option_map_or}
 use Rattle.ds_base.specs.declared.fault.Part.{Part}
 use Rattle.ds_base.specs.declared.fault.Part.TheVariants as parts
-use Rattle.ds_base.specs.declared.macho.TheConstants.{MACH_HEADER_64_SIZE, MH_OBJECT, NLIST_64_SIZE, RELOCATION_INFO_SIZE, RELOC_LENGTH_8, SECTION_64_SIZE, SECT_TEXT, SEGMENT_COMMAND_64_SIZE, SEG_TEXT, SYMTAB_COMMAND_SIZE, VM_PROT_EXECUTE, VM_PROT_READ, VM_PROT_WRITE}
-use Rattle.dsym_write.specs.Bundle.{contents, dwarf_section, strings_bytes, symbols_bytes, with_places}
+use Rattle.ds_base.specs.declared.macho.TheConstants.{MACH_HEADER_64_SIZE, MH_OBJECT, RELOCATION_INFO_SIZE, RELOC_LENGTH_8, SECTION_64_SIZE, SECT_TEXT, SEGMENT_COMMAND_64_SIZE, SEG_TEXT, SYMTAB_COMMAND_SIZE, VM_PROT_EXECUTE, VM_PROT_READ, VM_PROT_WRITE}
+use Rattle.dsym_write.specs.Bundle.{contents, dwarf_section}
 use Rattle.dwarf_types.specs.declared.graph.Graph.{Graph}
 use Rattle.dwarf_types.specs.declared.graph.OutUnit.{OutUnit}
 use Rattle.dwarf_types.specs.declared.graph.Written.{Written}
@@ -15,9 +15,12 @@ use Rattle.dwarf_types.specs.Encode.{encode}
 use Rattle.dwarf_types.specs.LineProgram.{sequence_bytes}
 use Rattle.dwarf_types.specs.LineTable.{fields_bytes, version_bytes}
 use Rattle.macho_read.specs.declared.image.Section.{Section}
+use Rattle.macho_read.specs.declared.image.Segment.{Segment}
 use Rattle.macho_read.specs.Fields.{before_zero}
-use Rattle.macho_read.specs.ImageSpelling.{File, LoadCommand, SegmentCommand, SymtabCommand, commands_bytes, header_fields}
+use Rattle.macho_read.specs.ImageSpelling.{File, LoadCommand, SegmentCommand, commands_bytes, header_fields}
 use Rattle.macho_read.specs.Spelling.{spelled}
+use Rattle.macho_write.specs.Records.{symbol_table}
+use Rattle.macho_write.specs.SymbolTable.{strings_bytes, symbols_bytes, with_places}
 use Rattle.reloc_table.specs.declared.relocation.Reloc.{Reloc}
 use Rattle.sample_objects.specs.declared.places.Places.{Places}
 use Rattle.sample_objects.specs.declared.spec.ObjectSpec.{ObjectSpec}
@@ -154,16 +157,13 @@ debug_sections places offset (s ∷ sized) = debug_section places offset s.0 s.1
 abbrev pub all_protections : ℕ
 all_protections = VM_PROT_READ + VM_PROT_WRITE + VM_PROT_EXECUTE
 
--- one segment without a name, which has all sections
-abbrev pub segment_command : Places → List (Part × ℕ) → LoadCommand
-segment_command places sized =
-    SegmentCommand
-    (record { name = []; vmaddr = 0; vmsize = places.contents; maxprot = all_protections; initprot = all_protections; flags = 0; sections = 1 + places.sections })
-    places.offset places.contents (text_section ∷ debug_sections places places.offset sized) []
+-- one segment without a name
+abbrev pub segment_of : Places → Segment
+segment_of places = record { name = []; vmaddr = 0; vmsize = places.contents; maxprot = all_protections; initprot = all_protections; flags = 0; sections = 1 + places.sections }
 
--- so many symbols at a place of the file, and their strings of a size behind them
-abbrev pub symbol_table : ℕ → ℕ → ℕ → LoadCommand
-symbol_table place count size = SymtabCommand (record { symoff = place; nsyms = count; stroff = place + NLIST_64_SIZE * count; strsize = size }) []
+-- which has all sections
+abbrev pub segment_command : Places → List (Part × ℕ) → LoadCommand
+segment_command places sized = SegmentCommand (segment_of places) places.offset places.contents (text_section ∷ debug_sections places places.offset sized) []
 
 abbrev pub symtab_command : Places → LoadCommand
 symtab_command places = symbol_table places.symoff places.nsyms places.strsize

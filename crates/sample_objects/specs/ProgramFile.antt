@@ -1,29 +1,22 @@
 -- The file of a linked program (mach-o/loader.h, mach-o/nlist.h), as an image says it: a header, a UUID if the image has one, the segments with the records of their sections, a symbol table, the symbols, and their strings. What the segments are loaded from is not in the file.
-use Rattle.std.specs.Prelude.{◌≡◌, ◌⊎◌, ℕ, ◌+◌, ◌<◌, ◌^◌, List, [], ◌∷◌, ◌++◌, length, map, Ok}
+use Rattle.std.specs.Prelude.{◌≡◌, ◌⊎◌, ℕ, ◌+◌, ◌<◌, ◌^◌, true, List, [], ◌∷◌, ◌++◌, length, Ok}
 use Rattle.std.specs.List.{AllByRecursion, sum_by}
 use Rattle.ds_base.specs.declared.macho.TheConstants.{CPU_TYPE_ARM64, CPU_TYPE_X86_64, MACH_HEADER_64_SIZE, SYMTAB_COMMAND_SIZE}
-use Rattle.dsym_write.specs.Bundle.{strings_bytes, symbols_bytes, uuid_command, with_places}
-use Rattle.dsym_write.specs.Pieces.{IsUuidLen, commands_text}
 use Rattle.macho_read.specs.declared.image.Image.{Image}
-use Rattle.macho_read.specs.declared.image.Section.{Section}
-use Rattle.macho_read.specs.declared.image.Segment.{Segment}
 use Rattle.macho_read.specs.declared.image.Symbol.{Symbol}
 use Rattle.macho_read.specs.Image.{image_of}
-use Rattle.macho_read.specs.ImageSpelling.{File, IsSegment, LoadCommand, SegmentCommand, commands_bytes, header_fields, nlist_fields}
+use Rattle.macho_read.specs.ImageSpelling.{File, IsSegment, LoadCommand, commands_bytes, header_fields, nlist_fields}
 use Rattle.macho_read.specs.Kind.{with_sections}
 use Rattle.macho_read.specs.Sound.{IsSoundSymbol}
 use Rattle.macho_read.specs.Spelling.{AllFit, spelled}
-use Rattle.sample_objects.specs.ObjectFile.{symbol_table}
+use Rattle.macho_write.specs.Records.{IsUuidLen, commands_text, segment_commands, symbol_table, uuid_command}
+use Rattle.macho_write.specs.SymbolTable.{strings_bytes, symbols_bytes, with_places}
 
 -- ---- load commands
 
--- a segment with its own sections, loaded from nothing in the file
-abbrev pub segment_command : Segment × List Section → LoadCommand
-segment_command s = SegmentCommand s.0 0 0 s.1 []
-
 -- all but the symbol table's
 abbrev pub first_commands : Image → List LoadCommand
-first_commands image = uuid_command image.uuid ++ map segment_command (with_sections image.segments image.sections)
+first_commands image = uuid_command image.uuid ++ segment_commands true image.segments image.sections
 
 abbrev pub commands_len : Image → ℕ
 commands_len image = length (commands_text (first_commands image)) + SYMTAB_COMMAND_SIZE

@@ -5,31 +5,26 @@ ghost use Rattle.std.specs.List.{flat_map};
 ghost use Rattle.macho_read.specs.ImageSpelling.{command_of};
 ghost use Rattle.macho_read.specs.Spelling.{command_bytes, section_bytes};
 ghost use Rattle.sample_objects.specs.ObjectFile;
-ghost use Rattle.sample_objects.specs.ObjectFile.{commands_len, debug_section, debug_sections, segment_command, text_section};
+ghost use Rattle.sample_objects.specs.ObjectFile.{debug_section, debug_sections, segment_command, text_section};
 
-use crate::fields::append_words;
 use crate::file::TEXT_SIZE;
 use crate::places::Places;
-use crate::records::{
-    SectionNumbers, SegmentNumbers, append_section_numbers, append_segment_numbers,
-};
-use ds_base::macho::{
-    LC_SEGMENT_64, S_ATTR_DEBUG, SECT_TEXT, SEG_DWARF, SEG_TEXT, SYMTAB_COMMAND_SIZE, VM_PROT_ALL,
-};
+use ds_base::macho::{LC_SEGMENT_64, SECT_TEXT, SEG_TEXT, VM_PROT_ALL};
 use ds_base::{Bytes, NoMemory, Part};
-use dsym_write::section_name;
+use dsym_write::append_part;
+use macho_write::{SectionNumbers, SegmentNumbers, append_command, append_section, append_segment};
+use std::alloc::Global;
 
 /// Puts the segment last, with the records of its sections (`segment_command_64`).
-pub(crate) fn append_segment(
+pub(crate) fn append_object_segment(
+    alloc: Global,
     out: &mut Bytes,
     places: Places,
     sized: &[(Part, u64)],
 ) -> Result<(), NoMemory>
     requires few { length sized.now < 2 ^ 32 }
-    requires commands { places.commands ≡ commands_len (length sized.now) }
     ensures { OnOk result (out.new ≡ out.old ++ command_bytes (command_of (segment_command places sized.now))) }
 {
-    let size = places.commands - u128::from(SYMTAB_COMMAND_SIZE);
     let numbers = SegmentNumbers {
         vmaddr: 0,
         vmsize: places.contents,
@@ -40,11 +35,11 @@ pub(crate) fn append_segment(
         sections: 1 + u128::from(places.sections),
         flags: 0,
     };
-    append_words(out, &[u128::from(LC_SEGMENT_64), size])?;
-    out.extend(&[0; 16])?;
-    append_segment_numbers(out, numbers)?;
-    append_code_section(out)?;
-    append_debug_sections(out, places, sized)?;
+    let mut body = Bytes::new(alloc);
+    append_segment(&mut body, &[], numbers)?;
+    append_code_section(&mut body)?;
+    append_debug_sections(&mut body, places, sized)?;
+    append_command(out, LC_SEGMENT_64, body.as_slice())?;
     Ok(())
 }
 
@@ -64,9 +59,7 @@ fn append_code_section(out: &mut Bytes) -> Result<(), NoMemory>
         reserved2: 0,
         reserved3: 0,
     };
-    out.extend(&SECT_TEXT)?;
-    out.extend(&SEG_TEXT)?;
-    append_section_numbers(out, numbers)?;
+    append_section(out, &SECT_TEXT, &SEG_TEXT, numbers)?;
     Ok(())
 }
 
@@ -97,21 +90,9 @@ fn append_debug_section(
 ) -> Result<(), NoMemory>
     ensures { OnOk result (out.new ≡ out.old ++ section_bytes (debug_section places offset part size)) }
 {
-    let numbers = SectionNumbers {
-        addr: 0,
-        size,
-        offset,
-        align: 0,
-        reloff: reloff_in(places, part),
-        nreloc: nreloc_in(places, part),
-        flags: S_ATTR_DEBUG,
-        reserved1: 0,
-        reserved2: 0,
-        reserved3: 0,
-    };
-    out.extend(&section_name(part))?;
-    out.extend(&SEG_DWARF)?;
-    append_section_numbers(out, numbers)?;
+    let reloff = reloff_in(places, part);
+    let nreloc = nreloc_in(places, part);
+    append_part(out, part, size, 0, offset, reloff, nreloc)?;
     Ok(())
 }
 

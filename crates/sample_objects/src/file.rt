@@ -7,17 +7,17 @@ ghost use Rattle.layout.specs.Laid.{long_section, long_unit};
 ghost use Rattle.sample_objects.specs.ObjectFile;
 ghost use Rattle.sample_objects.specs.ObjectFile.{graph_of, object_bytes, sections_of, sized_of};
 
-use crate::commands::append_segment;
+use crate::commands::append_object_segment;
 use crate::lines::line_relocs;
 use crate::places::places_of;
-use crate::records::{append_header, append_symtab};
 use crate::relocation::append_relocs;
 use crate::sections::{contents_of, layout_of, sized_sections};
 use crate::spec::ObjectSpec;
-use crate::symbols::{append_symbols, strings_of};
+use crate::symbols::symbols_of;
 use ds_base::macho::MH_OBJECT;
 use ds_base::{Bytes, NoMemory, Part};
 use layout::section_size;
+use macho_write::{append_header, append_symtab};
 use reloc_table::Reloc;
 use std::alloc::Global;
 
@@ -66,22 +66,15 @@ fn object_of(
     requires symbols { All (λ r. r.symbol < 2 ^ 24) spec.now.relocs }
     ensures { IfOk result (λ bytes. bytes ≡ object_bytes spec.now) }
 {
-    let strings = strings_of(alloc, &spec.symbols)?;
-    let places = places_of(
-        spec,
-        sized.len(),
-        contents.len(),
-        moved.len(),
-        strings.len(),
-    );
+    let places = places_of(spec, sized.len(), contents.len(), moved.len());
+    let symbols = symbols_of(alloc, &spec.symbols)?;
     let mut out = Bytes::new(alloc);
     append_header(&mut out, spec.cpu, 0, MH_OBJECT, 2, places.commands)?;
-    append_segment(&mut out, places, sized)?;
+    append_object_segment(alloc, &mut out, places, sized)?;
     append_symtab(&mut out, places.symoff, places.nsyms, places.strsize)?;
     out.extend(contents)?;
     append_relocs(&mut out, spec.relocs.as_slice())?;
     append_relocs(&mut out, moved)?;
-    append_symbols(&mut out, &spec.symbols)?;
-    out.extend(strings.as_slice())?;
+    out.extend(symbols.as_slice())?;
     Ok(out)
 }

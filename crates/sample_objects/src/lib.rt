@@ -11,7 +11,6 @@
 mod attributes;
 mod commands;
 mod debug_map;
-mod fields;
 mod file;
 mod functions;
 mod generator;
@@ -22,10 +21,8 @@ mod linked_file;
 mod objects;
 mod places;
 mod program;
-mod records;
 mod relocation;
 mod sections;
-mod segments;
 mod spec;
 mod structures;
 mod symbols;

@@ -1,17 +1,17 @@
 //! The file of a linked program.
 
-ghost use Rattle.std.specs.Prelude.{◌≡◌, ◌≤◌, ◌++◌, IfOk, OnOk, length};
-ghost use Rattle.dsym_write.specs.Bundle.{uuid_command};
-ghost use Rattle.dsym_write.specs.Pieces.{commands_text};
+ghost use Rattle.std.specs.Prelude.{◌≡◌, IfOk, length};
+ghost use Rattle.macho_write.specs.Records.{commands_text};
 ghost use Rattle.sample_objects.specs.ProgramFile;
 ghost use Rattle.sample_objects.specs.ProgramFile.{commands_of, program_bytes};
 
-use crate::records::{append_command, append_header, append_symtab};
-use crate::segments::append_segments;
-use crate::symbols::{append_symbols, strings_of};
-use ds_base::macho::{LC_UUID, MACH_HEADER_64_SIZE, SYMTAB_COMMAND_SIZE};
+use crate::symbols::symbols_of;
+use ds_base::macho::{MACH_HEADER_64_SIZE, SYMTAB_COMMAND_SIZE};
 use ds_base::{Bytes, NoMemory};
 use macho_read::Image;
+use macho_write::{
+    append_header, append_segments, append_symtab, append_uuid, count_uuid, strings_size,
+};
 use std::alloc::Global;
 
 /// The file of a linked program (mach-o/loader.h, mach-o/nlist.h), as an image says it.
@@ -25,7 +25,7 @@ pub fn program_file(alloc: Global, image: &Image) -> Result<Bytes, NoMemory>
     ensures { IfOk result (λ bytes. bytes ≡ program_bytes image.now) }
 {
     let first = first_commands(alloc, image)?;
-    let strings = strings_of(alloc, &image.symbols)?;
+    let symbols = symbols_of(alloc, &image.symbols)?;
     let count = count_commands(image);
     let size = first.len() as u128 + u128::from(SYMTAB_COMMAND_SIZE);
     let place = u128::from(MACH_HEADER_64_SIZE) + size;
@@ -36,10 +36,9 @@ pub fn program_file(alloc: Global, image: &Image) -> Result<Bytes, NoMemory>
         &mut out,
         place,
         image.symbols.len() as u64,
-        strings.len() as u64,
+        strings_size(&image.symbols, true),
     )?;
-    append_symbols(&mut out, &image.symbols)?;
-    out.extend(strings.as_slice())?;
+    out.extend(symbols.as_slice())?;
     Ok(out)
 }
 
@@ -48,17 +47,6 @@ fn count_commands(image: &Image) -> u128
     ensures { result ≡ length (commands_of image.now) }
 {
     count_uuid(&image.uuid) + image.segments.len() as u128 + 1
-}
-
-/// How many commands a UUID has: one, if there is a UUID.
-fn count_uuid(uuid: &Option<[u8; 16]>) -> u128
-    ensures count { result ≡ length (uuid_command uuid.now) }
-    ensures one { result ≤ 1 }
-{
-    match uuid {
-        Some(_) => 1,
-        None => 0,
-    }
 }
 
 /// The commands but that of the symbol table.
@@ -72,17 +60,7 @@ fn first_commands(alloc: Global, image: &Image) -> Result<Bytes, NoMemory>
         &mut out,
         image.segments.as_slice(),
         image.sections.as_slice(),
+        true,
     )?;
     Ok(out)
-}
-
-/// Puts a UUID command last, if there is a UUID (`uuid_command`).
-fn append_uuid(out: &mut Bytes, uuid: &Option<[u8; 16]>) -> Result<(), NoMemory>
-    ensures { OnOk result (out.new ≡ out.old ++ commands_text (uuid_command uuid.now)) }
-{
-    let Some(bytes) = uuid else {
-        return Ok(());
-    };
-    append_command(out, LC_UUID, bytes)?;
-    Ok(())
 }

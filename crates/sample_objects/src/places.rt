@@ -1,7 +1,7 @@
 //! Where the parts of an object file stand.
 
 ghost use Rattle.std.specs.Prelude.{◌≡◌, ◌<◌, ◌^◌, length};
-ghost use Rattle.dsym_write.specs.Bundle.{contents, strings_bytes};
+ghost use Rattle.dsym_write.specs.Bundle.{contents};
 ghost use Rattle.sample_objects.specs.ObjectFile;
 ghost use Rattle.sample_objects.specs.ObjectFile.{commands_len, line_relocs, sections_of};
 
@@ -10,6 +10,7 @@ use ds_base::macho::{
     MACH_HEADER_64_SIZE, RELOCATION_INFO_SIZE, SECTION_64_SIZE, SEGMENT_COMMAND_64_SIZE,
     SYMTAB_COMMAND_SIZE,
 };
+use macho_write::strings_size;
 
 /// The parts of an object file; sizes, and offsets from its start, in bytes. Those have 128 bits that may be wider than
 /// their fields.
@@ -30,23 +31,16 @@ pub(crate) struct Places {
     /// Where the symbols stand, how many there are, and the size of their strings.
     pub(crate) symoff: u128,
     pub(crate) nsyms: u64,
-    pub(crate) strsize: u64,
+    pub(crate) strsize: u128,
 }
 
 /// The places of the parts of an object file with so many debug sections and relocations of the line table, of which
-/// the sizes of all debug sections and of the strings are told.
-pub(crate) fn places_of(
-    spec: &ObjectSpec,
-    sections: usize,
-    size: usize,
-    moved: usize,
-    strings: usize,
-) -> Places
+/// the size of all debug sections is told.
+pub(crate) fn places_of(spec: &ObjectSpec, sections: usize, size: usize, moved: usize) -> Places
     requires few { sections < 2 ^ 32 }
     requires sections { sections ≡ length (sections_of spec.now) }
     requires size { size ≡ length (contents (sections_of spec.now)) }
     requires moved { moved ≡ length (line_relocs spec.now.unit) }
-    requires strings { strings ≡ length (strings_bytes spec.now.symbols) }
     ensures places { result ≡ ObjectFile.places_of spec.now }
     ensures room { result.symoff < 2 ^ 96 }
 {
@@ -70,7 +64,7 @@ pub(crate) fn places_of(
         line_nreloc,
         symoff,
         nsyms: spec.symbols.len() as u64,
-        strsize: strings as u64,
+        strsize: strings_size(&spec.symbols, true),
     }
 }
 

@@ -6,9 +6,9 @@ ghost use Rattle.macho_read.specs.Spelling.{spelled};
 ghost use Rattle.sample_objects.specs.ObjectFile;
 ghost use Rattle.sample_objects.specs.ObjectFile.{relocs_bytes, reloc_fields};
 
-use crate::fields::append_words;
 use ds_base::macho::RELOC_LENGTH_8;
 use ds_base::{Bytes, NoMemory};
+use macho_write::append_words;
 use reloc_table::Reloc;
 
 /// Puts relocations last, in their order.

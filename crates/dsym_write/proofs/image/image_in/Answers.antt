@@ -1,5 +1,6 @@
 use Rattle.std.proofs.Common.{Err, sym, subst, ◌∙◌, ap}
 use Rattle.std.proofs.lemmas.Result.{err_from_is_err_and}
+use Rattle.dsym_write.specs.declared.error.WriteError.TheVariants as errors
 use Rattle.dsym_write.specs.Bundle.{Writes}
 use Rattle.dsym_write.proofs.FileRoom.{refused}
 use Rattle.dsym_write.proofs.image.image_in.Goals as goal
@@ -9,3 +10,9 @@ returns-in_err-file g c = λ graph measured.
     let given = err_from_is_err_and c.from_residual.result c.from_residual.ensures.1 in
     subst (Writes c.args.program.now graph) (sym (given.1 ∙ ap Err given.2))
     (refused c.args.program.now c.args.layout.now c.places_of-places.result c.requires.sound c.places_of-places.ensures graph measured c.in_err-file.field-0.0 c.in_err-file.ensures.refused)
+
+pub returns-in_err-commands : goal.returns-in_err-commands
+returns-in_err-commands g c = λ graph measured.
+    let given = err_from_is_err_and c.from_residual-in_err-commands.result c.from_residual-in_err-commands.ensures.1 in
+    subst (Writes c.args.program.now graph) (sym (given.1 ∙ ap Err given.2))
+    (refused c.args.program.now c.args.layout.now c.places_of-places.result c.requires.sound c.places_of-places.ensures graph measured errors.NoMemory c.in_ok-file.ensures.small)

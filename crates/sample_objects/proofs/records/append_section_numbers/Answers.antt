@@ -1,5 +1,0 @@
-use Rattle.std.proofs.Common.{append_assoc}
-use Rattle.sample_objects.proofs.records.append_section_numbers.Goals as goal
-
-pub returns : goal.returns
-returns c = rw (c.in_ok-append_words.ensures, c.in_ok-append_longs.ensures, c.from-5.ensures, c.from-4.ensures, c.from-3.ensures, c.from-2.ensures, c.from.ensures) (simp append_assoc)
