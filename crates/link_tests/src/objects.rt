@@ -1,6 +1,6 @@
 //! Links whose objects were let go.
 
-use crate::parts::link_given;
+use crate::parts::link_own;
 use ds_files::OpenGate;
 use link_core::{Linked, Options};
 use std::process::Abort;
@@ -22,6 +22,6 @@ fn objects_that_are_left_away_have_no_entries(rt: HostRuntime) {
         workers: 1,
     };
     let gate = OpenGate::new();
-    let linked = link_given(&rt, rt.alloc(), &[], &[None, None], &options, &gate);
+    let linked = link_own(&rt, rt.alloc(), &[None, None], &options, &gate);
     has_no_entries(&rt, &linked.expect(&rt, "a bundle"));
 }

@@ -6,11 +6,18 @@ ghost use Rattle.std.specs.List.{All};
 use ds_base::{Bytes, List};
 use ds_files::{Gate, MemoryFiles, MemorySink};
 use link_cli::link_main;
-use link_core::{Linked, Options, Refusal, Status, link_objects};
-use sample_objects::generated;
+use link_core::{Linked, Options, Refusal, Status, link_files, link_objects};
+use sample_objects::{Generated, generated};
 use std::alloc::Global;
 use std::process::Abort;
 use std::thread::Threads;
+
+/// A generated program has so many objects, each with its file.
+fn has_objects(rt: &impl Abort, made: &Generated, count: usize)
+    ensures { (length made.now.objects ≡ count) × (length made.now.files ≡ count) }
+{
+    assert!(rt; made.objects.len() == count && made.files.len() == count);
+}
 
 /// A generated program is linked of these files. It has an object for each number of `source`.
 pub(crate) fn link_given<R: Threads + Abort + Sync, G: Gate + Sync>(
@@ -27,22 +34,23 @@ pub(crate) fn link_given<R: Threads + Abort + Sync, G: Gate + Sync>(
     requires workers { (1 ≤ options.now.workers) × (options.now.workers ≤ 64) }
 {
     let made = generated(alloc, source.len() as u32).expect(rt, "a program");
-    assert!(rt; made.objects.len() == source.len());
-    let objects = made.objects.as_slice();
-    link_objects(
+    has_objects(rt, &made, source.len());
+    let linked = link_objects(
         rt,
         alloc,
         &made.program,
         "a.out",
-        objects,
+        made.objects.as_slice(),
         files,
         source,
         options,
         gate,
-    )
+    );
+    drop(made);
+    linked
 }
 
-/// One is linked of its own files.
+/// One is linked of its own files, which go once they are read.
 pub(crate) fn link_own<R: Threads + Abort + Sync, G: Gate + Sync>(
     rt: &R,
     alloc: Global,
@@ -55,8 +63,26 @@ pub(crate) fn link_own<R: Threads + Abort + Sync, G: Gate + Sync>(
     requires workers { (1 ≤ options.now.workers) × (options.now.workers ≤ 64) }
 {
     let made = generated(alloc, source.len() as u32).expect(rt, "a program");
-    assert!(rt; made.files.len() == source.len());
-    link_given(rt, alloc, made.files.as_slice(), source, options, gate)
+    has_objects(rt, &made, source.len());
+    let Generated {
+        program,
+        objects,
+        files,
+    } = made;
+    let linked = link_files(
+        rt,
+        alloc,
+        &program,
+        "a.out",
+        objects.as_slice(),
+        files,
+        source,
+        options,
+        gate,
+    );
+    drop(objects);
+    drop(program);
+    linked
 }
 
 /// The words of a command.

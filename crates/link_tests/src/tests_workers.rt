@@ -1,10 +1,9 @@
 //! Links by several threads.
 
-use crate::parts::{link_given, told};
+use crate::parts::{link_given, link_own, told};
 use ds_base::{Bytes, Fault, Kind, Part};
 use ds_files::{Gate, OpenGate};
-use link_core::{Linked, Options, Refusal, link_files};
-use sample_objects::{Generated, generated};
+use link_core::{Linked, Options, Refusal};
 use std::alloc::Global;
 use std::hint::spin_loop;
 use std::process::Abort;
@@ -74,34 +73,18 @@ fn shares_phase<R: Threads + Abort + Sync>(rt: &R, alloc: Global, phase: u32) {
     expect_shared(rt, &gate);
 }
 
-/// Whether a generated program of two objects is linked by two threads behind a gate, so that files go once they are read.
-fn links_files<R: Threads + Abort + Sync, G: Gate + Sync>(
-    rt: &R,
-    alloc: Global,
-    odr: bool,
-    gate: &G,
-) -> bool {
-    let made = generated(alloc, 2).expect(rt, "a program");
-    assert!(rt; made.objects.len() == 2 && made.files.len() == 2);
-    let Generated {
-        program,
-        objects,
-        files,
-    } = made;
-    let source = [Some(0), Some(1)];
-    let options = Options { odr, workers: 2 };
-    let objects = objects.as_slice();
-    link_files(
-        rt, alloc, &program, "a.out", objects, files, &source, &options, gate,
-    )
-    .is_ok()
-}
-
 /// In a phase of a link whose files go two workers have the first two items beside each other.
 fn shares_files_phase<R: Threads + Abort + Sync>(rt: &R, alloc: Global, odr: bool, phase: u32) {
     let gate = Holds::new(phase, 0, 1);
-    assert!(rt; links_files(rt, alloc, odr, &gate));
+    let options = Options { odr, workers: 2 };
+    let linked = link_own(rt, alloc, &[Some(0), Some(1)], &options, &gate);
+    is_linked(rt, linked);
     expect_shared(rt, &gate);
+}
+
+/// There is a bundle.
+fn is_linked(rt: &impl Abort, linked: Result<Linked, Refusal>) {
+    assert!(rt; linked.is_ok());
 }
 
 /// A link is refused so.
