@@ -30,7 +30,7 @@ RowWithin wide p = (p.from + p.len < 2 ^ 64) × (p.is_wide ≡ true → p.from <
 
 -- ---- how operations are packed
 
--- its bytes end behind where they begin, and 16 bits hold how many there are
+-- its bytes do not end before they begin, and 16 bits hold how many there are
 abbrev pub IsShort : Run → Type 0
 IsShort bytes = (bytes.from ≤ bytes.to) × (bytes.to - bytes.from < 2 ^ 16)
 

@@ -66,7 +66,7 @@ pub(crate) struct InnerRow {
     pub(crate) base: Option<Base>,
 }
 
-/// An operation in its column.
+/// An operation of its column, as contracts see it, and as it is put and read.
 #[derive(Clone, Copy)]
 pub(crate) struct OpRow {
     pub(crate) code: u8,
