@@ -10,7 +10,7 @@ module _ (entries : List Entry) (live merged : List Bool) where
   abbrev pub is_plain : ℕ → Bool
   is_plain k = slice_index_or live k false && not (slice_index_or merged k false)
 
-  -- such an entry stands below entry a
+  -- such an entry stands in the subtree of entry a
   abbrev pub holds_plain : ℕ → Bool
   holds_plain a = list_any (λ e. is_plain e.0 && is_in entries a e.0) (enumerate_from 0 entries)
 

@@ -36,7 +36,7 @@ moved_bytes op = option_map_or (λ place. op.code ∷ little_bytes 8 (unwrap_or 
 
 -- ---- by the image of each entry of the object
 
--- the node of a base type, which is one of the unit; none for the generic type
+-- the node of a base type, which is one of the unit; none for the generic type, and none of an entry without a node
 abbrev pub base_node : (ℕ → Option Target) → Base → Option ℕ
 base_node image bases.Generic = None
 base_node image (bases.Entry k) = option_map (λ target. target.node) (image k)

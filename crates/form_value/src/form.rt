@@ -67,7 +67,7 @@ pub struct FormRow {
 
 /// The row of a form, or `None` where the standard has no such form.
 ///
-/// Sections: DWARF 4, section 7.5.4 and figure 20, for the forms up to `DW_FORM_ref_sig8`; DWARF 5,
+/// Sections: DWARF 4, section 7.5.4 and figure 21, for the forms up to `DW_FORM_ref_sig8`; DWARF 5,
 /// section 7.5.6 and table 7.6, for all. The forms of type units, of supplementary files and the
 /// indirect form are outside of this project's profile.
 #[tactic(auto, unfolding(crate::specs::Forms::form_row))]

@@ -62,7 +62,7 @@ listed first (Ok item) more =
     record (more item.0 item.1) { items = record { place = first.place; end = item.1.place; says = item.0 } ∷ (more item.0 item.1).items }
 listed first (Err f) more = record { items = []; stop = Some f }
 
--- The items from where a cursor stands, in a list that has this base. Each takes a byte at least, so the count of the bytes that are left bounds them; where it runs out, no item is left to be read.
+-- The items from where a cursor stands, in a list that has this base. Each takes a byte at least, so the count of the bytes that are left bounds them; where it ran out before the mark, that would be a fault.
 abbrev pub items_from : {A : Type 0} → (Addr → Spot → Result (Says A × Spot) Fault) → ℕ → Addr → Spot → Listing A
 items_from read zero base s = record { items = []; stop = Some (fault_at s kinds.Truncated) }
 items_from read (suc left) base s = listed s (read base s) (λ says t. behind_it says base (λ b. items_from read left b t))

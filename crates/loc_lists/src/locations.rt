@@ -55,7 +55,7 @@ impl Behind for Expressions {
 /// `Truncated` and `BadList`, in version 5 also `LebTooWide`, `BadIndex` and `UnknownListEntry`; those of an item's span
 /// are tried before the expression. `relocs` are those of that section, `addresses` those of `__debug_addr`, where the
 /// unit's table of addresses begins at `addr_base`. `base` is what offsets count from until the list selects another
-/// base; in version 4 all numbers are offsets that no relocation changes. A default location has the span of all
+/// base; in version 4 each end that is a number alone is such an offset. A default location has the span of all
 /// numbers, from `Addr::Fixed(0)` to `Addr::Fixed(u64::MAX)`, of which no piece moves.
 pub fn read_locations(
     alloc: Global,

@@ -54,7 +54,7 @@ abbrev pub named_part : List ℕ → Section → Option Part → Result (List �
 named_part bytes section (Some part) = part_in bytes section part
 named_part bytes section None = Ok []
 
--- the bytes of the debug section of an index; of no other section anything is said
+-- the bytes of the debug section of an index; none of another, for which nobody asks
 unfoldable pub section_in : List ℕ → Section → ℕ → Result (List ℕ) Fault
 section_in bytes section index = do
   _ ← refuse_if (is_compressed section) (compressed index)

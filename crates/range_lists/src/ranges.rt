@@ -43,7 +43,7 @@ impl Behind for Alone {
 /// counts bytes from the start of that section, and so do the places of faults. They are `Truncated` and `BadList`, in
 /// version 5 also `LebTooWide`, `BadIndex` and `UnknownListEntry`. `relocs` are those of that section, `addresses` those
 /// of `__debug_addr`, where the unit's table of addresses begins at `addr_base`. `base` is what offsets count from until
-/// the list selects another base; in version 4 all numbers are offsets that no relocation changes.
+/// the list selects another base; in version 4 each end that is a number alone is such an offset.
 pub fn read_ranges(
     alloc: Global,
     sections: &Sections,

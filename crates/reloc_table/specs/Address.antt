@@ -22,7 +22,7 @@ behind_standing standings.Common index symbol stored = addrs.Named index stored
 behind_standing standings.Undefined index symbol stored = addrs.Named index stored
 behind_standing standings.Absolute index symbol stored = addrs.Fixed (sum64 symbol.value stored)
 
--- a number behind the symbol of an index; of an index that isn't there nothing is said
+-- a number behind the symbol of an index; behind one that isn't there, which sound relocations do not name, it is a number alone
 abbrev pub behind_symbol : Image → ℕ → Option Symbol → ℕ → Addr
 behind_symbol image index None stored = addrs.Fixed stored
 behind_symbol image index (Some symbol) stored = behind_standing (standing_of image symbol) index symbol stored

@@ -63,6 +63,6 @@ abbrev pub named_relocs : List ℕ → Image → Section → Option Part → Res
 named_relocs bytes image section (Some part) = relocs_in bytes image section part
 named_relocs bytes image section None = Ok (record { list = [] })
 
--- the relocations of a debug section; of no other section anything is said
+-- the relocations of a debug section; none of another, for which nobody asks
 unfoldable pub relocs_of : List ℕ → Image → Section → Result Relocs Fault
 relocs_of bytes image section = named_relocs bytes image section (debug_part section.name)
