@@ -3,7 +3,7 @@ use Rattle.std.proofs.Common.{◌≡◌, ℕ, ◌+◌, ◌<◌, List, ◌++◌, 
 use Rattle.ds_base.specs.declared.fault.Part.{Part}
 use Rattle.ds_base.proofs.Walking.{drop_one}
 use Rattle.layout.specs.declared.sizes.Sizes.{Sizes}
-use Rattle.layout.specs.Laid.{size_in}
+use Rattle.layout.specs.Lengths.{size_in}
 use Rattle.dsym_write.specs.Pieces.{records_from, sized_bytes, total, with_size}
 
 module _ (sizes : Sizes) (parts : List Part) (i : ℕ) (p : Part) (size : ℕ) (lt : i < length parts) (is : p ≡ get_or parts i p) (size_is : size ≡ size_in sizes p) where

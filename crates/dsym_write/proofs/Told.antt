@@ -9,7 +9,7 @@ use Rattle.dwarf_types.specs.declared.graph.Graph.{Graph}
 use Rattle.dwarf_types.specs.declared.graph.Written.{Written}
 use Rattle.dwarf_types.specs.Encode.{abbrev_section, aranges_section, encode, frame_section, has_bytes, info_section, line_section, line_str_section, loc_section, loclists_section, ranges_section, rnglists_section, str_section}
 use Rattle.layout.specs.declared.sizes.Sizes.{Sizes}
-use Rattle.layout.specs.Laid.{sizes_of}
+use Rattle.layout.specs.Lengths.{sizes_of}
 use Rattle.macho_read.specs.declared.image.Image.{Image}
 use Rattle.macho_read.specs.ImageSpelling.{command_of}
 use Rattle.macho_read.specs.Spelling.{command_bytes, section_bytes}

@@ -13,7 +13,7 @@ use Rattle.dwarf_types.specs.Entries.{unit_len}
 use Rattle.dwarf_types.specs.Layout.{numbered_units}
 use Rattle.unit_draft.specs.declared.unit.Draft.{Draft}
 use Rattle.unit_draft.specs.Drafted.{AreDrafts, IsDraft}
-use Rattle.layout.specs.Laid.{long_unit}
+use Rattle.layout.specs.Lengths.{long_unit}
 use Rattle.layout.proofs.Numbered.{get_numbered, take_numbered, within_numbered}
 
 push_cases : {X : Type 0} (xs : List X) (x : X) (k : ℕ) (y : X) → slice_get (xs ++ x ∷ []) k ≡ Some y → (slice_get xs k ≡ Some y) ⊎ ((k ≡ length xs) × (x ≡ y))

@@ -10,7 +10,7 @@ use Rattle.dwarf_types.specs.declared.graph.Graph.{Graph}
 use Rattle.dwarf_types.specs.Encode.{abbrev_section, line_section}
 use Rattle.layout.specs.declared.sizes.Sizes.{Sizes}
 use Rattle.layout.specs.declared.starts.Starts.{Starts}
-use Rattle.layout.specs.Laid.{long_section, size_in, sizes_of}
+use Rattle.layout.specs.Lengths.{long_section, size_in, sizes_of}
 use Rattle.layout.specs.Pass.{AreBelow, is_long, lists_size, long_back, long_front, long_other, sized}
 
 abbrev long_in : Sizes → Option Part

@@ -20,7 +20,8 @@ use Rattle.text_pool.proofs.Uses.{once_of_onces}
 use Rattle.layout.specs.declared.placing.PartPlaces.{PartPlaces}
 use Rattle.layout.specs.declared.placing.Placing.{Placing}
 use Rattle.layout.specs.declared.starts.Starts.{Starts}
-use Rattle.layout.specs.Laid.{long_unit, part_places}
+use Rattle.layout.specs.Laid.{part_places}
+use Rattle.layout.specs.Lengths.{long_unit}
 use Rattle.layout.specs.Pass.{behind_draft, behind_unit, in_five, in_others, no_starts, none_placed, nothing, parts_of, starts_of, with_draft}
 use Rattle.layout.proofs.GraphParts.{by_all, starts_more}
 use Rattle.layout.proofs.SectionLengths.{unit_locations_size, unit_ranges_size}

@@ -20,7 +20,7 @@ use Rattle.dwarf_types.specs.Places.{own_node}
 use Rattle.dwarf_types.proofs.Lengths.{length-location_list, length-range_list, length-unit}
 use Rattle.layout.specs.declared.sizes.Sizes.{Sizes}
 use Rattle.layout.specs.declared.starts.Starts.{Starts}
-use Rattle.layout.specs.Laid.{sizes_of}
+use Rattle.layout.specs.Lengths.{sizes_of}
 use Rattle.layout.specs.Pass.{lists_size, sized, starts_of}
 use Rattle.layout.proofs.Numbered.{all_numbered}
 

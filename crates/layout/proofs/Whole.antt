@@ -20,7 +20,8 @@ use Rattle.layout.specs.declared.starts.Starts.{Starts}
 use Rattle.layout.specs.declared.text.Texts.{Texts}
 use Rattle.layout.specs.declared.text.TextsOf.TheVariants as owners
 use Rattle.text_pool.specs.Joins.{place_in}
-use Rattle.layout.specs.Laid.{Laid, laid, line_text_places, long_section, long_unit, sizes_of, text_places}
+use Rattle.layout.specs.Laid.{Laid, laid, line_text_places, text_places}
+use Rattle.layout.specs.Lengths.{long_section, long_unit, sizes_of}
 use Rattle.layout.specs.Pass.{AreBelow, behind_draft, long_back, long_front, long_other, no_starts, none_placed, sized, texts_by, texts_for, with_draft}
 use Rattle.layout.proofs.Behind.{same_below}
 use Rattle.layout.proofs.Limits.{ends_small, long_is}

@@ -1,15 +1,11 @@
--- Where the parts of a graph stand before it is written, each in its section, and how long the sections are.
-use Rattle.std.specs.Prelude.{◌≡◌, ℕ, ◌-◌, ◌^◌, List, [], ◌∷◌, length, map, Option, Some, None, nat_le, Result, Ok, Err}
-use Rattle.std.specs.List.{find, flat_map}
-use Rattle.std.specs.Option.{option_map}
+-- Where the parts of a graph stand before it is written, each in its section.
+use Rattle.std.specs.Prelude.{◌≡◌, ℕ, List, map, Some, None, Result, Ok, Err}
+use Rattle.std.specs.List.{flat_map}
 use Rattle.std.specs.Str.{bytes_eq}
-use Rattle.ds_base.specs.declared.fault.Part.{Part}
-use Rattle.ds_base.specs.declared.fault.Part.TheVariants as parts
 use Rattle.ds_base.specs.FirstUse.{once}
 use Rattle.dwarf_types.specs.declared.graph.Graph.{Graph}
 use Rattle.dwarf_types.specs.declared.graph.OutUnit.{OutUnit}
-use Rattle.dwarf_types.specs.Encode.{abbrev_section, info_section, str_section, line_section, line_str_section, ranges_section, rnglists_section, loc_section, loclists_section, aranges_section, frame_section}
-use Rattle.dwarf_types.specs.Entries.{unit_len}
+use Rattle.dwarf_types.specs.Encode.{aranges_section, frame_section, line_str_section, str_section}
 use Rattle.dwarf_types.specs.Layout.{line_text_place, line_texts_of_unit, lines_place, lists_place, numbered_units, table_place, text_place, texts_of_node, unit_start}
 use Rattle.unit_draft.specs.declared.unit.Draft.{Draft}
 use Rattle.unit_draft.specs.Drafted.{AreDrafts}
@@ -17,6 +13,7 @@ use Rattle.layout.specs.declared.error.LayoutError.{LayoutError}
 use Rattle.layout.specs.declared.error.LayoutError.TheVariants as errors
 use Rattle.layout.specs.declared.placing.PartPlaces.{PartPlaces}
 use Rattle.layout.specs.declared.sizes.Sizes.{Sizes}
+use Rattle.layout.specs.Lengths.{long_section, long_unit, sizes_of}
 
 -- ---- units
 
@@ -38,36 +35,6 @@ abbrev pub line_text_places : Graph → OutUnit → List ℕ
 line_text_places graph unit = map (line_text_place graph) (once bytes_eq (line_texts_of_unit unit))
 
 -- ---- the graph
-
--- the length of each section
-abbrev pub sizes_of : Graph → Sizes
-sizes_of graph = record {
-  tables = length (abbrev_section graph);
-  info = length (info_section graph);
-  texts = length (str_section graph);
-  line = length (line_section graph);
-  line_texts = length (line_str_section graph);
-  ranges = length (ranges_section graph);
-  rnglists = length (rnglists_section graph);
-  loc = length (loc_section graph);
-  loclists = length (loclists_section graph);
-  aranges = length (aranges_section graph);
-  frames = length (frame_section graph);
-}
-
-abbrev pub size_in : Sizes → Part → ℕ
-size_in sizes parts.Abbrev = sizes.tables
-size_in sizes parts.Info = sizes.info
-size_in sizes parts.Str = sizes.texts
-size_in sizes parts.Line = sizes.line
-size_in sizes parts.LineStr = sizes.line_texts
-size_in sizes parts.Ranges = sizes.ranges
-size_in sizes parts.Rnglists = sizes.rnglists
-size_in sizes parts.Loc = sizes.loc
-size_in sizes parts.Loclists = sizes.loclists
-size_in sizes parts.Aranges = sizes.aranges
-size_in sizes parts.Frame = sizes.frames
-size_in sizes _ = 0
 
 -- what is known of a graph whose units are drafted
 pub record Laid : Type 0 where
@@ -99,18 +66,6 @@ laid graph drafts = record {
   sizes = sizes_of graph;
   drafts = drafts;
 }
-
--- ---- limits
-
--- the first unit that has 2^28 bytes or more
-abbrev pub long_unit : Graph → Option ℕ
-long_unit graph = option_map (λ n. n.0) (find (λ n. nat_le (2 ^ 28) (unit_len n.0 n.1)) (numbered_units graph))
-
--- a section that has 2^32 - 1 bytes or more: the string section first, then the first in the output's order
-abbrev pub long_section : Graph → Option Part
-long_section graph =
-    find (λ part. nat_le (2 ^ 32 - 1) (size_in (sizes_of graph) part))
-    (parts.Str ∷ parts.Abbrev ∷ parts.Info ∷ parts.Line ∷ parts.LineStr ∷ parts.Ranges ∷ parts.Rnglists ∷ parts.Loc ∷ parts.Loclists ∷ parts.Aranges ∷ parts.Frame ∷ [])
 
 -- what measuring a graph answers: its layout, where nothing is too long; else the first unit that is, and else the first section. Want of memory says nothing.
 abbrev pub Measures : Graph → Result Laid LayoutError → Type 0

@@ -26,7 +26,7 @@ use Rattle.layout.specs.declared.starts.Starts.{Starts}
 use Rattle.layout.specs.declared.text.Texts.{Texts}
 use Rattle.layout.specs.declared.text.TextsOf.{TextsOf}
 use Rattle.layout.specs.declared.text.TextsOf.TheVariants as owners
-use Rattle.layout.specs.Laid.{long_unit, size_in}
+use Rattle.layout.specs.Lengths.{long_unit, size_in}
 
 -- ---- places
 

@@ -3,7 +3,8 @@
 ghost use Rattle.std.specs.Prelude.{◌≡◌, ◌-◌, ◌^◌, ◌<◌, ◌≤◌, fold, length, Some, None, Ok, slice_get};
 ghost use Rattle.dwarf_types.specs.declared.graph.Graph.{Graph as Program};
 ghost use Rattle.dwarf_types.specs.declared.graph.OutUnit.{OutUnit as Clone};
-ghost use Rattle.layout.specs.Laid.{Measures, size_in};
+ghost use Rattle.layout.specs.Laid.{Measures};
+ghost use Rattle.layout.specs.Lengths.{size_in};
 ghost use Rattle.layout.specs.declared.text.TextsOf.TheVariants as owners;
 ghost use Rattle.layout.specs.Pass.{AreBelow, MakesTexts, behind_draft, long_front, no_starts, refused, sized, texts_for};
 ghost use Rattle.unit_draft.specs.declared.unit.Draft.{Draft as ADraft};

@@ -1,7 +1,7 @@
 //! The sizes of the sections, and the first that is too long.
 
 ghost use Rattle.std.specs.Prelude.{◌≡◌, ◌<◌, ◌^◌};
-ghost use Rattle.layout.specs.Laid.{size_in};
+ghost use Rattle.layout.specs.Lengths.{size_in};
 ghost use Rattle.layout.specs.Pass.{AreBelow, is_long, lists_size, long_back, long_front, long_other};
 
 use crate::starts::Starts;

@@ -20,7 +20,7 @@ use Rattle.link_graph.specs.Pool.{pool_names, preorder}
 use Rattle.odr_names.specs.Making.{AreLiveRows}
 use Rattle.type_names.specs.Names.{Named}
 use Rattle.type_pool.specs.declared.closed.ClosedPool.{ClosedPool}
-use Rattle.layout.specs.Laid.{long_unit}
+use Rattle.layout.specs.Lengths.{long_unit}
 use Rattle.layout.proofs.DraftRuns.{Drafted, long_here, one_drafted}
 use Rattle.unit_draft.specs.declared.unit.Draft.{Draft}
 use Rattle.unit_draft.specs.Drafted.{AreDrafts}

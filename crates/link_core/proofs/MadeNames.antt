@@ -5,7 +5,7 @@ use Rattle.std.proofs.lemmas.Bool.{cases_lt}
 use Rattle.std.proofs.lemmas.Option.{same_Some, slice_get_within}
 use Rattle.dwarf_types.specs.declared.analysis.Analysis.{Analysis}
 use Rattle.odr_names.specs.declared.one_object.ObjectNames.{ObjectNames}
-use Rattle.odr_names.specs.Book.{objects_of}
+use Rattle.odr_names.specs.Numbered.{objects_of}
 use Rattle.odr_names.specs.Joining.{AreAllNames, AreNamesOf}
 use Rattle.odr_names.proofs.MakingBooks.{length_objects}
 use Rattle.type_names.specs.Heads.{Object}

@@ -2,7 +2,7 @@
 use Rattle.std.proofs.Common.{◌≡◌, ℕ, ◌-◌, ◌<◌, ◌^◌, Bool, true, false, length, is_some, nat_le, Option, Some, None, if◌then◌else◌, refl}
 use Rattle.std.proofs.lemmas.Bool.{lt-leb}
 use Rattle.dwarf_types.specs.declared.graph.Graph.{Graph}
-use Rattle.layout.specs.Laid.{long_section, long_unit}
+use Rattle.layout.specs.Lengths.{long_section, long_unit}
 use Rattle.macho_read.specs.declared.image.Image.{Image}
 use Rattle.dsym_write.specs.Bundle.{image_file}
 use Rattle.link_core.specs.declared.refusal.LimitKind.TheVariants as limits

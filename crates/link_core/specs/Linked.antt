@@ -18,7 +18,7 @@ use Rattle.name_bids.specs.Tables.{IsTable}
 use Rattle.link_graph.specs.Graph.{graph_in}
 use Rattle.link_graph.specs.Merged.{linked_names, shape_of}
 use Rattle.link_graph.specs.Pool.{pool_names}
-use Rattle.layout.specs.Laid.{long_section, long_unit}
+use Rattle.layout.specs.Lengths.{long_section, long_unit}
 use Rattle.dsym_write.specs.Bundle.{image_file}
 use Rattle.dsym_write.specs.Plist.{plist_bytes}
 use Rattle.link_core.specs.declared.bundle.Counts.{Counts}

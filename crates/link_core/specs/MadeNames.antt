@@ -1,7 +1,7 @@
 -- The names of the objects that are read, where those of one name are merged.
 use Rattle.std.specs.Prelude.{◌≡◌, ◌+◌, ℕ, Bool, true, false, List, [], Option, Some, None, Result, IfOk}
 use Rattle.dwarf_types.specs.declared.analysis.Analysis.{Analysis}
-use Rattle.odr_names.specs.Book.{objects_of}
+use Rattle.odr_names.specs.Numbered.{objects_of}
 use Rattle.odr_names.specs.declared.one_object.ObjectNames.{ObjectNames}
 use Rattle.odr_names.specs.Joining.{AreAllNames, AreNamesOf}
 use Rattle.type_names.specs.Objects.{object_of}

@@ -5,7 +5,7 @@ use Rattle.std.specs.Option.{ForSome, option_map_or}
 use Rattle.std.proofs.lemmas.Bool.{cases_eq, cases_lt, eq-eqb, ne_eqb}
 use Rattle.std.proofs.lemmas.List.{get_or-replicate, get_or-set_other, get_or-set_same, length-replicate, length-set, length_push, same_from_push}
 use Rattle.std.proofs.lemmas.Option.{same_Some, slice_get-get_or, slice_get_within}
-use Rattle.odr_names.specs.Book.{IsLinkedUp, bid_at, path_at}
+use Rattle.odr_names.specs.Numbered.{IsLinkedUp, bid_at, path_at}
 use Rattle.odr_names.specs.Winners.{AreWinners}
 use Rattle.type_names.specs.Names.{Named}
 use Rattle.type_names.specs.Paths.{Piece}

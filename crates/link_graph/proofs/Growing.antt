@@ -21,7 +21,7 @@ use Rattle.dwarf_types.specs.LinkedShape.{AreMarked, objects_in, origin_of, plai
 use Rattle.dwarf_types.specs.LinkedUnits.{Object, Source, kept_entries, sources, sources_in}
 use Rattle.dwarf_types.specs.Sound.{IsSound}
 use Rattle.dwarf_types.proofs.Marks.{nothing_merged}
-use Rattle.odr_names.specs.Book.{objects_of}
+use Rattle.odr_names.specs.Numbered.{objects_of}
 use Rattle.odr_names.proofs.BookPaths.{get_before}
 use Rattle.odr_names.proofs.MakingBooks.{length_objects}
 use Rattle.type_names.specs.Heads as heads

@@ -21,7 +21,7 @@ use Rattle.dwarf_types.specs.LinkedShape.{AreMarked, marks_in, objects_in, plain
 use Rattle.dwarf_types.specs.LinkedShape as shapes
 use Rattle.dwarf_types.specs.LinkedUnits.{Object, numbered, plain_target, sources}
 use Rattle.dwarf_types.specs.Sound.{IsSound}
-use Rattle.odr_names.specs.Book.{objects_of}
+use Rattle.odr_names.specs.Numbered.{objects_of}
 use Rattle.odr_names.specs.Stretches.{IsFirstOf}
 use Rattle.odr_names.proofs.BookPaths.{get_before}
 use Rattle.odr_names.proofs.MakingBooks.{length_objects}

@@ -11,7 +11,7 @@ use Rattle.std.proofs.lemmas.List.FromFn.{get_or-enumerate_from, length-enumerat
 use Rattle.std.proofs.lemmas.Option.{get_or_from_slice_get, same_Some, slice_get-get_or, slice_get_cases, slice_get_within}
 use Rattle.dwarf_types.specs.declared.analysis.Analysis.{Analysis}
 use Rattle.dwarf_types.specs.declared.entry.Entry.{Entry}
-use Rattle.odr_names.specs.Book.{objects_of, path_at}
+use Rattle.odr_names.specs.Numbered.{objects_of, path_at}
 use Rattle.odr_names.specs.Stretches.{IsFirstOf, object_at}
 use Rattle.type_names.specs.Heads.{Object, entries_of, is_pooled}
 use Rattle.type_names.specs.Names.{Named, named_of, names_in}

@@ -5,7 +5,7 @@ use Rattle.std.proofs.lemmas.Bool.{both_ways, cases_eq, eq-eqb, le-ltb, lt-ltb, 
 use Rattle.std.proofs.lemmas.List.{get_or-map, length-map, same_lists}
 use Rattle.std.proofs.lemmas.List.Elements.{All-head, All-tail}
 use Rattle.std.proofs.lemmas.Option.{slice_get-get_or}
-use Rattle.odr_names.specs.Book.{IsLinkedUp, path_at}
+use Rattle.odr_names.specs.Numbered.{IsLinkedUp, path_at}
 use Rattle.odr_names.specs.Winners.{AreWinners}
 use Rattle.type_names.specs.Names.{Named}
 use Rattle.type_names.specs.Paths.{Piece}

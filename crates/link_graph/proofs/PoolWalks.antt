@@ -4,7 +4,7 @@ use Rattle.std.specs.Bool.{⊤}
 use Rattle.std.proofs.lemmas.List.{length-map, length_push, map-append}
 use Rattle.std.proofs.lemmas.List.Elements.{All-nil, All-push}
 use Rattle.std.proofs.lemmas.Option.{none-some, same_Some}
-use Rattle.odr_names.specs.Book.{IsLinkedUp}
+use Rattle.odr_names.specs.Numbered.{IsLinkedUp}
 use Rattle.odr_names.specs.Winners.{AreWinners}
 use Rattle.type_names.specs.Names.{Named}
 use Rattle.link_graph.specs.Pool.{pool_names}

@@ -10,8 +10,7 @@ use Rattle.dwarf_types.specs.declared.shape.ShapeUnit.{ShapeUnit}
 use Rattle.dwarf_types.specs.Kept.{kept_of}
 use Rattle.dwarf_types.specs.LinkedShape.{plain_in, shape_in}
 use Rattle.dwarf_types.specs.LinkedUnits.{Object, plain_target, sources}
-use Rattle.odr_names.specs.Book.{objects_of}
-use Rattle.odr_names.specs.Making.{merged}
+use Rattle.odr_names.specs.Numbered.{objects_of, merged}
 use Rattle.type_names.specs.Heads.{entries_of, is_pooled}
 use Rattle.type_names.specs.Heads as heads
 use Rattle.type_names.specs.Names.{Named, names}

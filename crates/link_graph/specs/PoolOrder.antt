@@ -3,7 +3,7 @@ use Rattle.std.specs.Prelude.{◌≡◌, ◌⊎◌, ℕ, ◌+◌, ◌-◌, ◌^�
 use Rattle.std.specs.Bool.{⊤}
 use Rattle.std.specs.List.{All, position_from}
 use Rattle.std.specs.Option.{option_map_or}
-use Rattle.odr_names.specs.Book.{bid_at, path_at}
+use Rattle.odr_names.specs.Numbered.{bid_at, path_at}
 use Rattle.type_names.specs.Names.{Named}
 use Rattle.type_names.specs.Paths.{Piece}
 use Rattle.link_graph.specs.declared.pool.Link.{Link}

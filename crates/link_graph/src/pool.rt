@@ -8,7 +8,7 @@
 ghost use Rattle.std.specs.Prelude.{◌≡◌, ◌<◌, ◌≤◌, ◌+◌, ◌^◌, ◌==◌, ◌⊎◌, ◌++◌, ℕ, ◌∷◌, None, Some, length, map, replicate, slice_index_or, slice_set, IfOk, List as Listed};
 ghost use Rattle.std.specs.List.{All, list_any};
 ghost use Rattle.std.specs.Option.{ForSome};
-ghost use Rattle.odr_names.specs.Book.{IsLinkedUp, path_at};
+ghost use Rattle.odr_names.specs.Numbered.{IsLinkedUp, path_at};
 ghost use Rattle.odr_names.specs.Winners.{AreWinners};
 ghost use Rattle.link_graph.specs.Graph.{pool_version};
 ghost use Rattle.link_graph.specs.Joining.{AreOriginsFrom, ArePathNodes, origin_at};

@@ -17,9 +17,9 @@ use Rattle.dwarf_types.specs.Tree.{ParentsStandBefore}
 use Rattle.link_graph.specs.Merged.{linked_names}
 use Rattle.link_graph.specs.Pool.{node_of_path, pool_names, preorder, same_path}
 use Rattle.link_graph.proofs.Gathered.{enumerate_at, take_on}
-use Rattle.odr_names.specs.Book.{objects_of}
+use Rattle.odr_names.specs.Numbered.{objects_of, merged}
 use Rattle.odr_names.specs.Entering.{AreLiveParents}
-use Rattle.odr_names.specs.Making.{AreLiveRows, IsLiveRow, merged}
+use Rattle.odr_names.specs.Making.{AreLiveRows, IsLiveRow}
 use Rattle.odr_names.proofs.Closed.{path_below, path_top, pooled_parent, unit_is_plain}
 use Rattle.odr_names.proofs.Counting.{entry_at}
 use Rattle.odr_names.proofs.ObjectLists.{object_parts}

@@ -22,7 +22,7 @@ use Rattle.link_graph.specs.Graph.{image_of, pool_in, pool_of, pool_unit, pools}
 use Rattle.link_graph.specs.Merged.{image_in, images_in, kept_object, kept_objects, pool_count, pool_origin, pool_root, pool_units, shape_of}
 use Rattle.link_graph.specs.Pool.{pool_names}
 use Rattle.link_graph.proofs.Gathered.{All-filter_map}
-use Rattle.odr_names.specs.Book.{objects_of}
+use Rattle.odr_names.specs.Numbered.{objects_of}
 use Rattle.type_names.specs.Heads.{entries_of}
 use Rattle.type_names.specs.Heads as heads
 use Rattle.type_names.specs.Names.{Named}

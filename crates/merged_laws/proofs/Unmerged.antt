@@ -16,7 +16,7 @@ use Rattle.dwarf_types.specs.LinkedUnits.{Object, node_number, plain_target, sam
 use Rattle.dwarf_types.proofs.Marks.{nothing_merged}
 use Rattle.link_graph.specs.Graph.{graph_in, image_of, pool_version, pools}
 use Rattle.link_graph.specs.Merged.{kept_object, kept_objects, object_units, shape_of}
-use Rattle.odr_names.specs.Book.{objects_of}
+use Rattle.odr_names.specs.Numbered.{objects_of}
 use Rattle.type_names.specs.Heads.{entries_of}
 use Rattle.type_names.specs.Heads as heads
 use Rattle.merged_laws.proofs.Told.{image_read, in_object, objects_back, pool_by}

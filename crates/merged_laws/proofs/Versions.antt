@@ -20,7 +20,7 @@ use Rattle.linked_laws.specs.Kept.{IsWhole}
 use Rattle.linked_laws.proofs.Attributes.{Allows}
 use Rattle.linked_laws.proofs.Chains.{entry_of_unit, parent_in_unit}
 use Rattle.linked_laws.proofs.Written.{node_of_entry}
-use Rattle.odr_names.specs.Book.{objects_of}
+use Rattle.odr_names.specs.Numbered.{objects_of}
 use Rattle.odr_names.specs.Entering.{AreLiveParents}
 use Rattle.odr_names.specs.Making.{IsLiveRow}
 use Rattle.odr_names.proofs.Closed.{unit_is_plain}

@@ -30,8 +30,8 @@ use Rattle.linked_laws.proofs.Attributes.{Allows, mapped_some}
 use Rattle.linked_laws.proofs.Images.{goes}
 use Rattle.linked_laws.proofs.Whole.{behind_well}
 use Rattle.linked_laws.proofs.Written.{all_written}
-use Rattle.odr_names.specs.Book.{objects_of}
-use Rattle.odr_names.specs.Making.{AreLiveRows, merged}
+use Rattle.odr_names.specs.Numbered.{objects_of, merged}
+use Rattle.odr_names.specs.Making.{AreLiveRows}
 use Rattle.odr_names.proofs.Counting.{entry_at}
 use Rattle.odr_names.proofs.ObjectLists.{object_parts}
 use Rattle.type_names.specs.Heads.{entries_of, is_pooled}

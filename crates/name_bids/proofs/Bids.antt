@@ -1,6 +1,6 @@
 -- What a seat knows once it bid for one name, for one and another, and once it is joined to a seat that bid for others.
 use Rattle.std.proofs.Common.{◌≡◌, ℕ, ◌<◌, ◌⊎◌, inl, inr, ⊎_elim, List, [], ◌∷◌, ◌++◌, length, sym, refl, ap, subst}
-use Rattle.odr_names.specs.Book.{SamePath, bid_at}
+use Rattle.odr_names.specs.Numbered.{SamePath, bid_at}
 use Rattle.type_names.specs.Names.{Named}
 use Rattle.type_pool.specs.declared.view.View.{View}
 use Rattle.type_pool.specs.declared.placing.Placing.TheVariants.{Cell, Crowded}

@@ -8,7 +8,7 @@ use Rattle.std.proofs.lemmas.List.Elements.{All-append, All-cons, All-contains, 
 use Rattle.std.proofs.lemmas.Option.{none-some, same_Some, slice_get-get_or, slice_get-map, slice_get_within}
 use Rattle.ds_base.specs.Room.{put}
 use Rattle.ds_base.proofs.Adding.{length-put}
-use Rattle.odr_names.specs.Book.{SamePath}
+use Rattle.odr_names.specs.Numbered.{SamePath}
 use Rattle.odr_names.proofs.BookPaths.{get_before, get_last}
 use Rattle.pool_core.specs.declared.state.PoolState.{PoolState}
 use Rattle.type_names.specs.Names.{Named}

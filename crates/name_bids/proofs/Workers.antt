@@ -4,7 +4,7 @@ use Rattle.std.specs.Prelude.{None, Some, is_some}
 use Rattle.std.specs.declared.option.Option.{Option}
 use Rattle.std.specs.Option.{option_or}
 use Rattle.std.proofs.lemmas.Bool.{cases_lt}
-use Rattle.odr_names.specs.Book.{bid_at}
+use Rattle.odr_names.specs.Numbered.{bid_at}
 use Rattle.odr_names.specs.Stretches.{object_at}
 use Rattle.type_names.specs.Names.{Named}
 use Rattle.type_pool.specs.declared.seat.PoolSeat.{PoolSeat}

@@ -1,6 +1,6 @@
 -- What is bid for the names of a book at the cells of a shared table.
 use Rattle.std.specs.Prelude.{◌≡◌, ℕ, ◌+◌, ◌<◌, ◌≤◌, ◌⊎◌, List, length}
-use Rattle.odr_names.specs.Book.{SamePath, bid_at}
+use Rattle.odr_names.specs.Numbered.{SamePath, bid_at}
 use Rattle.odr_names.specs.Stretches.{object_at}
 use Rattle.type_names.specs.Names.{Named}
 use Rattle.type_pool.specs.declared.view.View.{View}

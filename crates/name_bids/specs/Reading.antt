@@ -2,7 +2,7 @@
 use Rattle.std.specs.Prelude.{◌≡◌, ℕ, ◌+◌, ◌<◌, ◌↔◌, List, length, slice_get, slice_index, Option, None, Some}
 use Rattle.std.specs.List.{Contains}
 use Rattle.std.specs.Option.{option_map_or}
-use Rattle.odr_names.specs.Book.{bid_at}
+use Rattle.odr_names.specs.Numbered.{bid_at}
 use Rattle.type_names.specs.Names.{Named}
 use Rattle.name_bids.specs.Tables.{IsAt}
 

@@ -1,6 +1,6 @@
 -- The closed table of a book: where each name stands, and the least bid of each path.
 use Rattle.std.specs.Prelude.{◌≡◌, ℕ, ◌*◌, ◌^◌, ◌<◌, ◌⊎◌, List, length, max, min, slice_index}
-use Rattle.odr_names.specs.Book.{SamePath, bid_at, path_at}
+use Rattle.odr_names.specs.Numbered.{SamePath, bid_at, path_at}
 use Rattle.odr_names.specs.Winners.{IsWinner}
 use Rattle.pool_core.specs.declared.state.PoolState.{PoolState}
 use Rattle.type_names.specs.Names.{Named}

@@ -2,7 +2,7 @@
 
 ghost use Rattle.std.specs.Prelude.{◌≡◌, ◌<◌, ◌≤◌, ◌^◌, Err, length, IfOk};
 ghost use Rattle.odr_names.specs.declared.book_error.BookError.TheVariants as errors;
-ghost use Rattle.odr_names.specs.Book.{objects_of};
+ghost use Rattle.odr_names.specs.Numbered.{objects_of};
 ghost use Rattle.odr_names.specs.Joining.{AreAllNames};
 ghost use Rattle.type_names.specs.Names.{names};
 ghost use Rattle.name_bids.specs.Opening.{IsOpenFor};

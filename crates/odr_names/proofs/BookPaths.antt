@@ -10,7 +10,8 @@ use Rattle.type_names.specs.Names.{Named}
 use Rattle.type_names.specs.Paths.{Piece}
 use Rattle.type_names.specs.Start.{path_hash}
 use Rattle.odr_names.specs.declared.path_book.Row.{Row}
-use Rattle.odr_names.specs.Book.{AreRows, Compared, IsLinked, IsLinkedUp, IsOfParent, bid_at, path_above, path_at, path_in, row_above, row_bid, row_name, row_path, row_piece}
+use Rattle.odr_names.specs.Book.{AreRows, Compared, IsLinked, path_above, path_in, row_above, row_bid, row_name, row_path, row_piece}
+use Rattle.odr_names.specs.Numbered.{IsLinkedUp, IsOfParent, bid_at, path_at}
 use Rattle.odr_names.specs.Entering.{rows_up}
 use Rattle.odr_names.specs.Innermost.{innermost}
 use Rattle.odr_names.proofs.Innermost.{innermost_more}

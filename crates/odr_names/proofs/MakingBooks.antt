@@ -9,7 +9,7 @@ use Rattle.dwarf_types.specs.declared.analysis.Analysis.{Analysis}
 use Rattle.dwarf_types.specs.declared.entry.Entry.{Entry}
 use Rattle.dwarf_types.specs.Live.{its_parent}
 use Rattle.dwarf_types.specs.Sound.{IsSound}
-use Rattle.odr_names.specs.Book.{objects_of}
+use Rattle.odr_names.specs.Numbered.{objects_of}
 use Rattle.odr_names.specs.Entering.{AreLiveParents}
 use Rattle.odr_names.specs.Making.{IsFit, IsLiveRow}
 use Rattle.type_names.specs.Heads.{Object}

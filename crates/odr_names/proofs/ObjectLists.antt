@@ -5,7 +5,8 @@ use Rattle.dwarf_types.specs.declared.analysis.Analysis.{Analysis}
 use Rattle.type_names.specs.Heads.{Object}
 use Rattle.type_names.specs.Objects.{object_of}
 use Rattle.odr_names.specs.declared.path_book.Objects.{Objects}
-use Rattle.odr_names.specs.Book.{AreTold, objects_in, objects_of}
+use Rattle.odr_names.specs.Book.{AreTold, objects_in}
+use Rattle.odr_names.specs.Numbered.{objects_of}
 
 pub object_parts : (seen : List Analysis) (live : List (List Bool)) (i : ℕ) (o : Object) → slice_get (objects_of seen live) i ≡ Some o → (slice_get seen i ≡ Some o.seen) × (slice_get live i ≡ Some o.live)
 object_parts [] live i o at = absurd (none-some o at)

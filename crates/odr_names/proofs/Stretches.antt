@@ -9,7 +9,8 @@ use Rattle.std.proofs.lemmas.Option.{get_or_from_slice_get, slice_get-map}
 use Rattle.dwarf_types.specs.declared.entry.Entry.{Entry}
 use Rattle.odr_names.specs.declared.path_book.Objects.{Objects}
 use Rattle.odr_names.specs.declared.path_book.Row.{Row}
-use Rattle.odr_names.specs.Book.{IsBook, bid_at, objects_in, row_name}
+use Rattle.odr_names.specs.Book.{IsBook, objects_in, row_name}
+use Rattle.odr_names.specs.Numbered.{bid_at}
 use Rattle.odr_names.specs.Stretches.{AreOfObjects, IsFirstOf, last_object, object_at}
 use Rattle.type_names.specs.Heads.{Object, entries_of, is_pooled}
 use Rattle.type_names.specs.Names.{Named, named_of, names, names_in}

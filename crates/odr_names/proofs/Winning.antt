@@ -13,7 +13,7 @@ use Rattle.std.proofs.lemmas.Option.{get_or_from_slice_get, same_Some, slice_get
 use Rattle.odr_names.specs.declared.winners.Ranked.{Ranked}
 use Rattle.odr_names.specs.Innermost.{rank_hash}
 use Rattle.type_names.specs.Names.{Named}
-use Rattle.odr_names.specs.Book.{SamePath, bid_at, path_at}
+use Rattle.odr_names.specs.Numbered.{SamePath, bid_at, path_at}
 use Rattle.odr_names.specs.Winners.{ArePut, AreWholePaths, AreWinners, IsWinner}
 use Rattle.odr_names.specs.Ranking.{AreFound, AreInOrder, AreOthersKept, AreRanked, AreRankedTo, AreRanksOf, IsAmong, IsRank, IsRun}
 use Rattle.odr_names.proofs.BookPaths.{get_before, get_last}

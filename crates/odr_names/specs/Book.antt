@@ -7,6 +7,7 @@ use Rattle.dwarf_types.specs.declared.entry.Entry.{Entry}
 use Rattle.odr_names.specs.declared.path_book.Objects.{Objects}
 use Rattle.odr_names.specs.declared.path_book.Row.{Row}
 use Rattle.odr_names.specs.Innermost.{innermost}
+use Rattle.odr_names.specs.Numbered.{objects_of}
 use Rattle.odr_names.specs.Pieces.{IsSpelled}
 use Rattle.type_names.specs.declared.pooled.TypeNames.{TypeNames}
 use Rattle.type_names.specs.Entries.{is_declaration}
@@ -18,34 +19,7 @@ use Rattle.type_names.specs.Pooled.{AreNames}
 use Rattle.type_names.specs.Start.{path_hash}
 use Rattle.type_names.specs.Tree.{parent_of}
 
--- ---- names
-
-abbrev pub path_at : List Named → ℕ → List Piece
-path_at names x = option_map_or (λ name. name.path) (slice_get names x) []
-
-abbrev pub bid_at : List Named → ℕ → ℕ
-bid_at names x = option_map_or (λ name. name.bid) (slice_get names x) 0
-
--- name p is that of the parent of the entry of name x
-abbrev pub IsOfParent : List Named → ℕ → ℕ → Type 0
-IsOfParent names x p = (name up : Named) → slice_get names x ≡ Some name → slice_get names p ≡ Some up → (up.object ≡ name.object) × (name.parent ≡ Some up.entry)
-
--- the path of name x is that of a name before it and a piece more, or one piece
-pub record IsLinkedUp (names : List Named) (x : ℕ) : Type 0 where
-  pub up : Option ℕ
-  pub before : ForSome up (λ p. p < x)
-  pub piece : Piece
-  pub path : path_at names x ≡ option_map_or (path_at names) up [] ++ piece ∷ []
-
--- names a and b have one path
-abbrev pub SamePath : List Named → ℕ → ℕ → Type 0
-SamePath names a b = path_at names a ≡ path_at names b
-
 -- ---- objects
-
-abbrev pub objects_of : List Analysis → List (List Bool) → List Object
-objects_of (seen ∷ more) (live ∷ rows) = object_of seen live ∷ objects_of more rows
-objects_of _ _ = []
 
 abbrev pub objects_in : Objects → List Object
 objects_in os = objects_of os.seen.now os.live.now

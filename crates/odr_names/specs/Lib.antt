@@ -1,5 +1,6 @@
 pub mod Pieces
 pub mod Innermost
+pub mod Numbered
 pub mod Book
 pub mod Stretches
 pub mod Winners

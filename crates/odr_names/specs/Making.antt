@@ -1,10 +1,9 @@
 -- What a book is made of.
-use Rattle.std.specs.Prelude.{◌≡◌, ◌↔◌, ℕ, ◌^◌, ◌≤◌, Bool, true, false, List, [], length, slice_get, slice_index_or, Some, if◌then◌else◌}
+use Rattle.std.specs.Prelude.{◌≡◌, ◌↔◌, ℕ, ◌^◌, ◌≤◌, Bool, true, false, List, length, slice_get, slice_index_or, Some}
 use Rattle.dwarf_types.specs.declared.analysis.Analysis.{Analysis}
 use Rattle.dwarf_types.specs.declared.entry.Entry.{Entry}
 use Rattle.dwarf_types.specs.Live.{IsLive}
 use Rattle.dwarf_types.specs.Tree.{ParentsStandBefore}
-use Rattle.odr_names.specs.Book.{objects_of}
 use Rattle.odr_names.specs.Entering.{AreLiveParents}
 use Rattle.type_names.specs.Heads.{Object, entries_of}
 
@@ -17,10 +16,6 @@ pub record IsLiveRow (entries : List Entry) (row : List Bool) : Type 0 where
 pub record AreLiveRows (seen : List Analysis) (live : List (List Bool)) : Type 0 where
   pub len : length live ≡ length seen
   pub each : (i : ℕ) (a : Analysis) (row : List Bool) → slice_get seen i ≡ Some a → slice_get live i ≡ Some row → IsLiveRow a.entries row
-
--- the objects whose types are merged: all, or none
-abbrev pub merged : Bool → List Analysis → List (List Bool) → List Object
-merged odr seen live = if odr then objects_of seen live else []
 
 -- ---- on the way
 

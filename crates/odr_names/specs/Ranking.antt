@@ -2,7 +2,7 @@
 use Rattle.std.specs.Prelude.{◌≡◌, ℕ, ◌<◌, ◌≤◌, ◌⊎◌, List, length, slice_get, slice_index_or, Some}
 use Rattle.odr_names.specs.declared.winners.Ranked.{Ranked}
 use Rattle.type_names.specs.Names.{Named}
-use Rattle.odr_names.specs.Book.{SamePath, bid_at, path_at}
+use Rattle.odr_names.specs.Numbered.{SamePath, bid_at, path_at}
 use Rattle.odr_names.specs.Innermost.{rank_hash}
 use Rattle.odr_names.specs.Winners.{IsWinner}
 

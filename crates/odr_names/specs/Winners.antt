@@ -2,7 +2,7 @@
 use Rattle.std.specs.Prelude.{◌≡◌, ℕ, ◌<◌, ◌≤◌, List, length, slice_index_or}
 use Rattle.std.specs.List.{Contains}
 use Rattle.type_names.specs.Names.{Named}
-use Rattle.odr_names.specs.Book.{SamePath, bid_at}
+use Rattle.odr_names.specs.Numbered.{SamePath, bid_at}
 
 -- name w has the path of name x, and no name of that path has a lower bid
 pub record IsWinner (names : List Named) (x w : ℕ) : Type 0 where

@@ -1,7 +1,8 @@
 //! The rows of all objects, those of each behind those of earlier ones.
 
 ghost use Rattle.std.specs.Prelude.{◌≡◌, length, map, IfOk};
-ghost use Rattle.odr_names.specs.Book.{AreRows, AreTold, objects_of, row_name};
+ghost use Rattle.odr_names.specs.Book.{AreRows, AreTold, row_name};
+ghost use Rattle.odr_names.specs.Numbered.{objects_of};
 ghost use Rattle.odr_names.specs.Joining.{AreAllNames};
 ghost use Rattle.type_names.specs.Names.{names};
 

@@ -7,7 +7,7 @@ use pool_core::NameBook;
 
 impl<'a> NameBook for PathBook<'a> {
     ghost use Rattle.std.specs.Prelude.{◌≡◌, length};
-    ghost use Rattle.odr_names.specs.Book.{SamePath, path_at};
+    ghost use Rattle.odr_names.specs.Numbered.{SamePath, path_at};
     ghost use Rattle.type_names.specs.Start.{start_of as start_of_path};
     ghost use Rattle.type_names.specs.Start.{path_hash};
     ghost use Rattle.std.specs.Prelude.{◌/◌, ◌^◌};

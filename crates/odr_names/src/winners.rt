@@ -3,7 +3,7 @@
 ghost use Rattle.std.specs.Prelude.{◌≡◌, ◌<◌, ◌≤◌, ◌^◌, ◌↔◌, ℕ, [], ◌∷◌, ◌++◌, length, slice_get, slice_index_or, Some, IfOk, IfSome, OnOk, OnErr};
 ghost use Rattle.std.specs.List.{All};
 ghost use Rattle.std.specs.List.Sorted.{IsPermutation};
-ghost use Rattle.odr_names.specs.Book.{SamePath, path_at};
+ghost use Rattle.odr_names.specs.Numbered.{SamePath, path_at};
 ghost use Rattle.odr_names.specs.Ranking.{AreFound, AreInOrder, AreOthersKept, AreRanked, AreRanksOf, IsAmong, IsRank};
 ghost use Rattle.odr_names.specs.Winners.{ArePut, AreWholePaths, AreWinners, IsWinner};
 ghost use Rattle.odr_names.specs.declared.winners.Ranked.{Ranked as RankedAs};

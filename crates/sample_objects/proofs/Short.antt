@@ -20,7 +20,7 @@ use Rattle.dwarf_types.specs.Layout.{line_texts_of_unit, lists_place, places_of,
 use Rattle.dwarf_types.specs.Lists.{behind_header}
 use Rattle.dwarf_types.specs.Places.{own_node}
 use Rattle.dwarf_types.proofs.Lengths.{length-unit}
-use Rattle.layout.specs.Laid.{long_section, long_unit}
+use Rattle.layout.specs.Lengths.{long_section, long_unit}
 use Rattle.section_write.proofs.InTurn.{back_len, front_len, lists_len, sections_len}
 use Rattle.sample_objects.specs.ObjectFile.{graph_of}
 use Rattle.sample_objects.proofs.Modest.{AreModest, no_locations, no_ranges, strings_few, table_few, unit_few}

@@ -2,7 +2,7 @@
 use Rattle.std.proofs.Common.{◌≡◌, ◌≤◌, ◌<◌, ◌^◌, ℕ, None, arith, refl}
 use Rattle.std.specs.List.{All}
 use Rattle.std.proofs.lemmas.List.Elements.{All-map}
-use Rattle.layout.specs.Laid.{long_section, long_unit}
+use Rattle.layout.specs.Lengths.{long_section, long_unit}
 use Rattle.reloc_table.specs.declared.relocation.Reloc.{Reloc}
 use Rattle.sample_objects.specs.GeneratedProgram.{reloc_of, spec_of}
 use Rattle.sample_objects.specs.GeneratedUnit.{all_numbers, unit_of}

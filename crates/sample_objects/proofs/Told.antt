@@ -10,7 +10,7 @@ use Rattle.dwarf_types.specs.declared.graph.Graph.{Graph}
 use Rattle.dwarf_types.specs.declared.graph.Written.{Written}
 use Rattle.dwarf_types.specs.Encode.{abbrev_section, aranges_section, encode, frame_section, has_bytes, info_section, line_section, line_str_section, loc_section, loclists_section, ranges_section, rnglists_section, str_section}
 use Rattle.layout.specs.declared.sizes.Sizes.{Sizes}
-use Rattle.layout.specs.Laid.{long_section, size_in, sizes_of}
+use Rattle.layout.specs.Lengths.{long_section, size_in, sizes_of}
 use Rattle.dsym_write.specs.declared.dwarf.TheConstants.{WRITTEN_PARTS}
 use Rattle.dsym_write.specs.Pieces.{with_size}
 use Rattle.sample_objects.specs.ObjectFile.{sized_of}

@@ -3,7 +3,7 @@
 ghost use Rattle.std.specs.Prelude.{◌≡◌, ◌<◌, ◌^◌, IfOk, None, length};
 ghost use Rattle.std.specs.List.{All};
 ghost use Rattle.dsym_write.specs.Bundle;
-ghost use Rattle.layout.specs.Laid.{long_section, long_unit};
+ghost use Rattle.layout.specs.Lengths.{long_section, long_unit};
 ghost use Rattle.sample_objects.specs.ObjectFile;
 ghost use Rattle.sample_objects.specs.ObjectFile.{graph_of, object_bytes, sections_of, sized_of};
 

@@ -4,7 +4,8 @@ ghost use Rattle.std.specs.Prelude.{◌≡◌, ◌↔◌, ◌<◌, ◌≤◌, �
 ghost use Rattle.std.specs.List.{filter, sum_by};
 ghost use Rattle.dsym_write.specs.Bundle.{contents};
 ghost use Rattle.dwarf_types.specs.declared.graph.Graph.{Graph};
-ghost use Rattle.layout.specs.Laid.{IsMeasured, Measures, long_section, long_unit};
+ghost use Rattle.layout.specs.Laid.{IsMeasured, Measures};
+ghost use Rattle.layout.specs.Lengths.{long_section, long_unit};
 ghost use Rattle.dsym_write.specs.Pieces.{with_size};
 ghost use Rattle.sample_objects.specs.ObjectFile.{graph_of, sections_in, sized_of};
 ghost use Rattle.sample_objects.specs.Sized.{has_size};

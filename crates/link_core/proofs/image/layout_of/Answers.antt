@@ -1,5 +1,5 @@
 use Rattle.std.proofs.Common.{◌≡◌, None, Some}
-use Rattle.layout.specs.Laid.{long_unit}
+use Rattle.layout.specs.Lengths.{long_unit}
 use Rattle.layout.proofs.OfDrafts.{none_long}
 use Rattle.link_core.proofs.image.layout_of.Goals as goal
 

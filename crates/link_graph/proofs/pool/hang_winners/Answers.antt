@@ -1,5 +1,5 @@
 use Rattle.std.proofs.Common.{◌≡◌, ◌+◌, ◌-◌, ◌<◌, ◌≤◌, ℕ, length, subst, arith}
-use Rattle.odr_names.specs.Book.{bid_at}
+use Rattle.odr_names.specs.Numbered.{bid_at}
 use Rattle.std.proofs.lemmas.List.{length-map}
 use Rattle.link_graph.specs.declared.pool.Link.{Link}
 use Rattle.link_graph.specs.PoolOrder.{AreHungFrom, Wins, firsts, name_of, nexts}

@@ -1,6 +1,6 @@
 use Rattle.std.proofs.Common.{◌≡◌, ◌∙◌, Some, slice_get, refl, arith}
 use Rattle.std.proofs.lemmas.Option.{slice_get_read}
-use Rattle.odr_names.specs.Book.{objects_of}
+use Rattle.odr_names.specs.Numbered.{objects_of}
 use Rattle.odr_names.proofs.MakingBooks.{object_made}
 use Rattle.type_names.specs.Heads.{Object}
 use Rattle.type_names.specs.Objects.{object_of}

@@ -1,5 +1,5 @@
 use Rattle.std.proofs.Common.{◌≡◌, ◌∙◌, List, length, sym, subst, rules}
-use Rattle.odr_names.specs.Book.{objects_of}
+use Rattle.odr_names.specs.Numbered.{objects_of}
 use Rattle.odr_names.specs.Joining.{AreAllNames, AreJoinedTo}
 use Rattle.odr_names.specs.declared.path_book.Objects.{Objects}
 use Rattle.type_names.specs.Heads.{Object}

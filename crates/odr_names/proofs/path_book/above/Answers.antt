@@ -2,7 +2,8 @@ use Rattle.std.proofs.Common.{◌≡◌, ◌++◌, ◌∷◌, [], Some, List, sl
 use Rattle.std.specs.Option.{ForSome, option_map_or}
 use Rattle.type_names.specs.Names.{Named}
 use Rattle.type_names.specs.Paths.{Piece}
-use Rattle.odr_names.specs.Book.{IsOfParent, objects_in, path_at, row_above}
+use Rattle.odr_names.specs.Book.{objects_in, row_above}
+use Rattle.odr_names.specs.Numbered.{IsOfParent, path_at}
 use Rattle.odr_names.proofs.BookPaths.{above_in_names, above_lower, parent_in_names}
 use Rattle.odr_names.proofs.path_book.above.Goals as goal
 

@@ -1,6 +1,6 @@
 use Rattle.std.proofs.Common.{◌≡◌, Some, arith, refl, slice_get}
 use Rattle.std.proofs.lemmas.Option.{slice_get_read}
-use Rattle.odr_names.specs.Book.{objects_of}
+use Rattle.odr_names.specs.Numbered.{objects_of}
 use Rattle.type_names.specs.Objects.{object_of}
 use Rattle.odr_names.proofs.JoinedRows.{names_done, names_more}
 use Rattle.odr_names.proofs.MakingBooks.{length_objects, object_made}

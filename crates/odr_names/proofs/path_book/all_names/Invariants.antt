@@ -1,4 +1,4 @@
-use Rattle.odr_names.specs.Book.{objects_of}
+use Rattle.odr_names.specs.Numbered.{objects_of}
 use Rattle.odr_names.specs.Joining.{AreNamesTo}
 use Rattle.odr_names.proofs.path_book.all_names.Given as goal
 

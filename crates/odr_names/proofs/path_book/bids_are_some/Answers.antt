@@ -1,6 +1,6 @@
 use Rattle.std.proofs.Common.{List, ℕ, ◌^◌, ◌-◌, ◌<◌, length, subst}
 use Rattle.type_names.specs.Names.{Named}
-use Rattle.odr_names.specs.Book.{bid_at}
+use Rattle.odr_names.specs.Numbered.{bid_at}
 use Rattle.odr_names.proofs.Stretches.{bids_small}
 use Rattle.odr_names.proofs.path_book.bids_are_some.Goals as goal
 

@@ -1,7 +1,8 @@
 use Rattle.std.proofs.Common.{◌≡◌, Some, List, slice_get, subst}
 use Rattle.type_names.specs.Names.{Named}
 use Rattle.type_names.specs.Start.{path_hash}
-use Rattle.odr_names.specs.Book.{objects_in, path_at}
+use Rattle.odr_names.specs.Book.{objects_in}
+use Rattle.odr_names.specs.Numbered.{path_at}
 use Rattle.odr_names.proofs.BookPaths.{hash_at_names}
 use Rattle.odr_names.proofs.path_book.hash_at.Goals as goal
 

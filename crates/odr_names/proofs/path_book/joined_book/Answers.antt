@@ -1,6 +1,7 @@
 use Rattle.std.proofs.Common.{◌≡◌, ◌∙◌, ◌<◌, ◌^◌, List, length, map, ap, subst, sym, arith}
 use Rattle.dwarf_types.specs.declared.analysis.Analysis.{Analysis}
-use Rattle.odr_names.specs.Book.{AreRows, objects_in, objects_of, row_name}
+use Rattle.odr_names.specs.Book.{AreRows, objects_in, row_name}
+use Rattle.odr_names.specs.Numbered.{objects_of}
 use Rattle.type_names.specs.Heads.{Object}
 use Rattle.type_names.specs.Names.{names}
 use Rattle.odr_names.proofs.BookPaths.{length_names}

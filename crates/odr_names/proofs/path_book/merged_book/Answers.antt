@@ -1,5 +1,5 @@
 use Rattle.std.proofs.Common.{arith}
-use Rattle.odr_names.specs.Book.{objects_of}
+use Rattle.odr_names.specs.Numbered.{objects_of}
 use Rattle.odr_names.proofs.MakingBooks.{length_objects}
 use Rattle.odr_names.proofs.path_book.merged_book.Goals as goal
 

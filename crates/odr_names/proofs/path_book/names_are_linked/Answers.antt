@@ -1,6 +1,7 @@
 use Rattle.std.proofs.Common.{List, ℕ, ◌<◌, length, subst}
 use Rattle.type_names.specs.Names.{Named}
-use Rattle.odr_names.specs.Book.{IsLinkedUp, objects_in}
+use Rattle.odr_names.specs.Book.{objects_in}
+use Rattle.odr_names.specs.Numbered.{IsLinkedUp}
 use Rattle.odr_names.proofs.BookPaths.{names_linked}
 use Rattle.odr_names.proofs.path_book.names_are_linked.Goals as goal
 

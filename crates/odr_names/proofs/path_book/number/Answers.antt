@@ -1,6 +1,7 @@
 use Rattle.std.proofs.Common.{◌≡◌, ◌∙◌, Some, List, slice_get, subst, sym}
 use Rattle.type_names.specs.Names.{Named}
-use Rattle.odr_names.specs.Book.{bid_at, objects_in}
+use Rattle.odr_names.specs.Book.{objects_in}
+use Rattle.odr_names.specs.Numbered.{bid_at}
 use Rattle.odr_names.proofs.BookPaths.{bid_at_names}
 use Rattle.odr_names.proofs.path_book.number.Goals as goal
 

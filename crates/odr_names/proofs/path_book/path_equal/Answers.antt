@@ -1,7 +1,8 @@
 use Rattle.std.proofs.Common.{◌≡◌, ◌<◌, ◌↔◌, List, length, map, subst, sym, ap, arith}
 use Rattle.std.specs.Bool.{IsTrue}
 use Rattle.type_names.specs.Names.{Named}
-use Rattle.odr_names.specs.Book.{IsBook, SamePath, objects_in, row_name}
+use Rattle.odr_names.specs.Book.{IsBook, objects_in, row_name}
+use Rattle.odr_names.specs.Numbered.{SamePath}
 use Rattle.odr_names.proofs.BookPaths.{length_names, path_at_names}
 use Rattle.odr_names.proofs.path_book.path_equal.Goals as goal
 

@@ -1,6 +1,6 @@
 use Rattle.std.proofs.Common.{◌≡◌, ◌<◌, ◌^◌, None, sym, ap, subst, ◌∙◌}
 use Rattle.std.specs.List.{All}
-use Rattle.layout.specs.Laid.{long_section, long_unit}
+use Rattle.layout.specs.Lengths.{long_section, long_unit}
 use Rattle.sample_objects.specs.declared.spec.ObjectSpec.{ObjectSpec}
 use Rattle.sample_objects.specs.ObjectFile.{graph_of, object_bytes}
 use Rattle.sample_objects.proofs.Specs.{spec_sections, spec_symbols, spec_unit}

@@ -1,5 +1,6 @@
 use Rattle.std.proofs.Common.{subst, Err}
-use Rattle.layout.specs.Laid.{Measures, long_section, long_unit}
+use Rattle.layout.specs.Laid.{Measures}
+use Rattle.layout.specs.Lengths.{long_section, long_unit}
 use Rattle.sample_objects.specs.ObjectFile.{graph_of}
 use Rattle.sample_objects.proofs.Told.{not_both}
 use Rattle.sample_objects.proofs.sections.layout_of.Goals as goal
