@@ -37,10 +37,15 @@ entries_from (suc left) bytes place =
 abbrev pub entries_of : List ℕ → Listing
 entries_of bytes = entries_from (suc (length bytes)) bytes 0
 
--- entries that follow each other without a gap from one place to another: each is the one that begins where the one before ends
-abbrev pub Fill : List ℕ → ℕ → List FrameEntry → ℕ → Type 0
-Fill bytes from [] to = from ≡ to
-Fill bytes from (entry ∷ more) to = (entry_at bytes from ≡ Ok entry) × (entry.place ≡ from) × (from < entry.end) × Fill bytes entry.end more to
+-- Entries end at a place: the section ends there, or the entry that begins there is wrong.
+abbrev pub Ends : List ℕ → ℕ → Option Fault → Type 0
+Ends bytes place None = place ≡ length bytes
+Ends bytes place (Some f) = (place < length bytes) × (entry_at bytes place ≡ Err f)
+
+-- entries that follow each other without a gap from a place on: each is the one that begins where the one before ends
+abbrev pub Fill : List ℕ → ℕ → List FrameEntry → Option Fault → Type 0
+Fill bytes from [] stop = Ends bytes from stop
+Fill bytes from (entry ∷ more) stop = (entry_at bytes from ≡ Ok entry) × (entry.place ≡ from) × (from < entry.end) × Fill bytes entry.end more stop
 
 -- ---- the first fault
 

@@ -1,5 +1,8 @@
-use Rattle.frame_table.proofs.Telling.{section_filled}
+use Rattle.frame_table.proofs.Telling.{entries_fill, section_whole}
 use Rattle.frame_table.proofs.laws.entries_fill_the_section.Goals as goal
 
-pub returns : goal.returns
-returns c = section_filled
+pub returns-clause-entries : goal.returns-clause-entries
+returns-clause-entries c = entries_fill
+
+pub returns-clause-whole : goal.returns-clause-whole
+returns-clause-whole c = section_whole
