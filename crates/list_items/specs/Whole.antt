@@ -1,26 +1,40 @@
--- A list of which no byte is left out.
-use Rattle.std.specs.Prelude.{◌≡◌, ℕ, ◌<◌, ◌≤◌, Bool, true, false, List, [], ◌∷◌}
-use Rattle.list_items.specs.Lists.{Says, ends, selects, spans, ListItem}
+-- A list of which no byte is left out, each item read under the base that stands there.
+use Rattle.std.specs.Prelude.{◌≡◌, ◌<◌, ◌≤◌, List, [], ◌∷◌, Option, Some, None, Result, Ok, Err}
+use Rattle.std.specs.List.{filter_map}
+use Rattle.ds_base.specs.declared.fault.Fault.{Fault}
+use Rattle.ds_base.specs.Spot.{Spot}
+use Rattle.dwarf_types.specs.declared.address.Addr.{Addr}
+use Rattle.list_items.specs.Lists.{Says, ends, selects, spans, ListItem, Listing, given}
 
--- items that follow each other without a gap from one place to another
-abbrev pub Fill : {A : Type 0} → ℕ → List (ListItem A) → ℕ → Type 0
-Fill from [] to = from ≡ to
-Fill from (item ∷ more) to = (item.place ≡ from) × (from < item.end) × Fill item.end more to
+-- what a cursor reads under a base
+abbrev pub Reader : Type 0 → Type 0
+Reader A = Addr → Spot → Result (Says A × Spot) Fault
 
-abbrev pub is_mark : {A : Type 0} → Says A → Bool
-is_mark ends = true
-is_mark (selects selected) = false
-is_mark (spans span x) = false
+-- an item is what is read where a cursor stands, under a base: it takes a byte at least, and ends in the section
+pub record IsNext {A : Type 0} (read : Reader A) (base : Addr) (s : Spot) (item : ListItem A) : Type 0 where
+  pub is : read base s ≡ Ok (item.says, record s { place = item.end })
+  pub begins : item.place ≡ s.place
+  pub some : s.place < item.end
+  pub inside : item.end ≤ s.end
 
--- the last item is the mark that ends the list, and none before it is
-abbrev pub EndsOnce : {A : Type 0} → List (ListItem A) → Type 0
-EndsOnce [] = ⊥
-EndsOnce (item ∷ []) = is_mark item.says ≡ true
-EndsOnce (item ∷ next ∷ more) = (is_mark item.says ≡ false) × EndsOnce (next ∷ more)
+-- what comes behind an item: nothing behind the mark that ends the list, else more under the base that is selected, or under the same base
+abbrev pub Follow : {A : Type 0} → Says A → Addr → List (ListItem A) → Option Fault → (Addr → Type 0) → Type 0
+Follow ends base more stop under = (more ≡ []) × (stop ≡ None)
+Follow (selects selected) base more stop under = under selected
+Follow (spans span x) base more stop under = under base
 
--- the items fill the list, from its offset to where the mark ends, in a section of so many bytes
-pub record IsWhole (size offset : ℕ) {A : Type 0} (items : List (ListItem A)) : Type 0 where
-  pub end : ℕ
-  pub fill : Fill offset items end
-  pub inside : end ≤ size
-  pub mark : EndsOnce items
+-- Items that follow each other without a gap from where a cursor stands, under a base: each is what is read where the one before ends. They end with the mark, or where the next one is wrong.
+abbrev pub Fill : {A : Type 0} → Reader A → Addr → Spot → List (ListItem A) → Option Fault → Type 0
+Fill read base s [] None = ⊥
+Fill read base s [] (Some f) = read base s ≡ Err f
+Fill read base s (item ∷ more) stop = IsNext read base s item × Follow item.says base more stop (λ b. Fill read b (record s { place = item.end }) more stop)
+
+-- what a list answers: all that its items give, where they end with the mark, and else the fault at which they stop
+abbrev pub IsAnswer : {A : Type 0} → Listing A → Result (List A) Fault → Type 0
+IsAnswer listing (Ok xs) = (listing.stop ≡ None) × (xs ≡ filter_map (λ item. given item.says) listing.items)
+IsAnswer listing (Err f) = listing.stop ≡ Some f
+
+-- items fill the list, and it answers what they give
+pub record IsWhole {A : Type 0} (read : Reader A) (base : Addr) (first : Spot) (listing : Listing A) (answer : Result (List A) Fault) : Type 0 where
+  pub fill : Fill read base first listing.items listing.stop
+  pub gives : IsAnswer listing answer

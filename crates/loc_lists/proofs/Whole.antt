@@ -1,5 +1,5 @@
 -- No byte of a location list that is read is left out, and its faults are of the kinds of its version.
-use Rattle.std.proofs.Common.{◌≡◌, ℕ, Bool, true, false, List, [], ◌∷◌, length, Ok, refl, subst, arith}
+use Rattle.std.proofs.Common.{◌≡◌, ℕ, Bool, true, false, List, [], ◌∷◌, Ok, refl, subst, arith}
 use Rattle.std.specs.Prelude.{◌==◌, if◌then◌else◌}
 use Rattle.std.specs.List.{Contains}
 use Rattle.ds_base.specs.declared.fault.Kind.{Kind}
@@ -16,6 +16,7 @@ use Rattle.macho_read.specs.declared.image.Image.{Image}
 use Rattle.reloc_table.specs.declared.relocation.Relocs.{Relocs}
 use Rattle.list_items.specs.declared.context.ListForm.TheVariants as forms
 use Rattle.list_items.specs.Context.{Context}
+use Rattle.list_items.specs.Lists.{list_spot, whole_at}
 use Rattle.list_items.specs.Reading.{formed_at, item_at}
 use Rattle.list_items.specs.Whole.{IsWhole}
 use Rattle.ds_base.proofs.FaultKinds.{FaultsAre, ok_kinds, bind_kinds, bytes_kinds, number_kinds, uleb_kinds}
@@ -73,10 +74,9 @@ module _ (sections : SectionBytes) (relocs : Relocs) (image : Image) (offset ver
   abbrev bytes : List ℕ
   bytes = location_bytes sections version
 
-  pub locations_whole : (locations : List RawLocation) → locations_of sections relocs image offset version base addresses addr_base ≡ Ok locations
-      → IsWhole (length bytes) offset (location_items sections relocs image offset version base addresses addr_base).items
+  pub locations_whole : IsWhole (whole_at context (location_at version)) base (list_spot (location_part version) bytes offset) (location_items sections relocs image offset version base addresses addr_base) (locations_of sections relocs image offset version base addresses addr_base)
   unfolding locations_of
-  locations_whole locations e = list_whole (location_part version) bytes context (location_at version) (goes_on version) offset base locations e
+  locations_whole = list_whole (location_part version) bytes context (location_at version) (goes_on version) offset base
 
   each_kinds : (b : Addr) (s : Spot) → FaultsAre (KindsAre (version == 5)) (item_at context b s)
   unfolding item_at

@@ -1,5 +1,5 @@
 -- The spans of a list are sound, no byte of it is left out, and its faults are of the kinds of its version: by its definition.
-use Rattle.std.proofs.Common.{◌≡◌, ℕ, Bool, true, false, List, [], ◌∷◌, length, Result, Ok, Err, IfOk, refl, sym, ap, subst, arith}
+use Rattle.std.proofs.Common.{◌≡◌, ℕ, Bool, true, false, List, [], ◌∷◌, Result, Ok, Err, IfOk, refl, sym, ap, subst, arith}
 use Rattle.std.specs.Prelude.{◌==◌, if◌then◌else◌}
 use Rattle.std.specs.List.{All, Contains}
 use Rattle.ds_base.specs.declared.fault.Kind.{Kind}
@@ -16,6 +16,7 @@ use Rattle.macho_read.specs.declared.image.Image.{Image}
 use Rattle.reloc_table.specs.declared.relocation.Relocs.{Relocs}
 use Rattle.list_items.specs.declared.context.ListForm.TheVariants as forms
 use Rattle.list_items.specs.Context.{Context}
+use Rattle.list_items.specs.Lists.{list_spot, whole_at}
 use Rattle.list_items.specs.Reading.{formed_at, item_at}
 use Rattle.list_items.specs.Sound.{IsSoundSpan}
 use Rattle.list_items.specs.Whole.{IsWhole}
@@ -63,10 +64,9 @@ module _ (sections : SectionBytes) (relocs : Relocs) (image : Image) (offset ver
   ranges_given (Ok spans) e = ranges_sound spans e
   ranges_given (Err error) e = tt
 
-  pub ranges_whole : (spans : List RawSpan) → ranges_of sections relocs image offset version base addresses addr_base ≡ Ok spans
-      → IsWhole (length bytes) offset (range_items sections relocs image offset version base addresses addr_base).items
+  pub ranges_whole : IsWhole (whole_at context range_at) base (list_spot (range_part version) bytes offset) (range_items sections relocs image offset version base addresses addr_base) (ranges_of sections relocs image offset version base addresses addr_base)
   unfolding ranges_of
-  ranges_whole spans e = list_whole (range_part version) bytes context range_at goes_on offset base spans e
+  ranges_whole = list_whole (range_part version) bytes context range_at goes_on offset base
 
   each_kinds : (b : Addr) (s : Spot) → FaultsAre (KindsAre (version == 5)) (item_at context b s)
   unfolding item_at
