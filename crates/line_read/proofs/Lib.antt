@@ -10,3 +10,4 @@ pub mod RisingRows
 pub mod EntryTables
 mod Whole
 mod Refused
+mod MarkedNames

@@ -31,7 +31,7 @@ use Rattle.line_read.specs.declared.names.HeaderEnd.{HeaderEnd}
 use Rattle.line_read.specs.declared.operation.LineOp.{LineOp}
 use Rattle.line_read.specs.declared.operation.LineOp.TheVariants as ops
 use Rattle.line_read.specs.Codes.{standard_of, extended_of}
-use Rattle.line_read.specs.Header.{bad, table_at, last_version, version_at, sizes_at, program_at, operations_at, fields_at}
+use Rattle.line_read.specs.Header.{line_at, bad, table_at, last_version, version_at, version_of, sizes_at, program_at, operations_at, fields_at}
 use Rattle.line_read.specs.Formats.{item_of, is_path}
 use Rattle.line_read.specs.Entries.{EntryParts, pair_at, format_at, form_text_at, form_number_at, block_at, passed_at, item_at, parts_at, no_parts, dir_entry_at, file_entry_at, entries_of}
 use Rattle.line_read.specs.Names.{within, dir_at, file_of, file_at, listed_at}
@@ -73,17 +73,27 @@ format_is = (8, omega arith, refl)
 
 -- ---- the header
 
-table_kinds : (first : Spot) → FaultsAre IsOne (table_at first)
-unfolding table_at
-table_kinds first =
-    bind_kinds IsOne (number_at 4 first) _ (number_kinds IsOne 4 first cut)
-    (λ len. bind_kinds IsOne _ _ (refuse_kinds IsOne (nat_le LENGTH_RESERVED len.0 || nat_lt (len.1.end - len.1.place) len.0) (bad first) header_is) (λ u. ok_kinds IsOne _))
+module _ (P : Kind → Type 0) (is_cut : P kinds.Truncated) where
+  table_kinds : P kinds.BadLineHeader → (first : Spot) → FaultsAre P (table_at first)
+  unfolding table_at
+  table_kinds is first =
+      bind_kinds P (number_at 4 first) _ (number_kinds P 4 first is_cut)
+      (λ len. bind_kinds P _ _ (refuse_kinds P (nat_le LENGTH_RESERVED len.0 || nat_lt (len.1.end - len.1.place) len.0) (bad first) is) (λ u. ok_kinds P _))
 
-version_kinds : (unit : ℕ) (s : Spot) → FaultsAre IsOne (version_at unit s)
-unfolding version_at
-version_kinds unit s =
-    bind_kinds IsOne (number_at 2 s) _ (number_kinds IsOne 2 s cut)
-    (λ version. bind_kinds IsOne _ _ (refuse_kinds IsOne (nat_lt version.0 2 || nat_lt (last_version unit) version.0) (fault_at s kinds.LineVersion) version_is) (λ u. ok_kinds IsOne version))
+  version_kinds : P kinds.LineVersion → (unit : ℕ) (s : Spot) → FaultsAre P (version_at unit s)
+  unfolding version_at
+  version_kinds is unit s =
+      bind_kinds P (number_at 2 s) _ (number_kinds P 2 s is_cut)
+      (λ version. bind_kinds P _ _ (refuse_kinds P (nat_lt version.0 2 || nat_lt (last_version unit) version.0) (fault_at s kinds.LineVersion) is) (λ u. ok_kinds P version))
+
+-- the kinds of a table's version
+abbrev IsEarly : Kind → Type 0
+IsEarly = Contains (kinds.Truncated ∷ kinds.BadLineHeader ∷ kinds.LineVersion ∷ [])
+
+pub version_of_kinds : (sections : SectionBytes) (unit offset : ℕ) → FaultsAre IsEarly (version_of sections unit offset)
+version_of_kinds sections unit offset =
+    bind_kinds IsEarly (table_at (line_at sections.line offset)) _ (table_kinds IsEarly (0, omega arith, refl) (1, omega arith, refl) (line_at sections.line offset))
+    (λ s. bind_kinds IsEarly (version_at unit s) _ (version_kinds IsEarly (0, omega arith, refl) (2, omega arith, refl) unit s) (λ version. ok_kinds IsEarly version.0))
 
 sizes_kinds : (first : Spot) (version : ℕ) (s : Spot) → FaultsAre IsOne (sizes_at first version s)
 unfolding sizes_at
@@ -390,8 +400,8 @@ program_of_kinds header dirs files listing stops =
 pub line_kinds : (image : Image) (relocs : Relocs) (sections : SectionBytes) (unit : ℕ) (first : Spot) → FaultsAre IsOne (lines_from image relocs sections unit first)
 unfolding lines_from
 line_kinds image relocs sections unit first =
-    bind_kinds IsOne (table_at first) _ (table_kinds first)
-    (λ s. bind_kinds IsOne (version_at unit s) _ (version_kinds unit s)
+    bind_kinds IsOne (table_at first) _ (table_kinds IsOne cut header_is first)
+    (λ s. bind_kinds IsOne (version_at unit s) _ (version_kinds IsOne cut version_is unit s)
     (λ version. bind_kinds IsOne (sizes_at first version.0 version.1) _ (sizes_kinds first version.0 version.1)
     (λ sizes. bind_kinds IsOne (program_at first sizes.1) _ (program_kinds first sizes.1)
     (λ program. bind_kinds IsOne (fields_at first version.0 program.1) _ (fields_kinds first version.0 program.1)

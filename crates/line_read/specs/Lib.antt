@@ -11,3 +11,4 @@ pub mod Rising
 pub mod Pass
 pub mod Bounds
 pub mod Whole
+pub mod Marked

@@ -8,8 +8,8 @@
 //! operation from its bytes (`specs/Operation.antt`), what an operation does to the registers (`specs/Registers.antt`),
 //! and the matrix of rows that the list of operations gives, cut into sequences (`specs/Program.antt`). Addresses stay the
 //! object's: `moved_parts` moves them, by an address map. [`table_version`] tells a table's own version alone. No byte of a
-//! program that is read is left out ([`operations_fill_the_program`]), and faults are of the kinds that
-//! [`kinds_of_line_faults`] names.
+//! program is left out ([`operations_fill_the_program`]), and no name before version 5 ([`names_end_with_the_empty_one`]).
+//! Faults are of the kinds that [`kinds_of_line_faults`] and [`kinds_of_version_faults`] name.
 #![tactic(auto)]
 
 mod codes;
@@ -23,5 +23,8 @@ mod program;
 mod registers;
 mod table;
 
-pub use laws::{kinds_of_line_faults, operations_fill_the_program};
+pub use laws::{
+    kinds_of_line_faults, kinds_of_version_faults, names_end_with_the_empty_one,
+    operations_fill_the_program,
+};
 pub use table::{read_lines, table_version};
