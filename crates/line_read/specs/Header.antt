@@ -1,5 +1,5 @@
 -- The header of a line table (DWARF 4 and DWARF 5, section 6.2.4), from the table's first byte.
-use Rattle.std.specs.Prelude.{ℕ, ◌+◌, ◌-◌, ◌==◌, ◌||◌, not, [], List, length, nat_lt, nat_le, Result, Ok, Err, if◌then◌else◌}
+use Rattle.std.specs.Prelude.{ℕ, ◌+◌, ◌-◌, ◌==◌, ◌||◌, not, [], List, length, nat_lt, nat_le, Result, Ok, if◌then◌else◌}
 use Rattle.std.specs.Int.{cast_signed, w8}
 use Rattle.ds_base.specs.declared.fault.Fault.{Fault}
 use Rattle.ds_base.specs.declared.fault.Kind.TheVariants as kinds
