@@ -1,11 +1,13 @@
 //! What is linked where entries are merged with others of their name.
 
-ghost use Rattle.std.specs.Prelude.{◌≡◌, ◌<◌, ◌^◌, ℕ, Bool as Choice, false, List as Listed, length, Some};
+ghost use Rattle.std.specs.Prelude.{◌≡◌, ◌<◌, ◌^◌, ℕ, Bool as Choice, false, List as Listed, [], ◌∷◌, ◌++◌, length, Some, None};
 ghost use Rattle.std.specs.List.{All, AllPairs};
 ghost use Rattle.dwarf_types.specs.declared.analysis.Analysis.{Analysis};
+ghost use Rattle.dwarf_types.specs.declared.entry.Entry.{Entry};
 ghost use Rattle.dwarf_types.specs.LinkedGraph.{linked};
 ghost use Rattle.dwarf_types.specs.LinkedShape.{AreMarked, objects_of};
 ghost use Rattle.dwarf_types.specs.Sound.{IsSound};
+ghost use Rattle.dwarf_types.specs.Tree.{ParentsStandBefore, lineage, parent_of};
 ghost use Rattle.dwarf_types.specs.Well.{IsWell};
 ghost use Rattle.link_graph.specs.Graph.{graph_in};
 ghost use Rattle.link_graph.specs.Merged.{linked_names, shape_of};
@@ -33,4 +35,13 @@ pub fn every_path_has_a_node()
         → All (λ name. (node : ℕ) × (node_of_path (linked_names odr seen live) name.path ≡ Some node)) (linked_names odr seen live) }
     ensures one { (odr : Choice) (seen : Listed Analysis) (live : Listed (Listed Choice)) → length seen < 2 ^ 16 → All IsSound seen → AreLiveRows seen live
         → AllPairs (λ a b. a.path ≡ b.path → ⊥) (pool_names (linked_names odr seen live)) }
+{}
+
+/// The lineage of an entry is that of its parent and then itself, and of an entry without a parent itself alone.
+///
+/// So all entries above one are in it, where each stands behind its parent, as in a sound analysis.
+pub fn lineages_reach_the_top()
+    ensures top { (entries : Listed Entry) (k : ℕ) → parent_of entries k ≡ None → lineage entries k ≡ k ∷ [] }
+    ensures below { (entries : Listed Entry) (k p : ℕ) → ParentsStandBefore entries → parent_of entries k ≡ Some p → lineage entries k ≡ lineage entries p ++ k ∷ [] }
+    ensures sound { (seen : Analysis) → IsSound seen → ParentsStandBefore seen.entries }
 {}
