@@ -19,7 +19,7 @@ use Rattle.link_graph.proofs.Shapes.{source_position}
 use Rattle.linked_laws.proofs.Lists.{kept_at}
 use Rattle.linked_laws.proofs.Written.{all_written, node_of_entry}
 
-slice_get_behind : {A : Type 0} (xs ys : List A) (n : ℕ) → slice_get (xs ++ ys) (length xs + n) ≡ slice_get ys n
+pub slice_get_behind : {A : Type 0} (xs ys : List A) (n : ℕ) → slice_get (xs ++ ys) (length xs + n) ≡ slice_get ys n
 slice_get_behind [] ys n = let same : 0 + n ≡ n = omega arith in ap (slice_get ys) same
 slice_get_behind (x ∷ xs) ys n = let same : length (x ∷ xs) + n ≡ suc (length xs + n) = omega arith in ap (slice_get (x ∷ (xs ++ ys))) same ∙ slice_get_behind xs ys n
 
@@ -64,6 +64,41 @@ module _ (objects : List Object) where
   abbrev pub target_by : ℕ → ℕ → Target
   target_by unit node = record { unit = unit; node = node }
 
+  -- where the node of an entry that is written stands, behind so many units
+  pub record Lies (first i : ℕ) (o : Object) (k : ℕ) (e : Entry) : Type 0 where
+    pub target : Target
+    pub is : plain_target first objects i k ≡ Some target
+    pub number : node_number o e.unit k ≡ Some target.node
+    pub node : slice_get (kept_entries o e.unit) target.node ≡ Some (k, e)
+    pub place : ℕ
+    pub found : position (same_source (source_by i e.unit)) (sources objects) ≡ Some place
+    pub source : slice_get (sources objects) place ≡ Some (source_by i e.unit)
+    pub unit : target.unit ≡ first + place
+
+  pub lies : (first i : ℕ) (o : Object) (k : ℕ) (e : Entry) (unit : InUnit) → slice_get objects i ≡ Some o → IsSound o.seen → Stands o.seen.entries k e → slice_get o.seen.units e.unit ≡ Some unit → is_kept o k ≡ true → Lies first i o k e
+  lies first i o k e unit at sound stands is kept =
+      let own = node_of_entry o e.unit unit k e sound is stands refl kept in
+      let source = source_by i e.unit in
+      let some : eqb (length (kept_entries o e.unit)) 0 ≡ false = ne_eqb (length (kept_entries o e.unit)) 0 (λ none. omega (arith, none, slice_get_within (kept_entries o e.unit) own.number (k, e) own.at)) in
+      let found = source_position objects i o e.unit unit at is some in
+      let there = position-Some (same_source source) (sources objects) _ source found in
+      let read = slice_get-get_or (sources objects) _ source there.0 ∙ ap (λ (s : Source). Some s) (source_same source _ there.1) in
+      let target : plain_target first objects i k ≡ Some (target_by (first + _) own.number) =
+      ap (option_and_then (λ (x : Object). option_and_then (λ (y : Entry). option_and_then (λ n. option_map (λ node. target_by (first + n) node) (node_number x y.unit k)) (position (same_source (source_by i y.unit)) (sources objects))) (slice_get x.seen.entries k))) at
+      ∙ ap (option_and_then (λ (y : Entry). option_and_then (λ n. option_map (λ node. target_by (first + n) node) (node_number o y.unit k)) (position (same_source (source_by i y.unit)) (sources objects)))) stands
+      ∙ ap (option_and_then (λ n. option_map (λ node. target_by (first + n) node) (node_number o e.unit k))) found
+      ∙ ap (option_map (λ node. target_by (first + _) node)) own.is in
+      record {
+        target = target_by (first + _) own.number;
+        is = target;
+        number = own.is;
+        node = own.at;
+        place = _;
+        found = found;
+        source = read;
+        unit = refl;
+      }
+
   -- behind some units, by the image of each entry of each object
   module _ (units : List OutUnit) (image : ℕ → ℕ → Option Target) where
     -- what is written of a unit
@@ -84,25 +119,14 @@ module _ (objects : List Object) where
 
     pub goes : (i : ℕ) (o : Object) (k : ℕ) (e : Entry) (unit : InUnit) → slice_get objects i ≡ Some o → IsSound o.seen → Stands o.seen.entries k e → slice_get o.seen.units e.unit ≡ Some unit → is_kept o k ≡ true → Goes i o k e unit
     goes i o k e unit at sound stands is kept =
-        let first = length units in
-        let own = node_of_entry o e.unit unit k e sound is stands refl kept in
-        let source = source_by i e.unit in
-        let some : eqb (length (kept_entries o e.unit)) 0 ≡ false = ne_eqb (length (kept_entries o e.unit)) 0 (λ none. omega (arith, none, slice_get_within (kept_entries o e.unit) own.number (k, e) own.at)) in
-        let found = source_position objects i o e.unit unit at is some in
-        let there = position-Some (same_source source) (sources objects) _ source found in
-        let read = slice_get-get_or (sources objects) _ source there.0 ∙ ap (λ (s : Source). Some s) (source_same source _ there.1) in
-        let place = kept_at (written image objects) (sources objects) _ all_there ∙ ap (option_and_then (written image objects)) read ∙ source_written source o unit at is in
-        let target : plain_target first objects i k ≡ Some (target_by (first + _) own.number) =
-        ap (option_and_then (λ (x : Object). option_and_then (λ (y : Entry). option_and_then (λ n. option_map (λ node. target_by (first + n) node) (node_number x y.unit k)) (position (same_source (source_by i y.unit)) (sources objects))) (slice_get x.seen.entries k))) at
-        ∙ ap (option_and_then (λ (y : Entry). option_and_then (λ n. option_map (λ node. target_by (first + n) node) (node_number o y.unit k)) (position (same_source (source_by i y.unit)) (sources objects)))) stands
-        ∙ ap (option_and_then (λ n. option_map (λ node. target_by (first + n) node) (node_number o e.unit k))) found
-        ∙ ap (option_map (λ node. target_by (first + _) node)) own.is in
+        let own = lies (length units) i o k e unit at sound stands is kept in
+        let place = kept_at (written image objects) (sources objects) own.place all_there ∙ ap (option_and_then (written image objects)) own.source ∙ source_written (source_by i e.unit) o unit at is in
         record {
-          target = target_by (first + _) own.number;
-          is = target;
-          number = own.is;
-          in_graph = slice_get_behind units (filter_map (written image objects) (sources objects)) _ ∙ place;
-          node = own.at;
+          target = own.target;
+          is = own.is;
+          number = own.number;
+          in_graph = ap (slice_get (linked_behind units image objects).units) own.unit ∙ slice_get_behind units (filter_map (written image objects) (sources objects)) own.place ∙ place;
+          node = own.node;
         }
 
   -- an entry that has a node is written
@@ -111,11 +135,11 @@ module _ (objects : List Object) where
     pub stands : Stands o.seen.entries k entry
     pub kept : is_kept o k ≡ true
 
-  pub entry_placed : (i : ℕ) (o : Object) (k : ℕ) (target : Target) → slice_get objects i ≡ Some o → plain_target 0 objects i k ≡ Some target → IsPlaced o k
-  entry_placed i o k target at is = by (slice_get o.seen.entries k) refl
-      (sym (ap (option_and_then (λ (x : Object). option_and_then (λ (y : Entry). option_and_then (λ n. option_map (λ node. target_by (0 + n) node) (node_number x y.unit k)) (position (same_source (source_by i y.unit)) (sources objects))) (slice_get x.seen.entries k))) at) ∙ is)
+  pub entry_placed : (first i : ℕ) (o : Object) (k : ℕ) (target : Target) → slice_get objects i ≡ Some o → plain_target first objects i k ≡ Some target → IsPlaced o k
+  entry_placed first i o k target at is = by (slice_get o.seen.entries k) refl
+      (sym (ap (option_and_then (λ (x : Object). option_and_then (λ (y : Entry). option_and_then (λ n. option_map (λ node. target_by (first + n) node) (node_number x y.unit k)) (position (same_source (source_by i y.unit)) (sources objects))) (slice_get x.seen.entries k))) at) ∙ is)
     where
-      node_by : (e : Entry) (found : Option ℕ) → slice_get o.seen.entries k ≡ Some e → node_number o e.unit k ≡ found → (unit : Option ℕ) → option_and_then (λ n. option_map (λ node. target_by (0 + n) node) found) unit ≡ Some target → IsPlaced o k
+      node_by : (e : Entry) (found : Option ℕ) → slice_get o.seen.entries k ≡ Some e → node_number o e.unit k ≡ found → (unit : Option ℕ) → option_and_then (λ n. option_map (λ node. target_by (first + n) node) found) unit ≡ Some target → IsPlaced o k
       node_by e None stands number None none = absurd cc
       node_by e None stands number (Some n) none = absurd cc
       node_by e (Some node) stands number unit some =
@@ -124,6 +148,6 @@ module _ (objects : List Object) where
           record { entry = e; stands = stands; kept = subst (λ (n : ℕ). is_kept o n ≡ true) (eqb-true x.0 k first.1) (all_written o e.unit node (k, e) first.0).kept }
 
       by : (found : Option Entry) → slice_get o.seen.entries k ≡ found
-          → option_and_then (λ (y : Entry). option_and_then (λ n. option_map (λ node. target_by (0 + n) node) (node_number o y.unit k)) (position (same_source (source_by i y.unit)) (sources objects))) found ≡ Some target → IsPlaced o k
+          → option_and_then (λ (y : Entry). option_and_then (λ n. option_map (λ node. target_by (first + n) node) (node_number o y.unit k)) (position (same_source (source_by i y.unit)) (sources objects))) found ≡ Some target → IsPlaced o k
       by None none some = absurd cc
       by (Some e) stands some = node_by e (node_number o e.unit k) stands refl (position (same_source (source_by i e.unit)) (sources objects)) some

@@ -7,6 +7,7 @@ pub mod Expressions
 pub mod Images
 pub mod Lists
 pub mod Live
+pub mod Nodes
 pub mod Preorder
 pub mod Roots
 pub mod Spans

@@ -300,7 +300,7 @@ own_nodes objects each i o at = record { targets = there; bases = λ j e j_kept 
 
     there : (k : ℕ) (target : Target) → plain_target 0 objects i k ≡ Some target → IsTarget (linked objects) target
     there k target is =
-        let placed = entry_placed objects i o k target at is in
+        let placed = entry_placed objects 0 i o k target at is in
         let own = whole.sound.entries k placed.entry placed.stands in
         let g = goes objects [] (plain_target 0 objects) i o k placed.entry own.unit at whole.sound placed.stands own.its_unit placed.kept in
         let same : g.target ≡ target = same_Some g.target target (sym g.is ∙ is) in

@@ -1,17 +1,21 @@
 //! What is linked, and what is marked for it.
 
 ghost use Rattle.std.specs.Prelude.{◌≡◌, ◌↔◌, ℕ, true, false, slice_get, slice_index_or, Option, Some, List as Listed};
-ghost use Rattle.std.specs.List.{All};
+ghost use Rattle.std.specs.List.{All, Contains};
 ghost use Rattle.dwarf_types.specs.LinkedGraph.{linked, linked_behind};
-ghost use Rattle.dwarf_types.specs.LinkedUnits.{Object, is_kept};
-ghost use Rattle.dwarf_types.specs.Live.{IsLive, Needs};
+ghost use Rattle.dwarf_types.specs.LinkedUnits.{Object, is_kept, plain_target};
+ghost use Rattle.dwarf_types.specs.Live.{IsLive, Needs, bases_of};
 ghost use Rattle.dwarf_types.specs.declared.graph.Graph.{Graph};
 ghost use Rattle.dwarf_types.specs.declared.graph.OutUnit.{OutUnit};
 ghost use Rattle.dwarf_types.specs.declared.graph.Target.{Target};
+ghost use Rattle.dwarf_types.specs.declared.entry.Entry.{Entry};
+ghost use Rattle.dwarf_types.specs.declared.shape.ShapeUnit.{ShapeUnit};
+ghost use Rattle.dwarf_types.specs.Sound.{IsSound};
 ghost use Rattle.dwarf_types.specs.Well.{IsWell, IsWellAlone, IsWellUnit};
 ghost use Rattle.dwarf_types.specs.WellValues.{IsTarget};
 ghost use Rattle.linked_laws.specs.Ends.{Ends};
 ghost use Rattle.linked_laws.specs.Kept.{IsWhole, Leads};
+ghost use Rattle.linked_laws.specs.Nodes.{HasNode, HasOrigin, IsKeptEntry};
 
 /// What is linked of objects is well, in versions 4 and 5.
 ///
@@ -24,6 +28,18 @@ pub fn linked_is_well()
 pub fn linked_behind_is_well()
     ensures { (units : Listed OutUnit) (image : ℕ → ℕ → Option Target) (objects : Listed Object) → All IsWhole objects → ((i : ℕ) (o : Object) → slice_get objects i ≡ Some o → Leads units image objects i o)
         → All (IsWellUnit (IsTarget (linked_behind units image objects))) units → IsWell (linked_behind units image objects) }
+{}
+
+/// An entry that is written has its own node: references to it lead there, and the node says what the entry says, and stands
+/// for it and below the node of its parent. References to other entries lead to no node.
+///
+/// The node of a base type that an expression of the entry names stands in the entry's unit.
+pub fn written_entries_have_nodes()
+    ensures node { (units : Listed OutUnit) (image : ℕ → ℕ → Option Target) (objects : Listed Object) (i k : ℕ) (o : Object) (e : Entry) → IsSound o.seen → IsKeptEntry objects i k o e → HasNode objects i k units image o e }
+    ensures origin { (before : Listed ShapeUnit) (objects : Listed Object) (i k : ℕ) (o : Object) (e : Entry) → IsSound o.seen → IsKeptEntry objects i k o e → HasOrigin objects i k before }
+    ensures base { (first : ℕ) (objects : Listed Object) (i k j : ℕ) (o : Object) (e : Entry) → IsWhole o → IsKeptEntry objects i k o e → Contains (bases_of e) j
+        → (target : Target) × (base : Target) × (plain_target first objects i k ≡ Some target) × (plain_target first objects i j ≡ Some base) × (base.unit ≡ target.unit) }
+    ensures only { (first : ℕ) (objects : Listed Object) (i k : ℕ) (target : Target) → plain_target first objects i k ≡ Some target → (o : Object) × (e : Entry) × IsKeptEntry objects i k o e }
 {}
 
 /// The live entries of an object keep to each other: what a live entry needs is live.
