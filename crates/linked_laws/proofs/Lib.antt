@@ -9,6 +9,7 @@ pub mod Lists
 pub mod Live
 pub mod Nodes
 pub mod Preorder
+pub mod References
 pub mod Roots
 pub mod Spans
 pub mod Whole

@@ -1,15 +1,29 @@
 //! What is linked, and what is marked for it.
 
-ghost use Rattle.std.specs.Prelude.{◌≡◌, ◌↔◌, ℕ, true, false, slice_get, slice_index_or, Option, Some, List as Listed};
+ghost use Rattle.std.specs.Prelude.{◌≡◌, ◌↔◌, ◌==◌, ℕ, true, false, slice_get, slice_index_or, Option, Some, List as Listed};
 ghost use Rattle.std.specs.List.{All, Contains};
-ghost use Rattle.dwarf_types.specs.LinkedGraph.{linked, linked_behind};
-ghost use Rattle.dwarf_types.specs.LinkedUnits.{Object, is_kept, plain_target};
-ghost use Rattle.dwarf_types.specs.Live.{IsLive, Needs, bases_of};
+ghost use Rattle.ds_base.specs.declared.dwarf.TheConstants.{DW_AT_decl_file};
+ghost use Rattle.dwarf_types.specs.declared.entry.Attr.{Attr};
+ghost use Rattle.dwarf_types.specs.declared.entry.Entry.{Entry};
+ghost use Rattle.dwarf_types.specs.declared.expr.Base.TheVariants as bases;
+ghost use Rattle.dwarf_types.specs.declared.expr.Op.{Op};
+ghost use Rattle.dwarf_types.specs.declared.expr.PlainOp.{PlainOp};
 ghost use Rattle.dwarf_types.specs.declared.graph.Graph.{Graph};
 ghost use Rattle.dwarf_types.specs.declared.graph.OutUnit.{OutUnit};
+ghost use Rattle.dwarf_types.specs.declared.graph.OutValue.TheVariants as out;
 ghost use Rattle.dwarf_types.specs.declared.graph.Target.{Target};
-ghost use Rattle.dwarf_types.specs.declared.entry.Entry.{Entry};
+ghost use Rattle.dwarf_types.specs.declared.operands.Operands.TheVariants as operands;
+ghost use Rattle.dwarf_types.specs.declared.parts.ExprPart.TheVariants as parts;
+ghost use Rattle.dwarf_types.specs.declared.parts.PlainPart.{PlainPart};
+ghost use Rattle.dwarf_types.specs.declared.parts.PlainPart.TheVariants as plain;
 ghost use Rattle.dwarf_types.specs.declared.shape.ShapeUnit.{ShapeUnit};
+ghost use Rattle.dwarf_types.specs.declared.value.Value.TheVariants as values;
+ghost use Rattle.dwarf_types.specs.LinkedExpressions.{parts_of};
+ghost use Rattle.dwarf_types.specs.LinkedGraph.{linked, linked_behind};
+ghost use Rattle.dwarf_types.specs.LinkedUnits.{Object, is_kept, plain_target};
+ghost use Rattle.dwarf_types.specs.LinkedValues.{FileNumbers, attrs_written, is_left_out};
+ghost use Rattle.dwarf_types.specs.Live.{IsLive, Needs, bases_of};
+ghost use Rattle.dwarf_types.specs.Operations.{operands_of};
 ghost use Rattle.dwarf_types.specs.Sound.{IsSound};
 ghost use Rattle.dwarf_types.specs.Well.{IsWell, IsWellAlone, IsWellUnit};
 ghost use Rattle.dwarf_types.specs.WellValues.{IsTarget};
@@ -40,6 +54,17 @@ pub fn written_entries_have_nodes()
     ensures base { (first : ℕ) (objects : Listed Object) (i k j : ℕ) (o : Object) (e : Entry) → IsWhole o → IsKeptEntry objects i k o e → Contains (bases_of e) j
         → (target : Target) × (base : Target) × (plain_target first objects i k ≡ Some target) × (plain_target first objects i j ≡ Some base) × (base.unit ≡ target.unit) }
     ensures only { (first : ℕ) (objects : Listed Object) (i k : ℕ) (target : Target) → plain_target first objects i k ≡ Some target → (o : Object) × (e : Entry) × IsKeptEntry objects i k o e }
+{}
+
+/// A reference to an entry that has a node is written, unless its attribute is one that is left out. An operation names the
+/// node of its base type, if that has one, and so does an operation inside an entry value.
+pub fn references_are_written()
+    ensures reference { (image : ℕ → Option Target) (files : FileNumbers) (e : Entry) (a : Attr) (j : ℕ) (target : Target) → Contains e.attrs a → a.value ≡ values.Ref j → is_left_out image e a.name ≡ false → (a.name == DW_AT_decl_file) ≡ false → image j ≡ Some target
+        → Contains (attrs_written image files e) (record { name = a.name; value = out.Ref target }) }
+    ensures base { (image : ℕ → Option Target) (ops : Listed Op) (op : Op) (j : ℕ) (target : Target) → Contains ops op → (operands_of op.code ≡ Some operands.Expression → ⊥) → op.base ≡ Some (bases.Entry j) → image j ≡ Some target
+        → (before : Listed ℕ) × (after : Listed ℕ) × Contains (parts_of image ops) (parts.Typed op.code before (Some target.node) after) }
+    ensures inner { (image : ℕ → Option Target) (ops : Listed Op) (op : Op) (one : PlainOp) (j : ℕ) (target : Target) → Contains ops op → operands_of op.code ≡ Some operands.Expression → Contains op.inner one → one.base ≡ Some (bases.Entry j) → image j ≡ Some target
+        → (inner : Listed PlainPart) × (before : Listed ℕ) × (after : Listed ℕ) × Contains (parts_of image ops) (parts.Nested op.code inner) × Contains inner (plain.Typed one.code before (Some target.node) after) }
 {}
 
 /// The live entries of an object keep to each other: what a live entry needs is live.
