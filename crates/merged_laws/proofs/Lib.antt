@@ -15,3 +15,4 @@ pub mod PoolUnit
 pub mod Whole
 pub mod FilesFew
 pub mod Versions
+pub mod Leads

@@ -105,7 +105,7 @@ module _ (ns : List Named) where
   winner_named w h = (from_filter (λ w. not (is_outbid ns w)) ns w h).0
 
   -- none of its path has a lower bid
-  least : (w x : Named) → Contains (winners ns) w → Contains ns x → x.path ≡ w.path → x.bid < w.bid → ⊥
+  pub least : (w x : Named) → Contains (winners ns) w → Contains ns x → x.path ≡ w.path → x.bid < w.bid → ⊥
   least w x h there same lower =
       both_ways _ (not_true (is_outbid ns w) (from_filter (λ w. not (is_outbid ns w)) ns w h).1)
       (any_from (λ (other : Named). same_path other.path w.path && nat_lt other.bid w.bid) ns x there

@@ -66,7 +66,7 @@ module _ (o : heads.Object) where
       let found = and_parts (is_head o w.0) (is_below (entries_of o) a w.0) (ap (λ (k : ℕ). is_head o k && is_below (entries_of o) a k) (sym here) ∙ w.2) in
       live_above o a w.0 before lives (and_parts (not (w.0 == a)) (is_in (entries_of o) a w.0) found.1).1 (head_live w.0 found.0)
 
-  pooled_live : (k : ℕ) → ParentsStandBefore (entries_of o) → AreLiveParents o → is_pooled o k ≡ true → is_live o k ≡ true
+  pub pooled_live : (k : ℕ) → ParentsStandBefore (entries_of o) → AreLiveParents o → is_pooled o k ≡ true → is_live o k ≡ true
   pooled_live k before lives is = elim (or_cases (is_live o k && is_in_head o k) (is_above_head o k) is) [
     | inl inside ↦ (and_parts (is_live o k) (is_in_head o k) inside).0
     | inr above ↦ above_live k before lives above

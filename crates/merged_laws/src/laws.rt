@@ -1,20 +1,26 @@
 //! What is linked where entries are merged with others of their name.
 
-ghost use Rattle.std.specs.Prelude.{◌≡◌, ◌<◌, ◌^◌, ℕ, Bool as Choice, false, List as Listed, [], ◌∷◌, ◌++◌, length, Some, None};
-ghost use Rattle.std.specs.List.{All, AllPairs};
+ghost use Rattle.std.specs.Prelude.{◌≡◌, ◌<◌, ◌+◌, ◌^◌, ◌&&◌, ℕ, Bool as Choice, true, false, List as Listed, [], ◌∷◌, ◌++◌, length, Some, None};
+ghost use Rattle.std.specs.List.{All, AllPairs, Contains};
 ghost use Rattle.dwarf_types.specs.declared.analysis.Analysis.{Analysis};
 ghost use Rattle.dwarf_types.specs.declared.entry.Entry.{Entry};
+ghost use Rattle.dwarf_types.specs.declared.graph.Target.{Target};
 ghost use Rattle.dwarf_types.specs.LinkedGraph.{linked};
 ghost use Rattle.dwarf_types.specs.LinkedShape.{AreMarked, objects_of};
+ghost use Rattle.dwarf_types.specs.Live.{bases_of};
 ghost use Rattle.dwarf_types.specs.Sound.{IsSound};
 ghost use Rattle.dwarf_types.specs.Tree.{ParentsStandBefore, lineage, parent_of};
 ghost use Rattle.dwarf_types.specs.Well.{IsWell};
-ghost use Rattle.link_graph.specs.Graph.{graph_in};
+ghost use Rattle.link_graph.specs.Graph.{graph_in, image_of};
 ghost use Rattle.link_graph.specs.Merged.{linked_names, shape_of};
 ghost use Rattle.link_graph.specs.Pool.{node_of_path, pool_names};
 ghost use Rattle.linked_laws.specs.Spellable.{IsSpellable};
 ghost use Rattle.merged_laws.specs.Files.{FilesFit};
+ghost use Rattle.merged_laws.specs.Leads.{IsLiveEntry, LeadsBeside, LeadsTo, Wins};
 ghost use Rattle.odr_names.specs.Making.{AreLiveRows};
+ghost use Rattle.type_names.specs.Heads.{Object, is_pooled};
+ghost use Rattle.type_names.specs.Names.{Named};
+ghost use Rattle.type_names.specs.Paths.{path_of};
 
 /// What is linked with merged entries is well.
 ///
@@ -35,6 +41,21 @@ pub fn every_path_has_a_node()
         → All (λ name. (node : ℕ) × (node_of_path (linked_names odr seen live) name.path ≡ Some node)) (linked_names odr seen live) }
     ensures one { (odr : Choice) (seen : Listed Analysis) (live : Listed (Listed Choice)) → length seen < 2 ^ 16 → All IsSound seen → AreLiveRows seen live
         → AllPairs (λ a b. a.path ≡ b.path → ⊥) (pool_names (linked_names odr seen live)) }
+{}
+
+/// A reference to a live entry leads to its node: that of the name that wins the entry's path where it is merged, and else
+/// its own. No reference leads to an entry that isn't live.
+///
+/// An entry whose expressions name a base type isn't merged, and the base type's node stands in its unit.
+pub fn live_entries_have_nodes()
+    ensures own { (odr : Choice) (seen : Listed Analysis) (live : Listed (Listed Choice)) → All IsSound seen → AreLiveRows seen live → (i k : ℕ) (o : Object) (e : Entry) → IsLiveEntry seen live i k o e → (odr && is_pooled o k) ≡ false
+        → LeadsTo (shape_of odr seen live) i k (i + 1) k }
+    ensures merged { (odr : Choice) (seen : Listed Analysis) (live : Listed (Listed Choice)) → All IsSound seen → AreLiveRows seen live → (i k : ℕ) (o : Object) (e : Entry) → IsLiveEntry seen live i k o e → (odr && is_pooled o k) ≡ true
+        → (w : Named) × Wins (linked_names odr seen live) (path_of (i + 1) o k) w × LeadsTo (shape_of odr seen live) i k w.object w.entry }
+    ensures base { (odr : Choice) (seen : Listed Analysis) (live : Listed (Listed Choice)) → All IsSound seen → AreLiveRows seen live → (i k j : ℕ) (o : Object) (e : Entry) → IsLiveEntry seen live i k o e → Contains (bases_of e) j
+        → LeadsBeside (shape_of odr seen live) i k j }
+    ensures only { (odr : Choice) (seen : Listed Analysis) (live : Listed (Listed Choice)) → All IsSound seen → AreLiveRows seen live → (i k : ℕ) (target : Target) → image_of (shape_of odr seen live) i k ≡ Some target
+        → (o : Object) × (e : Entry) × IsLiveEntry seen live i k o e }
 {}
 
 /// The lineage of an entry is that of its parent and then itself, and of an entry without a parent itself alone.
