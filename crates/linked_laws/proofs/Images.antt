@@ -106,7 +106,7 @@ module _ (objects : List Object) where
     source_written s o unit at is =
         ap (option_and_then (λ (x : Object). option_map (unit_written (image s.object) x s.unit) (slice_get x.seen.units s.unit))) at ∙ ap (option_map (unit_written (image s.object) o s.unit)) is
 
-    all_there : All (λ s. is_some (written image objects s) ≡ true) (sources objects)
+    pub all_there : All (λ s. is_some (written image objects s) ≡ true) (sources objects)
     all_there = All-weaker IsSource (λ s. is_some (written image objects s) ≡ true) (λ s h. ap is_some (source_written s h.object h.unit h.at h.is)) (sources objects) all_sources
 
     -- where the node of an entry that is written stands

@@ -78,10 +78,10 @@ module _ (objects : List Object) where
 
   -- ---- in a shape
 
-  shaped : (s : Source) (o : Object) (unit : InUnit) → slice_get objects s.object ≡ Some o → slice_get o.seen.units s.unit ≡ Some unit → shape_in objects s ≡ Some (unit_shape s o unit)
+  pub shaped : (s : Source) (o : Object) (unit : InUnit) → slice_get objects s.object ≡ Some o → slice_get o.seen.units s.unit ≡ Some unit → shape_in objects s ≡ Some (unit_shape s o unit)
   shaped s o unit at is = ap (option_and_then (λ (x : Object). option_map (unit_shape s x) (slice_get x.seen.units s.unit))) at ∙ ap (option_map (unit_shape s o)) is
 
-  all_shaped : All (λ s. is_some (shape_in objects s) ≡ true) (sources objects)
+  pub all_shaped : All (λ s. is_some (shape_in objects s) ≡ true) (sources objects)
   all_shaped = All-weaker (IsSource objects) (λ s. is_some (shape_in objects s) ≡ true) (λ s h. ap is_some (shaped s h.object h.unit h.at h.is)) (sources objects) (all_sources objects)
 
   pub has_origin : (before : List ShapeUnit) (i k : ℕ) (o : Object) (e : Entry) → IsSound o.seen → IsKeptEntry objects i k o e → HasOrigin objects i k before

@@ -47,7 +47,7 @@ target_by unit node = record { unit = unit; node = node }
 
 -- ---- the unit of merged entries
 
-as_many : (version : ℕ) (ns : List Named) → length (pool_units version ns) ≡ pool_count ns
+pub as_many : (version : ℕ) (ns : List Named) → length (pool_units version ns) ≡ pool_count ns
 as_many version [] = refl
 as_many version (n ∷ ns) = refl
 

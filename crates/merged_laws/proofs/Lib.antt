@@ -16,3 +16,4 @@ pub mod Whole
 pub mod FilesFew
 pub mod Versions
 pub mod Leads
+pub mod Says

@@ -1,2 +1,3 @@
 pub mod Files
 pub mod Leads
+pub mod Says

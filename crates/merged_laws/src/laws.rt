@@ -5,6 +5,7 @@ ghost use Rattle.std.specs.List.{All, AllPairs, Contains};
 ghost use Rattle.dwarf_types.specs.declared.analysis.Analysis.{Analysis};
 ghost use Rattle.dwarf_types.specs.declared.entry.Entry.{Entry};
 ghost use Rattle.dwarf_types.specs.declared.graph.Target.{Target};
+ghost use Rattle.dwarf_types.specs.declared.shape.Origin.{Origin};
 ghost use Rattle.dwarf_types.specs.LinkedGraph.{linked};
 ghost use Rattle.dwarf_types.specs.LinkedShape.{AreMarked, objects_of};
 ghost use Rattle.dwarf_types.specs.Live.{bases_of};
@@ -14,9 +15,11 @@ ghost use Rattle.dwarf_types.specs.Well.{IsWell};
 ghost use Rattle.link_graph.specs.Graph.{graph_in, image_of};
 ghost use Rattle.link_graph.specs.Merged.{linked_names, shape_of};
 ghost use Rattle.link_graph.specs.Pool.{node_of_path, pool_names};
+ghost use Rattle.linked_laws.specs.Nodes.{origin_at};
 ghost use Rattle.linked_laws.specs.Spellable.{IsSpellable};
 ghost use Rattle.merged_laws.specs.Files.{FilesFit};
 ghost use Rattle.merged_laws.specs.Leads.{IsLiveEntry, LeadsBeside, LeadsTo, Wins};
+ghost use Rattle.merged_laws.specs.Says.{Says};
 ghost use Rattle.odr_names.specs.Making.{AreLiveRows};
 ghost use Rattle.type_names.specs.Heads.{Object, is_pooled};
 ghost use Rattle.type_names.specs.Names.{Named};
@@ -56,6 +59,12 @@ pub fn live_entries_have_nodes()
         → LeadsBeside (shape_of odr seen live) i k j }
     ensures only { (odr : Choice) (seen : Listed Analysis) (live : Listed (Listed Choice)) → All IsSound seen → AreLiveRows seen live → (i k : ℕ) (target : Target) → image_of (shape_of odr seen live) i k ≡ Some target
         → (o : Object) × (e : Entry) × IsLiveEntry seen live i k o e }
+{}
+
+/// Each node of the linked graph says what the entry says for which it stands. The root of the merged entries stands for none.
+pub fn nodes_say_what_their_entries_say()
+    ensures { (odr : Choice) (seen : Listed Analysis) (live : Listed (Listed Choice)) (target : Target) (origin : Origin) → origin_at (shape_of odr seen live).units target ≡ Some origin → (origin.object ≡ 0 → ⊥)
+        → Says seen (shape_of odr seen live) target origin }
 {}
 
 /// The lineage of an entry is that of its parent and then itself, and of an entry without a parent itself alone.
