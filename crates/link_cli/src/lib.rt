@@ -8,9 +8,9 @@
 //! the program's file refuses is `specs/Refusals.antt`; what the objects refuse, and the bytes of the bundle, is
 //! `link_core/specs/Linked.antt`.
 //!
-//! The program, each file that its map names and each file of the bundle is asked for by one call. Both files, their names
-//! and all messages are made before the first file is replaced, so that a refusal leaves all files as they were. The
-//! message goes out last, by one call.
+//! The program and each file that its map names are read, and each file of the bundle is replaced, by one call. Both
+//! files, their names and all messages are made before the first file is replaced, so that a refusal leaves all files as
+//! they were. The message goes out last, by one call.
 #![tactic(auto)]
 
 mod ending;

@@ -33,10 +33,10 @@ use std::thread::Threads;
 /// the image; or tells its debug map; or links a generated program, whatever the files are, and tells what was counted.
 /// The words are without the program's own name.
 ///
-/// Files are numbered: 0 is the program, and its objects follow from 1 in the order of its debug map. The
-/// program, each file that its map names and each file of the bundle is asked for by one call, so that a failure is told of
-/// the file whose own call failed. All that is told goes out last, by one call. What is answered does not depend on the
-/// number of threads that the words ask for. Threads that give back memory may end behind the call.
+/// Files are numbered: 0 is the program, and its objects follow from 1 in the order of its debug map. The program and
+/// each file that its map names are read, and each file of the bundle is replaced, by one call, so that a failure is told
+/// of the file whose own call failed. All that is told goes out last, by one call. What is answered does not depend on
+/// the number of threads that the words ask for. Threads that give back memory may end behind the call.
 pub fn link_main<R: Threads + Sync, F: Files + Sync, S: Sink, G: Gate + Sync>(
     rt: &R,
     alloc: Global,
