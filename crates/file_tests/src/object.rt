@@ -1,34 +1,4 @@
-//! The object that the tables are about, and where its parts stand (mach-o/loader.h, mach-o/reloc.h, mach-o/nlist.h).
-
-ghost use Rattle.macho_read.specs.Sound.{IsSound};
-
-use ds_base::put_bytes;
-use macho_read::{Image, read_image};
-use std::alloc::Global;
-use std::process::Abort;
-
-/// The command of the segment stands behind the header.
-pub(crate) const SEGMENT_COMMAND: usize = 32;
-
-/// The record of its first section, `__text`; that of `__debug_abbrev` follows, and that of `__debug_info`.
-pub(crate) const TEXT_RECORD: usize = SEGMENT_COMMAND + 72;
-
-pub(crate) const INFO_RECORD: usize = TEXT_RECORD + 2 * 80;
-
-/// The command of the symbol table stands behind that of the UUID.
-pub(crate) const SYMTAB_COMMAND: usize = INFO_RECORD + 80 + 24;
-
-/// The bytes of `__debug_abbrev`, which are 15, and of `__debug_info`, which are 30.
-pub(crate) const CONTENTS: usize = SYMTAB_COMMAND + 24;
-
-/// Two relocations.
-pub(crate) const FIRST_RELOC: usize = CONTENTS + 15 + 30;
-
-/// Two symbols.
-pub(crate) const SECOND_SYMBOL: usize = FIRST_RELOC + 2 * 8 + 16;
-
-/// The end of the file, behind 4 bytes of strings.
-pub(crate) const END: usize = SECOND_SYMBOL + 16 + 4;
+//! The file of an object (mach-o/loader.h, mach-o/reloc.h, mach-o/nlist.h).
 
 /// The file of an arm64 object with a unit of two entries, whose addresses stand at 12 and at 21 of `__debug_info` and are
 /// relocated, and with two symbols, whose names share their bytes: `_a` at 0x20 of `__text`, and `a` of 8 bytes, which is
@@ -46,7 +16,7 @@ pub(crate) const END: usize = SECOND_SYMBOL + 16 + 4;
 /// - of each symbol: n_strx, n_type, n_sect, n_desc, n_value
 /// - the strings
 #[rattlefmt::skip]
-pub(crate) const OBJECT: &[u8; END] = b"\
+pub const OBJECT: [u8; 489] = *b"\
     \xcf\xfa\xed\xfe\x0c\0\0\x01\0\0\0\0\x01\0\0\0\x03\0\0\0\x68\x01\0\0\0\0\0\0\0\0\0\0\
     \x19\0\0\0\x38\x01\0\0\0\0\0\0\0\0\0\0\0\0\0\0\0\0\0\0\
     \0\0\0\0\0\0\0\0\0\0\x01\0\0\0\0\0\x88\x01\0\0\0\0\0\0\x2d\0\0\0\0\0\0\0\
@@ -66,29 +36,3 @@ pub(crate) const OBJECT: &[u8; END] = b"\
     \x01\0\0\0\x0f\x01\0\0\x20\0\0\0\0\0\0\0\
     \x02\0\0\0\x01\0\0\0\x08\0\0\0\0\0\0\0\
     \0_a\0";
-
-/// A file with other bytes from a place on.
-pub(crate) fn changed<const N: usize>(
-    rt: &impl Abort,
-    file: &[u8; N],
-    at: usize,
-    bytes: &[u8],
-) -> [u8; N] {
-    let mut file = *file;
-    assert!(rt; at <= N && bytes.len() <= N - at);
-    put_bytes(&mut file, at, bytes);
-    file
-}
-
-/// So many bytes from the front of a file.
-pub(crate) fn front<'a>(rt: &impl Abort, file: &'a [u8], count: usize) -> &'a [u8] {
-    assert!(rt; count <= file.len());
-    &file[..count]
-}
-
-/// The image of a file that is read.
-pub(crate) fn image_in(rt: &impl Abort, alloc: Global, file: &[u8]) -> Image
-    ensures { IsSound result }
-{
-    read_image(alloc, file).expect(rt, "an image")
-}
