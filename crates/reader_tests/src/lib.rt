@@ -1,21 +1,12 @@
-//! Tables of what the readers of expressions, frames, line tables and lists answer: bytes, and what they say or their first
-//! fault.
+//! What the readers of expressions, frames, line tables and lists answer: bytes, and what they say or their first fault.
 //!
-//! Layer: object readers. Expected values are other tools' or were written out by hand from the standard. There is nothing
-//! here but tests.
+//! Layer: object readers. Expected values are other tools' or were written out by hand from the standard. They stand in
+//! `proofs/`, as equations over the definitions that the readers' contracts cite, which hold by computing; the tests run the
+//! readers over some of the bytes.
 #![tactic(auto)]
 
-#[cfg(test)]
-mod expressions;
-#[cfg(test)]
-mod faults;
-#[cfg(test)]
-mod frames;
-#[cfg(test)]
-mod lines;
-#[cfg(test)]
-mod lists;
-#[cfg(test)]
-mod moves;
+pub mod bytes;
 #[cfg(test)]
 mod parts;
+#[cfg(test)]
+mod runs;
