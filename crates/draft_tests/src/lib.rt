@@ -1,15 +1,12 @@
-//! Tables over the calls that make drafts of units (`patches`, `text_pool`, `unit_draft`): holes, texts and drafts.
+//! Drafts of units (`unit_draft`), made by one thread and by two.
 //!
-//! Layer: samples. There is nothing here but tests.
+//! Layer: samples. What the parts of a draft are is worked in `proofs/WorkedUnit.antt`, over the definitions that
+//! the contracts of the calls cite. There is nothing here but tests.
 #![tactic(auto)]
 
 #[cfg(test)]
 mod drafts;
 #[cfg(test)]
-mod holes;
-#[cfg(test)]
 mod parts;
-#[cfg(test)]
-mod texts;
 #[cfg(test)]
 mod units;
