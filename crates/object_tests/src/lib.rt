@@ -1,7 +1,8 @@
-//! Tables of what is read of an object: values by their forms, units, and whole objects, or their first fault.
+//! What is read of an object: texts, units, and whole objects.
 //!
-//! Layer: object readers. Expected values are other tools' or were written out by hand from the standard. There is nothing
-//! here but tests.
+//! Layer: object readers. Expected values are other tools' or were written out by hand from the standard. What the bytes of
+//! values and of units mean is worked in `proofs/`, over the definitions that the contracts of the calls cite. There is
+//! nothing here but tests.
 #![tactic(auto)]
 
 #[cfg(test)]
@@ -9,6 +10,4 @@ mod objects;
 #[cfg(test)]
 mod parts;
 #[cfg(test)]
-mod units;
-#[cfg(test)]
-mod values;
+mod sections;

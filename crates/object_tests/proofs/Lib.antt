@@ -1,0 +1,3 @@
+pub mod WorkedLines
+pub mod WorkedUnits
+pub mod WorkedValues
