@@ -1,3 +1,4 @@
+pub mod OneObject
 pub mod SoundTests
-pub mod TwoObjects
+pub mod WorkedLinks
 pub mod WorkedMoves

@@ -1,19 +1,24 @@
--- Entries of one unit, as a test at run time finds them, are sound.
-use Rattle.std.proofs.Common.{◌&&◌, ◌≡◌, ◌^◌, ◌==◌, ℕ, ◌<◌, ◌≤◌, true, List, [], ◌∷◌, ◌++◌, length, slice_get, Option, None, Some, refl, sym, ap, subst, ◌∙◌, arith}
+-- Entries that are made one after the other as those of one unit are sound.
+use Rattle.std.proofs.Common.{◌&&◌, ◌≡◌, ◌⊎◌, ◌^◌, ◌==◌, ℕ, zero, suc, ◌+◌, ◌<◌, ◌≤◌, true, List, [], ◌∷◌, ◌++◌, length, map, slice_get, Option, None, Some, inl, inr, refl, sym, ap, subst, ◌∙◌, arith, length-append}
 use Rattle.std.specs.List.{Contains, flat_map, list_all}
+use Rattle.std.specs.Option.{option_map}
 use Rattle.std.proofs.lemmas.Bool.{and_parts, eqb-true, ltb-true, false≢true}
 use Rattle.std.proofs.lemmas.List.Elements.{All-contains}
 use Rattle.std.proofs.lemmas.List.Sums.{AllPass-from_list_all}
-use Rattle.std.proofs.lemmas.Option.{slice_get_within}
+use Rattle.std.proofs.lemmas.Option.{same_Some, slice_get-map, slice_get_within}
+use Rattle.dwarf_types.specs.Built.{Built}
 use Rattle.dwarf_types.specs.declared.analysis.Analysis.{Analysis}
 use Rattle.dwarf_types.specs.declared.entry.Attr.{Attr}
 use Rattle.dwarf_types.specs.declared.entry.Entry.{Entry}
 use Rattle.dwarf_types.specs.declared.entry.InUnit.{InUnit}
+use Rattle.dwarf_types.specs.declared.entry.RawAttr.{RawAttr}
+use Rattle.dwarf_types.specs.declared.entry.RawEntry.{RawEntry}
 use Rattle.dwarf_types.specs.declared.value.Value.{Value}
 use Rattle.dwarf_types.specs.declared.value.Value.TheVariants as values
 use Rattle.dwarf_types.specs.Live.{Stands, op_bases, operations_of, target_in}
+use Rattle.dwarf_types.specs.Raw.{entry_of}
 use Rattle.dwarf_types.specs.Sound.{AreCodeRanges, AreUnits, IsParent, IsSound, IsSoundEntry}
-use Rattle.choosing_tests.specs.SoundTests.{is_below, is_sound, is_within}
+use Rattle.choosing_tests.specs.SoundTests.{AreSound, is_below, is_sound, is_within}
 
 -- ---- values
 
@@ -54,6 +59,44 @@ entry_sound a u units first count k e stands t =
       targets = targets_below (length a.entries) e.attrs parts.1;
       bases = λ j has. absurd (subst (λ (js : List ℕ). Contains js j → ⊥) (sym (no_bases (length a.entries) e.attrs parts.1)) (λ none. omega (arith, none.1)) has);
     }
+
+-- ---- entries as they were read
+
+push_cases : {X : Type 0} (xs : List X) (x : X) (k : ℕ) (y : X) → slice_get (xs ++ x ∷ []) k ≡ Some y → (slice_get xs k ≡ Some y) ⊎ ((k ≡ length xs) × (x ≡ y))
+push_cases [] x zero y e = inr (refl, same_Some x y e)
+push_cases [] x (suc k) y e = absurd cc
+push_cases (z ∷ xs) x zero y e = inl e
+push_cases (z ∷ xs) x (suc k) y e = elim (push_cases xs x k y e) [ inl before ↦ inl before | inr last ↦ inr (ap suc last.0, last.1) ]
+
+pub one_longer : (entries : List RawEntry) (e : RawEntry) (more : List RawEntry) → more ≡ entries ++ e ∷ [] → length more ≡ length entries + 1
+one_longer entries e more is = ap length is ∙ length-append entries (e ∷ [])
+
+pub one_more : (count : ℕ) (entries : List RawEntry) (e : RawEntry) (more : List RawEntry) → more ≡ entries ++ e ∷ [] → AreSound count entries → is_sound count (length entries) (entry_of e) ≡ true → AreSound count more
+one_more count entries e more is so_far new k x at = elim (push_cases entries e k x (ap (λ (es : List RawEntry). slice_get es k) (sym is) ∙ at)) [
+  | inl before ↦ so_far k x before
+  | inr last ↦ subst (λ (n : ℕ). is_sound count n (entry_of x) ≡ true) (sym last.0) (subst (λ (y : RawEntry). is_sound count (length entries) (entry_of y) ≡ true) last.1 new)
+]
+
+-- the entry without a parent that is made first
+abbrev pub root_in : ℕ → List RawAttr → RawEntry
+root_in tag attrs = record { parent = None; unit = 0; place = 0; tag = tag; attrs = attrs }
+
+abbrev pub with_root : ℕ → Built → Built
+with_root tag before = record { entries = before.entries ++ root_in tag before.attrs ∷ []; attrs = [] }
+
+pub root_alone : (count tag : ℕ) (before now : Built) → before ≡ record { entries = []; attrs = [] } → now ≡ with_root tag before → (now.attrs ≡ []) × (length now.entries ≡ 1) × AreSound count now.entries
+root_alone count tag before now was is = subst (λ (b : Built). (b.attrs ≡ []) × (length b.entries ≡ 1) × AreSound count b.entries) (sym (is ∙ ap (with_root tag) was)) (refl, refl, each)
+  where
+    each : AreSound count (root_in tag [] ∷ [])
+    each zero e at = subst (λ (x : RawEntry). is_sound count 0 (entry_of x) ≡ true) (same_Some (root_in tag []) e at) refl
+    each (suc k) e at = absurd cc
+
+found_sound : (count k : ℕ) (found : Option RawEntry) (e : Entry) → option_map entry_of found ≡ Some e → ((x : RawEntry) → found ≡ Some x → is_sound count k (entry_of x) ≡ true) → is_sound count k e ≡ true
+found_sound count k None e is all = absurd cc
+found_sound count k (Some x) e is all = subst (λ (y : Entry). is_sound count k y ≡ true) (same_Some (entry_of x) e is) (all x refl)
+
+pub all_sound : (count : ℕ) (entries : List RawEntry) → AreSound count entries → (k : ℕ) (e : Entry) → Stands (map entry_of entries) k e → is_sound count k e ≡ true
+all_sound count entries each k e at = found_sound count k (slice_get entries k) e (sym (slice_get-map entry_of entries k) ∙ at) (each k)
 
 -- ---- analyses
 

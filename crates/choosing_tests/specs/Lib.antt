@@ -1,2 +1,1 @@
 pub mod SoundTests
-pub mod TwoObjects

@@ -1,15 +1,12 @@
-//! Tables over the calls that choose entries, name them and give them their units: `liveness`, `odr_names`, `link_graph`.
+//! Tables over which entries are live (`liveness`), and a run of the calls that name them (`odr_names`).
 //!
-//! Layer: output graph. There is nothing here but tests.
+//! Layer: output graph. Which names two objects share, and the shape of what is linked of them (`link_graph`), is worked in
+//! `proofs/WorkedLinks.antt`. There is nothing here but tests.
 #![tactic(auto)]
 
 #[cfg(test)]
-mod linked;
-#[cfg(test)]
 mod live;
 #[cfg(test)]
-mod parts;
+mod named;
 #[cfg(test)]
 mod rows;
-#[cfg(test)]
-mod sound;

@@ -1,97 +1,95 @@
-//! Small analyses of one unit: a row is an entry as a reader finds it, in the order of their numbers.
+//! Small analyses of one unit: a row is an entry as a reader finds it, in the order of their numbers. The root, which is
+//! entry 0, has no row.
 
-ghost use Rattle.std.specs.Prelude.{◌≡◌, ◌<◌, ◌≤◌, ◌+◌, ◌-◌, ◌^◌, [], ◌∷◌, None, length, IfSome};
-ghost use Rattle.dwarf_types.specs.declared.abbrev.TheConstants.{MOST_FIELDS};
+ghost use Rattle.std.specs.Prelude.{◌≡◌, ◌<◌, ◌+◌, ℕ, [], ◌∷◌, ◌++◌, None, true, length};
+ghost use Rattle.dwarf_types.specs.declared.entry.Entry.{Entry as EntrySpec};
 ghost use Rattle.dwarf_types.specs.declared.entry.TheConstants.{MOST_ENTRIES};
+ghost use Rattle.dwarf_types.specs.Live.{Stands};
+ghost use Rattle.dwarf_types.specs.Put.{value_read};
+ghost use Rattle.dwarf_types.specs.Raw.{entry_of};
 ghost use Rattle.dwarf_types.specs.Sound.{IsSound};
+ghost use Rattle.choosing_tests.specs.SoundTests.{is_sound, is_within, raw_of};
 
-use crate::sound::assert_sound;
 use ds_base::List;
 use ds_base::dwarf::{
-    DW_AT_const_value, DW_AT_name, DW_AT_type, DW_TAG_compile_unit, DW_TAG_variable,
+    DW_AT_const_value, DW_AT_decl_line, DW_AT_name, DW_AT_type, DW_TAG_compile_unit,
+    DW_TAG_structure_type, DW_TAG_variable,
 };
-use dwarf_types::{Analysis, Builder, Entries, InUnit, MOST_ENTRIES, OutFrames, RawValue};
+use dwarf_types::{Analysis, Builder, Entries, InUnit, OutFrames, RawValue};
 use std::alloc::Global;
 use std::process::Abort;
 
-/// What an entry says in one attribute.
-#[derive(Clone, Copy)]
-pub(crate) enum Says {
-    Nothing,
-    /// A text of one letter.
-    Text(u16, [u8; 1]),
-    Number(u16, u64),
-    Refers(u16, u32),
-    /// An address that did not move.
-    Stayed(u16),
-}
+/// An attribute: its name and its value.
+type Says = (u16, RawValue<'static>);
 
-/// An entry: its parent, its tag, and what it says.
+/// An entry: its parent, its tag, and two attributes.
 #[derive(Clone, Copy)]
 pub(crate) struct Row {
-    parent: Option<u16>,
+    parent: u16,
     tag: u16,
-    says: [Says; 2],
+    first: Says,
+    second: Says,
 }
 
-const NONE: Says = Says::Nothing;
+/// What nobody asks for.
+const LINE: Says = (DW_AT_decl_line, RawValue::Number(1));
 
-/// The root of a unit, which says nothing.
-pub(crate) fn root() -> Row {
-    Row {
-        parent: None,
-        tag: DW_TAG_compile_unit,
-        says: [NONE, NONE],
-    }
-}
-
-/// An entry under another that says nothing.
+/// An entry of which nothing is told but its parent and its tag.
 pub(crate) fn bare(parent: u16, tag: u16) -> Row {
-    two(parent, tag, NONE, NONE)
+    one(parent, tag, LINE)
 }
 
 /// One that says one thing.
-pub(crate) fn one(parent: u16, tag: u16, first: Says) -> Row {
-    two(parent, tag, first, NONE)
-}
-
-/// One that says two things.
-pub(crate) fn two(parent: u16, tag: u16, first: Says, second: Says) -> Row {
+fn one(parent: u16, tag: u16, first: Says) -> Row {
     Row {
-        parent: Some(parent),
+        parent,
         tag,
-        says: [first, second],
+        first,
+        second: LINE,
     }
 }
 
-/// An entry with a name of one letter.
-pub(crate) fn called(parent: u16, tag: u16, name: u8) -> Row {
-    one(parent, tag, Says::Text(DW_AT_name, [name]))
+/// One that refers to another in an attribute of this name.
+pub(crate) fn refers(parent: u16, tag: u16, name: u16, target: u32) -> Row {
+    one(parent, tag, (name, RawValue::Ref(target)))
+}
+
+fn name(bytes: &'static [u8]) -> Says {
+    (DW_AT_name, RawValue::Text { bytes, place: None })
+}
+
+/// A structure of this name.
+pub(crate) fn structure(text: &'static [u8]) -> Row {
+    one(0, DW_TAG_structure_type, name(text))
 }
 
 /// A constant under another entry, which is live outside of functions.
 pub(crate) fn constant(parent: u16) -> Row {
-    one(parent, DW_TAG_variable, Says::Number(DW_AT_const_value, 7))
+    one(
+        parent,
+        DW_TAG_variable,
+        (DW_AT_const_value, RawValue::Number(7)),
+    )
 }
 
 /// A live constant of a type.
 pub(crate) fn user(target: u32) -> Row {
-    two(
-        0,
-        DW_TAG_variable,
-        Says::Number(DW_AT_const_value, 7),
-        Says::Refers(DW_AT_type, target),
-    )
+    Row {
+        parent: 0,
+        tag: DW_TAG_variable,
+        first: (DW_AT_const_value, RawValue::Number(7)),
+        second: (DW_AT_type, RawValue::Ref(target)),
+    }
 }
 
 // ---- analyses
 
 /// The analysis of these rows, which are one unit of a language. There is no code, and no line table.
 pub(crate) fn analysis_in(rt: &impl Abort, alloc: Global, language: u16, rows: &[Row]) -> Analysis
+    requires { length rows.now < MOST_ENTRIES }
     ensures { IsSound result }
 {
-    let entries = entries(rt, alloc, rows);
-    assert_sound(rt, &entries);
+    let entries = entries_of(rt, alloc, rows);
     Analysis {
         units: unit_of(rt, alloc, language, entries.len() as u32),
         entries,
@@ -116,62 +114,52 @@ fn unit_of(rt: &impl Abort, alloc: Global, language: u16, count: u32) -> List<In
     units
 }
 
-fn entries(rt: &impl Abort, alloc: Global, rows: &[Row]) -> Entries {
+/// The entries of rows behind the root.
+fn entries_of(rt: &impl Abort, alloc: Global, rows: &[Row]) -> Entries
+    requires { length rows.now < MOST_ENTRIES }
+    ensures len { length result ≡ length rows.now + 1 }
+    ensures each { (k : ℕ) (e : EntrySpec) → Stands result k e → is_sound (length result) k e ≡ true }
+{
+    let count = rows.len() + 1;
     let mut built = Builder::new(alloc, &[], &[], 0).expect(rt, "memory");
+    built
+        .close(None, 0, 0, DW_TAG_compile_unit)
+        .expect(rt, "memory");
     for row in rows {
-        push_row(rt, &mut built, row);
+        push_row(rt, &mut built, row, count);
     }
     built.finish().into_entries()
 }
 
-/// Makes an entry of a row.
-fn push_row(rt: &impl Abort, built: &mut Builder, row: &Row)
-    requires { built.old.attrs ≡ [] }
-    ensures { built.new.attrs ≡ [] }
+/// Makes an entry of a row, which may be the next of so many. No form is told, since nobody here asks for it.
+fn push_row(rt: &impl Abort, built: &mut Builder, row: &Row, count: usize)
+    requires empty { built.old.attrs ≡ [] }
+    requires room { length built.old.entries < MOST_ENTRIES }
+    ensures made { built.new ≡ record { entries = built.old.entries ++ raw_of row.now.parent row.now.tag row.now.first row.now.second ∷ []; attrs = [] } }
+    ensures sound { is_sound count (length built.old.entries) (entry_of (raw_of row.now.parent row.now.tag row.now.first row.now.second)) ≡ true }
 {
-    assert!(rt; built.len() < MOST_ENTRIES, "few entries");
-    push_said(rt, built, &row.says[0]);
-    push_said(rt, built, &row.says[1]);
+    assert!(rt; is_sound(row, built.len(), count));
+    let (first, second) = (row.first, row.second);
+    built.push(first.0, 0, 0, first.1).expect(rt, "memory");
+    built.push(second.0, 0, 0, second.1).expect(rt, "memory");
     built
-        .close(number_of(row.parent), 0, 0, row.tag)
+        .close(Some(u32::from(row.parent)), 0, 0, row.tag)
         .expect(rt, "memory");
 }
 
-/// The number of a parent among the entries.
-fn number_of(parent: Option<u16>) -> Option<u32>
-    ensures { IfSome result (λ p. p < 2 ^ 32 - 1) }
+/// Whether a row may be entry `k` of a unit that has so many.
+fn is_sound(row: &Row, k: usize, count: usize) -> bool
+    ensures { result ≡ is_sound count k (entry_of (raw_of row.now.parent row.now.tag row.now.first row.now.second)) }
 {
-    match parent {
-        Some(p) => Some(u32::from(p)),
-        None => None,
-    }
+    (row.parent as usize) < k && is_within(&row.first.1, count) && is_within(&row.second.1, count)
 }
 
-/// Puts what an entry says behind its other attributes. No form is told, since nobody here asks for it.
-fn push_said(rt: &impl Abort, built: &mut Builder, says: &Says)
-    requires few { length built.old.attrs < MOST_FIELDS }
-    requires room { length built.old.entries < MOST_ENTRIES }
-    ensures few { length built.new.attrs ≤ length built.old.attrs + 1 }
-    ensures entries { built.new.entries ≡ built.old.entries }
+/// Whether a value leads to one of the first `count` entries, where it is a reference.
+fn is_within(value: &RawValue, count: usize) -> bool
+    ensures { result ≡ is_within count (value_read 0 value.now) }
 {
-    if let Some((name, value)) = read(says) {
-        built.push(name, 0, 0, value).expect(rt, "memory");
-    }
-}
-
-/// The name and the value of an attribute.
-fn read(says: &Says) -> Option<(u16, RawValue<'_>)> {
-    match says {
-        Says::Nothing => None,
-        Says::Text(name, text) => Some((
-            *name,
-            RawValue::Text {
-                bytes: text,
-                place: None,
-            },
-        )),
-        Says::Number(name, bits) => Some((*name, RawValue::Number(*bits))),
-        Says::Refers(name, k) => Some((*name, RawValue::Ref(*k))),
-        Says::Stayed(name) => Some((*name, RawValue::Address(0x10))),
+    match value {
+        RawValue::Ref(target) => (*target as usize) < count,
+        _ => true,
     }
 }
