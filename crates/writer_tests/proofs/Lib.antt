@@ -1,0 +1,2 @@
+pub mod WorkedFiles
+pub mod WorkedGraphs

@@ -1,14 +1,12 @@
-//! Tables over the calls that measure and write a graph (`layout`, `dsym_write`, and below them the writers of each
-//! section), and over the samples of `sample_objects`.
+//! Files that `sample_objects`, `layout` and `dsym_write` make, and below these the writers of each section.
+//!
+//! What stands in them is shown over the definitions that their contracts cite, in `proofs/WorkedGraphs.antt` and
+//! `WorkedFiles.antt`. Here it is shown that they are made, and of generated objects that they are those of another program.
 //!
 //! Layer: samples. There is nothing here but tests.
 #![tactic(auto)]
 
 #[cfg(test)]
-mod images;
+mod generated;
 #[cfg(test)]
-mod parts;
-#[cfg(test)]
-mod samples;
-#[cfg(test)]
-mod units;
+mod made;
