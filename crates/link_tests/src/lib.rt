@@ -1,14 +1,10 @@
-//! Tests of links of generated programs, over files in memory: by several threads, with names in the table that they
-//! share, and of objects that were let go.
+//! Tests of links of a generated program by two threads: that they share each phase, and that the table that they share
+//! has a cell for each name.
 //!
 //! Layer: top. The crate has no code of its own.
 #![tactic(auto)]
 
 #[cfg(test)]
-mod objects;
+mod meeting;
 #[cfg(test)]
-mod parts;
-#[cfg(test)]
-mod tests_names;
-#[cfg(test)]
-mod tests_workers;
+mod tests;
