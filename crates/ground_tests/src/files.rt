@@ -1,7 +1,8 @@
-//! Files that are read ahead.
+//! Files that are read ahead, and files and a sink in memory.
 
 use crate::parts::same;
-use ds_files::{FileError, Files, HostFiles, fetch_ahead};
+use ds_base::List;
+use ds_files::{FileError, Files, HostFiles, MemoryFiles, MemorySink, Sink, fetch_ahead};
 use std::alloc::Global;
 use std::fs::remove_file;
 use std::process::Abort;
@@ -83,7 +84,39 @@ fn are_answered<R: Abort + Threads + Sync + rt::Files, F: Files + Sync>(
 fn files_that_were_read_ahead_are_answered_as_others(rt: HostRuntime) {
     let alloc = rt.alloc();
     let mut files = HostFiles::new(&rt);
-    for workers in 1..3 {
-        are_answered(&rt, alloc, workers, &mut files);
-    }
+    are_answered(&rt, alloc, 1, &mut files);
+    are_answered(&rt, alloc, 2, &mut files);
+}
+
+/// The number of the call that fails.
+fn failing(rt: &impl Abort, alloc: Global, number: u64) -> List<u64> {
+    let mut numbers = List::new(alloc);
+    numbers.push(number).expect(rt, "memory");
+    numbers
+}
+
+#[test]
+fn files_in_memory_fail_where_they_are_told_to(rt: HostRuntime) {
+    let alloc = rt.alloc();
+    let mut files = MemoryFiles::new(alloc, failing(&rt, alloc, 3));
+    puts(&rt, alloc, &mut files, "first", b"abcdef");
+    gives(&rt, alloc, &mut files, "first", 6, b"abcdef");
+    fails(&rt, alloc, &mut files, "first", 6, FileError::Failed);
+    drop(files);
+}
+
+/// A sink takes a piece or not, and has this text then.
+fn takes(rt: &impl Abort, sink: &mut MemorySink, piece: &[u8], taken: bool, text: &[u8]) {
+    let seen = sink.put(piece).is_ok();
+    same(rt, "a piece", (seen, sink.text()), (taken, text));
+}
+
+#[test]
+fn a_sink_in_memory_fails_where_it_is_told_to(rt: HostRuntime) {
+    let alloc = rt.alloc();
+    let numbers = failing(&rt, alloc, 2);
+    let mut sink = MemorySink::new(alloc, 4, numbers).expect(&rt, "memory");
+    takes(&rt, &mut sink, b"ab", true, b"ab");
+    takes(&rt, &mut sink, b"c", false, b"ab");
+    drop(sink);
 }

@@ -1,14 +1,13 @@
-//! Tables of what the ground answers: lists, bytes, numbers, items and LEB numbers, and files that are read ahead.
+//! What the ground answers: lists, bytes, items and numbers, and files that are read ahead.
 //!
-//! Layer: ground. Expected values were written out by hand from the standards. There is nothing here but tests, so `ds_base`
-//! is proved without them.
+//! Layer: ground. Expected values were written out by hand from the standards. How LEB numbers are spelled and what they
+//! mean is worked in `proofs/WorkedNumbers.antt`, over the definitions that the contracts of `ds_base` cite. There is
+//! nothing here but tests, so `ds_base` is proved without them.
 #![tactic(auto)]
 
 #[cfg(test)]
 mod files;
 #[cfg(test)]
 mod ground;
-#[cfg(test)]
-mod leb;
 #[cfg(test)]
 mod parts;
