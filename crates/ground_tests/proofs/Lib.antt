@@ -1,1 +1,2 @@
+pub mod WorkedItems
 pub mod WorkedNumbers

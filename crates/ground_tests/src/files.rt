@@ -24,7 +24,7 @@ fn gives<F: Files>(
     want: &[u8],
 ) {
     let bytes = files.read(alloc, name, most).expect(rt, "a file");
-    same(rt, name, bytes.as_slice(), want);
+    same(rt, bytes.as_slice(), want);
 }
 
 /// A read of at most so many bytes fails.
@@ -37,7 +37,7 @@ fn fails<F: Files>(
     want: FileError,
 ) {
     let seen = files.read(alloc, name, most).err();
-    same(rt, name, seen, Some(want));
+    same(rt, seen, Some(want));
 }
 
 /// A file of the system is removed.
@@ -108,7 +108,7 @@ fn files_in_memory_fail_where_they_are_told_to(rt: HostRuntime) {
 /// A sink takes a piece or not, and has this text then.
 fn takes(rt: &impl Abort, sink: &mut MemorySink, piece: &[u8], taken: bool, text: &[u8]) {
     let seen = sink.put(piece).is_ok();
-    same(rt, "a piece", (seen, sink.text()), (taken, text));
+    same(rt, (seen, sink.text()), (taken, text));
 }
 
 #[test]

@@ -3,6 +3,6 @@
 use std::process::Abort;
 
 /// What was seen is what was wanted.
-pub(crate) fn same<T: Copy + PartialEq>(rt: &impl Abort, label: &str, seen: T, want: T) {
-    assert!(rt; seen == want, "{label}");
+pub(crate) fn same<T: Copy + PartialEq>(rt: &impl Abort, seen: T, want: T) {
+    assert!(rt; seen == want);
 }

@@ -9,8 +9,8 @@ use std::process::Abort;
 use type_pool::{ClosedPool, Placing, Pool, PoolSeat, pool};
 
 /// What was seen is what was wanted.
-pub(crate) fn same<T: Copy + PartialEq>(rt: &impl Abort, label: &str, seen: T, want: T) {
-    assert!(rt; seen == want, "{label}");
+pub(crate) fn same<T: Copy + PartialEq>(rt: &impl Abort, seen: T, want: T) {
+    assert!(rt; seen == want);
 }
 
 /// A table of empty cells with its first seat.

@@ -21,24 +21,14 @@ fn is_placed(
     ensures belongs { Belongs pool.now seat.new }
     ensures share { (known seat.new).share ≡ (known seat.old).share }
 {
-    same(
-        rt,
-        "where a name is placed",
-        pool.place(seat, book, x),
-        want,
-    );
+    same(rt, pool.place(seat, book, x), want);
 }
 
 // The name is found at the cell, with the least number.
 fn has_least(rt: &impl Abort, closed: &ClosedPool, book: &KeyedBook, x: u32, cell: u32, least: u64)
     requires { (length book.now.keys.now ≡ closed.now.names) × (x < closed.now.names) }
 {
-    same(
-        rt,
-        "where a name is found",
-        find(closed, book, x),
-        Some(Found { cell, least }),
-    );
+    same(rt, find(closed, book, x), Some(Found { cell, least }));
 }
 
 // The keys of 65 names that all differ and start at the first of 64 cells.
@@ -61,6 +51,16 @@ fn other_names_fill_all_cells_that_are_probed(rt: HostRuntime) {
     is_placed(&rt, &pool, &mut seat, &book, 64, Placing::Crowded);
 }
 
+// Names 0 and 1 share the last cell, with the least number, and name 2 has the first.
+fn have_cells(rt: &impl Abort, closed: ClosedPool, book: &KeyedBook)
+    requires { (length book.now.keys.now ≡ closed.names) × (closed.names ≡ 3) }
+{
+    has_least(rt, &closed, book, 0, 63, 3);
+    has_least(rt, &closed, book, 1, 63, 3);
+    has_least(rt, &closed, book, 2, 0, u64::MAX);
+    drop(closed);
+}
+
 // Names 0 and 1 are equal and start at the last cell, and so does name 2, which is another.
 #[test]
 fn equal_names_of_two_seats_have_one_cell(rt: HostRuntime) {
@@ -73,8 +73,5 @@ fn equal_names_of_two_seats_have_one_cell(rt: HostRuntime) {
     bid_for(&pool, &mut second, &book, 1, 3);
     is_placed(&rt, &pool, &mut first, &book, 2, Placing::Cell(0));
     pool.join(&mut first, second);
-    let closed = closed(pool, first);
-    has_least(&rt, &closed, &book, 0, 63, 3);
-    has_least(&rt, &closed, &book, 1, 63, 3);
-    has_least(&rt, &closed, &book, 2, 0, u64::MAX);
+    have_cells(&rt, closed(pool, first), &book);
 }

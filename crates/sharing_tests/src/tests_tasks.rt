@@ -62,7 +62,7 @@ impl Gate for HoldsFirst {
 /// What workers gave are the numbers.
 fn are_given(rt: &impl Abort, outs: Result<List<u32>, NoMemory>, numbers: &[u32]) {
     let outs = outs.expect(rt, "memory");
-    same(rt, "what workers gave", outs.as_slice(), numbers);
+    same(rt, outs.as_slice(), numbers);
 }
 
 /// So many workers give each number at its place.
@@ -116,16 +116,15 @@ fn draws(rt: &impl Abort, counter: &Tasks, seat: &mut TaskSeat, want: Option<u32
     requires { Belongs counter.now seat.old }
     ensures { Belongs counter.now seat.new }
 {
-    same(rt, "the number that is drawn", counter.claim(seat), want);
+    same(rt, counter.claim(seat), want);
 }
 
 #[test]
 fn seats_share_the_numbers(rt: HostRuntime) {
-    let (counter, mut left) = counter(&rt, rt.alloc(), 3);
+    let (counter, mut left) = counter(&rt, rt.alloc(), 2);
     let mut right = other(&rt, &counter, &mut left);
     draws(&rt, &counter, &mut right, Some(0));
     draws(&rt, &counter, &mut left, Some(1));
-    draws(&rt, &counter, &mut right, Some(2));
     draws(&rt, &counter, &mut right, None);
 }
 
@@ -155,10 +154,5 @@ fn two_workers_run_two_items_beside_each_other(rt: HostRuntime) {
         gave_up: AtomicBool::new(false),
     };
     gives_all(&rt, rt.alloc(), 2, &[4, 6], &gate);
-    same(
-        &rt,
-        "whether item 0 waited for all turns",
-        gate.gave_up.load(SeqCst),
-        false,
-    );
+    assert!(&rt; !gate.gave_up.load(SeqCst));
 }

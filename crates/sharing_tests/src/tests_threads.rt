@@ -108,7 +108,7 @@ fn has_plain_minimum(rt: &impl Abort, closed: &ClosedPool, keys: &[u32], x: u32)
 {
     let wanted = plain_least(keys, keys[x as usize]);
     let found = find(closed, &KeyedBook { keys }, x).expect(rt, "a cell");
-    same(rt, "the least of a name", found.least, wanted);
+    same(rt, found.least, wanted);
 }
 
 #[test]
