@@ -11,7 +11,7 @@ use crate::rows::{analysis_in, structure, user};
 use ds_base::BitRow;
 use ds_base::dwarf::DW_LANG_C_plus_plus;
 use dwarf_types::Analysis;
-use odr_names::{book, count, winners_plain};
+use odr_names::{PathBook, book, count, winners_plain};
 use std::alloc::Global;
 use std::process::Abort;
 use std::slice::from_ref;
@@ -23,11 +23,15 @@ fn has_winner(rt: &impl Abort, alloc: Global, seen: &Analysis, live: &BitRow)
 {
     let (seen, live) = (from_ref(seen), from_ref(live));
     let book = book(alloc, seen, live, true).expect(rt, "a book");
-    let winners = winners_plain(alloc, &book).expect(rt, "memory");
-    let counts = (count(&book), winners.len());
-    drop(winners);
+    let counts = (count(&book), count_winners(rt, alloc, &book));
     drop(book);
     assert!(rt; counts == (1, 1));
+}
+
+/// How many names of a book have a winner.
+fn count_winners(rt: &impl Abort, alloc: Global, book: &PathBook) -> usize {
+    let winners = winners_plain(alloc, book).expect(rt, "memory");
+    winners.len()
 }
 
 #[test]

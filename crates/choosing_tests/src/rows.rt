@@ -3,12 +3,13 @@
 
 ghost use Rattle.std.specs.Prelude.{◌≡◌, ◌<◌, ◌+◌, ℕ, [], ◌∷◌, ◌++◌, None, true, length};
 ghost use Rattle.dwarf_types.specs.declared.entry.Entry.{Entry as EntrySpec};
+ghost use Rattle.dwarf_types.specs.declared.abbrev.TheConstants.{MOST_FIELDS};
 ghost use Rattle.dwarf_types.specs.declared.entry.TheConstants.{MOST_ENTRIES};
 ghost use Rattle.dwarf_types.specs.Live.{Stands};
 ghost use Rattle.dwarf_types.specs.Put.{value_read};
 ghost use Rattle.dwarf_types.specs.Raw.{entry_of};
 ghost use Rattle.dwarf_types.specs.Sound.{IsSound};
-ghost use Rattle.choosing_tests.specs.SoundTests.{is_sound, is_within, raw_of};
+ghost use Rattle.choosing_tests.specs.SoundTests.{is_sound, is_within, raw_attr, raw_of};
 
 use ds_base::List;
 use ds_base::dwarf::{
@@ -139,12 +140,20 @@ fn push_row(rt: &impl Abort, built: &mut Builder, row: &Row, count: usize)
     ensures sound { is_sound count (length built.old.entries) (entry_of (raw_of row.now.parent row.now.tag row.now.first row.now.second)) ≡ true }
 {
     assert!(rt; is_sound(row, built.len(), count));
-    let (first, second) = (row.first, row.second);
-    built.push(first.0, 0, 0, first.1).expect(rt, "memory");
-    built.push(second.0, 0, 0, second.1).expect(rt, "memory");
+    push_attr(rt, built, row.first);
+    push_attr(rt, built, row.second);
     built
         .close(Some(u32::from(row.parent)), 0, 0, row.tag)
         .expect(rt, "memory");
+}
+
+/// Puts an attribute behind those of the entry that is being made.
+fn push_attr(rt: &impl Abort, built: &mut Builder, says: Says)
+    requires few { length built.old.attrs < MOST_FIELDS }
+    requires room { length built.old.entries < MOST_ENTRIES }
+    ensures { built.new ≡ record { entries = built.old.entries; attrs = built.old.attrs ++ raw_attr says.entry ∷ [] } }
+{
+    built.push(says.0, 0, 0, says.1).expect(rt, "memory");
 }
 
 /// Whether a row may be entry `k` of a unit that has so many.

@@ -62,17 +62,16 @@ fn gives_once<F: Files>(rt: &impl Abort, alloc: Global, files: &mut F) {
     fails(rt, alloc, files, "third", 9, FileError::Missing);
 }
 
-/// Files are read ahead by so many workers: the eight bytes of the first two are as many as may be kept. They are gone when
-/// they are asked for.
+/// Files are read ahead by two workers: the eight bytes of the first two are as many as may be kept. They are gone when they
+/// are asked for.
 fn are_answered<R: Abort + Threads + Sync + rt::Files, F: Files + Sync>(
     rt: &R,
     alloc: Global,
-    workers: u32,
     files: &mut F,
 ) {
     puts_all(rt, alloc, files);
     let names = ["first", "none", "second", "third"];
-    let ahead = fetch_ahead(rt, alloc, workers, &names, 8, files);
+    let ahead = fetch_ahead(rt, alloc, 2, &names, 8, files);
     files.keep(ahead);
     removes(rt, "first");
     removes(rt, "second");
@@ -84,8 +83,7 @@ fn are_answered<R: Abort + Threads + Sync + rt::Files, F: Files + Sync>(
 fn files_that_were_read_ahead_are_answered_as_others(rt: HostRuntime) {
     let alloc = rt.alloc();
     let mut files = HostFiles::new(&rt);
-    are_answered(&rt, alloc, 1, &mut files);
-    are_answered(&rt, alloc, 2, &mut files);
+    are_answered(&rt, alloc, &mut files);
 }
 
 /// The number of the call that fails.

@@ -1,7 +1,6 @@
-//! Numbers that are drawn from one counter, and jobs done by several workers.
+//! Jobs done by several workers, who draw their items from one counter.
 
 ghost use Rattle.std.specs.Prelude.{◌≡◌, ◌<◌, ◌≤◌, length, slice_index};
-ghost use Rattle.work_share.specs.Seats.{Belongs};
 
 use crate::parts::same;
 use ds_base::{List, NoMemory};
@@ -12,7 +11,7 @@ use std::process::Abort;
 use std::sync::atomic::AtomicBool;
 use std::sync::atomic::Ordering::SeqCst;
 use std::thread::Threads;
-use work_share::{Job, TaskSeat, Tasks, each, each_in_order, tasks};
+use work_share::{Job, each, each_in_order};
 
 /// The number that stands at an item's place.
 #[derive(Drop)]
@@ -95,37 +94,6 @@ fn gives_all_in_order<R: Threads + Abort + Sync>(
     let count = numbers.len() as u32;
     let outs = each_in_order(rt, alloc, 3, count, order, 0, &gate, &job);
     are_given(rt, outs, numbers);
-}
-
-/// A counter of so many numbers with its first seat.
-fn counter(rt: &impl Abort, alloc: Global, count: u32) -> (Tasks, TaskSeat)
-    ensures { Belongs result.0 result.1 }
-{
-    tasks(alloc, count).expect(rt, "memory")
-}
-
-fn other(rt: &impl Abort, counter: &Tasks, seat: &mut TaskSeat) -> TaskSeat
-    requires { Belongs counter.now seat.old }
-    ensures { Belongs counter.now seat.new × Belongs counter.now result }
-{
-    counter.split(seat).expect(rt, "a share to split")
-}
-
-/// The seat draws the number, or none.
-fn draws(rt: &impl Abort, counter: &Tasks, seat: &mut TaskSeat, want: Option<u32>)
-    requires { Belongs counter.now seat.old }
-    ensures { Belongs counter.now seat.new }
-{
-    same(rt, counter.claim(seat), want);
-}
-
-#[test]
-fn seats_share_the_numbers(rt: HostRuntime) {
-    let (counter, mut left) = counter(&rt, rt.alloc(), 2);
-    let mut right = other(&rt, &counter, &mut left);
-    draws(&rt, &counter, &mut right, Some(0));
-    draws(&rt, &counter, &mut left, Some(1));
-    draws(&rt, &counter, &mut right, None);
 }
 
 #[test]
