@@ -21,7 +21,7 @@ use Rattle.dwarf_types.specs.LinkedGraph.{closing, code_of_unit, linked, linked_
 use Rattle.dwarf_types.specs.LinkedUnits.{Object, Source, is_kept, kept_entries, node_number, parent_node, plain_target, sources}
 use Rattle.dwarf_types.specs.LinkedValues.{attrs_written}
 use Rattle.dwarf_types.specs.Live.{Stands, bases_of, op_bases, operations_of}
-use Rattle.dwarf_types.specs.Sound.{IsIn, IsParent, IsSound}
+use Rattle.dwarf_types.specs.Sound.{IsParent}
 use Rattle.dwarf_types.specs.Sound as sound_bases
 use Rattle.dwarf_types.specs.Well.{IsWell, IsWellUnit}
 use Rattle.dwarf_types.specs.WellLines.{IsFrame}
