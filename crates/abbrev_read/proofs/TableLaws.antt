@@ -4,7 +4,7 @@ use Rattle.std.specs.Prelude.{nat_lt, if◌then◌else◌}
 use Rattle.std.specs.Option.{option_map_or, is_some}
 use Rattle.std.proofs.lemmas.Bool.{cases_eq, ltb-false, le-ltb, eq-eqb, ne_eqb, eqb-false}
 use Rattle.std.proofs.lemmas.List.{append-nil, take_all, length-append, length-drop}
-use Rattle.ds_base.specs.declared.dwarf.TheConstants.{DW_FORM_implicit_const}
+use Rattle.ds_base.specs.DwarfNumbers.{DW_FORM_implicit_const}
 use Rattle.ds_base.specs.declared.fault.Fault.{Fault}
 use Rattle.ds_base.specs.declared.fault.Kind.TheVariants.{BadAbbrev, LimitAttributes, DuplicateCode}
 use Rattle.ds_base.specs.Leb.{IsSpelled}

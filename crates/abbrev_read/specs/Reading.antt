@@ -1,7 +1,7 @@
 -- Reading an abbreviation table (DWARF 4, section 7.5.3): its declarations, or the first fault in the order of its items.
 use Rattle.std.specs.Prelude.{ℕ, zero, suc, ◌-◌, ◌==◌, pos, Bool, List, [], ◌∷◌, ◌++◌, length, Option, Some, None, is_some, Result, Ok, Err, nat_lt, if◌then◌else◌}
 use Rattle.std.specs.Option.{option_map_or}
-use Rattle.ds_base.specs.declared.dwarf.TheConstants.{DW_FORM_implicit_const}
+use Rattle.ds_base.specs.DwarfNumbers.{DW_FORM_implicit_const}
 use Rattle.ds_base.specs.declared.fault.Fault.{Fault}
 use Rattle.ds_base.specs.declared.fault.Kind.TheVariants as kinds
 use Rattle.ds_base.specs.declared.fault.Part.TheVariants as parts

@@ -1,6 +1,6 @@
 -- How an abbreviation table is spelled (DWARF 4, section 7.5.3; DWARF 5, section 7.5.3), whoever reads it.
 use Rattle.std.specs.Prelude.{◌≡◌, ◌<◌, ◌≤◌, ◌==◌, ◌++◌, ℕ, pos, Bool, true, false, List, [], ◌∷◌, length, drop}
-use Rattle.ds_base.specs.declared.dwarf.TheConstants.{DW_FORM_implicit_const}
+use Rattle.ds_base.specs.DwarfNumbers.{DW_FORM_implicit_const}
 use Rattle.dwarf_types.specs.Spelled.{InTurn, IsUleb, IsSleb, IsNumber}
 use Rattle.dwarf_types.specs.declared.abbrev.Field.{Field}
 use Rattle.dwarf_types.specs.declared.abbrev.Abbrev.{Abbrev}

@@ -7,7 +7,7 @@ use Rattle.std.specs.Ordering.{match_ordering, nat_cmp}
 use Rattle.std.proofs.lemmas.Bool.{eqb-true, eqb-false, ltb-true, ltb-false}
 use Rattle.std.proofs.lemmas.List.Elements.{All-from_recursion}
 use Rattle.std.proofs.lemmas.List.Kept.{AllPairs-cons}
-use Rattle.addr_map.specs.Ranges.{in_order, placed}
+use Rattle.ds_base.specs.InOrder.{in_order, placed}
 
 -- ---- the map of the keys
 

@@ -16,7 +16,8 @@ use Rattle.addr_map.specs.declared.entry.Given.{Given}
 use Rattle.addr_map.specs.declared.entry.Given.TheVariants as givens
 use Rattle.addr_map.specs.declared.map.MapRange.{MapRange}
 use Rattle.addr_map.specs.Entries.{end_of, given_at, given_of, named, range_from}
-use Rattle.addr_map.specs.Ranges.{cut, in_order, kept, map_from, name_part, range_part}
+use Rattle.ds_base.specs.InOrder.{in_order}
+use Rattle.addr_map.specs.Ranges.{cut, kept, map_from, name_part, range_part}
 use Rattle.addr_map.specs.Sound.{IsSound, IsSoundRange}
 use Rattle.addr_map.proofs.Order.{in_order_all, in_order_rise, Rise, rise_pairs}
 

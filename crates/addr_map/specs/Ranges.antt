@@ -1,6 +1,7 @@
 -- Where an object's addresses and symbols went in the linked program, by its part of the debug map.
-use Rattle.std.specs.Prelude.{ℕ, ◌==◌, min, List, [], ◌∷◌, Option, Some, None, nat_lt, if◌then◌else◌}
+use Rattle.std.specs.Prelude.{min, List, [], ◌∷◌, Option, Some, None, nat_lt}
 use Rattle.std.specs.List.{filter, filter_map}
+use Rattle.ds_base.specs.InOrder.{in_order}
 use Rattle.macho_read.specs.declared.image.Image.{Image}
 use Rattle.stab_map.specs.declared.object.MapObject.{MapObject}
 use Rattle.addr_map.specs.declared.entry.Given.{Given}
@@ -9,16 +10,6 @@ use Rattle.addr_map.specs.declared.map.AddrMap.{AddrMap}
 use Rattle.addr_map.specs.declared.map.MapRange.{MapRange}
 use Rattle.addr_map.specs.declared.map.MapName.{MapName}
 use Rattle.addr_map.specs.Entries.{given_of}
-
--- an item put where its key belongs, in place of one of that key
-abbrev pub placed : {A : Type 0} → (A → ℕ) → A → List A → List A
-placed key item [] = item ∷ []
-placed key item (x ∷ xs) = if nat_lt (key item) (key x) then item ∷ x ∷ xs else if key item == key x then item ∷ xs else x ∷ placed key item xs
-
--- items by rising keys; of equal keys the first counts
-abbrev pub in_order : {A : Type 0} → (A → ℕ) → List A → List A
-in_order key [] = []
-in_order key (x ∷ xs) = placed key x (in_order key xs)
 
 -- each range cut at the start of the next one
 abbrev pub cut : List MapRange → List MapRange

@@ -6,7 +6,8 @@ ghost use Rattle.std.specs.List.Sorted.{IsPermutation, IsSorted};
 ghost use Rattle.std.specs.Option.{option_map};
 ghost use Rattle.macho_read.specs.Sound.{IsSound as IsSoundImage};
 ghost use Rattle.addr_map.specs.Entries.{given_of, named, places as places_of};
-ghost use Rattle.addr_map.specs.Ranges.{cut, in_order, kept, map_from, map_of, name_part, range_part};
+ghost use Rattle.ds_base.specs.InOrder.{in_order};
+ghost use Rattle.addr_map.specs.Ranges.{cut, kept, map_from, map_of, name_part, range_part};
 ghost use Rattle.addr_map.specs.Sound.{IsSound};
 ghost use Rattle.addr_map.specs.Tables.{index_in, place_cmp};
 

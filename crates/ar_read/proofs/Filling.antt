@@ -6,7 +6,7 @@ use Rattle.std.proofs.lemmas.Bool.{ltb-false, leb-true, leb-false, cases_Bool}
 use Rattle.std.proofs.lemmas.List.{length-drop, length-take}
 use Rattle.ds_base.specs.declared.fault.Fault.{Fault}
 use Rattle.ds_base.specs.declared.fault.Kind.TheVariants as kinds
-use Rattle.ds_base.specs.declared.macho.TheConstants.{ARFMAG, AR_EFMT1, AR_HDR_SIZE}
+use Rattle.ds_base.specs.MachONumbers.{ARFMAG, AR_EFMT1, AR_HDR_SIZE}
 use Rattle.ds_base.specs.Reading.{◌>>=◌, or_fault}
 use Rattle.ds_base.proofs.Passing.{bind_ok, passed, ok_is}
 use Rattle.ar_read.specs.Number.{number_of}

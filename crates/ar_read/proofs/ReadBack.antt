@@ -6,7 +6,7 @@ use Rattle.std.specs.Str.{bytes_eq}
 use Rattle.std.proofs.lemmas.Bool.{and_parts, ne_eqb, le-ltb}
 use Rattle.std.proofs.lemmas.List.{drop_at, drop-drop, take_at, length-append, length-drop, length-replicate, replicate_more, reverse-append}
 use Rattle.ds_base.specs.declared.fault.Fault.{Fault}
-use Rattle.ds_base.specs.declared.macho.TheConstants.{ARMAG, ARFMAG, AR_EFMT1}
+use Rattle.ds_base.specs.MachONumbers.{ARMAG, ARFMAG, AR_EFMT1}
 use Rattle.ar_read.specs.Number.{are_spaces, digit_count, number_of}
 use Rattle.ar_read.specs.Padding.{unpadded}
 use Rattle.ar_read.specs.Header.{Named, member_at, named_at}

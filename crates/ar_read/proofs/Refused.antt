@@ -6,7 +6,7 @@ use Rattle.std.specs.Str.{bytes_eq}
 use Rattle.ds_base.specs.declared.fault.Fault.{Fault}
 use Rattle.ds_base.specs.declared.fault.Kind.{Kind}
 use Rattle.ds_base.specs.declared.fault.Kind.TheVariants as kinds
-use Rattle.ds_base.specs.declared.macho.TheConstants.{ARMAG, ARFMAG, AR_EFMT1, AR_HDR_SIZE}
+use Rattle.ds_base.specs.MachONumbers.{ARMAG, ARFMAG, AR_EFMT1, AR_HDR_SIZE}
 use Rattle.ds_base.specs.Reading.{or_fault}
 use Rattle.ar_read.specs.Number.{number_of}
 use Rattle.ar_read.specs.Header.{Named, archive_fault, long_at, named_at, member_at}

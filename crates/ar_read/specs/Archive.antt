@@ -4,7 +4,7 @@ use Rattle.std.specs.List.{find, starts_with}
 use Rattle.std.specs.Str.{bytes_eq}
 use Rattle.ds_base.specs.declared.fault.Fault.{Fault}
 use Rattle.ds_base.specs.declared.fault.Kind.TheVariants as kinds
-use Rattle.ds_base.specs.declared.macho.TheConstants.{ARMAG, AR_HDR_SIZE}
+use Rattle.ds_base.specs.MachONumbers.{ARMAG, AR_HDR_SIZE}
 use Rattle.ds_base.specs.Reading.{◌>>=◌, refuse_if}
 use Rattle.ar_read.specs.Header.{Named, archive_fault, member_at}
 

@@ -5,7 +5,7 @@ use Rattle.ds_base.specs.declared.fault.Fault.{Fault}
 use Rattle.ds_base.specs.declared.fault.Kind.{Kind}
 use Rattle.ds_base.specs.declared.fault.Kind.TheVariants as kinds
 use Rattle.ds_base.specs.declared.fault.Part.TheVariants as parts
-use Rattle.ds_base.specs.declared.macho.TheConstants.{AR_HDR_SIZE, ARFMAG, AR_EFMT1}
+use Rattle.ds_base.specs.MachONumbers.{AR_HDR_SIZE, ARFMAG, AR_EFMT1}
 use Rattle.ds_base.specs.Reading.{◌>>=◌, refuse_if, or_fault}
 use Rattle.ar_read.specs.declared.header.Member.{Member}
 use Rattle.ar_read.specs.Number.{number_of}

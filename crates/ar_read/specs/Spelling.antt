@@ -5,7 +5,7 @@ use Rattle.std.specs.Char.{is_ascii_digit}
 use Rattle.std.specs.Str.{bytes_eq}
 use Rattle.ds_base.specs.declared.fault.Fault.{Fault}
 use Rattle.ds_base.specs.declared.fault.Kind.TheVariants as kinds
-use Rattle.ds_base.specs.declared.macho.TheConstants.{ARMAG, ARFMAG, AR_EFMT1}
+use Rattle.ds_base.specs.MachONumbers.{ARMAG, ARFMAG, AR_EFMT1}
 use Rattle.ar_read.specs.Number.{decimal}
 use Rattle.ar_read.specs.Header.{archive_fault}
 use Rattle.ar_read.specs.Archive.{member_of}

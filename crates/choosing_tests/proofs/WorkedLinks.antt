@@ -4,7 +4,7 @@ use Rattle.std.specs.Prelude.{codes}
 use Rattle.std.specs.Fmt.{digits}
 use Rattle.std.specs.List.{position}
 use Rattle.std.specs.Option.{option_map}
-use Rattle.ds_base.specs.declared.dwarf.TheConstants.{DW_AT_const_value, DW_AT_declaration, DW_AT_name, DW_AT_type, DW_LANG_C_plus_plus, DW_LANG_C99, DW_TAG_base_type, DW_TAG_compile_unit, DW_TAG_const_type, DW_TAG_formal_parameter, DW_TAG_member, DW_TAG_namespace, DW_TAG_pointer_type, DW_TAG_reference_type, DW_TAG_structure_type, DW_TAG_subprogram, DW_TAG_template_type_parameter, DW_TAG_variable}
+use Rattle.ds_base.specs.DwarfNumbers.{DW_AT_const_value, DW_AT_declaration, DW_AT_name, DW_AT_type, DW_LANG_C_plus_plus, DW_LANG_C99, DW_TAG_base_type, DW_TAG_compile_unit, DW_TAG_const_type, DW_TAG_formal_parameter, DW_TAG_member, DW_TAG_namespace, DW_TAG_pointer_type, DW_TAG_reference_type, DW_TAG_structure_type, DW_TAG_subprogram, DW_TAG_template_type_parameter, DW_TAG_variable}
 use Rattle.dwarf_types.specs.declared.entry.Attr.{Attr}
 use Rattle.dwarf_types.specs.declared.entry.Entry.{Entry}
 use Rattle.dwarf_types.specs.declared.shape.ShapeUnit.{ShapeUnit}

@@ -1,6 +1,6 @@
 -- Entries told by their addresses: which are linked, and which were left behind.
 use Rattle.std.proofs.Common.{◌≡◌, ℕ, true, false, Option, Some, None, List, [], ◌∷◌, refl}
-use Rattle.ds_base.specs.declared.dwarf.TheConstants.{DW_AT_location, DW_AT_low_pc, DW_AT_ranges, DW_OP_addr, DW_OP_fbreg, DW_TAG_GNU_call_site, DW_TAG_inlined_subroutine, DW_TAG_lexical_block, DW_TAG_subprogram, DW_TAG_variable}
+use Rattle.ds_base.specs.DwarfNumbers.{DW_AT_location, DW_AT_low_pc, DW_AT_ranges, DW_OP_addr, DW_OP_fbreg, DW_TAG_GNU_call_site, DW_TAG_inlined_subroutine, DW_TAG_lexical_block, DW_TAG_subprogram, DW_TAG_variable}
 use Rattle.dwarf_types.specs.declared.address.Addr.TheVariants as addrs
 use Rattle.dwarf_types.specs.declared.address.Place.{Place}
 use Rattle.dwarf_types.specs.declared.address.Span.{Span}

@@ -13,5 +13,6 @@ pub mod Passing
 pub mod Refusals
 pub mod Rooms
 pub mod TextKeys
+pub mod TextPlaces
 pub mod Walking
 pub mod Zeros

@@ -6,4 +6,8 @@ pub mod Reading
 pub mod Room
 pub mod Spot
 pub mod FirstUse
+pub mod InOrder
 pub mod Texts
+pub mod DwarfNumbers
+pub mod MachONumbers
+pub mod SameNumbers

@@ -41,6 +41,13 @@ impl Bytes {
         Bytes { items }
     }
 
+    /// The vector of these bytes, to be taken by value. It asks the allocator for nothing.
+    pub fn into_vec(self) -> Vec<u8>
+        ensures { result.items ≡ self }
+    {
+        self.items
+    }
+
     /// A copy of a slice's bytes.
     pub fn from_slice(alloc: Global, bytes: &[u8]) -> Result<Bytes, NoMemory>
         ensures { IfOk result (λ made. made ≡ bytes.now) }

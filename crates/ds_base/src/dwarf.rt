@@ -1013,3 +1013,15 @@ pub const LINE_BASE: u8 = 0xfb;
 pub const LINE_RANGE: u8 = 14;
 
 pub const OPCODE_BASE: u8 = 13;
+
+// Apple's accelerator tables (LLVM's `AppleAcceleratorTable`, and its "Source Level Debugging with LLVM"): the magic number
+// "HASH", the version, the hash function of Daniel J. Bernstein with its first value, and the one atom that is written.
+pub const APPLE_HASH_MAGIC: u32 = 0x4841_5348;
+
+pub const APPLE_HASH_VERSION: u16 = 1;
+
+pub const DW_hash_function_djb: u16 = 0;
+
+pub const DJB_HASH_START: u32 = 5381;
+
+pub const DW_ATOM_die_offset: u16 = 1;

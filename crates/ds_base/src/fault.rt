@@ -57,6 +57,12 @@ pub enum Part {
     Aranges,
     /// `__debug_frame`.
     Frame,
+    /// `__apple_names`.
+    AppleNames,
+    /// `__apple_types`.
+    AppleTypes,
+    /// `__apple_namespac`.
+    AppleNamespac,
 }
 
 /// What is wrong. Each kind's condition and place stand in docs/PROFILE.md, "Faults".
@@ -160,6 +166,10 @@ pub enum Kind {
     UnknownListEntry,
     /// The bytes are not the encoding of one graph.
     BadOutput,
+    /// An accelerator table is none that is written here.
+    BadTable,
+    /// A universal file's count or a record of it is wrong.
+    BadUniversal,
 }
 
 /// The one fault of a file's content.

@@ -17,9 +17,11 @@ mod leb;
 pub mod limits;
 mod list;
 pub mod macho;
+mod numbers;
 mod pieces;
 mod put;
 mod text_key;
+mod texts;
 
 pub use bit_row::BitRow;
 pub use bytes::Bytes;
@@ -31,6 +33,8 @@ pub use leb::{
     uleb4_reads_back,
 };
 pub use list::List;
+pub use numbers::{dwarf_constants_are_the_standards, mach_o_constants_are_the_standards};
 pub use pieces::{bytes_from, cut, text_in};
 pub use put::{put_bytes, put_sleb, put_u8, put_u16, put_u32, put_u64, put_uleb, put_uleb4};
 pub use text_key::TextKey;
+pub use texts::texts_are_found_at_their_places;

@@ -42,6 +42,17 @@ pub const RELOCATION_INFO_SIZE: u32 = 8;
 
 pub const AR_HDR_SIZE: u32 = 60;
 
+// mach-o/fat.h: what a universal file begins with, and the sizes of its header and of a record in bytes. Its numbers have
+// the highest byte first.
+pub const FAT_MAGIC: u32 = 0xcafe_babe;
+
+pub const FAT_HEADER_SIZE: u32 = 8;
+
+pub const FAT_ARCH_SIZE: u32 = 20;
+
+// mach/machine.h: the bits of a CPU subtype that say what the code may do, and not which CPU it is for.
+pub const CPU_SUBTYPE_MASK: u32 = 0xff00_0000;
+
 // mach-o/loader.h: names of segments and sections, padded with zeros to 16 bytes.
 pub const SEG_TEXT: [u8; 16] = *b"__TEXT\0\0\0\0\0\0\0\0\0\0";
 
@@ -74,6 +85,12 @@ pub const SECT_DEBUG_LOCLISTS: [u8; 16] = *b"__debug_loclists";
 pub const SECT_DEBUG_ARANGES: [u8; 16] = *b"__debug_aranges\0";
 
 pub const SECT_DEBUG_FRAME: [u8; 16] = *b"__debug_frame\0\0\0";
+
+pub const SECT_APPLE_NAMES: [u8; 16] = *b"__apple_names\0\0\0";
+
+pub const SECT_APPLE_TYPES: [u8; 16] = *b"__apple_types\0\0\0";
+
+pub const SECT_APPLE_NAMESPACES: [u8; 16] = *b"__apple_namespac";
 
 /// What the name of each compressed debug section begins with.
 pub const SECT_ZDEBUG: [u8; 8] = *b"__zdebug";

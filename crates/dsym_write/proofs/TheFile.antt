@@ -2,7 +2,7 @@
 use Rattle.std.proofs.Common.{◌≡◌, ℕ, ◌+◌, ◌*◌, ◌-◌, ◌≤◌, false, List, [], ◌∷◌, ◌++◌, length, replicate, Option, Some, None, arith, refl, sym, ap, ◌∙◌, append_assoc, append-nil, length-append}
 use Rattle.std.specs.Option.{option_map_or}
 use Rattle.std.proofs.lemmas.List.{length-replicate}
-use Rattle.ds_base.specs.declared.macho.TheConstants.{MH_DSYM}
+use Rattle.ds_base.specs.MachONumbers.{MH_DSYM}
 use Rattle.ds_base.specs.Room.{Adds}
 use Rattle.ds_base.proofs.Adding.{adds_more, adds_same, adds_whole}
 use Rattle.dwarf_types.specs.declared.graph.Written.{Written}

@@ -2,7 +2,7 @@
 use Rattle.std.specs.Prelude.{◌≡◌, ℕ, ◌+◌, ◌*◌, ◌<◌, ◌≤◌, ◌^◌, ◌==◌, false, List, [], ◌∷◌, ◌++◌, length, map, if◌then◌else◌}
 use Rattle.std.specs.Option.{option_map_or}
 use Rattle.ds_base.specs.declared.fault.Part.{Part}
-use Rattle.ds_base.specs.declared.macho.TheConstants.{LC_SEGMENT_64, MACH_HEADER_64_SIZE, MH_DSYM, NLIST_64_SIZE, SECTION_64_SIZE, SEGMENT_COMMAND_64_SIZE, SEG_DWARF, SYMTAB_COMMAND_SIZE, UUID_COMMAND_SIZE, VM_PROT_ALL, VM_PROT_DEFAULT}
+use Rattle.ds_base.specs.MachONumbers.{LC_SEGMENT_64, MACH_HEADER_64_SIZE, MH_DSYM, NLIST_64_SIZE, SECTION_64_SIZE, SEGMENT_COMMAND_64_SIZE, SEG_DWARF, SYMTAB_COMMAND_SIZE, UUID_COMMAND_SIZE, VM_PROT_ALL, VM_PROT_DEFAULT}
 use Rattle.layout.specs.declared.sizes.Sizes.{Sizes}
 use Rattle.layout.specs.Lengths.{size_in}
 use Rattle.macho_read.specs.declared.image.Image.{Image}

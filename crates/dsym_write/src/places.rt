@@ -2,7 +2,7 @@
 
 ghost use Rattle.std.specs.Prelude.{◌≡◌, ◌+◌, ◌*◌, ◌<◌, ◌≤◌, ◌^◌, All, Ok, filter, length, map, not};
 ghost use Rattle.std.specs.Option.{option_map_or};
-ghost use Rattle.ds_base.specs.declared.macho.TheConstants.{UUID_COMMAND_SIZE as uuid_command_size};
+ghost use Rattle.ds_base.specs.MachONumbers.{UUID_COMMAND_SIZE as uuid_command_size};
 ghost use Rattle.macho_read.specs.declared.kind.Role.TheVariants as roles;
 ghost use Rattle.macho_read.specs.Commands.{last_end};
 ghost use Rattle.macho_read.specs.Kind.{kind_of};

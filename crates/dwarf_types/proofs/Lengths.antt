@@ -6,7 +6,7 @@ use Rattle.std.proofs.lemmas.List.{length-replicate}
 use Rattle.std.proofs.lemmas.List.Concat.{length-flat_map}
 use Rattle.std.proofs.lemmas.List.Sums.{sum_by-cons}
 use Rattle.byteorder.specs.Endian.{little_bytes}
-use Rattle.ds_base.specs.declared.dwarf.TheConstants.{DW_FORM_block1, DW_FORM_block2, DW_FORM_block4, DW_FORM_data1, DW_FORM_data2, DW_FORM_data4, DW_FORM_data8, DW_FORM_flag, DW_FORM_sdata, DW_FORM_udata, DW_LLE_start_end, DW_RLE_end_of_list, DW_RLE_start_end, DW_UT_compile}
+use Rattle.ds_base.specs.DwarfNumbers.{DW_FORM_block1, DW_FORM_block2, DW_FORM_block4, DW_FORM_data1, DW_FORM_data2, DW_FORM_data4, DW_FORM_data8, DW_FORM_flag, DW_FORM_sdata, DW_FORM_udata, DW_LLE_start_end, DW_RLE_end_of_list, DW_RLE_start_end, DW_UT_compile}
 use Rattle.ds_base.specs.Leb.{uleb, uleb_len_of, sleb, sleb_len_of}
 use Rattle.ds_base.proofs.LebLengths.{length-uleb, length-sleb}
 use Rattle.dwarf_types.specs.declared.address.Span.{Span}

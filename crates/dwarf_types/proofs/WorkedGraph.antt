@@ -1,7 +1,7 @@
 -- A graph of one unit with one function, and its sections as they stand in a file, byte for byte.
 use Rattle.std.proofs.Common.{◌≡◌, ℕ, List, [], ◌∷◌, Some, None, refl}
 use Rattle.ds_base.specs.declared.fault.Part.TheVariants as parts
-use Rattle.ds_base.specs.declared.dwarf.TheConstants.{DW_TAG_compile_unit, DW_TAG_subprogram, DW_AT_name, DW_AT_language, DW_AT_low_pc, DW_AT_high_pc, DW_AT_ranges, DW_FORM_data2, DW_FORM_data4}
+use Rattle.ds_base.specs.DwarfNumbers.{DW_TAG_compile_unit, DW_TAG_subprogram, DW_AT_name, DW_AT_language, DW_AT_low_pc, DW_AT_high_pc, DW_AT_ranges, DW_FORM_data2, DW_FORM_data4}
 use Rattle.ds_base.specs.Leb.{uleb}
 use Rattle.dwarf_types.specs.declared.address.Span.{Span}
 use Rattle.dwarf_types.specs.declared.graph.Graph.{Graph}

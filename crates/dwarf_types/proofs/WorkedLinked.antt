@@ -1,7 +1,7 @@
 -- Objects and what is linked of them.
 use Rattle.std.proofs.Common.{◌≡◌, ◌==◌, if◌then◌else◌, ℕ, true, false, List, [], ◌∷◌, Option, Some, None, map, refl}
 use Rattle.std.specs.List.{filter_map}
-use Rattle.ds_base.specs.declared.dwarf.TheConstants.{DW_TAG_base_type, DW_TAG_compile_unit, DW_TAG_GNU_call_site, DW_TAG_namespace, DW_TAG_structure_type, DW_TAG_subprogram, DW_TAG_variable, DW_AT_byte_size, DW_AT_const_value, DW_AT_decl_file, DW_AT_external, DW_AT_frame_base, DW_AT_high_pc, DW_AT_language, DW_AT_location, DW_AT_low_pc, DW_AT_macro_info, DW_AT_name, DW_AT_ranges, DW_AT_sibling, DW_AT_type, DW_FORM_data1, DW_FORM_data2, DW_FORM_data4, DW_FORM_flag_present, DW_FORM_udata}
+use Rattle.ds_base.specs.DwarfNumbers.{DW_TAG_base_type, DW_TAG_compile_unit, DW_TAG_GNU_call_site, DW_TAG_namespace, DW_TAG_structure_type, DW_TAG_subprogram, DW_TAG_variable, DW_AT_byte_size, DW_AT_const_value, DW_AT_decl_file, DW_AT_external, DW_AT_frame_base, DW_AT_high_pc, DW_AT_language, DW_AT_location, DW_AT_low_pc, DW_AT_macro_info, DW_AT_name, DW_AT_ranges, DW_AT_sibling, DW_AT_type, DW_FORM_data1, DW_FORM_data2, DW_FORM_data4, DW_FORM_flag_present, DW_FORM_udata}
 use Rattle.dwarf_types.specs.declared.address.Addr.TheVariants as addrs
 use Rattle.dwarf_types.specs.declared.address.Span.{Span}
 use Rattle.dwarf_types.specs.declared.entry.Attr.{Attr}

@@ -4,7 +4,7 @@ use Rattle.std.specs.List.{AllByRecursion}
 use Rattle.std.proofs.lemmas.Bool.{ltb-true, ltb-false}
 use Rattle.std.proofs.lemmas.List.Elements.{All-from_recursion}
 use Rattle.std.proofs.lemmas.Option.{same_Some}
-use Rattle.ds_base.specs.declared.dwarf.TheConstants.{DW_TAG_base_type, DW_TAG_compile_unit, DW_TAG_lexical_block, DW_TAG_member, DW_TAG_structure_type, DW_TAG_subprogram, DW_TAG_variable, DW_AT_byte_size, DW_AT_const_value, DW_AT_data_member_location, DW_AT_encoding, DW_AT_external, DW_AT_frame_base, DW_AT_high_pc, DW_AT_location, DW_AT_low_pc, DW_AT_name, DW_AT_ranges, DW_AT_signature, DW_AT_stmt_list, DW_AT_type, DW_FORM_block1, DW_FORM_data1, DW_FORM_data8, DW_FORM_flag_present, DW_FORM_sdata, DW_FORM_udata}
+use Rattle.ds_base.specs.DwarfNumbers.{DW_TAG_base_type, DW_TAG_compile_unit, DW_TAG_lexical_block, DW_TAG_member, DW_TAG_structure_type, DW_TAG_subprogram, DW_TAG_variable, DW_AT_byte_size, DW_AT_const_value, DW_AT_data_member_location, DW_AT_encoding, DW_AT_external, DW_AT_frame_base, DW_AT_high_pc, DW_AT_location, DW_AT_low_pc, DW_AT_name, DW_AT_ranges, DW_AT_signature, DW_AT_stmt_list, DW_AT_type, DW_FORM_block1, DW_FORM_data1, DW_FORM_data8, DW_FORM_flag_present, DW_FORM_sdata, DW_FORM_udata}
 use Rattle.ds_base.specs.Leb.{IsSpelled, uleb, sleb}
 use Rattle.dwarf_types.specs.declared.address.Span.{Span}
 use Rattle.dwarf_types.specs.declared.graph.Graph.{Graph}

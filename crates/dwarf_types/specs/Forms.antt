@@ -1,6 +1,6 @@
 -- Forms: those of flags, and the form in which the value of an output attribute is written (DWARF 4, section 7.5.4; DWARF 5, section 7.5.6, for a constant of 16 bytes).
 use Rattle.std.specs.Prelude.{ℕ, ◌==◌, ◌||◌, Bool, if◌then◌else◌}
-use Rattle.ds_base.specs.declared.dwarf.TheConstants.{DW_FORM_addr, DW_FORM_data16, DW_FORM_exprloc, DW_FORM_flag, DW_FORM_flag_present, DW_FORM_ref4, DW_FORM_ref_addr, DW_FORM_sec_offset, DW_FORM_strp}
+use Rattle.ds_base.specs.DwarfNumbers.{DW_FORM_addr, DW_FORM_data16, DW_FORM_exprloc, DW_FORM_flag, DW_FORM_flag_present, DW_FORM_ref4, DW_FORM_ref_addr, DW_FORM_sec_offset, DW_FORM_strp}
 use Rattle.dwarf_types.specs.declared.graph.OutValue.{OutValue}
 use Rattle.dwarf_types.specs.declared.graph.OutValue.TheVariants as values
 use Rattle.dwarf_types.specs.declared.graph.Target.{Target}

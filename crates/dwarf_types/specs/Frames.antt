@@ -3,7 +3,7 @@ use Rattle.std.specs.Prelude.{ℕ, ◌+◌, Bool, false, List, [], ◌∷◌, �
 use Rattle.std.specs.List.{flat_map, sum_by}
 use Rattle.std.specs.Str.{bytes_eq}
 use Rattle.byteorder.specs.Endian.{little_bytes}
-use Rattle.ds_base.specs.declared.dwarf.TheConstants.{DW_CIE_ID}
+use Rattle.ds_base.specs.DwarfNumbers.{DW_CIE_ID}
 use Rattle.ds_base.specs.FirstUse.{once}
 use Rattle.dwarf_types.specs.declared.frames.OutFrame.{OutFrame}
 

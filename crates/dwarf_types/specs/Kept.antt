@@ -1,7 +1,7 @@
 -- Which entries of an object have a node in their own unit, by its live entries and by those that are merged with others of their name.
 use Rattle.std.specs.Prelude.{ℕ, ◌==◌, ◌&&◌, ◌||◌, not, Bool, false, List, map, slice_index_or}
 use Rattle.std.specs.List.{enumerate_from, list_any}
-use Rattle.ds_base.specs.declared.dwarf.TheConstants.{DW_TAG_namespace}
+use Rattle.ds_base.specs.DwarfNumbers.{DW_TAG_namespace}
 use Rattle.dwarf_types.specs.declared.entry.Entry.{Entry}
 use Rattle.dwarf_types.specs.Tree.{is_in}
 

@@ -1,7 +1,7 @@
 -- The operations of a line program for given rows (DWARF 4, section 6.2.5), and the registers between them (section 6.2.2).
 use Rattle.std.specs.Prelude.{ℕ, ◌+◌, ◌-◌, ◌*◌, ◌==◌, ◌&&◌, not, Bool, true, false, pos, ◌-ℤ◌, List, [], ◌∷◌, ◌++◌, length, nat_le, if◌then◌else◌}
 use Rattle.byteorder.specs.Endian.{little_bytes}
-use Rattle.ds_base.specs.declared.dwarf.TheConstants.{DW_LNE_end_sequence, DW_LNE_set_address, DW_LNE_set_discriminator, DW_LNS_advance_line, DW_LNS_advance_pc, DW_LNS_copy, DW_LNS_extended_op, DW_LNS_negate_stmt, DW_LNS_set_basic_block, DW_LNS_set_column, DW_LNS_set_epilogue_begin, DW_LNS_set_file, DW_LNS_set_isa, DW_LNS_set_prologue_end}
+use Rattle.ds_base.specs.DwarfNumbers.{DW_LNE_end_sequence, DW_LNE_set_address, DW_LNE_set_discriminator, DW_LNS_advance_line, DW_LNS_advance_pc, DW_LNS_copy, DW_LNS_extended_op, DW_LNS_negate_stmt, DW_LNS_set_basic_block, DW_LNS_set_column, DW_LNS_set_epilogue_begin, DW_LNS_set_file, DW_LNS_set_isa, DW_LNS_set_prologue_end}
 use Rattle.ds_base.specs.Leb.{uleb, sleb}
 use Rattle.dwarf_types.specs.declared.lines.Row.{Row}
 use Rattle.dwarf_types.specs.declared.lines.Sequence.{Sequence}

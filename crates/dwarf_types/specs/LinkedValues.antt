@@ -2,7 +2,7 @@
 use Rattle.std.specs.Prelude.{ℕ, ◌==◌, ◌&&◌, ◌||◌, not, Bool, List, [], ◌∷◌, Option, Some, None, is_none, is_some, if◌then◌else◌}
 use Rattle.std.specs.List.{filter_map, list_all}
 use Rattle.std.specs.Option.{option_map}
-use Rattle.ds_base.specs.declared.dwarf.TheConstants.{DW_AT_decl_file, DW_AT_high_pc, DW_FORM_udata}
+use Rattle.ds_base.specs.DwarfNumbers.{DW_AT_decl_file, DW_AT_high_pc, DW_FORM_udata}
 use Rattle.dwarf_types.specs.declared.entry.Attr.{Attr}
 use Rattle.dwarf_types.specs.declared.entry.Entry.{Entry}
 use Rattle.dwarf_types.specs.declared.expr.Op.{Op}

@@ -2,7 +2,7 @@
 use Rattle.std.specs.Prelude.{ℕ, ◌+◌, ◌*◌, ◌==◌, List, [], ◌∷◌, ◌++◌, length, replicate, if◌then◌else◌}
 use Rattle.std.specs.List.{sum_by, flat_map}
 use Rattle.byteorder.specs.Endian.{little_bytes}
-use Rattle.ds_base.specs.declared.dwarf.TheConstants.{DW_LLE_start_end, DW_RLE_end_of_list, DW_RLE_start_end}
+use Rattle.ds_base.specs.DwarfNumbers.{DW_LLE_start_end, DW_RLE_end_of_list, DW_RLE_start_end}
 use Rattle.ds_base.specs.Leb.{uleb, uleb_len_of}
 use Rattle.dwarf_types.specs.declared.address.Span.{Span}
 use Rattle.dwarf_types.specs.declared.graph.OutLocation.{OutLocation}

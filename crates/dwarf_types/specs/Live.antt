@@ -2,7 +2,7 @@
 use Rattle.std.specs.Prelude.{◌≡◌, ℕ, zero, suc, ◌==◌, ◌||◌, ◌&&◌, not, Bool, true, false, List, [], ◌∷◌, map, slice_get, Option, Some, None, is_some, if◌then◌else◌}
 use Rattle.std.specs.Option.{option_and_then}
 use Rattle.std.specs.List.{filter_map, find, flat_map, Contains}
-use Rattle.ds_base.specs.declared.dwarf.TheConstants.{DW_AT_const_value, DW_AT_low_pc, DW_AT_sibling, DW_TAG_imported_declaration, DW_TAG_imported_module, DW_TAG_label, DW_TAG_module, DW_TAG_namespace, DW_TAG_subprogram, DW_TAG_variable}
+use Rattle.ds_base.specs.DwarfNumbers.{DW_AT_const_value, DW_AT_low_pc, DW_AT_sibling, DW_TAG_imported_declaration, DW_TAG_imported_module, DW_TAG_label, DW_TAG_module, DW_TAG_namespace, DW_TAG_subprogram, DW_TAG_variable}
 use Rattle.dwarf_types.specs.declared.entry.Entry.{Entry}
 use Rattle.dwarf_types.specs.declared.expr.Base.{Base}
 use Rattle.dwarf_types.specs.declared.expr.Base.TheVariants as bases

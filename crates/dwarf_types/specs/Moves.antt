@@ -2,7 +2,7 @@
 use Rattle.std.specs.Prelude.{ℕ, ◌==◌, ◌||◌, ◌&&◌, not, Bool, false, List, [], ◌++◌, length, slice_get, Option, Some, None, is_some, if◌then◌else◌}
 use Rattle.std.specs.Option.{option_and_then, option_map, option_map_or, option_to_list}
 use Rattle.std.specs.List.{find, filter_map, flat_map, list_any, list_all}
-use Rattle.ds_base.specs.declared.dwarf.TheConstants.{DW_AT_call_return_pc, DW_AT_high_pc, DW_AT_location, DW_AT_low_pc, DW_AT_ranges, DW_TAG_GNU_call_site}
+use Rattle.ds_base.specs.DwarfNumbers.{DW_AT_call_return_pc, DW_AT_high_pc, DW_AT_location, DW_AT_low_pc, DW_AT_ranges, DW_TAG_GNU_call_site}
 use Rattle.dwarf_types.specs.declared.address.Place.{Place}
 use Rattle.dwarf_types.specs.declared.address.Span.{Span}
 use Rattle.dwarf_types.specs.declared.entry.Attr.{Attr}

@@ -1,6 +1,6 @@
 -- The values that are put into entries, as the values of which contracts speak.
 use Rattle.std.specs.Prelude.{ℕ, ◌==◌, None, if◌then◌else◌, ⊤}
-use Rattle.ds_base.specs.declared.dwarf.TheConstants.{DW_FORM_implicit_const, DW_FORM_sdata}
+use Rattle.ds_base.specs.DwarfNumbers.{DW_FORM_implicit_const, DW_FORM_sdata}
 use Rattle.dwarf_types.specs.declared.address.Addr.TheVariants as addrs
 use Rattle.dwarf_types.specs.declared.put.NewValue.{NewValue}
 use Rattle.dwarf_types.specs.declared.put.NewValue.TheVariants as news

@@ -1,7 +1,7 @@
 -- A sound analysis: what every analysis of an object keeps to.
 use Rattle.std.specs.Prelude.{◌≡◌, ℕ, ◌+◌, ◌^◌, ◌<◌, ◌≤◌, List, [], ◌∷◌, length, slice_get, Option, Some, None}
 use Rattle.std.specs.List.{Contains}
-use Rattle.ds_base.specs.declared.dwarf.TheConstants.{DW_TAG_base_type, DW_TAG_subprogram}
+use Rattle.ds_base.specs.DwarfNumbers.{DW_TAG_base_type, DW_TAG_subprogram}
 use Rattle.dwarf_types.specs.declared.analysis.Analysis.{Analysis}
 use Rattle.dwarf_types.specs.declared.analysis.CodeRange.{CodeRange}
 use Rattle.dwarf_types.specs.declared.entry.Attr.{Attr}

@@ -1,7 +1,7 @@
 -- What the nodes of a well graph keep to.
 use Rattle.std.specs.Prelude.{◌≡◌, ◌<◌, ◌≤◌, ◌^◌, ◌==◌, ◌||◌, ℕ, zero, suc, Bool, true, false, List, slice_get, Option, Some}
 use Rattle.std.specs.List.{All, list_any}
-use Rattle.ds_base.specs.declared.dwarf.TheConstants.{DW_AT_addr_base, DW_AT_loclists_base, DW_AT_rnglists_base, DW_AT_sibling, DW_AT_str_offsets_base}
+use Rattle.ds_base.specs.DwarfNumbers.{DW_AT_addr_base, DW_AT_loclists_base, DW_AT_rnglists_base, DW_AT_sibling, DW_AT_str_offsets_base}
 use Rattle.dwarf_types.specs.declared.graph.Node.{Node}
 use Rattle.dwarf_types.specs.declared.graph.OutAttr.{OutAttr}
 use Rattle.dwarf_types.specs.declared.graph.OutValue.{OutValue}

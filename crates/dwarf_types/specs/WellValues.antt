@@ -1,7 +1,7 @@
 -- What the values of a well graph keep to.
 use Rattle.std.specs.Prelude.{◌≡◌, ◌<◌, ◌^◌, ◌==◌, ◌||◌, ℕ, Bool, IsTrue, List, length, slice_get, Some}
 use Rattle.std.specs.List.{All}
-use Rattle.ds_base.specs.declared.dwarf.TheConstants.{DW_AT_data_member_location, DW_AT_frame_base, DW_AT_location, DW_AT_ranges, DW_AT_return_addr, DW_AT_segment, DW_AT_static_link, DW_AT_string_length, DW_AT_use_location, DW_AT_vtable_elem_location, DW_FORM_block, DW_FORM_block1, DW_FORM_block2, DW_FORM_block4, DW_FORM_data1, DW_FORM_data2, DW_FORM_data4, DW_FORM_data8, DW_FORM_flag, DW_FORM_flag_present, DW_FORM_sdata, DW_FORM_udata}
+use Rattle.ds_base.specs.DwarfNumbers.{DW_AT_data_member_location, DW_AT_frame_base, DW_AT_location, DW_AT_ranges, DW_AT_return_addr, DW_AT_segment, DW_AT_static_link, DW_AT_string_length, DW_AT_use_location, DW_AT_vtable_elem_location, DW_FORM_block, DW_FORM_block1, DW_FORM_block2, DW_FORM_block4, DW_FORM_data1, DW_FORM_data2, DW_FORM_data4, DW_FORM_data8, DW_FORM_flag, DW_FORM_flag_present, DW_FORM_sdata, DW_FORM_udata}
 use Rattle.dwarf_types.specs.declared.address.Span.{Span}
 use Rattle.dwarf_types.specs.declared.graph.Graph.{Graph}
 use Rattle.dwarf_types.specs.declared.graph.Node.{Node}

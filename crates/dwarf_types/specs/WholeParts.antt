@@ -1,7 +1,7 @@
 -- Whole expressions: parts that are cut at operations, each of them read by this project and spelled as its row of the table says.
 use Rattle.std.specs.Prelude.{◌≡◌, ◌<◌, ℕ, Bool, true, false, List, [], ◌∷◌, map, length, slice_get, Option, Some, None}
 use Rattle.std.specs.List.{All, concat}
-use Rattle.ds_base.specs.declared.dwarf.TheConstants.{DW_TAG_base_type}
+use Rattle.ds_base.specs.DwarfNumbers.{DW_TAG_base_type}
 use Rattle.dwarf_types.specs.declared.graph.Node.{Node}
 use Rattle.dwarf_types.specs.declared.operands.Named.{Named}
 use Rattle.dwarf_types.specs.declared.operands.Named.TheVariants.{BaseType, Index}

@@ -6,7 +6,7 @@ use Rattle.std.proofs.Math.Nat.{mul-div-le}
 use Rattle.std.proofs.lemmas.Bool.{ltb-true, ltb-false, not-true, eqb-true}
 use Rattle.std.proofs.lemmas.List.{length-take, length-drop}
 use Rattle.ds_base.specs.Leb.{uleb_len_of}
-use Rattle.ds_base.specs.declared.dwarf.TheConstants.{DW_OP_addr, DW_OP_addrx, DW_OP_const8u, DW_OP_constx, LENGTH_RESERVED}
+use Rattle.ds_base.specs.DwarfNumbers.{DW_OP_addr, DW_OP_addrx, DW_OP_const8u, DW_OP_constx, LENGTH_RESERVED}
 use Rattle.dwarf_types.specs.declared.expr.Base.{Base}
 use Rattle.dwarf_types.specs.declared.expr.Op.{Op}
 use Rattle.dwarf_types.specs.declared.expr.PlainOp.{PlainOp}

@@ -3,7 +3,7 @@ use Rattle.std.specs.Prelude.{ℕ, ◌+◌, ◌-◌, ◌==◌, ◌&&◌, ◌||�
 use Rattle.std.specs.List.{find, list_any, sum_by}
 use Rattle.std.specs.Option.{option_map, option_and_then}
 use Rattle.byteorder.specs.Endian.{little_number}
-use Rattle.ds_base.specs.declared.dwarf.TheConstants.{DW_OP_addr, DW_OP_addrx, DW_OP_bra, DW_OP_const8u, DW_OP_constx, DW_OP_convert, DW_OP_reinterpret, DW_OP_skip}
+use Rattle.ds_base.specs.DwarfNumbers.{DW_OP_addr, DW_OP_addrx, DW_OP_bra, DW_OP_const8u, DW_OP_constx, DW_OP_convert, DW_OP_reinterpret, DW_OP_skip}
 use Rattle.ds_base.specs.declared.fault.Fault.{Fault}
 use Rattle.ds_base.specs.declared.fault.Kind.{Kind}
 use Rattle.ds_base.specs.declared.fault.Kind.TheVariants as kinds

@@ -1,7 +1,7 @@
 -- What the calls of this crate ask of each other, a sound object and operations that hold all their bytes, and what they tell each other.
 use Rattle.std.specs.Prelude.{◌≡◌, ◌≤◌, ◌<◌, ◌^◌, ◌==◌, ◌||◌, ℕ, true, List, [], ◌∷◌, ◌++◌, length, None, Result, Ok}
 use Rattle.std.specs.List.{All, sum_by}
-use Rattle.ds_base.specs.declared.dwarf.TheConstants.{DW_OP_addr, DW_OP_const8u}
+use Rattle.ds_base.specs.DwarfNumbers.{DW_OP_addr, DW_OP_const8u}
 use Rattle.ds_base.specs.declared.fault.Fault.{Fault}
 use Rattle.ds_base.specs.declared.fault.Kind.TheVariants.{BranchOverRewrite}
 use Rattle.ds_base.specs.Reading.{◌>>=◌, refuse_if}

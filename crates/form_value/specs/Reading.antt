@@ -1,7 +1,7 @@
 -- Reading one attribute value (DWARF 5, section 7.5.5): the value, or the first fault.
 use Rattle.std.specs.Prelude.{ℕ, ℤ, List, None, Result, Ok, Err, nat_lt}
 use Rattle.std.specs.Int.{w64, cast_unsigned}
-use Rattle.ds_base.specs.declared.dwarf.TheConstants.{DW_FORM_sdata}
+use Rattle.ds_base.specs.DwarfNumbers.{DW_FORM_sdata}
 use Rattle.ds_base.specs.declared.fault.Fault.{Fault}
 use Rattle.ds_base.specs.declared.fault.Kind.TheVariants as kinds
 use Rattle.ds_base.specs.Spot.{Spot, fault_at}

@@ -1,6 +1,6 @@
 -- How an attribute value is spelled (DWARF 5, section 7.5.5), whoever reads it.
 use Rattle.std.specs.Prelude.{◌≡◌, ◌≤◌, ◌++◌, ℕ, List, [], length, Some, Ok}
-use Rattle.ds_base.specs.declared.dwarf.TheConstants.{DW_FORM_sdata}
+use Rattle.ds_base.specs.DwarfNumbers.{DW_FORM_sdata}
 use Rattle.ds_base.specs.Spot.{Spot, rest}
 use Rattle.ds_base.specs.Reading.{text_of}
 use Rattle.dwarf_types.specs.Spelled.{InTurn, Made, IsUleb, IsSleb, IsNumber, IsCopy, IsText}

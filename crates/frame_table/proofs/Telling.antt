@@ -14,7 +14,7 @@ use Rattle.macho_read.specs.declared.image.Image.{Image}
 use Rattle.reloc_table.specs.declared.relocation.Relocs.{Relocs}
 use Rattle.frame_table.specs.declared.entry.FrameEntry.{FrameEntry}
 use Rattle.frame_table.specs.Entry.{entry_at, bad_frame, frame_spot, is_cie}
-use Rattle.ds_base.specs.declared.dwarf.TheConstants.{LENGTH_RESERVED}
+use Rattle.ds_base.specs.DwarfNumbers.{LENGTH_RESERVED}
 use Rattle.frame_table.specs.Naming.{cie_at, is_due, lacks_cie, refuse_any, all_named}
 use Rattle.frame_table.specs.Description.{Said, description_at, values_at}
 use Rattle.frame_table.specs.Frames.{Listing, listed, entries_from, entries_of, Fill, up_to, tried, in_turn, unless_stopped, frame_from, frame_of, frames_of}

@@ -6,7 +6,7 @@ use Rattle.ds_base.specs.declared.fault.Part.TheVariants as parts
 use Rattle.ds_base.specs.Spot.{Spot, rest}
 use Rattle.ds_base.specs.Reading.{◌>>=◌, refuse_if, number_at}
 use Rattle.frame_table.specs.declared.entry.FrameEntry.{FrameEntry}
-use Rattle.ds_base.specs.declared.dwarf.TheConstants.{LENGTH_RESERVED, DW_CIE_ID}
+use Rattle.ds_base.specs.DwarfNumbers.{LENGTH_RESERVED, DW_CIE_ID}
 
 -- at a place of the section, to be read up to an end
 abbrev pub frame_spot : List ℕ → ℕ → ℕ → Spot

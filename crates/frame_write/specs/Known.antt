@@ -5,7 +5,7 @@ use Rattle.std.specs.Option.{unwrap_or}
 use Rattle.std.specs.Str.{bytes_eq}
 use Rattle.byteorder.specs.Endian.{little_bytes}
 use Rattle.indexmap.specs.IndexMap.{IndexMap}
-use Rattle.ds_base.specs.declared.dwarf.TheConstants.{DW_CIE_ID}
+use Rattle.ds_base.specs.DwarfNumbers.{DW_CIE_ID}
 use Rattle.ds_base.specs.declared.text_key.TextKey.{TextKey}
 use Rattle.dwarf_types.specs.declared.frames.OutFrame.{OutFrame}
 

@@ -1,7 +1,7 @@
 -- The tables that indices of version 5 name (DWARF 5, sections 7.26 to 7.29), in the 32-bit format. A base is the place behind a table's header.
 use Rattle.std.specs.Prelude.{◌≡◌, ◌≤◌, ℕ, ◌+◌, ◌-◌, ◌*◌, ◌/◌, ◌==◌, ◌&&◌, ◌||◌, Bool, false, not, List, length, drop, slice_index, nat_lt, Option, Some, None, Result, Ok, Err, if◌then◌else◌}
 use Rattle.byteorder.specs.Endian.{little_number}
-use Rattle.ds_base.specs.declared.dwarf.TheConstants.{ADDRESS_SIZE, LENGTH_RESERVED}
+use Rattle.ds_base.specs.DwarfNumbers.{ADDRESS_SIZE, LENGTH_RESERVED}
 use Rattle.ds_base.specs.declared.fault.Kind.{Kind}
 use Rattle.ds_base.specs.declared.fault.Kind.TheVariants.{BadIndex}
 use Rattle.dwarf_types.specs.SectionBytes.{SectionBytes}

@@ -5,7 +5,7 @@ use Rattle.std.specs.List.{flat_map}
 use Rattle.std.proofs.lemmas.Bool.{le-ltb}
 use Rattle.std.proofs.lemmas.List.{drop_at, take_all}
 use Rattle.byteorder.specs.Endian.{little_bytes}
-use Rattle.ds_base.specs.declared.dwarf.TheConstants.{LENGTH_RESERVED}
+use Rattle.ds_base.specs.DwarfNumbers.{LENGTH_RESERVED}
 use Rattle.ds_base.specs.Spot.{Spot, after}
 use Rattle.ds_base.specs.Texts.{ended}
 use Rattle.dwarf_types.specs.declared.lines.OutLines.{OutLines}

@@ -4,7 +4,7 @@ use Rattle.std.specs.Prelude.{nat_le}
 use Rattle.std.specs.List.{All, flat_map}
 use Rattle.std.proofs.lemmas.Bool.{le-ltb}
 use Rattle.byteorder.specs.Endian.{little_bytes}
-use Rattle.ds_base.specs.declared.dwarf.TheConstants.{LENGTH_RESERVED}
+use Rattle.ds_base.specs.DwarfNumbers.{LENGTH_RESERVED}
 use Rattle.ds_base.specs.Leb.{uleb}
 use Rattle.ds_base.specs.Spot.{Spot, after}
 use Rattle.dwarf_types.specs.declared.lines.FileName.{FileName}

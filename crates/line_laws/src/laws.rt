@@ -1,7 +1,7 @@
 //! What the definition of the reader says of the definition of the writer.
 
 ghost use Rattle.std.specs.Prelude.{◌≡◌, ◌+◌, ◌<◌, ◌++◌, ℕ, List as Listed, [], Ok, length};
-ghost use Rattle.ds_base.specs.declared.dwarf.TheConstants.{LENGTH_RESERVED};
+ghost use Rattle.ds_base.specs.DwarfNumbers.{LENGTH_RESERVED};
 ghost use Rattle.dwarf_types.specs.declared.lines.OutLines.{OutLines};
 ghost use Rattle.dwarf_types.specs.LineTable.{line_table_bytes};
 ghost use Rattle.dwarf_types.specs.SectionBytes.{SectionBytes};

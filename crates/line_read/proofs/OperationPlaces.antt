@@ -2,7 +2,7 @@
 use Rattle.std.proofs.Common.{◌≡◌, ℕ, zero, suc, ◌-◌, ◌≤◌, not, Bool, true, false, Option, Some, None, Result, Ok, refl, subst, arith}
 use Rattle.std.proofs.lemmas.Bool.{ltb-false}
 use Rattle.std.specs.Prelude.{nat_lt, nat_le, ◌==◌, ◌||◌, if◌then◌else◌}
-use Rattle.ds_base.specs.declared.dwarf.TheConstants.{ADDRESS_SIZE, DW_LNS_extended_op}
+use Rattle.ds_base.specs.DwarfNumbers.{ADDRESS_SIZE, DW_LNS_extended_op}
 use Rattle.ds_base.specs.declared.fault.Fault.{Fault}
 use Rattle.ds_base.specs.declared.fault.Kind.TheVariants as kinds
 use Rattle.ds_base.specs.Spot.{Spot, after, fault_at}

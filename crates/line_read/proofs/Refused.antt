@@ -3,7 +3,7 @@ use Rattle.std.proofs.Common.{ℕ, zero, suc, ◌-◌, ◌||◌, ◌&&◌, not, 
 use Rattle.std.specs.Prelude.{◌==◌, nat_lt, nat_le, if◌then◌else◌}
 use Rattle.std.specs.List.{Contains, list_any}
 use Rattle.std.specs.Option.{option_map_or}
-use Rattle.ds_base.specs.declared.dwarf.TheConstants.{ADDRESS_SIZE, DW_LNS_extended_op, LENGTH_RESERVED}
+use Rattle.ds_base.specs.DwarfNumbers.{ADDRESS_SIZE, DW_LNS_extended_op, LENGTH_RESERVED}
 use Rattle.ds_base.specs.declared.fault.Fault.{Fault}
 use Rattle.ds_base.specs.declared.fault.Kind.{Kind}
 use Rattle.ds_base.specs.declared.fault.Kind.TheVariants as kinds

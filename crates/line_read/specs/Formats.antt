@@ -1,7 +1,7 @@
 -- What entries of the tables of directories and files are made of in version 5 (DWARF 5, section 6.2.4.1): contents by their type, and the forms that each may have.
 use Rattle.std.specs.Prelude.{ℕ, ◌==◌, Bool, true, false, Option, Some, None, if◌then◌else◌}
 use Rattle.std.specs.Option.{option_and_then}
-use Rattle.ds_base.specs.declared.dwarf.TheConstants.{DW_FORM_block, DW_FORM_data1, DW_FORM_data2, DW_FORM_data4, DW_FORM_data8, DW_FORM_data16, DW_FORM_line_strp, DW_FORM_string, DW_FORM_strp, DW_FORM_udata, DW_LNCT_directory_index, DW_LNCT_MD5, DW_LNCT_path, DW_LNCT_size, DW_LNCT_timestamp}
+use Rattle.ds_base.specs.DwarfNumbers.{DW_FORM_block, DW_FORM_data1, DW_FORM_data2, DW_FORM_data4, DW_FORM_data8, DW_FORM_data16, DW_FORM_line_strp, DW_FORM_string, DW_FORM_strp, DW_FORM_udata, DW_LNCT_directory_index, DW_LNCT_MD5, DW_LNCT_path, DW_LNCT_size, DW_LNCT_timestamp}
 use Rattle.line_read.specs.declared.formats.EntryForm.{EntryForm}
 use Rattle.line_read.specs.declared.formats.EntryForm.TheVariants as forms
 use Rattle.line_read.specs.declared.formats.EntryItem.{EntryItem}

@@ -8,7 +8,7 @@ use Rattle.ds_base.specs.Spot.{Spot, after, fault_at}
 use Rattle.ds_base.specs.Reading.{◌>>=◌, refuse_if, number_at, items_at}
 use Rattle.dwarf_types.specs.SectionBytes.{SectionBytes}
 use Rattle.line_read.specs.declared.header.LineHeader.{LineHeader}
-use Rattle.ds_base.specs.declared.dwarf.TheConstants.{ADDRESS_SIZE, LENGTH_RESERVED}
+use Rattle.ds_base.specs.DwarfNumbers.{ADDRESS_SIZE, LENGTH_RESERVED}
 
 -- a place of the section
 abbrev pub line_at : List ℕ → ℕ → Spot

@@ -1,6 +1,6 @@
 -- One operation of a line program (DWARF 4 and DWARF 5, section 6.2.5): what its bytes say, or the first fault.
 use Rattle.std.specs.Prelude.{ℕ, zero, suc, ◌-◌, ◌==◌, not, length, nat_le, slice_index, Option, Some, None, Result, Ok, Err, if◌then◌else◌}
-use Rattle.ds_base.specs.declared.dwarf.TheConstants.{DW_LNS_extended_op}
+use Rattle.ds_base.specs.DwarfNumbers.{DW_LNS_extended_op}
 use Rattle.ds_base.specs.declared.fault.Fault.{Fault}
 use Rattle.ds_base.specs.declared.fault.Kind.{Kind}
 use Rattle.ds_base.specs.declared.fault.Kind.TheVariants as kinds

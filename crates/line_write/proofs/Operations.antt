@@ -1,6 +1,6 @@
 -- Operations of a line program in their parts.
 use Rattle.std.proofs.Common.{◌≡◌, ◌+◌, ◌++◌, ℕ, List, [], ◌∷◌, length, sym, ap, ◌∙◌, append_assoc, arith}
-use Rattle.ds_base.specs.declared.dwarf.TheConstants.{DW_LNE_set_discriminator, DW_LNS_extended_op}
+use Rattle.ds_base.specs.DwarfNumbers.{DW_LNE_set_discriminator, DW_LNS_extended_op}
 use Rattle.ds_base.specs.Leb.{uleb, uleb_len_of}
 use Rattle.ds_base.proofs.LebLengths.{length-uleb}
 use Rattle.dwarf_types.specs.LineProgram.{extended}

@@ -1,7 +1,7 @@
 //! The operations that append a row (DWARF 4, section 6.2.5).
 
 ghost use Rattle.std.specs.Prelude.{◌≡◌, ◌-ℤ◌, ◌++◌, ◌∷◌, [], not, pos, if◌then◌else◌, Some, None, OnOk};
-ghost use Rattle.ds_base.specs.declared.dwarf.TheConstants.{DW_LNE_set_discriminator, DW_LNS_extended_op, DW_LNS_negate_stmt};
+ghost use Rattle.ds_base.specs.DwarfNumbers.{DW_LNE_set_discriminator, DW_LNS_extended_op, DW_LNS_negate_stmt};
 ghost use Rattle.ds_base.specs.Leb.{uleb};
 ghost use Rattle.dwarf_types.specs.Abbreviations.{same_flag};
 ghost use Rattle.dwarf_types.specs.LineProgram.{advance_line, advance_pc, append_row as row_appended, extended, is_special, row_bytes, set_discriminator, set_number, special_opcode, when};

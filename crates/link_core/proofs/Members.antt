@@ -5,7 +5,7 @@ use Rattle.std.specs.List.{starts_with}
 use Rattle.std.specs.Str.{bytes_eq}
 use Rattle.ds_base.specs.declared.fault.Fault.{Fault}
 use Rattle.ds_base.specs.declared.fault.Kind.TheVariants as kinds
-use Rattle.ds_base.specs.declared.macho.TheConstants.{ARMAG, AR_HDR_SIZE, ARFMAG, AR_EFMT1}
+use Rattle.ds_base.specs.MachONumbers.{ARMAG, AR_HDR_SIZE, ARFMAG, AR_EFMT1}
 use Rattle.ds_base.specs.Reading.{Finds, or_fault}
 use Rattle.ds_base.proofs.Passing.{bind_ok, ok_is, passed}
 use Rattle.ar_read.specs.Archive.{found_in, member_of, member_size}

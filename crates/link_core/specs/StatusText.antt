@@ -65,6 +65,8 @@ kind_text kinds.BadIndex = codes "BadIndex"
 kind_text kinds.BadEntryFormat = codes "BadEntryFormat"
 kind_text kinds.UnknownListEntry = codes "UnknownListEntry"
 kind_text kinds.BadOutput = codes "BadOutput"
+kind_text kinds.BadTable = codes "BadTable"
+kind_text kinds.BadUniversal = codes "BadUniversal"
 
 abbrev pub part_text : Part → List ℕ
 part_text parts.Header = codes "header"
@@ -85,6 +87,9 @@ part_text parts.Loc = codes "__debug_loc"
 part_text parts.Loclists = codes "__debug_loclists"
 part_text parts.Aranges = codes "__debug_aranges"
 part_text parts.Frame = codes "__debug_frame"
+part_text parts.AppleNames = codes "__apple_names"
+part_text parts.AppleTypes = codes "__apple_types"
+part_text parts.AppleNamespac = codes "__apple_namespac"
 
 abbrev pub limit_text : LimitKind → List ℕ
 limit_text limits.Objects = codes "Objects"

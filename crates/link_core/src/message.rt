@@ -154,6 +154,9 @@ fn part_text(part: Part) -> &'static str
         Part::Loclists => "__debug_loclists",
         Part::Aranges => "__debug_aranges",
         Part::Frame => "__debug_frame",
+        Part::AppleNames => "__apple_names",
+        Part::AppleTypes => "__apple_types",
+        Part::AppleNamespac => "__apple_namespac",
     }
 }
 
@@ -211,5 +214,7 @@ fn kind_text(kind: Kind) -> &'static str
         Kind::BadEntryFormat => "BadEntryFormat",
         Kind::UnknownListEntry => "UnknownListEntry",
         Kind::BadOutput => "BadOutput",
+        Kind::BadTable => "BadTable",
+        Kind::BadUniversal => "BadUniversal",
     }
 }

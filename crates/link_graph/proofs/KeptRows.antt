@@ -6,7 +6,7 @@ use Rattle.std.proofs.lemmas.List.{get_or-map, get_or_default, get_or_past, leng
 use Rattle.std.proofs.lemmas.List.FromFn.{length-enumerate_from}
 use Rattle.std.proofs.lemmas.Option.{get_or_from_slice_get, slice_get_cases, slice_get_within}
 use mathlib.Core.Path.{fun_ext}
-use Rattle.ds_base.specs.declared.dwarf.TheConstants.{DW_TAG_namespace}
+use Rattle.ds_base.specs.DwarfNumbers.{DW_TAG_namespace}
 use Rattle.dwarf_types.specs.declared.analysis.Analysis.{Analysis}
 use Rattle.dwarf_types.specs.declared.entry.Entry.{Entry}
 use Rattle.dwarf_types.specs.Kept.{holds_plain, is_plain, kept_of}

@@ -2,7 +2,7 @@
 use Rattle.std.specs.Prelude.{◌≡◌, ◌⊎◌, ℕ, ◌-◌, ◌==◌, List, [], ◌∷◌, ◌++◌, length, map, slice_get, Option, Some, None, if◌then◌else◌, codes}
 use Rattle.std.specs.List.{All, filter_map, flat_map, list_any, zip}
 use Rattle.std.specs.Option.{option_and_then, option_map, option_map_or}
-use Rattle.ds_base.specs.declared.dwarf.TheConstants.{DW_AT_language, DW_AT_name, DW_AT_stmt_list, DW_FORM_data2, DW_LANG_C_plus_plus, DW_TAG_compile_unit}
+use Rattle.ds_base.specs.DwarfNumbers.{DW_AT_language, DW_AT_name, DW_AT_stmt_list, DW_FORM_data2, DW_LANG_C_plus_plus, DW_TAG_compile_unit}
 use Rattle.ds_base.specs.FirstUse.{once}
 use Rattle.dwarf_types.specs.declared.analysis.Analysis.{Analysis}
 use Rattle.dwarf_types.specs.declared.entry.Entry.{Entry}

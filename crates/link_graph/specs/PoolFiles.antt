@@ -3,7 +3,7 @@ use Rattle.std.specs.Prelude.{ℕ, ◌+◌, ◌-◌, ◌==◌, ◌&&◌, Bool, L
 use Rattle.std.specs.List.{filter_map, position}
 use Rattle.std.specs.Option.{option_and_then, option_map, option_map_or, unwrap_or}
 use Rattle.std.specs.Str.{bytes_eq}
-use Rattle.ds_base.specs.declared.dwarf.TheConstants.{DW_AT_comp_dir, DW_AT_decl_file}
+use Rattle.ds_base.specs.DwarfNumbers.{DW_AT_comp_dir, DW_AT_decl_file}
 use Rattle.ds_base.specs.FirstUse.{once}
 use Rattle.dwarf_types.specs.declared.analysis.Analysis.{Analysis}
 use Rattle.dwarf_types.specs.declared.entry.Attr.{Attr}

@@ -1,7 +1,7 @@
 //! Entries that have a node in their own unit.
 
 ghost use Rattle.std.specs.Prelude.{◌≡◌, ◌≤◌, ◌<◌, ◌^◌, ◌&&◌, ◌||◌, ◌==◌, not, length, IfOk};
-ghost use Rattle.ds_base.specs.declared.dwarf.TheConstants.{DW_TAG_namespace as the_namespace};
+ghost use Rattle.ds_base.specs.DwarfNumbers.{DW_TAG_namespace as the_namespace};
 ghost use Rattle.dwarf_types.specs.Kept.{is_plain, kept_of};
 ghost use Rattle.dwarf_types.specs.Tree.{ParentsStandBefore};
 ghost use Rattle.type_names.specs.Rows.{IsRow};

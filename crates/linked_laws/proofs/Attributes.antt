@@ -4,7 +4,7 @@ use Rattle.std.specs.List.{All, filter_map, flat_map}
 use Rattle.std.specs.Option.{option_and_then, option_map}
 use Rattle.std.proofs.lemmas.List.Elements.{All-cons, All-head, All-nil, All-tail, All-weaker}
 use Rattle.std.proofs.lemmas.Option.{same_Some}
-use Rattle.ds_base.specs.declared.dwarf.TheConstants.{DW_AT_decl_file, DW_AT_sibling, DW_FORM_udata}
+use Rattle.ds_base.specs.DwarfNumbers.{DW_AT_decl_file, DW_AT_sibling, DW_FORM_udata}
 use Rattle.dwarf_types.specs.declared.address.Place.{Place}
 use Rattle.dwarf_types.specs.declared.entry.Attr.{Attr}
 use Rattle.dwarf_types.specs.declared.entry.Entry.{Entry}

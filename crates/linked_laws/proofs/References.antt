@@ -4,7 +4,7 @@ use Rattle.std.specs.List.{Contains, filter_map}
 use Rattle.std.specs.Option.{option_map, option_map_or}
 use Rattle.std.proofs.lemmas.Bool.{both_ways}
 use Rattle.std.proofs.lemmas.List.Elements.{All-contains, All-contains_itself, Contains-append_right}
-use Rattle.ds_base.specs.declared.dwarf.TheConstants.{DW_AT_decl_file}
+use Rattle.ds_base.specs.DwarfNumbers.{DW_AT_decl_file}
 use Rattle.dwarf_types.specs.declared.entry.Attr.{Attr}
 use Rattle.dwarf_types.specs.declared.entry.Entry.{Entry}
 use Rattle.dwarf_types.specs.declared.expr.Base.{Base}

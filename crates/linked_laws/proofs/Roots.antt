@@ -4,7 +4,7 @@ use Rattle.std.specs.List.{cons_option, filter_map, list_any}
 use Rattle.std.specs.Option.{is_none, option_map}
 use Rattle.std.proofs.lemmas.Bool.{and_parts, eqb-true}
 use Rattle.std.proofs.lemmas.Option.{same_Some}
-use Rattle.ds_base.specs.declared.dwarf.TheConstants.{DW_AT_decl_file, DW_AT_stmt_list}
+use Rattle.ds_base.specs.DwarfNumbers.{DW_AT_decl_file, DW_AT_stmt_list}
 use Rattle.dwarf_types.specs.declared.entry.Attr.{Attr}
 use Rattle.dwarf_types.specs.declared.entry.Entry.{Entry}
 use Rattle.dwarf_types.specs.declared.graph.OutAttr.{OutAttr}

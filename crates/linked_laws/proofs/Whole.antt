@@ -6,7 +6,7 @@ use Rattle.std.proofs.lemmas.Bool.{cases_lt, eqb-false, eqb-true}
 use Rattle.std.proofs.lemmas.List.{length-map}
 use Rattle.std.proofs.lemmas.List.Elements.{All-append, All-cons, All-contains_itself, All-map, All-nil, All-weaker}
 use Rattle.std.proofs.lemmas.Option.{get_or_from_slice_get, same_Some, slice_get_cases, slice_get-get_or, slice_get-map, slice_get_within}
-use Rattle.ds_base.specs.declared.dwarf.TheConstants.{DW_AT_low_pc, DW_AT_ranges}
+use Rattle.ds_base.specs.DwarfNumbers.{DW_AT_low_pc, DW_AT_ranges}
 use Rattle.dwarf_types.specs.declared.address.Span.{Span}
 use Rattle.dwarf_types.specs.declared.entry.Attr.{Attr}
 use Rattle.dwarf_types.specs.declared.entry.Entry.{Entry}

@@ -1,7 +1,7 @@
 -- Objects whose entries that are written keep to each other, and where references to their entries may lead.
 use Rattle.std.specs.Prelude.{◌≡◌, ℕ, true, List, length, Option, Some}
 use Rattle.std.specs.List.{Contains}
-use Rattle.ds_base.specs.declared.dwarf.TheConstants.{DW_TAG_base_type}
+use Rattle.ds_base.specs.DwarfNumbers.{DW_TAG_base_type}
 use Rattle.dwarf_types.specs.declared.entry.Entry.{Entry}
 use Rattle.dwarf_types.specs.declared.graph.OutUnit.{OutUnit}
 use Rattle.dwarf_types.specs.declared.graph.Target.{Target}

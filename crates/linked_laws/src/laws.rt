@@ -2,7 +2,7 @@
 
 ghost use Rattle.std.specs.Prelude.{◌≡◌, ◌↔◌, ◌==◌, ℕ, true, false, slice_get, slice_index_or, Option, Some, List as Listed};
 ghost use Rattle.std.specs.List.{All, Contains};
-ghost use Rattle.ds_base.specs.declared.dwarf.TheConstants.{DW_AT_decl_file};
+ghost use Rattle.ds_base.specs.DwarfNumbers.{DW_AT_decl_file};
 ghost use Rattle.dwarf_types.specs.declared.entry.Attr.{Attr};
 ghost use Rattle.dwarf_types.specs.declared.entry.Entry.{Entry};
 ghost use Rattle.dwarf_types.specs.declared.expr.Base.TheVariants as bases;

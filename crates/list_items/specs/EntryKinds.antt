@@ -1,6 +1,6 @@
 -- The kinds of range list entries (DWARF 5, section 7.25, table 7.30) and of location list entries (section 7.7.3, table 7.10).
 use Rattle.std.specs.Prelude.{ℕ, ◌==◌, Option, Some, None, if◌then◌else◌}
-use Rattle.ds_base.specs.declared.dwarf.TheConstants.{DW_LLE_base_address, DW_LLE_base_addressx, DW_LLE_default_location, DW_LLE_end_of_list, DW_LLE_offset_pair, DW_LLE_start_end, DW_LLE_start_length, DW_LLE_startx_endx, DW_LLE_startx_length, DW_RLE_base_address, DW_RLE_base_addressx, DW_RLE_end_of_list, DW_RLE_offset_pair, DW_RLE_start_end, DW_RLE_start_length, DW_RLE_startx_endx, DW_RLE_startx_length}
+use Rattle.ds_base.specs.DwarfNumbers.{DW_LLE_base_address, DW_LLE_base_addressx, DW_LLE_default_location, DW_LLE_end_of_list, DW_LLE_offset_pair, DW_LLE_start_end, DW_LLE_start_length, DW_LLE_startx_endx, DW_LLE_startx_length, DW_RLE_base_address, DW_RLE_base_addressx, DW_RLE_end_of_list, DW_RLE_offset_pair, DW_RLE_start_end, DW_RLE_start_length, DW_RLE_startx_endx, DW_RLE_startx_length}
 use Rattle.list_items.specs.declared.context.ListForm.{ListForm}
 use Rattle.list_items.specs.declared.context.ListForm.TheVariants as forms
 use Rattle.list_items.specs.declared.kinds.EntryKind.{EntryKind}

@@ -4,7 +4,7 @@ use Rattle.std.specs.List.{cons_option, filter_map, find, flat_map, list_any, li
 use Rattle.std.specs.Option.{option_map, option_map_or, option_to_list}
 use Rattle.std.proofs.lemmas.Bool.{ne_eqb}
 use Rattle.std.proofs.lemmas.List.Folds.{list_all-append}
-use Rattle.ds_base.specs.declared.dwarf.TheConstants.{DW_AT_location}
+use Rattle.ds_base.specs.DwarfNumbers.{DW_AT_location}
 use Rattle.dwarf_types.specs.declared.address.Place.{Place}
 use Rattle.dwarf_types.specs.declared.expr.Op.{Op}
 use Rattle.dwarf_types.specs.declared.expr.PlainOp.{PlainOp}

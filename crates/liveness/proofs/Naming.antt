@@ -5,7 +5,7 @@ use Rattle.std.specs.List.{flat_map}
 use Rattle.std.specs.Option.{option_to_list}
 use Rattle.std.proofs.lemmas.List.{flat_map_more, take_more}
 use Rattle.std.proofs.lemmas.Option.{get_or_from_slice_get}
-use Rattle.ds_base.specs.declared.dwarf.TheConstants.{DW_AT_sibling}
+use Rattle.ds_base.specs.DwarfNumbers.{DW_AT_sibling}
 use Rattle.dwarf_types.specs.declared.value.Value.{Value}
 use Rattle.dwarf_types.specs.declared.value.Value.TheVariants as values
 use Rattle.dwarf_types.specs.Live.{op_bases, operations_of, target_in}

@@ -1,7 +1,7 @@
 -- Whether an entry is a root, told by the entry itself and by whether a subprogram stands above it.
 use Rattle.std.specs.Prelude.{◌≡◌, ℕ, ◌<◌, ◌==◌, ◌||◌, ◌&&◌, not, Bool, false, true, List, length, slice_get, slice_index_or, Option, Some, None, is_some, ◌↔◌}
 use Rattle.std.specs.Option.{option_map_or}
-use Rattle.ds_base.specs.declared.dwarf.TheConstants.{DW_AT_const_value, DW_TAG_label, DW_TAG_subprogram, DW_TAG_variable}
+use Rattle.ds_base.specs.DwarfNumbers.{DW_AT_const_value, DW_TAG_label, DW_TAG_subprogram, DW_TAG_variable}
 use Rattle.dwarf_types.specs.declared.entry.Entry.{Entry}
 use Rattle.dwarf_types.specs.Live.{IsInSubprogram, low_pc_moves}
 use Rattle.dwarf_types.specs.Moves.{location_moves, value_of}

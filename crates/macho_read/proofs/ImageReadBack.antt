@@ -4,7 +4,7 @@ use Rattle.std.specs.List.{flat_map, list_any, range_with_len, AllByRecursion}
 use Rattle.std.proofs.Math.Nat.{mod-eq_of_lt}
 use Rattle.std.proofs.lemmas.Bool.{le-ltb, lt-leb, ne_eqb, or_parts, cases_Bool}
 use Rattle.std.proofs.lemmas.List.{take_at, drop_at, length-append, length-drop, length-map}
-use Rattle.ds_base.specs.declared.macho.TheConstants.{CPU_TYPE_X86_64, CPU_TYPE_ARM64, LC_SEGMENT_64, LC_SYMTAB, LC_UUID, SEG_DWARF}
+use Rattle.ds_base.specs.MachONumbers.{CPU_TYPE_X86_64, CPU_TYPE_ARM64, LC_SEGMENT_64, LC_SYMTAB, LC_UUID, SEG_DWARF}
 use Rattle.macho_read.specs.declared.header.Header.{Header}
 use Rattle.macho_read.specs.declared.image.Segment.{Segment}
 use Rattle.macho_read.specs.declared.image.Section.{Section}

@@ -7,7 +7,7 @@ use Rattle.std.proofs.lemmas.List.Elements.{All-append, All-nil}
 use Rattle.std.proofs.lemmas.List.Sums.{sum_by-append, sum_by-cons}
 use Rattle.std.proofs.lemmas.List.FromFn.{length-map-range_with_len}
 use Rattle.ds_base.specs.declared.fault.Fault.{Fault}
-use Rattle.ds_base.specs.declared.macho.TheConstants.{SEG_DWARF, LC_SEGMENT_64, LC_SYMTAB, LC_UUID}
+use Rattle.ds_base.specs.MachONumbers.{SEG_DWARF, LC_SEGMENT_64, LC_SYMTAB, LC_UUID}
 use Rattle.ds_base.specs.declared.fault.ReadError.{ReadError}
 use Rattle.ds_base.specs.Reading.{◌>>=◌, refuse_if, Gives}
 use Rattle.macho_read.specs.declared.image.Section.{Section}

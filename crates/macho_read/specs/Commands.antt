@@ -5,7 +5,7 @@ use Rattle.std.specs.Option.{option_or}
 use Rattle.ds_base.specs.declared.fault.Fault.{Fault}
 use Rattle.ds_base.specs.declared.fault.Kind.TheVariants as kinds
 use Rattle.ds_base.specs.declared.fault.Part.TheVariants as parts
-use Rattle.ds_base.specs.declared.macho.TheConstants.{LC_SEGMENT_64, LC_SYMTAB, LC_UUID, MACH_HEADER_64_SIZE, SEGMENT_COMMAND_64_SIZE, SECTION_64_SIZE, SYMTAB_COMMAND_SIZE, UUID_COMMAND_SIZE, SEG_DWARF}
+use Rattle.ds_base.specs.MachONumbers.{LC_SEGMENT_64, LC_SYMTAB, LC_UUID, MACH_HEADER_64_SIZE, SEGMENT_COMMAND_64_SIZE, SECTION_64_SIZE, SYMTAB_COMMAND_SIZE, UUID_COMMAND_SIZE, SEG_DWARF}
 use Rattle.ds_base.specs.Reading.{◌>>=◌, refuse_if}
 use Rattle.macho_read.specs.declared.header.Header.{Header}
 use Rattle.macho_read.specs.declared.image.Section.{Section}

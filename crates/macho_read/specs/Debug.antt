@@ -5,7 +5,7 @@ use Rattle.ds_base.specs.declared.fault.Fault.{Fault}
 use Rattle.ds_base.specs.declared.fault.Kind.TheVariants as kinds
 use Rattle.ds_base.specs.declared.fault.Part.{Part}
 use Rattle.ds_base.specs.declared.fault.Part.TheVariants as parts
-use Rattle.ds_base.specs.declared.macho.TheConstants.{SEG_DWARF, S_ZEROFILL, SECT_ZDEBUG, SECT_DEBUG_INFO, SECT_DEBUG_ABBREV, SECT_DEBUG_STR, SECT_DEBUG_STR_OFFS, SECT_DEBUG_ADDR, SECT_DEBUG_LINE, SECT_DEBUG_LINE_STR, SECT_DEBUG_RANGES, SECT_DEBUG_RNGLISTS, SECT_DEBUG_LOC, SECT_DEBUG_LOCLISTS, SECT_DEBUG_ARANGES, SECT_DEBUG_FRAME}
+use Rattle.ds_base.specs.MachONumbers.{SEG_DWARF, S_ZEROFILL, SECT_ZDEBUG, SECT_DEBUG_INFO, SECT_DEBUG_ABBREV, SECT_DEBUG_STR, SECT_DEBUG_STR_OFFS, SECT_DEBUG_ADDR, SECT_DEBUG_LINE, SECT_DEBUG_LINE_STR, SECT_DEBUG_RANGES, SECT_DEBUG_RNGLISTS, SECT_DEBUG_LOC, SECT_DEBUG_LOCLISTS, SECT_DEBUG_ARANGES, SECT_DEBUG_FRAME}
 use Rattle.ds_base.specs.Reading.{◌>>=◌, refuse_if}
 use Rattle.macho_read.specs.declared.image.Section.{Section}
 use Rattle.macho_read.specs.Fields.{is_named}

@@ -4,7 +4,7 @@ use Rattle.ds_base.specs.declared.fault.Fault.{Fault}
 use Rattle.ds_base.specs.declared.fault.Kind.{Kind}
 use Rattle.ds_base.specs.declared.fault.Kind.TheVariants as kinds
 use Rattle.ds_base.specs.declared.fault.Part.TheVariants as parts
-use Rattle.ds_base.specs.declared.macho.TheConstants.{MH_MAGIC_64, CPU_TYPE_X86_64, CPU_TYPE_ARM64, MACH_HEADER_64_SIZE}
+use Rattle.ds_base.specs.MachONumbers.{MH_MAGIC_64, CPU_TYPE_X86_64, CPU_TYPE_ARM64, MACH_HEADER_64_SIZE}
 use Rattle.ds_base.specs.Reading.{◌>>=◌, refuse_if}
 use Rattle.macho_read.specs.declared.header.Header.{Header}
 use Rattle.macho_read.specs.Fields.{number_of}

@@ -1,7 +1,7 @@
 -- The image of a file's bytes, or the first fault in the order header, commands, symbols.
 use Rattle.std.specs.Prelude.{ℕ, List, Result, Ok}
 use Rattle.ds_base.specs.declared.fault.Fault.{Fault}
-use Rattle.ds_base.specs.declared.macho.TheConstants.{MACH_HEADER_64_SIZE}
+use Rattle.ds_base.specs.MachONumbers.{MACH_HEADER_64_SIZE}
 use Rattle.ds_base.specs.Reading.{◌>>=◌}
 use Rattle.macho_read.specs.declared.image.Image.{Image}
 use Rattle.macho_read.specs.Header.{header_of}

@@ -1,7 +1,7 @@
 -- A file as its records spell it (mach-o/loader.h, mach-o/nlist.h): a header, load commands, and symbols with their names.
 use Rattle.std.specs.Prelude.{◌≡◌, ◌⊎◌, ℕ, ◌+◌, ◌*◌, ◌<◌, ◌≤◌, ◌==◌, false, List, [], ◌∷◌, ◌++◌, length, map, take, drop, Option, Some, None, Ok}
 use Rattle.std.specs.List.{flat_map, list_any, AllByRecursion}
-use Rattle.ds_base.specs.declared.macho.TheConstants.{MH_MAGIC_64, CPU_TYPE_X86_64, CPU_TYPE_ARM64, LC_SEGMENT_64, LC_SYMTAB, LC_UUID, NLIST_64_SIZE, SEG_DWARF}
+use Rattle.ds_base.specs.MachONumbers.{MH_MAGIC_64, CPU_TYPE_X86_64, CPU_TYPE_ARM64, LC_SEGMENT_64, LC_SYMTAB, LC_UUID, NLIST_64_SIZE, SEG_DWARF}
 use Rattle.macho_read.specs.declared.commands.Commands.{Commands}
 use Rattle.macho_read.specs.declared.image.Image.{Image}
 use Rattle.macho_read.specs.declared.image.Segment.{Segment}

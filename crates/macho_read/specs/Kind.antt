@@ -4,7 +4,7 @@ use Rattle.std.specs.List.{list_any, position}
 use Rattle.ds_base.specs.declared.fault.Fault.{Fault}
 use Rattle.ds_base.specs.declared.fault.Kind.TheVariants as kinds
 use Rattle.ds_base.specs.declared.fault.Part.TheVariants as parts
-use Rattle.ds_base.specs.declared.macho.TheConstants.{MH_OBJECT, SEG_DWARF}
+use Rattle.ds_base.specs.MachONumbers.{MH_OBJECT, SEG_DWARF}
 use Rattle.ds_base.specs.Reading.{◌>>=◌, refuse_if}
 use Rattle.macho_read.specs.declared.image.Image.{Image}
 use Rattle.macho_read.specs.declared.image.Segment.{Segment}

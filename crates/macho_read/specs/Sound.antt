@@ -1,7 +1,7 @@
 -- A sound image: what every image that was read keeps to.
 use Rattle.std.specs.Prelude.{◌≡◌, ◌+◌, ◌≤◌, ◌<◌, ◌^◌, ◌==◌, false, length}
 use Rattle.std.specs.List.{sum_by, list_any, All}
-use Rattle.ds_base.specs.declared.macho.TheConstants.{SEG_DWARF}
+use Rattle.ds_base.specs.MachONumbers.{SEG_DWARF}
 use Rattle.macho_read.specs.declared.image.Image.{Image}
 use Rattle.macho_read.specs.declared.image.Segment.{Segment}
 use Rattle.macho_read.specs.declared.image.Section.{Section}

@@ -2,7 +2,7 @@
 use Rattle.std.specs.Prelude.{◌≡◌, ℕ, ◌+◌, ◌-◌, ◌^◌, ◌<◌, ◌≤◌, ◌==◌, false, List, [], ◌∷◌, ◌++◌, length, replicate, Ok, map}
 use Rattle.std.specs.List.{flat_map, list_any, AllByRecursion}
 use Rattle.byteorder.specs.Endian.{little_bytes}
-use Rattle.ds_base.specs.declared.macho.TheConstants.{LC_SEGMENT_64, LC_SYMTAB, SYMTAB_COMMAND_SIZE}
+use Rattle.ds_base.specs.MachONumbers.{LC_SEGMENT_64, LC_SYMTAB, SYMTAB_COMMAND_SIZE}
 use Rattle.macho_read.specs.declared.image.Segment.{Segment}
 use Rattle.macho_read.specs.declared.image.Section.{Section}
 use Rattle.macho_read.specs.declared.records.Symtab.{Symtab}

@@ -1,6 +1,6 @@
 -- What a symbol of an image stands for (mach-o/nlist.h, n_type and n_sect).
 use Rattle.std.specs.Prelude.{ℕ, ◌==◌, ◌&&◌, not, Bool, true, false, length, bit_and, nat_lt, nat_le, if◌then◌else◌}
-use Rattle.ds_base.specs.declared.macho.TheConstants.{N_EXT, N_SECT, N_STAB, N_TYPE, N_UNDF}
+use Rattle.ds_base.specs.MachONumbers.{N_EXT, N_SECT, N_STAB, N_TYPE, N_UNDF}
 use Rattle.macho_read.specs.declared.image.Image.{Image}
 use Rattle.macho_read.specs.declared.image.Symbol.{Symbol}
 use Rattle.macho_read.specs.declared.standing.Standing.{Standing}

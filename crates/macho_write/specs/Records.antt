@@ -3,7 +3,7 @@ use Rattle.std.specs.Prelude.{◌≡◌, ℕ, ◌+◌, ◌*◌, Bool, true, fals
 use Rattle.std.specs.List.{flat_map}
 use Rattle.std.specs.Option.{option_map, option_map_or, option_to_list}
 use Rattle.byteorder.specs.Endian.{little_bytes}
-use Rattle.ds_base.specs.declared.macho.TheConstants.{MH_MAGIC_64, NLIST_64_SIZE}
+use Rattle.ds_base.specs.MachONumbers.{MH_MAGIC_64, NLIST_64_SIZE}
 use Rattle.macho_read.specs.declared.image.Section.{Section}
 use Rattle.macho_read.specs.declared.image.Segment.{Segment}
 use Rattle.macho_read.specs.ImageSpelling.{LoadCommand, SegmentCommand, SymtabCommand, UuidCommand, command_of}

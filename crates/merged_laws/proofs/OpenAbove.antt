@@ -5,7 +5,7 @@ use Rattle.std.specs.Option.{option_and_then, option_map_or}
 use Rattle.std.proofs.lemmas.Bool.{both_ways, eq-eqb, eqb-true}
 use Rattle.std.proofs.lemmas.List.Folds.{list_any-append}
 use Rattle.std.proofs.lemmas.Option.{none-some, same_Some}
-use Rattle.ds_base.specs.declared.dwarf.TheConstants.{DW_TAG_base_type, DW_TAG_namespace}
+use Rattle.ds_base.specs.DwarfNumbers.{DW_TAG_base_type, DW_TAG_namespace}
 use Rattle.dwarf_types.specs.declared.entry.Entry.{Entry}
 use Rattle.dwarf_types.specs.Tree.{ParentsStandBefore}
 use Rattle.odr_names.proofs.Closed.{head_parent}

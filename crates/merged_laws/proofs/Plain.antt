@@ -4,7 +4,7 @@ use Rattle.std.specs.List.{Contains, enumerate_from, filter, list_all, list_any}
 use Rattle.std.specs.Option.{option_and_then, option_map, option_map_or}
 use Rattle.std.proofs.lemmas.Bool.{both_ways, eq-eqb}
 use Rattle.std.proofs.lemmas.Option.{get_or_from_slice_get, none-some, same_Some, slice_get-map, slice_get_within}
-use Rattle.ds_base.specs.declared.dwarf.TheConstants.{DW_TAG_base_type, DW_TAG_namespace}
+use Rattle.ds_base.specs.DwarfNumbers.{DW_TAG_base_type, DW_TAG_namespace}
 use Rattle.dwarf_types.specs.declared.entry.Entry.{Entry}
 use Rattle.dwarf_types.specs.Kept.{holds_plain, is_plain, is_plain_above}
 use Rattle.dwarf_types.specs.LinkedUnits.{is_kept}

@@ -7,7 +7,7 @@ use Rattle.std.proofs.lemmas.Bool.{ltb-true, ne_eqb}
 use Rattle.std.proofs.lemmas.List.{length-map}
 use Rattle.std.proofs.lemmas.List.Elements.{All-cons, All-contains, All-head, All-map, All-nil, All-tail, All-weaker}
 use Rattle.std.proofs.lemmas.Option.{get_or_from_slice_get, same_Some, slice_get_within}
-use Rattle.ds_base.specs.declared.dwarf.TheConstants.{DW_AT_language, DW_AT_name, DW_AT_stmt_list, DW_FORM_data2, DW_LANG_C_plus_plus}
+use Rattle.ds_base.specs.DwarfNumbers.{DW_AT_language, DW_AT_name, DW_AT_stmt_list, DW_FORM_data2, DW_LANG_C_plus_plus}
 use Rattle.dwarf_types.specs.declared.analysis.Analysis.{Analysis}
 use Rattle.dwarf_types.specs.declared.entry.Attr.{Attr}
 use Rattle.dwarf_types.specs.declared.entry.Entry.{Entry}

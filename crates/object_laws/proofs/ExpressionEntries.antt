@@ -9,7 +9,7 @@ use Rattle.byteorder.specs.Numbers.{length-bytes_low_first}
 use Rattle.ds_base.specs.declared.fault.Part.TheVariants as parts
 use Rattle.ds_base.specs.Reading.{number_at}
 use Rattle.ds_base.specs.Spot.{Spot, after, rest, start}
-use Rattle.ds_base.specs.declared.dwarf.TheConstants.{DW_OP_GNU_entry_value, DW_OP_addr, DW_OP_addrx, DW_OP_bit_piece, DW_OP_bra, DW_OP_breg0, DW_OP_breg31, DW_OP_bregx, DW_OP_call2, DW_OP_call4, DW_OP_call_ref, DW_OP_const1s, DW_OP_const1u, DW_OP_const2s, DW_OP_const2u, DW_OP_const4s, DW_OP_const4u, DW_OP_const8s, DW_OP_const8u, DW_OP_const_type, DW_OP_consts, DW_OP_constu, DW_OP_constx, DW_OP_convert, DW_OP_deref_size, DW_OP_deref_type, DW_OP_entry_value, DW_OP_fbreg, DW_OP_implicit_pointer, DW_OP_implicit_value, DW_OP_pick, DW_OP_piece, DW_OP_plus_uconst, DW_OP_regval_type, DW_OP_regx, DW_OP_reinterpret, DW_OP_skip, DW_OP_xderef_size, DW_OP_xderef_type}
+use Rattle.ds_base.specs.DwarfNumbers.{DW_OP_GNU_entry_value, DW_OP_addr, DW_OP_addrx, DW_OP_bit_piece, DW_OP_bra, DW_OP_breg0, DW_OP_breg31, DW_OP_bregx, DW_OP_call2, DW_OP_call4, DW_OP_call_ref, DW_OP_const1s, DW_OP_const1u, DW_OP_const2s, DW_OP_const2u, DW_OP_const4s, DW_OP_const4u, DW_OP_const8s, DW_OP_const8u, DW_OP_const_type, DW_OP_consts, DW_OP_constu, DW_OP_constx, DW_OP_convert, DW_OP_deref_size, DW_OP_deref_type, DW_OP_entry_value, DW_OP_fbreg, DW_OP_implicit_pointer, DW_OP_implicit_value, DW_OP_pick, DW_OP_piece, DW_OP_plus_uconst, DW_OP_regval_type, DW_OP_regx, DW_OP_reinterpret, DW_OP_skip, DW_OP_xderef_size, DW_OP_xderef_type}
 use Rattle.dwarf_types.specs.declared.address.Addr.{Addr}
 use Rattle.dwarf_types.specs.declared.address.Place.{Place}
 use Rattle.dwarf_types.specs.declared.operands.Named.{Named}

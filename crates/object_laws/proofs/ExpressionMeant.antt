@@ -6,7 +6,7 @@ use Rattle.std.specs.Option.{option_map}
 use Rattle.std.proofs.lemmas.Bool.{eqb-true}
 use Rattle.std.proofs.lemmas.List.Elements.{All-cons, All-nil}
 use Rattle.ds_base.proofs.Passing.{bind_ok, found_ok, ok_is}
-use Rattle.ds_base.specs.declared.dwarf.TheConstants.{DW_OP_addr, DW_OP_const8u, DW_OP_convert, DW_OP_reinterpret}
+use Rattle.ds_base.specs.DwarfNumbers.{DW_OP_addr, DW_OP_const8u, DW_OP_convert, DW_OP_reinterpret}
 use Rattle.ds_base.specs.declared.fault.Fault.{Fault}
 use Rattle.ds_base.specs.declared.fault.Kind.TheVariants as kinds
 use Rattle.ds_base.specs.Reading.{or_fault, refuse_if}

@@ -5,7 +5,7 @@ use Rattle.std.specs.List.{All, find, list_any}
 use Rattle.std.specs.Option.{option_map_or}
 use Rattle.std.proofs.lemmas.Bool.{lt-ltb}
 use Rattle.std.proofs.lemmas.List.Elements.{All-nil, All-cons, All-append}
-use Rattle.ds_base.specs.declared.dwarf.TheConstants.{DW_FORM_implicit_const, DW_TAG_compile_unit}
+use Rattle.ds_base.specs.DwarfNumbers.{DW_FORM_implicit_const, DW_TAG_compile_unit}
 use Rattle.ds_base.specs.Leb.{fits_i64}
 use Rattle.dwarf_types.specs.declared.abbrev.Abbrev.{Abbrev}
 use Rattle.dwarf_types.specs.declared.abbrev.Field.{Field}

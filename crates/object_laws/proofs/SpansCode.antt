@@ -5,7 +5,7 @@ use Rattle.std.specs.List.{All, AllByRecursion, find, enumerate_from}
 use Rattle.std.specs.Option.{option_and_then, option_map, option_map_or}
 use Rattle.std.proofs.lemmas.Bool.{cases_Bool}
 use Rattle.std.proofs.lemmas.List.Elements.{All-from_recursion, recursion_from_All}
-use Rattle.ds_base.specs.declared.dwarf.TheConstants.{DW_AT_high_pc, DW_AT_low_pc, DW_AT_ranges, DW_TAG_subprogram}
+use Rattle.ds_base.specs.DwarfNumbers.{DW_AT_high_pc, DW_AT_low_pc, DW_AT_ranges, DW_TAG_subprogram}
 use Rattle.dwarf_types.specs.declared.address.Span.{Span}
 use Rattle.dwarf_types.specs.declared.analysis.CodeRange.{CodeRange}
 use Rattle.dwarf_types.specs.declared.entry.Attr.{Attr}

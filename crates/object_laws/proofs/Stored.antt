@@ -5,7 +5,7 @@ use Rattle.std.proofs.lemmas.Bool.{ltb-true}
 use Rattle.ds_base.specs.Leb.{fits_i64}
 use Rattle.std.specs.Int.{w64, cast_unsigned}
 use Rattle.std.specs.Option.{option_map}
-use Rattle.ds_base.specs.declared.dwarf.TheConstants.{DW_FORM_exprloc}
+use Rattle.ds_base.specs.DwarfNumbers.{DW_FORM_exprloc}
 use Rattle.ds_base.specs.Reading.{index_below, text_of}
 use Rattle.dwarf_types.specs.declared.abbrev.Field.{Field}
 use Rattle.dwarf_types.specs.declared.value.Value.{Value}

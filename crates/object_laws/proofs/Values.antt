@@ -10,7 +10,7 @@ use Rattle.dwarf_types.specs.LinkedExpressions.{parts_of}
 use Rattle.dwarf_types.specs.WellValues.{IsSpan}
 use Rattle.moved_parts.specs.Spans.{span_moved}
 use Rattle.object_laws.proofs.Locations.{locations_are}
-use Rattle.ds_base.specs.declared.dwarf.TheConstants.{DW_AT_ranges, DW_AT_stmt_list, DW_FORM_exprloc}
+use Rattle.ds_base.specs.DwarfNumbers.{DW_AT_ranges, DW_AT_stmt_list, DW_FORM_exprloc}
 use Rattle.ds_base.specs.declared.fault.Fault.{Fault}
 use Rattle.ds_base.specs.declared.fault.Kind.TheVariants as kinds
 use Rattle.ds_base.specs.Reading.{◌>>=◌, or_fault, refuse_if}

@@ -1,6 +1,6 @@
 -- The units of objects that llvm-mc 14 wrote for x86_64-apple-macos10.12, as llvm-dwarfdump prints them, and the first fault of such units with another byte.
 use Rattle.std.proofs.Common.{◌≡◌, ℕ, List, [], ◌∷◌, Option, Some, None, Result, Ok, Err, slice_set, refl}
-use Rattle.ds_base.specs.declared.dwarf.TheConstants.{DW_AT_addr_base, DW_AT_high_pc, DW_AT_language, DW_AT_location, DW_AT_low_pc, DW_AT_name, DW_AT_str_offsets_base, DW_AT_type, DW_FORM_addr, DW_FORM_addrx, DW_FORM_data2, DW_FORM_data4, DW_FORM_exprloc, DW_FORM_flag, DW_FORM_ref4, DW_FORM_ref_addr, DW_FORM_sec_offset, DW_FORM_strx1, DW_LANG_C99, DW_TAG_base_type, DW_TAG_compile_unit, DW_TAG_subprogram, DW_TAG_variable}
+use Rattle.ds_base.specs.DwarfNumbers.{DW_AT_addr_base, DW_AT_high_pc, DW_AT_language, DW_AT_location, DW_AT_low_pc, DW_AT_name, DW_AT_str_offsets_base, DW_AT_type, DW_FORM_addr, DW_FORM_addrx, DW_FORM_data2, DW_FORM_data4, DW_FORM_exprloc, DW_FORM_flag, DW_FORM_ref4, DW_FORM_ref_addr, DW_FORM_sec_offset, DW_FORM_strx1, DW_LANG_C99, DW_TAG_base_type, DW_TAG_compile_unit, DW_TAG_subprogram, DW_TAG_variable}
 use Rattle.ds_base.specs.declared.fault.Fault.{Fault}
 use Rattle.ds_base.specs.declared.fault.Kind.{Kind}
 use Rattle.ds_base.specs.declared.fault.Kind.TheVariants as kinds

@@ -13,7 +13,7 @@ use Rattle.index_tables.specs.Tables.{address_place}
 use Rattle.expr_resolve.specs.Context.{AreInOrder, Context}
 use Rattle.loc_lists.specs.Reading.{location_part}
 use Rattle.object_view.specs.declared.expressions.Expressions.{Expressions}
-use Rattle.ds_base.specs.declared.dwarf.TheConstants.{DWARF_5}
+use Rattle.ds_base.specs.DwarfNumbers.{DWARF_5}
 use Rattle.object_view.specs.declared.units.UnitContext.{UnitContext}
 use Rattle.object_view.specs.Attributes.{context_at, locations_relocs, ranges_relocs}
 use Rattle.object_view.specs.Opened.{Opened, opened_seen}

@@ -9,7 +9,7 @@ use Rattle.std.proofs.lemmas.List.Folds.{list_any-append}
 use Rattle.ds_base.specs.contracts.fault.Part.{the_type}
 use Rattle.ds_base.specs.declared.fault.Fault.{Fault}
 use Rattle.ds_base.specs.declared.fault.Part.{Part}
-use Rattle.ds_base.specs.declared.macho.TheConstants.{SEG_DWARF}
+use Rattle.ds_base.specs.MachONumbers.{SEG_DWARF}
 use Rattle.ds_base.specs.Reading.{◌>>=◌}
 use Rattle.ds_base.proofs.Passing.{bind_ok, passed}
 use Rattle.macho_read.specs.declared.image.Section.{Section}

@@ -3,7 +3,7 @@ use Rattle.std.proofs.Common.{◌≡◌, ℕ, suc, ◌+◌, ◌<◌, ◌==◌, B
 use Rattle.std.specs.List.{All, enumerate_from, filter_map}
 use Rattle.std.proofs.lemmas.List.Elements.{All-cons}
 use Rattle.std.proofs.lemmas.List.Kept.{AllPairs-cons}
-use Rattle.ds_base.specs.declared.dwarf.TheConstants.{DW_TAG_base_type}
+use Rattle.ds_base.specs.DwarfNumbers.{DW_TAG_base_type}
 use Rattle.dwarf_types.specs.declared.entry.RawEntry.{RawEntry}
 use Rattle.unit_tree.specs.Reference.{IsRising}
 use Rattle.expr_resolve.specs.declared.context.BaseType.{BaseType}

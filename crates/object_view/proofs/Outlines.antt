@@ -6,7 +6,7 @@ use Rattle.std.specs.Option.{option_and_then, option_map}
 use Rattle.std.proofs.lemmas.Bool.{eqb-true}
 use Rattle.std.proofs.lemmas.List.Quantifiers.{position-Some}
 use Rattle.std.proofs.lemmas.Option.{slice_get-map}
-use Rattle.ds_base.specs.declared.dwarf.TheConstants.{DW_AT_stmt_list, DW_FORM_exprloc, DW_FORM_sec_offset}
+use Rattle.ds_base.specs.DwarfNumbers.{DW_AT_stmt_list, DW_FORM_exprloc, DW_FORM_sec_offset}
 use Rattle.ds_base.specs.declared.fault.Fault.{Fault}
 use Rattle.ds_base.specs.Reading.{◌>>=◌, or_fault}
 use Rattle.ds_base.proofs.Passing.{bind_ok, found_ok, ok_is}

@@ -2,7 +2,7 @@
 use Rattle.std.specs.Prelude.{ℕ, ◌-◌, ◌^◌, ◌==◌, ◌&&◌, Bool, not, List, [], ◌∷◌, ◌++◌, length, map, slice_get, take, Option, Some, None, is_none, is_some, Result, Ok, nat_lt, if◌then◌else◌}
 use Rattle.std.specs.List.{filter_map, find, flat_map}
 use Rattle.std.specs.Option.{option_and_then, option_map, option_map_or, unwrap_or}
-use Rattle.ds_base.specs.declared.dwarf.TheConstants.{DW_AT_comp_dir, DW_AT_low_pc, DW_AT_stmt_list, DW_FORM_exprloc, DW_FORM_sec_offset}
+use Rattle.ds_base.specs.DwarfNumbers.{DW_AT_comp_dir, DW_AT_low_pc, DW_AT_stmt_list, DW_FORM_exprloc, DW_FORM_sec_offset}
 use Rattle.ds_base.specs.declared.fault.Fault.{Fault}
 use Rattle.ds_base.specs.declared.fault.Kind.TheVariants as kinds
 use Rattle.ds_base.specs.declared.fault.Part.{Part}
@@ -48,7 +48,7 @@ use Rattle.moved_parts.specs.Lines.{lines_moved}
 use Rattle.moved_parts.specs.Places.{place_of}
 use Rattle.moved_parts.specs.Spans.{span_moved, spans_moved}
 use Rattle.object_view.specs.declared.open.DebugRelocs.{DebugRelocs}
-use Rattle.ds_base.specs.declared.dwarf.TheConstants.{DWARF_5}
+use Rattle.ds_base.specs.DwarfNumbers.{DWARF_5}
 use Rattle.object_view.specs.declared.units.UnitContext.{UnitContext}
 use Rattle.object_view.specs.Opened.{Opened}
 use Rattle.object_view.specs.Units.{base_types, unit_context}

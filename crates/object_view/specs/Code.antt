@@ -2,7 +2,7 @@
 use Rattle.std.specs.Prelude.{ℕ, ◌+◌, ◌^◌, ◌==◌, List, [], ◌++◌, map, Option, Some, None, nat_lt, nat_le, if◌then◌else◌}
 use Rattle.std.specs.List.{enumerate_from, flat_map}
 use Rattle.std.specs.Option.{option_and_then, option_map_or}
-use Rattle.ds_base.specs.declared.dwarf.TheConstants.{DW_AT_high_pc, DW_AT_low_pc, DW_AT_ranges, DW_FORM_sdata, DW_TAG_subprogram}
+use Rattle.ds_base.specs.DwarfNumbers.{DW_AT_high_pc, DW_AT_low_pc, DW_AT_ranges, DW_FORM_sdata, DW_TAG_subprogram}
 use Rattle.dwarf_types.specs.declared.address.Span.{Span}
 use Rattle.dwarf_types.specs.declared.analysis.CodeRange.{CodeRange}
 use Rattle.dwarf_types.specs.declared.entry.Entry.{Entry}

@@ -7,7 +7,7 @@ use Rattle.std.proofs.lemmas.Bool.{both_ways, eq-eqb, eqb-true, ne_eqb}
 use Rattle.std.proofs.lemmas.List.Elements.{filter_map-append}
 use Rattle.std.proofs.lemmas.List.Folds.{list_any-append}
 use Rattle.std.proofs.lemmas.Option.{none-some, same_Some}
-use Rattle.ds_base.specs.declared.dwarf.TheConstants.{DW_TAG_class_type, DW_TAG_namespace, DW_TAG_structure_type, DW_TAG_subprogram}
+use Rattle.ds_base.specs.DwarfNumbers.{DW_TAG_class_type, DW_TAG_namespace, DW_TAG_structure_type, DW_TAG_subprogram}
 use Rattle.dwarf_types.specs.declared.entry.Entry.{Entry}
 use Rattle.dwarf_types.specs.Tree.{ParentsStandBefore}
 use Rattle.type_names.specs.Entries.{Text, is_named_type, is_type, linkage_of, name_of}

@@ -1,7 +1,7 @@
 -- How many earlier siblings of an entry have its parts.
 use Rattle.std.specs.Prelude.{◌≡◌, ℕ, ◌+◌, ◌/◌, ◌%◌, ◌^◌, ◌<◌, ◌≤◌, ◌==◌, ◌&&◌, ◌||◌, not, Bool, true, false, List, length, slice_get, slice_index_or, Option, Some, None, is_some}
 use Rattle.std.specs.Option.{option_and_then, option_map, option_map_or}
-use Rattle.ds_base.specs.declared.dwarf.TheConstants as dw
+use Rattle.ds_base.specs.DwarfNumbers as dw
 use Rattle.dwarf_types.specs.declared.entry.Entry.{Entry}
 use Rattle.odr_names.specs.declared.ordinals.Sibling.{Sibling}
 use Rattle.odr_names.specs.declared.ordinals.Chains.{Chains}

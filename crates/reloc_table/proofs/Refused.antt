@@ -4,7 +4,7 @@ use Rattle.std.specs.List.{Contains}
 use Rattle.ds_base.specs.declared.fault.Kind.{Kind}
 use Rattle.ds_base.specs.declared.fault.Kind.TheVariants as kinds
 use Rattle.ds_base.specs.declared.fault.Part.{Part}
-use Rattle.ds_base.specs.declared.macho.TheConstants.{RELOCATION_INFO_SIZE}
+use Rattle.ds_base.specs.MachONumbers.{RELOCATION_INFO_SIZE}
 use Rattle.macho_read.specs.declared.image.Image.{Image}
 use Rattle.macho_read.specs.declared.image.Section.{Section}
 use Rattle.macho_read.specs.Debug.{debug_part}
@@ -12,7 +12,7 @@ use Rattle.macho_read.specs.Symbols.{each}
 use Rattle.ds_base.proofs.FaultKinds.{FaultsAre, ok_kinds, bind_kinds, refuse_kinds}
 use Rattle.macho_read.proofs.Refused.{each_kinds}
 use Rattle.reloc_table.specs.declared.relocation.Reloc.{Reloc}
-use Rattle.ds_base.specs.declared.dwarf.TheConstants.{ADDRESS_SIZE}
+use Rattle.ds_base.specs.DwarfNumbers.{ADDRESS_SIZE}
 use Rattle.reloc_table.specs.Relocation.{info_of, is_plain, reloc_fault, reloc_of}
 use Rattle.reloc_table.specs.Table.{all_apart, by_place, named_relocs, overlap, relocs_in, relocs_of, table_cut, table_in}
 

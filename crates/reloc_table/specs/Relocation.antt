@@ -4,14 +4,14 @@ use Rattle.ds_base.specs.declared.fault.Fault.{Fault}
 use Rattle.ds_base.specs.declared.fault.Kind.{Kind}
 use Rattle.ds_base.specs.declared.fault.Kind.TheVariants as kinds
 use Rattle.ds_base.specs.declared.fault.Part.{Part}
-use Rattle.ds_base.specs.declared.macho.TheConstants.{R_SCATTERED, RELOC_LENGTH_8, X86_64_RELOC_UNSIGNED}
+use Rattle.ds_base.specs.MachONumbers.{R_SCATTERED, RELOC_LENGTH_8, X86_64_RELOC_UNSIGNED}
 use Rattle.ds_base.specs.Reading.{◌>>=◌, refuse_if}
 use Rattle.macho_read.specs.declared.image.Image.{Image}
 use Rattle.macho_read.specs.declared.image.Section.{Section}
 use Rattle.macho_read.specs.Fields.{number_of}
 use Rattle.reloc_table.specs.declared.relocation.Reloc.{Reloc}
 use Rattle.reloc_table.specs.declared.relocation.RelocationInfo.{RelocationInfo}
-use Rattle.ds_base.specs.declared.dwarf.TheConstants.{ADDRESS_SIZE}
+use Rattle.ds_base.specs.DwarfNumbers.{ADDRESS_SIZE}
 
 -- relocation_info: r_address, and then in one word from the low bit on r_symbolnum (24 bits), r_pcrel (1), r_length (2), r_extern (1), r_type (4)
 unfoldable pub info_of : List ℕ → RelocationInfo

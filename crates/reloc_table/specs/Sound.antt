@@ -3,7 +3,7 @@ use Rattle.std.specs.Prelude.{◌≡◌, ◌+◌, ◌<◌, ◌≤◌, true, leng
 use Rattle.std.specs.List.{All, AllPairs}
 use Rattle.macho_read.specs.declared.image.Image.{Image}
 use Rattle.reloc_table.specs.declared.relocation.Relocs.{Relocs}
-use Rattle.ds_base.specs.declared.dwarf.TheConstants.{ADDRESS_SIZE}
+use Rattle.ds_base.specs.DwarfNumbers.{ADDRESS_SIZE}
 
 pub record IsSound (image : Image) (relocs : Relocs) : Type 0 where
   -- the places rise, by 8 bytes at least

@@ -3,7 +3,7 @@ use Rattle.std.specs.Prelude.{ℕ, ◌+◌, ◌*◌, ◌&&◌, Bool, List, [], �
 use Rattle.ds_base.specs.declared.fault.Fault.{Fault}
 use Rattle.ds_base.specs.declared.fault.Kind.TheVariants as kinds
 use Rattle.ds_base.specs.declared.fault.Part.{Part}
-use Rattle.ds_base.specs.declared.macho.TheConstants.{RELOCATION_INFO_SIZE, SEG_DWARF}
+use Rattle.ds_base.specs.MachONumbers.{RELOCATION_INFO_SIZE, SEG_DWARF}
 use Rattle.ds_base.specs.Reading.{◌>>=◌, refuse_if}
 use Rattle.macho_read.specs.declared.image.Image.{Image}
 use Rattle.macho_read.specs.declared.image.Section.{Section}
@@ -12,7 +12,7 @@ use Rattle.macho_read.specs.Fields.{is_named}
 use Rattle.macho_read.specs.Symbols.{each}
 use Rattle.reloc_table.specs.declared.relocation.Reloc.{Reloc}
 use Rattle.reloc_table.specs.declared.relocation.Relocs.{Relocs}
-use Rattle.ds_base.specs.declared.dwarf.TheConstants.{ADDRESS_SIZE}
+use Rattle.ds_base.specs.DwarfNumbers.{ADDRESS_SIZE}
 use Rattle.reloc_table.specs.Relocation.{reloc_of}
 
 -- a debug section that is read: its segment is `__DWARF`, and its name is that of a part of the file

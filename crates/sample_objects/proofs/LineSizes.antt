@@ -5,7 +5,7 @@ use Rattle.std.specs.Option.{option_map_or}
 use Rattle.std.proofs.lemmas.List.Elements.{All-map}
 use Rattle.std.proofs.lemmas.List.Sums.{sum_by-cons}
 use Rattle.byteorder.specs.Endian.{little_bytes}
-use Rattle.ds_base.specs.declared.dwarf.TheConstants.{DW_LNE_set_address}
+use Rattle.ds_base.specs.DwarfNumbers.{DW_LNE_set_address}
 use Rattle.ds_base.specs.Leb.{uleb}
 use Rattle.ds_base.proofs.LebLengths.{length-uleb, some_digits}
 use Rattle.dwarf_types.specs.declared.graph.OutUnit.{OutUnit}

@@ -8,7 +8,7 @@ use Rattle.std.proofs.lemmas.List.{length-map}
 use Rattle.std.proofs.lemmas.List.Concat.{length-flat_map}
 use Rattle.std.proofs.lemmas.List.Sums.{sum_by-append, sum_by-cons}
 use Rattle.ds_base.specs.FirstUse.{once}
-use Rattle.ds_base.specs.declared.dwarf.TheConstants.{DW_FORM_data1, DW_FORM_data2, DW_FORM_data4, DW_FORM_data8, DW_FORM_flag, DW_FORM_sdata, DW_FORM_udata}
+use Rattle.ds_base.specs.DwarfNumbers.{DW_FORM_data1, DW_FORM_data2, DW_FORM_data4, DW_FORM_data8, DW_FORM_flag, DW_FORM_sdata, DW_FORM_udata}
 use Rattle.ds_base.specs.Leb.{sleb_len_of, uleb, uleb_len_of}
 use Rattle.ds_base.specs.Texts.{ended, section_of}
 use Rattle.ds_base.proofs.LebLengths.{few_digits, few_signed_digits, length-uleb}

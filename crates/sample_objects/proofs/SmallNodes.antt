@@ -4,7 +4,7 @@ use Rattle.std.specs.Fmt.{decimal}
 use Rattle.std.specs.List.{flat_map, range_with_len}
 use Rattle.std.proofs.lemmas.List.FromFn.{length-map-range_with_len}
 use Rattle.std.proofs.lemmas.Nat.{mod_below}
-use Rattle.ds_base.specs.declared.dwarf.TheConstants.{DW_FORM_data1, DW_FORM_data2, DW_FORM_data4, DW_FORM_flag_present, DW_LANG_C_plus_plus_14}
+use Rattle.ds_base.specs.DwarfNumbers.{DW_FORM_data1, DW_FORM_data2, DW_FORM_data4, DW_FORM_flag_present, DW_LANG_C_plus_plus_14}
 use Rattle.dwarf_types.specs.declared.graph.Node.{Node}
 use Rattle.sample_objects.specs.GeneratedUnit.{all_numbers, f_declaration, f_node, function, function_name, function_tree, g_declaration, g_node, int_type, linkage_name, member, member_name, namespace, pointer, structure, structure_name, structure_tree, this_parameter, type_number, unit_name, unit_nodes, unit_root, variable}
 use Rattle.sample_objects.proofs.Modest.{AreModest, IsModest, short_number}

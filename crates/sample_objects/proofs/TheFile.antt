@@ -3,7 +3,7 @@ use Rattle.std.proofs.Common.{◌≡◌, ◌+◌, ◌-◌, ◌*◌, ℕ, List, [
 use Rattle.std.specs.List.{flat_map}
 use Rattle.std.proofs.lemmas.List.{length-map}
 use Rattle.ds_base.specs.declared.fault.Part.{Part}
-use Rattle.ds_base.specs.declared.macho.TheConstants.{MH_OBJECT}
+use Rattle.ds_base.specs.MachONumbers.{MH_OBJECT}
 use Rattle.dsym_write.specs.Bundle.{contents}
 use Rattle.dsym_write.proofs.Told.{name_short}
 use Rattle.macho_read.specs.ImageSpelling.{command_of, commands_bytes, header_fields}

@@ -2,7 +2,7 @@
 use Rattle.std.specs.Prelude.{ℕ, ◌+◌, ◌*◌, ◌%◌, List, [], ◌∷◌, ◌++◌, codes, map, None, Some}
 use Rattle.std.specs.Fmt.{decimal}
 use Rattle.std.specs.List.{flat_map, range_with_len}
-use Rattle.ds_base.specs.declared.dwarf.TheConstants.{DW_AT_artificial, DW_AT_byte_size, DW_AT_data_member_location, DW_AT_declaration, DW_AT_encoding, DW_AT_high_pc, DW_AT_language, DW_AT_linkage_name, DW_AT_location, DW_AT_low_pc, DW_AT_name, DW_AT_type, DW_FORM_data1, DW_FORM_data2, DW_FORM_data4, DW_FORM_flag_present, DW_LANG_C_plus_plus_14, DW_OP_fbreg, DW_TAG_base_type, DW_TAG_compile_unit, DW_TAG_formal_parameter, DW_TAG_member, DW_TAG_namespace, DW_TAG_pointer_type, DW_TAG_structure_type, DW_TAG_subprogram, DW_TAG_variable}
+use Rattle.ds_base.specs.DwarfNumbers.{DW_AT_artificial, DW_AT_byte_size, DW_AT_data_member_location, DW_AT_declaration, DW_AT_encoding, DW_AT_high_pc, DW_AT_language, DW_AT_linkage_name, DW_AT_location, DW_AT_low_pc, DW_AT_name, DW_AT_type, DW_FORM_data1, DW_FORM_data2, DW_FORM_data4, DW_FORM_flag_present, DW_LANG_C_plus_plus_14, DW_OP_fbreg, DW_TAG_base_type, DW_TAG_compile_unit, DW_TAG_formal_parameter, DW_TAG_member, DW_TAG_namespace, DW_TAG_pointer_type, DW_TAG_structure_type, DW_TAG_subprogram, DW_TAG_variable}
 use Rattle.dwarf_types.specs.declared.graph.Node.{Node}
 use Rattle.dwarf_types.specs.declared.graph.OutAttr.{OutAttr}
 use Rattle.dwarf_types.specs.declared.graph.OutUnit.{OutUnit}

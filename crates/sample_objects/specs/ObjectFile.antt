@@ -4,7 +4,7 @@ use Rattle.std.specs.List.{flat_map}
 use Rattle.std.specs.Option.{option_map_or}
 use Rattle.ds_base.specs.declared.fault.Part.{Part}
 use Rattle.ds_base.specs.declared.fault.Part.TheVariants as parts
-use Rattle.ds_base.specs.declared.macho.TheConstants.{MACH_HEADER_64_SIZE, MH_OBJECT, RELOCATION_INFO_SIZE, RELOC_LENGTH_8, SECTION_64_SIZE, SECT_TEXT, SEGMENT_COMMAND_64_SIZE, SEG_TEXT, SYMTAB_COMMAND_SIZE, VM_PROT_EXECUTE, VM_PROT_READ, VM_PROT_WRITE}
+use Rattle.ds_base.specs.MachONumbers.{MACH_HEADER_64_SIZE, MH_OBJECT, RELOCATION_INFO_SIZE, RELOC_LENGTH_8, SECTION_64_SIZE, SECT_TEXT, SEGMENT_COMMAND_64_SIZE, SEG_TEXT, SYMTAB_COMMAND_SIZE, VM_PROT_EXECUTE, VM_PROT_READ, VM_PROT_WRITE}
 use Rattle.dsym_write.specs.Bundle.{contents, dwarf_section}
 use Rattle.dwarf_types.specs.declared.graph.Graph.{Graph}
 use Rattle.dwarf_types.specs.declared.graph.OutUnit.{OutUnit}

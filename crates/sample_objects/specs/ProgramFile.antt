@@ -1,7 +1,7 @@
 -- The file of a linked program (mach-o/loader.h, mach-o/nlist.h), as an image says it: a header, a UUID if the image has one, the segments with the records of their sections, a symbol table, the symbols, and their strings. What the segments are loaded from is not in the file.
 use Rattle.std.specs.Prelude.{◌≡◌, ◌⊎◌, ℕ, ◌+◌, ◌<◌, ◌^◌, true, List, [], ◌∷◌, ◌++◌, length, Ok}
 use Rattle.std.specs.List.{AllByRecursion, sum_by}
-use Rattle.ds_base.specs.declared.macho.TheConstants.{CPU_TYPE_ARM64, CPU_TYPE_X86_64, MACH_HEADER_64_SIZE, SYMTAB_COMMAND_SIZE}
+use Rattle.ds_base.specs.MachONumbers.{CPU_TYPE_ARM64, CPU_TYPE_X86_64, MACH_HEADER_64_SIZE, SYMTAB_COMMAND_SIZE}
 use Rattle.macho_read.specs.declared.image.Image.{Image}
 use Rattle.macho_read.specs.declared.image.Symbol.{Symbol}
 use Rattle.macho_read.specs.Image.{image_of}

@@ -1,6 +1,6 @@
 -- What a symbol says to the debug map (mach-o/stab.h), by its kind and by whether it has a name.
 use Rattle.std.specs.Prelude.{ℕ, ◌==◌, ◌||◌, not, Bool, true, false, length, Option, Some, None, if◌then◌else◌}
-use Rattle.ds_base.specs.declared.macho.TheConstants.{N_GSYM, N_FUN, N_STSYM, N_LCSYM, N_SO, N_OSO}
+use Rattle.ds_base.specs.MachONumbers.{N_GSYM, N_FUN, N_STSYM, N_LCSYM, N_SO, N_OSO}
 use Rattle.macho_read.specs.declared.image.Symbol.{Symbol}
 use Rattle.stab_map.specs.declared.stab.Stab.{Stab}
 use Rattle.stab_map.specs.declared.stab.Stab.TheVariants as stabs

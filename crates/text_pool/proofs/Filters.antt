@@ -8,7 +8,8 @@ use Rattle.std.proofs.lemmas.List.Elements.{filter-append}
 use Rattle.std.proofs.lemmas.Map.Views.{any-filter_same}
 use Rattle.std.proofs.lemmas.Slice.Eq.{bytes_eq-Decides}
 use Rattle.ds_base.specs.Texts.{section_of, with_text}
-use Rattle.text_pool.proofs.Places.{is_some-place_of, length-section_of}
+use Rattle.text_pool.proofs.Places.{is_some-place_of}
+use Rattle.ds_base.proofs.TextPlaces.{length-section_of}
 
 module _ (p : List ℕ → Bool) where
   -- a text that is kept is among those that are kept as it is among all

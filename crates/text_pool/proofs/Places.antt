@@ -10,9 +10,7 @@ use Rattle.std.proofs.lemmas.Map.Views.{Contains-from_any, list_any-from_Contain
 use Rattle.std.proofs.lemmas.Option.{same_Some}
 use Rattle.std.proofs.lemmas.Slice.Eq.{bytes_eq-Decides}
 use Rattle.ds_base.specs.Texts.{ended, section_of, place_of, with_text}
-
-pub length-section_of : (x : List ℕ) (texts : List (List ℕ)) → length (section_of (x ∷ texts)) ≡ length x + 1 + length (section_of texts)
-length-section_of x texts = simp length-append (omega arith)
+use Rattle.ds_base.proofs.TextPlaces.{length-section_of}
 
 -- in a list of one more text, a text stands where it stood, or the new one behind all
 pub place_of-push : (texts : List (List ℕ)) (t u : List ℕ)
@@ -48,32 +46,3 @@ place_found texts t = (
   λ found. Contains-from_any (λ x y. (bytes_eq-Decides x y).0) t texts (sym (is_some-place_of texts t) ∙ found),
   λ among. is_some-place_of texts t ∙ list_any-from_Contains nat_list_eq_equiv t texts among,
 )
-
--- a text that has a place ends, with its zero byte, within the section
-pub place_within : (texts : List (List ℕ)) (t : List ℕ) (n : ℕ) → place_of texts t ≡ Some n → n + length t + 1 ≤ length (section_of texts)
-place_within [] t n at = cc
-place_within (x ∷ texts) t n at = rw (length-section_of x texts) (by (bytes_eq x t) refl (place_of texts t) (place_within texts t) at)
-  where
-    by : (first : Bool) → bytes_eq x t ≡ first → (rest : Option ℕ) → ((m : ℕ) → rest ≡ Some m → m + length t + 1 ≤ length (section_of texts))
-        → (if first then Some 0 else option_map (λ place. length x + 1 + place) rest) ≡ Some n → n + length t + 1 ≤ length x + 1 + length (section_of texts)
-    by true e rest within at =
-        let same : length x ≡ length t = ap length ((bytes_eq-Decides x t).0 e) in
-        let none : 0 ≡ n = same_Some 0 n at in
-        omega arith
-    by false e None within at = cc
-    by false e (Some m) within at =
-        let is : length x + 1 + m ≡ n = same_Some _ _ at in
-        omega (arith, within m refl)
-
--- and stands there
-pub text_at_place : (texts : List (List ℕ)) (t : List ℕ) (n : ℕ) → place_of texts t ≡ Some n → take (length t + 1) (drop n (section_of texts)) ≡ ended t
-text_at_place [] t n at = cc
-text_at_place (x ∷ texts) t n at = by (bytes_eq x t) refl (place_of texts t) (text_at_place texts t) at
-  where
-    by : (first : Bool) → bytes_eq x t ≡ first → (rest : Option ℕ) → ((m : ℕ) → rest ≡ Some m → take (length t + 1) (drop m (section_of texts)) ≡ ended t)
-        → (if first then Some 0 else option_map (λ place. length x + 1 + place) rest) ≡ Some n → take (length t + 1) (drop n (ended x ++ section_of texts)) ≡ ended t
-    by true e rest there at =
-        rw (← same_Some 0 n at, (bytes_eq-Decides x t).0 e) (take_at (ended t) (section_of texts) (length t + 1) (length_push t 0))
-    by false e None there at = cc
-    by false e (Some m) there at =
-        rw (← same_Some (length x + 1 + m) n at, ← drop-drop m (length x + 1) (ended x ++ section_of texts), drop_at (ended x) (section_of texts) (length x + 1) (length_push x 0)) (there m refl)

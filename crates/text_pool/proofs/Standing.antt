@@ -4,7 +4,7 @@ use Rattle.std.proofs.lemmas.List.Elements.{Contains-append_left, Contains-appen
 use Rattle.ds_base.specs.Texts.{ended, place_of, section_of}
 use Rattle.text_pool.specs.Joins.{all_once, joined, place_in}
 use Rattle.text_pool.proofs.FirstUses.{once-append, place_of-once}
-use Rattle.text_pool.proofs.Places.{text_at_place}
+use Rattle.ds_base.proofs.TextPlaces.{text_at_place}
 
 -- a text that has a place stands there
 at_place : (all : List (List ℕ)) (text : List ℕ) → IsSome (place_of all text) → take (length text + 1) (drop (place_in all text) (section_of all)) ≡ ended text

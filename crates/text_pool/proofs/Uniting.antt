@@ -14,7 +14,8 @@ use Rattle.text_pool.specs.Joins.{Takes, place_in}
 use Rattle.text_pool.specs.Shards.{numbers_from}
 use Rattle.text_pool.proofs.Filters.{any_kept, filter_with}
 use Rattle.text_pool.proofs.Keeping.{new_place}
-use Rattle.text_pool.proofs.Places.{is_some-place_of, place_kept, place_within}
+use Rattle.text_pool.proofs.Places.{is_some-place_of, place_kept}
+use Rattle.ds_base.proofs.TextPlaces.{place_within}
 
 -- ---- texts that have places
 

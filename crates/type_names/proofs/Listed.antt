@@ -7,7 +7,7 @@ use Rattle.std.proofs.lemmas.List.{drop_all, drop_more, get_or-replicate, get_or
 use Rattle.std.proofs.lemmas.Option.{get_or_from_slice_get, none-some, same_Some, slice_get_cases, slice_get_within}
 use Rattle.dwarf_types.specs.declared.entry.Entry.{Entry}
 use Rattle.std.specs.Prelude.{if◌then◌else◌}
-use Rattle.ds_base.specs.declared.dwarf.TheConstants.{DW_TAG_array_type}
+use Rattle.ds_base.specs.DwarfNumbers.{DW_TAG_array_type}
 use Rattle.dwarf_types.specs.Tree.{ParentsStandBefore}
 use Rattle.type_names.specs.Children.{IsListed, IsTableFrom, has_tag, is_parameter, holder, listed_from, next_listed}
 

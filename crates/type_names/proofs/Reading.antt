@@ -5,7 +5,7 @@ use Rattle.std.specs.List.{enumerate_from, filter}
 use Rattle.std.specs.Option.{option_and_then, option_map_or}
 use Rattle.std.proofs.lemmas.Bool.{both_ways, eq-eqb, eqb-true}
 use Rattle.std.proofs.lemmas.Option.{slice_get_within}
-use Rattle.ds_base.specs.declared.dwarf.TheConstants.{DW_TAG_array_type, DW_TAG_formal_parameter, DW_TAG_unspecified_parameters}
+use Rattle.ds_base.specs.DwarfNumbers.{DW_TAG_array_type, DW_TAG_formal_parameter, DW_TAG_unspecified_parameters}
 use Rattle.dwarf_types.specs.declared.entry.Entry.{Entry}
 use Rattle.type_names.specs.declared.spell.SpellError.{SpellError}
 use Rattle.type_names.specs.Children.{IsListed, has_tag, holder, is_parameter, listed_from, next_listed}

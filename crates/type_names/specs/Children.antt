@@ -2,7 +2,7 @@
 use Rattle.std.specs.Prelude.{◌≡◌, ℕ, ◌+◌, ◌<◌, ◌≤◌, ◌==◌, ◌||◌, Bool, false, List, length, drop, slice_get, slice_index_or, Option, Some, None, if◌then◌else◌}
 use Rattle.std.specs.List.{enumerate_from, filter}
 use Rattle.std.specs.Option.{option_and_then, option_map, option_map_or}
-use Rattle.ds_base.specs.declared.dwarf.TheConstants as dw
+use Rattle.ds_base.specs.DwarfNumbers as dw
 use Rattle.dwarf_types.specs.declared.entry.Entry.{Entry}
 
 -- the tag of entry k is this one

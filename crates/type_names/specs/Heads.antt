@@ -2,7 +2,7 @@
 use Rattle.std.specs.Prelude.{ℕ, ◌==◌, ◌||◌, ◌&&◌, not, Bool, false, List, slice_get, slice_index_or, Option, None, is_some, if◌then◌else◌, codes}
 use Rattle.std.specs.List.{enumerate_from, list_any, list_all}
 use Rattle.std.specs.Option.{option_and_then, option_map_or}
-use Rattle.ds_base.specs.declared.dwarf.TheConstants as dw
+use Rattle.ds_base.specs.DwarfNumbers as dw
 use Rattle.dwarf_types.specs.declared.analysis.Analysis.{Analysis}
 use Rattle.dwarf_types.specs.declared.entry.Entry.{Entry}
 use Rattle.type_names.specs.Tree.{above, children, is_at_top, is_below, lineage, parent_of, subtree}

@@ -3,7 +3,7 @@ use Rattle.std.specs.Prelude.{ℕ, ◌==◌, ◌||◌, ◌&&◌, not, Bool, true
 use Rattle.std.specs.List.{filter_map, filter}
 use Rattle.std.specs.Option.{option_and_then, option_map, option_map_or}
 use Rattle.std.specs.Str.{bytes_eq}
-use Rattle.ds_base.specs.declared.dwarf.TheConstants as dw
+use Rattle.ds_base.specs.DwarfNumbers as dw
 use Rattle.dwarf_types.specs.declared.entry.Entry.{Entry}
 use Rattle.type_names.specs.Tree.{below_unit, children}
 use Rattle.type_names.specs.Entries.{Text, is_named_type, linkage_of, name_of}

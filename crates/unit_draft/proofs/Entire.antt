@@ -7,7 +7,7 @@ use Rattle.std.proofs.lemmas.List.{same_lists}
 use Rattle.std.proofs.lemmas.List.Concat.{flat_map-append}
 use Rattle.std.proofs.lemmas.List.Sums.{sum_by-cons}
 use Rattle.byteorder.specs.Endian.{little_bytes}
-use Rattle.ds_base.specs.declared.dwarf.TheConstants.{DW_UT_compile}
+use Rattle.ds_base.specs.DwarfNumbers.{DW_UT_compile}
 use Rattle.ds_base.specs.FirstUse.{once}
 use Rattle.ds_base.specs.Texts.{with_text}
 use Rattle.text_pool.proofs.FirstUses.{once-append}

@@ -1,7 +1,7 @@
 //! Range lists and location lists (DWARF 4, sections 2.17.3 and 2.6.2; DWARF 5, sections 7.25, 7.28 and 7.29).
 
 ghost use Rattle.std.specs.Prelude.{◌≡◌, ◌++◌, OnOk};
-ghost use Rattle.ds_base.specs.declared.dwarf.TheConstants.{DW_LLE_start_end, DW_RLE_start_end};
+ghost use Rattle.ds_base.specs.DwarfNumbers.{DW_LLE_start_end, DW_RLE_start_end};
 ghost use Rattle.dwarf_types.specs.Lists.{end_of_list, kind_bytes, location_bytes, location_list_bytes, range_bytes, range_list_bytes, size_bytes, span_bytes};
 ghost use Rattle.patches.specs.Filling.{Filling, filled};
 ghost use Rattle.unit_draft.specs.Based.{AppendsBased};

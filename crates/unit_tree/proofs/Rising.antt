@@ -13,7 +13,7 @@ use Rattle.unit_tree.specs.declared.attribute.UnitContext.{UnitContext}
 use Rattle.unit_tree.specs.declared.header.Header.{Header}
 use Rattle.unit_tree.specs.Entry.{Parsed, entry_at, root_at, Walk, child_at, children_at, tree_at}
 use Rattle.unit_tree.specs.Header.{info_at, behind_length, header_at}
-use Rattle.ds_base.specs.declared.dwarf.TheConstants.{LENGTH_RESERVED}
+use Rattle.ds_base.specs.DwarfNumbers.{LENGTH_RESERVED}
 use Rattle.unit_tree.specs.Reference.{IsRising}
 use Rattle.unit_tree.specs.Unit.{nothing, parsed_of, unit_at, units_at}
 use Rattle.ds_base.proofs.Onward.{Onward, Further, stays, onward_then, further_then, end_kept, place_rises, number_fits, number_onward, uleb_further}

@@ -4,7 +4,7 @@ use Rattle.std.specs.Prelude.{slice_get, if◌then◌else◌}
 use Rattle.std.specs.List.{find}
 use Rattle.std.specs.Option.{option_map_or, option_to_list}
 use Rattle.std.proofs.lemmas.Bool.{cases_eq, ne_eqb}
-use Rattle.ds_base.specs.declared.dwarf.TheConstants.{DW_AT_addr_base, DW_AT_loclists_base, DW_AT_ranges, DW_AT_rnglists_base, DW_AT_stmt_list, DW_AT_str_offsets_base, DW_FORM_sec_offset}
+use Rattle.ds_base.specs.DwarfNumbers.{DW_AT_addr_base, DW_AT_loclists_base, DW_AT_ranges, DW_AT_rnglists_base, DW_AT_stmt_list, DW_AT_str_offsets_base, DW_FORM_sec_offset}
 use Rattle.ds_base.specs.declared.fault.Fault.{Fault}
 use Rattle.ds_base.specs.Spot.{Spot}
 use Rattle.ds_base.specs.Reading.{◌>>=◌}

@@ -3,7 +3,7 @@ use Rattle.std.proofs.Common.{◌≡◌, ℕ, zero, suc, ◌+◌, ◌-◌, ◌==
 use Rattle.std.specs.Prelude.{nat_lt, is_none, if◌then◌else◌}
 use Rattle.std.specs.List.{list_all}
 use Rattle.std.proofs.lemmas.Bool.{cases_eq, eq-eqb, eqb-true, ne_eqb}
-use Rattle.ds_base.specs.declared.dwarf.TheConstants.{DW_TAG_compile_unit, DW_UT_compile}
+use Rattle.ds_base.specs.DwarfNumbers.{DW_TAG_compile_unit, DW_UT_compile}
 use Rattle.ds_base.specs.declared.fault.Fault.{Fault}
 use Rattle.ds_base.specs.declared.fault.Kind.TheVariants as kinds
 use Rattle.ds_base.specs.Spot.{Spot, fault_at}
@@ -17,7 +17,7 @@ use Rattle.index_tables.specs.declared.bases.Bases.{Bases}
 use Rattle.index_tables.specs.Bases.{bases_in}
 use Rattle.unit_tree.specs.declared.attribute.UnitContext.{UnitContext}
 use Rattle.unit_tree.specs.declared.header.Header.{Header}
-use Rattle.ds_base.specs.declared.dwarf.TheConstants.{DWARF_4, DWARF_5, ADDRESS_SIZE}
+use Rattle.ds_base.specs.DwarfNumbers.{DWARF_4, DWARF_5, ADDRESS_SIZE}
 use Rattle.unit_tree.specs.Attribute.{Described, attrs_at}
 use Rattle.unit_tree.specs.Entry.{Parsed, with_entry, entry_at, is_full, is_split, first_at, bases_at, root_at, innermost, closed, opened, Walk, listed_at, child_at, children_at, tree_at}
 use Rattle.unit_tree.specs.Header.{info_at, behind_length, is_bad_length, fields_4_at, fields_5_at, fields_at, header_at}

@@ -2,7 +2,7 @@
 use Rattle.std.specs.Prelude.{ℕ, ◌+◌, ◌-◌, ◌^◌, ◌==◌, ◌&&◌, Bool, not, List, [], ◌∷◌, ◌++◌, length, min, Option, Some, None, Result, Ok, nat_lt, if◌then◌else◌}
 use Rattle.std.specs.List.{list_any}
 use Rattle.std.specs.Option.{option_map, option_map_or, option_to_list}
-use Rattle.ds_base.specs.declared.dwarf.TheConstants.{DW_AT_stmt_list}
+use Rattle.ds_base.specs.DwarfNumbers.{DW_AT_stmt_list}
 use Rattle.ds_base.specs.declared.fault.Fault.{Fault}
 use Rattle.ds_base.specs.declared.fault.Kind.TheVariants.{BadIndex, BadOffset}
 use Rattle.ds_base.specs.Spot.{Spot, fault_at}

@@ -1,7 +1,7 @@
 -- The entries of a unit (DWARF 4, sections 2.3 and 7.5.2; DWARF 5, sections 2.3 and 7.5.2), as they are read from the left: each with its parent, behind those before.
 use Rattle.std.specs.Prelude.{ℕ, zero, suc, ◌-◌, ◌^◌, ◌==◌, ◌&&◌, ◌||◌, Bool, true, not, List, [], ◌∷◌, ◌++◌, length, take, slice_get, Option, None, is_none, Result, Ok, Err, nat_lt, if◌then◌else◌}
 use Rattle.std.specs.List.{find, list_any}
-use Rattle.ds_base.specs.declared.dwarf.TheConstants.{DW_TAG_compile_unit, DW_AT_dwo_name, DW_AT_GNU_dwo_name}
+use Rattle.ds_base.specs.DwarfNumbers.{DW_TAG_compile_unit, DW_AT_dwo_name, DW_AT_GNU_dwo_name}
 use Rattle.ds_base.specs.declared.fault.Fault.{Fault}
 use Rattle.ds_base.specs.declared.fault.Kind.TheVariants as kinds
 use Rattle.ds_base.specs.Spot.{Spot, fault_at}

@@ -1,6 +1,6 @@
 -- A unit's header (DWARF 4, section 7.5.1.1; DWARF 5, section 7.5.1), from the place where the unit begins.
 use Rattle.std.specs.Prelude.{ℕ, ◌+◌, ◌-◌, ◌==◌, Bool, not, ◌||◌, ◌&&◌, length, nat_lt, Result, Ok, if◌then◌else◌}
-use Rattle.ds_base.specs.declared.dwarf.TheConstants.{DW_UT_compile, LENGTH_RESERVED, UNIT_HEADER_SIZE, UNIT_5_HEADER_SIZE}
+use Rattle.ds_base.specs.DwarfNumbers.{DW_UT_compile, LENGTH_RESERVED, UNIT_HEADER_SIZE, UNIT_5_HEADER_SIZE}
 use Rattle.ds_base.specs.declared.fault.Fault.{Fault}
 use Rattle.ds_base.specs.declared.fault.Kind.TheVariants as kinds
 use Rattle.ds_base.specs.declared.fault.Part.TheVariants as parts
@@ -8,7 +8,7 @@ use Rattle.ds_base.specs.Spot.{Spot, fault_at}
 use Rattle.ds_base.specs.Reading.{◌>>=◌, refuse_if, number_at}
 use Rattle.dwarf_types.specs.SectionBytes.{SectionBytes}
 use Rattle.unit_tree.specs.declared.header.Header.{Header}
-use Rattle.ds_base.specs.declared.dwarf.TheConstants.{DWARF_4, DWARF_5, ADDRESS_SIZE}
+use Rattle.ds_base.specs.DwarfNumbers.{DWARF_4, DWARF_5, ADDRESS_SIZE}
 
 -- so many bytes stand before the first entry of a unit of a version
 abbrev pub header_size : ℕ → ℕ

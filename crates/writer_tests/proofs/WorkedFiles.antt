@@ -4,8 +4,8 @@ use Rattle.std.specs.Prelude.{codes}
 use Rattle.std.specs.Fmt.{digits}
 use Rattle.std.specs.Str.{chars, is_utf8}
 use lib.Utf8.{encode}
-use Rattle.ds_base.specs.declared.dwarf.TheConstants.{DW_AT_stmt_list, DW_TAG_compile_unit}
-use Rattle.ds_base.specs.declared.macho.TheConstants.{CPU_TYPE_X86_64}
+use Rattle.ds_base.specs.DwarfNumbers.{DW_AT_stmt_list, DW_TAG_compile_unit}
+use Rattle.ds_base.specs.MachONumbers.{CPU_TYPE_X86_64}
 use Rattle.ds_base.specs.Leb.{sleb, uleb}
 use Rattle.dwarf_types.specs.declared.graph.OutValue.TheVariants as values
 use Rattle.dwarf_types.specs.declared.lines.OutLines.{OutLines}

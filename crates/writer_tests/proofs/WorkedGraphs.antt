@@ -1,6 +1,6 @@
 -- Graphs with a unit of version 5, and their sections as they stand in a file, byte for byte. The bytes wanted were computed apart from these definitions.
 use Rattle.std.proofs.Common.{◌≡◌, ℕ, true, false, [], ◌∷◌, Some, None, refl}
-use Rattle.ds_base.specs.declared.dwarf.TheConstants.{DW_AT_location, DW_AT_low_pc, DW_AT_name, DW_AT_ranges, DW_AT_stmt_list, DW_OP_dup, DW_OP_stack_value, DW_TAG_compile_unit, DW_TAG_variable}
+use Rattle.ds_base.specs.DwarfNumbers.{DW_AT_location, DW_AT_low_pc, DW_AT_name, DW_AT_ranges, DW_AT_stmt_list, DW_OP_dup, DW_OP_stack_value, DW_TAG_compile_unit, DW_TAG_variable}
 use Rattle.ds_base.specs.declared.fault.Part.TheVariants as parts
 use Rattle.ds_base.specs.Leb.{sleb, uleb}
 use Rattle.dwarf_types.specs.declared.address.Span.{Span}

@@ -1,7 +1,8 @@
 use Rattle.std.proofs.Common.{◌≡◌}
 use Rattle.std.specs.Slice.Iter.{iter_rest}
 use Rattle.std.specs.List.{filter_map}
-use Rattle.addr_map.specs.Ranges.{in_order, range_part}
+use Rattle.ds_base.specs.InOrder.{in_order}
+use Rattle.addr_map.specs.Ranges.{range_part}
 use Rattle.ds_base.proofs.Backwards.{Done}
 use Rattle.addr_map.proofs.Order.{by_key}
 use Rattle.addr_map.proofs.ranges.ranges_in_order.Given as goal

@@ -1,6 +1,6 @@
 use Rattle.std.proofs.Common.{◌≡◌, ℕ, ◌+◌, true, List, [], Result, IfOk, OnOk, length, map, sym, ap, subst, ◌∙◌, arith}
 use Rattle.std.proofs.lemmas.List.{length-map}
-use Rattle.ds_base.specs.declared.dwarf.TheConstants.{DW_TAG_compile_unit}
+use Rattle.ds_base.specs.DwarfNumbers.{DW_TAG_compile_unit}
 use Rattle.ds_base.specs.declared.fault.NoMemory.{NoMemory}
 use Rattle.dwarf_types.specs.Built.{Built}
 use Rattle.dwarf_types.specs.declared.entry.Entry.{Entry}

@@ -1,5 +1,5 @@
 use Rattle.std.proofs.Common.{ℕ, List, ◌++◌, ap, ◌∙◌}
-use Rattle.ds_base.specs.declared.macho.TheConstants.{LC_SEGMENT_64, SEG_DWARF}
+use Rattle.ds_base.specs.MachONumbers.{LC_SEGMENT_64, SEG_DWARF}
 use Rattle.macho_read.specs.Spelling.{command_bytes, padded, segment_fields, spelled}
 use Rattle.macho_write.specs.declared.records.SegmentNumbers.{SegmentNumbers}
 use Rattle.macho_write.specs.Records.{segment_with}

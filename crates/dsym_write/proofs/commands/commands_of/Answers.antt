@@ -1,5 +1,5 @@
 use Rattle.std.proofs.Common.{◌≡◌, ℕ, List, [], ◌++◌, false, append_assoc}
-use Rattle.ds_base.specs.declared.macho.TheConstants.{MH_DSYM}
+use Rattle.ds_base.specs.MachONumbers.{MH_DSYM}
 use Rattle.macho_read.specs.ImageSpelling.{command_of}
 use Rattle.macho_read.specs.Spelling.{command_bytes}
 use Rattle.macho_write.specs.Records.{commands_text, header_bytes, segment_commands, symbol_table, uuid_command}

@@ -1,5 +1,5 @@
 use Rattle.std.proofs.Common.{◌++◌, List, ℕ, ap, ◌∙◌}
-use Rattle.ds_base.specs.declared.macho.TheConstants.{SEG_DWARF}
+use Rattle.ds_base.specs.MachONumbers.{SEG_DWARF}
 use Rattle.macho_read.specs.Spelling.{padded, section_fields, spelled}
 use Rattle.macho_write.proofs.Padding.{padded_once}
 use Rattle.dsym_write.specs.Bundle.{dwarf_section, name_of_part}

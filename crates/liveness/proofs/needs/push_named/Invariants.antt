@@ -1,7 +1,7 @@
 use Rattle.std.proofs.Common.{◌≡◌, ◌==◌, ◌++◌, take, None, if◌then◌else◌}
 use Rattle.std.specs.List.{flat_map}
 use Rattle.std.specs.Option.{option_to_list}
-use Rattle.ds_base.specs.declared.dwarf.TheConstants.{DW_AT_sibling}
+use Rattle.ds_base.specs.DwarfNumbers.{DW_AT_sibling}
 use Rattle.dwarf_types.specs.declared.entry.Attr.{Attr}
 use Rattle.dwarf_types.specs.Live.{op_bases, operations_of, target_in}
 use Rattle.liveness.proofs.needs.push_named.Given as goal

@@ -1,6 +1,6 @@
 use Rattle.std.proofs.Common.{ℕ, List, ◌++◌, ap, ◌∙◌}
 use Rattle.std.specs.List.{flat_map}
-use Rattle.ds_base.specs.declared.macho.TheConstants.{LC_SEGMENT_64}
+use Rattle.ds_base.specs.MachONumbers.{LC_SEGMENT_64}
 use Rattle.macho_read.specs.Spelling.{command_bytes, padded, section_bytes, segment_fields, spelled}
 use Rattle.macho_write.specs.Records.{placed_sections}
 use Rattle.macho_write.proofs.OwnCommands.{whole_body}

@@ -1,6 +1,6 @@
 use Rattle.std.proofs.Common.{ℕ, List, [], ◌++◌, append_assoc, ap, ◌∙◌}
 use Rattle.std.specs.List.{flat_map}
-use Rattle.ds_base.specs.declared.macho.TheConstants.{LC_SEGMENT_64}
+use Rattle.ds_base.specs.MachONumbers.{LC_SEGMENT_64}
 use Rattle.macho_read.specs.Spelling.{command_bytes, padded, section_bytes, segment_fields, spelled}
 use Rattle.macho_write.proofs.OwnCommands.{whole_body}
 use Rattle.sample_objects.specs.ObjectFile.{debug_sections, segment_of, text_section}

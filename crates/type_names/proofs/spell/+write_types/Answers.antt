@@ -2,7 +2,7 @@ use Rattle.std.proofs.Common.{◌≡◌, ◌-◌, ◌+◌, ◌<◌, ◌∙◌, �
 use Rattle.std.specs.Prelude.{codes}
 use Rattle.std.proofs.lemmas.Result.{err_from_is_err_and}
 use Rattle.std.proofs.lemmas.Option.{slice_get_within}
-use Rattle.ds_base.specs.declared.dwarf.TheConstants.{DW_AT_containing_type}
+use Rattle.ds_base.specs.DwarfNumbers.{DW_AT_containing_type}
 use Rattle.dwarf_types.specs.declared.value.Value.{Value}
 use Rattle.dwarf_types.specs.Moves.{value_of}
 use Rattle.type_names.specs.Children.{next_listed}

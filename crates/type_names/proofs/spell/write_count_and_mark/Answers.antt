@@ -1,6 +1,6 @@
 use Rattle.std.proofs.Common.{Some}
 use Rattle.std.specs.Prelude.{codes}
-use Rattle.ds_base.specs.declared.dwarf.TheConstants.{DW_AT_count, DW_AT_upper_bound}
+use Rattle.ds_base.specs.DwarfNumbers.{DW_AT_count, DW_AT_upper_bound}
 use Rattle.dwarf_types.specs.Moves.{value_of}
 use Rattle.type_names.specs.Spell.{count_in}
 use Rattle.std.proofs.lemmas.Result.{err_from_is_err_and}

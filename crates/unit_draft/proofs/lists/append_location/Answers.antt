@@ -1,6 +1,6 @@
 use Rattle.std.proofs.Common.{◌++◌, List, ℕ, ap, sym, ◌∙◌}
 use Rattle.byteorder.specs.Endian.{little_bytes}
-use Rattle.ds_base.specs.declared.dwarf.TheConstants.{DW_LLE_start_end}
+use Rattle.ds_base.specs.DwarfNumbers.{DW_LLE_start_end}
 use Rattle.dwarf_types.specs.declared.parts.ExprPart.{ExprPart}
 use Rattle.dwarf_types.specs.Expressions.{expression_bytes}
 use Rattle.dwarf_types.specs.Lists.{kind_bytes, size_bytes}
