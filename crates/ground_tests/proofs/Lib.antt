@@ -1,2 +1,3 @@
 pub mod WorkedItems
 pub mod WorkedNumbers
+pub mod WorkedStandards

@@ -1,4 +1,5 @@
 pub mod Object
+pub mod WorkedEntries
 pub mod WorkedExpressions
 pub mod WorkedLines
 pub mod WorkedLists
