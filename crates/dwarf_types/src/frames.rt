@@ -7,6 +7,7 @@ ghost use Rattle.dwarf_types.specs.SeenFrames.{at_addresses, frame_seen, raw_fra
 
 use crate::address::Addr;
 use crate::frame_columns::{Before, FrameParts, FrameSides, moved_parts};
+use crate::runs::held_by;
 use ds_base::{Bytes, NoMemory};
 use std::alloc::Global;
 use std::marker::Model;
@@ -215,6 +216,20 @@ impl OutFrames {
             rows: Vec::new(alloc),
             sides: FrameSides::new(alloc),
         }
+    }
+
+    /// A copy.
+    pub(crate) fn copy(&self, alloc: Global) -> Result<OutFrames, NoMemory>
+        ensures { IfOk result (λ it. it ≡ self.now) }
+    {
+        let rows = Vec::from_slice(alloc, &self.rows)?;
+        let sides = self.sides.copy(alloc)?;
+        Ok(OutFrames { rows, sides })
+    }
+
+    /// How many bytes they hold.
+    pub(crate) fn held_bytes(&self) -> u64 {
+        held_by(&self.rows, size_of::<OutRow>()).saturating_add(self.sides.held_bytes())
     }
 
     /// How many frames there are.
