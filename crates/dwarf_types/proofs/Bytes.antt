@@ -1,5 +1,5 @@
 -- Lists of bytes, put together of lists of bytes.
-use Rattle.std.proofs.Common.{◌≡◌, ◌<◌, ◌≤◌, ◌+◌, ◌/◌, ◌%◌, ◌^◌, ◌++◌, ◌∷◌, ℕ, zero, suc, ℤ, pos, negsuc, Bool, true, false, List, [], All, replicate, flat_map, if◌then◌else◌, subst, sym, arith}
+use Rattle.std.proofs.Common.{◌≡◌, ◌<◌, ◌+◌, ◌/◌, ◌^◌, ◌++◌, ◌∷◌, ℕ, zero, suc, ℤ, pos, negsuc, Bool, true, false, List, [], All, replicate, flat_map, if◌then◌else◌, subst, sym, arith}
 use Rattle.std.specs.Int.{byte_at, bytes_low_first}
 use Rattle.std.specs.List.{enumerate_from}
 use Rattle.std.proofs.lemmas.List.Elements.{All-head, All-tail}

@@ -1,10 +1,8 @@
 -- Whole expressions are bytes.
-use Rattle.std.proofs.Common.{◌≡◌, ◌++◌, ◌∷◌, ℕ, Bool, false, List, [], All, Option, flat_map, sym, subst, arith}
+use Rattle.std.proofs.Common.{◌∷◌, ℕ, false, List, [], All, Option}
 use Rattle.std.specs.List.{concat}
 use Rattle.std.specs.Option.{option_map_or}
 use Rattle.std.proofs.lemmas.List.Elements.{All-head, All-tail}
-use Rattle.byteorder.specs.Endian.{little_bytes}
-use Rattle.ds_base.specs.Leb.{leb_digits, uleb}
 use Rattle.dwarf_types.specs.declared.graph.Node.{Node}
 use Rattle.dwarf_types.specs.declared.operands.Named.{Named}
 use Rattle.dwarf_types.specs.declared.operands.Operands.{Operands}
@@ -13,10 +11,10 @@ use Rattle.dwarf_types.specs.declared.parts.ExprPart.{ExprPart}
 use Rattle.dwarf_types.specs.declared.parts.ExprPart.TheVariants as parts
 use Rattle.dwarf_types.specs.declared.parts.PlainPart.{PlainPart}
 use Rattle.dwarf_types.specs.declared.parts.PlainPart.TheVariants as plain
-use Rattle.dwarf_types.specs.Expressions.{base_bytes, expression_bytes, inner_bytes, inner_len, part_bytes, plain_part_bytes, typed_bytes}
-use Rattle.dwarf_types.specs.Spelled.{AreBytes, Followed, IsCopy, IsNumber, IsSleb, IsUleb, Made}
+use Rattle.dwarf_types.specs.Expressions.{expression_bytes, inner_len, part_bytes, plain_part_bytes, typed_bytes}
+use Rattle.dwarf_types.specs.Spelled.{Followed, IsCopy, IsNumber, IsUleb}
 use Rattle.dwarf_types.specs.SpelledOperands.{SpellsBlock, SpellsOperands}
-use Rattle.dwarf_types.specs.WholeParts.{AreOperations, IsOperation, IsTyped, IsWhole, IsWholeInner, IsWholePart, IsWholePlainPart, SpellsAround}
+use Rattle.dwarf_types.specs.WholeParts.{AreOperations, IsOperation, IsTyped, IsWhole, IsWholePart, IsWholePlainPart, SpellsAround}
 use Rattle.dwarf_types.proofs.Bytes.{Bytes, all_have, both, byte, digits, given, none, number, same_bytes, spelled, unsigned}
 use Rattle.dwarf_types.proofs.OperationCodes.{code_small}
 

@@ -1,9 +1,8 @@
 -- The line tables of well units are bytes.
-use Rattle.std.proofs.Common.{inl, inr, ◌⊎◌, ◌≡◌, ◌<◌, ◌≤◌, ◌+◌, ◌-◌, ◌==◌, ◌&&◌, ◌++◌, ◌∷◌, not, ℕ, pos, ◌-ℤ◌, Bool, true, false, List, [], All, Option, Some, None, length, nat_le, flat_map, refl, if◌then◌else◌, arith}
+use Rattle.std.proofs.Common.{inl, inr, ◌⊎◌, ◌≡◌, ◌<◌, ◌+◌, ◌-◌, ◌==◌, ◌&&◌, ◌++◌, ◌∷◌, not, ℕ, pos, ◌-ℤ◌, Bool, true, false, List, [], Option, Some, None, length, nat_le, flat_map, refl, if◌then◌else◌, arith}
 use Rattle.std.specs.Prelude.{IfSome}
 use Rattle.std.specs.Option.{option_map_or, unwrap_or}
 use Rattle.std.proofs.lemmas.Bool.{leb-true}
-use Rattle.std.proofs.lemmas.List.Elements.{All-head, All-tail}
 use Rattle.ds_base.specs.DwarfNumbers.{DW_FORM_data16, DW_FORM_line_strp, DW_FORM_udata, DW_LNCT_MD5, DW_LNCT_directory_index, DW_LNCT_path, DW_LNCT_size, DW_LNCT_timestamp, DW_LNE_end_sequence, DW_LNE_set_address, DW_LNE_set_discriminator, DW_LNS_advance_line, DW_LNS_advance_pc, DW_LNS_copy, DW_LNS_extended_op, DW_LNS_negate_stmt, DW_LNS_set_basic_block, DW_LNS_set_column, DW_LNS_set_epilogue_begin, DW_LNS_set_file, DW_LNS_set_isa, DW_LNS_set_prologue_end}
 use Rattle.ds_base.specs.Texts.{ended}
 use Rattle.dwarf_types.specs.declared.lines.FileName.{FileName}
@@ -11,8 +10,8 @@ use Rattle.dwarf_types.specs.declared.lines.OutLines.{OutLines}
 use Rattle.dwarf_types.specs.declared.lines.Row.{Row}
 use Rattle.dwarf_types.specs.declared.lines.Sequence.{Sequence}
 use Rattle.dwarf_types.specs.Abbreviations.{same_flag}
-use Rattle.dwarf_types.specs.LineProgram.{advance_line, advance_pc, append_row, end_sequence, extended, first_address, is_special, line_range, opcode_base, registers_after, registers_at, row_bytes, rows_bytes, sequence_bytes, set_address, set_discriminator, set_number, special_opcode, when}
-use Rattle.dwarf_types.specs.LineTable.{digest_bytes, digest_format, directories_bytes, directory_entry, directory_format, fields_bytes, file_bytes, file_entry, file_format, files_bytes, format, have_digests, line_table_bytes, names_bytes, program_bytes, standard_opcode_lengths, tables_bytes, version_bytes}
+use Rattle.dwarf_types.specs.LineProgram.{advance_line, advance_pc, append_row, extended, first_address, is_special, line_range, opcode_base, registers_after, registers_at, row_bytes, rows_bytes, sequence_bytes, set_address, set_discriminator, set_number, special_opcode, when}
+use Rattle.dwarf_types.specs.LineTable.{directories_bytes, directory_entry, directory_format, fields_bytes, file_bytes, file_entry, file_format, files_bytes, format, have_digests, line_table_bytes, names_bytes, program_bytes, standard_opcode_lengths, tables_bytes, version_bytes}
 use Rattle.dwarf_types.specs.WellLines.{HaveDigests, IsDigest, IsFile, IsLineTable, IsPath}
 use Rattle.dwarf_types.specs.WellLines.HaveDigests.{each_has, none_has}
 use Rattle.dwarf_types.proofs.Bytes.{Bytes, all_have, both, byte, either, ended_text, given, none, number, signed, unsigned}

@@ -1,5 +1,5 @@
 -- The abbreviations, entries, lists and addresses of well units are bytes.
-use Rattle.std.proofs.Common.{◌≡◌, ◌<◌, ◌+◌, ◌-◌, ◌==◌, ◌++◌, ◌∷◌, ℕ, Bool, true, false, List, [], All, length, map, flat_map, if◌then◌else◌, arith}
+use Rattle.std.proofs.Common.{◌<◌, ◌+◌, ◌-◌, ◌==◌, ◌++◌, ◌∷◌, ℕ, Bool, true, false, List, [], All, length, map, flat_map, if◌then◌else◌, arith}
 use Rattle.std.specs.Int.{w64, cast_signed}
 use Rattle.std.specs.List.{enumerate_from}
 use Rattle.std.proofs.lemmas.List.Elements.{All-head, All-tail}

@@ -1,11 +1,10 @@
 -- Each section of a well graph is bytes.
-use Rattle.std.proofs.Common.{◌≡◌, ◌==◌, ◌++◌, ◌∷◌, not, ℕ, Bool, true, false, List, [], All, Option, Some, None, filter, map, flat_map, length, ◌+◌, if◌then◌else◌}
+use Rattle.std.proofs.Common.{◌==◌, ◌++◌, ◌∷◌, not, ℕ, Bool, true, false, List, [], All, Option, Some, None, map, flat_map, length, ◌+◌, if◌then◌else◌}
 use Rattle.std.specs.Prelude.{IfSome}
 use Rattle.std.specs.List.{filter_map}
 use Rattle.std.specs.Option.{option_map_or}
 use Rattle.std.specs.Str.{bytes_eq}
 use Rattle.std.proofs.lemmas.List.Elements.{All-append, All-cons, All-filter, All-from_recursion, All-head, All-nil, All-tail}
-use Rattle.byteorder.specs.Endian.{little_bytes}
 use Rattle.ds_base.specs.DwarfNumbers.{DW_CIE_ID}
 use Rattle.ds_base.specs.FirstUse.{once}
 use Rattle.dwarf_types.specs.declared.frames.OutFrame.{OutFrame}
@@ -16,7 +15,6 @@ use Rattle.dwarf_types.specs.declared.graph.OutUnit.{OutUnit}
 use Rattle.dwarf_types.specs.declared.graph.OutValue.{OutValue}
 use Rattle.dwarf_types.specs.declared.graph.OutValue.TheVariants as values
 use Rattle.dwarf_types.specs.declared.graph.Target.{Target}
-use Rattle.dwarf_types.specs.declared.graph.Written.{Written}
 use Rattle.dwarf_types.specs.declared.lines.FileName.{FileName}
 use Rattle.dwarf_types.specs.declared.lines.OutLines.{OutLines}
 use Rattle.dwarf_types.specs.Abbreviations.{table_bytes}

@@ -254,16 +254,6 @@ impl OutFrames {
         }
     }
 
-    /// Puts a frame last, with a common information entry of its own.
-    pub fn push(&mut self, cie: &[u8], address: u64, len: u64, code: &[u8]) -> Result<(), NoMemory>
-        ensures ok { OnOk result (self.new ≡ self.old ++ record { cie = cie.now; address = address; length = len; code = code.now } ∷ []) }
-        ensures unchanged { OnErr result (self.new ≡ self.old) }
-    {
-        let parts = self.sides.put(cie, len, code)?;
-        self.rows.push(OutRow { address, parts })?;
-        Ok(())
-    }
-
     /// Puts the frames of another list behind.
     pub fn append(&mut self, other: &OutFrames) -> Result<(), NoMemory>
         ensures ok { OnOk result (self.new ≡ self.old ++ other.now) }

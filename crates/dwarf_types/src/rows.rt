@@ -138,7 +138,7 @@ impl<'a> Rows<'a> {
 
     /// Whether there are none.
     #[tactic(auto, unfolding(crate::specs::SeenLines::rows_seen))]
-    pub fn is_empty(&self) -> bool
+    fn is_empty(&self) -> bool
         ensures { result ≡ nat_eq (length (rows_seen self.now)) 0 }
     {
         self.packed.is_empty()

@@ -137,18 +137,26 @@ impl Sides {
     pub(crate) fn copy(&self, alloc: Global) -> Result<Sides, NoMemory>
         ensures { IfOk result (AreCopies self.now) }
     {
-        Ok(Sides {
-            large: Vec::from_slice(alloc, &self.large)?,
-            bytes: Vec::from_slice(alloc, &self.bytes)?,
-            runs: Vec::from_slice(alloc, &self.runs)?,
-            lists: Vec::from_slice(alloc, &self.lists)?,
-            places: Vec::from_slice(alloc, &self.places)?,
-            addresses: Vec::from_slice(alloc, &self.addresses)?,
-            spans: Vec::from_slice(alloc, &self.spans)?,
-            ops: self.ops.copy(alloc)?,
-            inner: Vec::from_slice(alloc, &self.inner)?,
-            items: Vec::from_slice(alloc, &self.items)?,
-        })
+        let mut made = Sides::new(alloc);
+        made.take_copies(alloc, self)?;
+        Ok(made)
+    }
+
+    /// Takes copies of other columns in place of these.
+    fn take_copies(&mut self, alloc: Global, other: &Sides) -> Result<(), NoMemory>
+        ensures { OnOk result (AreCopies other.now self.new) }
+    {
+        self.large = Vec::from_slice(alloc, &other.large)?;
+        self.bytes = Vec::from_slice(alloc, &other.bytes)?;
+        self.runs = Vec::from_slice(alloc, &other.runs)?;
+        self.lists = Vec::from_slice(alloc, &other.lists)?;
+        self.places = Vec::from_slice(alloc, &other.places)?;
+        self.addresses = Vec::from_slice(alloc, &other.addresses)?;
+        self.spans = Vec::from_slice(alloc, &other.spans)?;
+        self.ops = other.ops.copy(alloc)?;
+        self.inner = Vec::from_slice(alloc, &other.inner)?;
+        self.items = Vec::from_slice(alloc, &other.items)?;
+        Ok(())
     }
 
     /// How many bytes they hold.
