@@ -78,10 +78,6 @@ pub raw_push : (old new : FrameSides) → SidesGrow old new → AreCies old → 
 raw_push old new g cies rows r cie code held content own =
     map_push (raw_frame_of new) rows r ∙ ap₂ (λ (xs : List RawFrame) (x : RawFrame). xs ++ x ∷ []) (raw_grows old new g cies rows held) (ap₂ (raw_with r) content own)
 
-pub out_push : (old new : FrameSides) → SidesGrow old new → AreCies old → (rows : List OutRow) (r : OutRow) (cie code : List ℕ) → All (OutHeld old) rows → content_of new r.parts.cie ≡ cie → code_of new r.parts ≡ code → map (out_frame_of new) (rows ++ r ∷ []) ≡ map (out_frame_of old) rows ++ out_with r cie code ∷ []
-out_push old new g cies rows r cie code held content own =
-    map_push (out_frame_of new) rows r ∙ ap₂ (λ (xs : List OutFrame) (x : OutFrame). xs ++ x ∷ []) (out_grows old new g cies rows held) (ap₂ (out_with r) content own)
-
 -- the content that a frame has of its row
 pub content_read : (s : FrameSides) (rows : List RawRow) (k : ℕ) (r : RawRow) (f : RawFrame) → k < length rows → r ≡ get_or rows k r → slice_get (map (raw_frame_of s) rows) k ≡ Some f → content_of s r.parts.cie ≡ f.cie
 content_read s rows k r f lt is its =

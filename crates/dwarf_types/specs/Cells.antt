@@ -127,6 +127,19 @@ pub record Grows (old new : Sides) : Type 0 where
   pub inner : Begins old.inner.items new.inner.items
   pub items : Begins old.items.items new.items.items
 
+-- each column has what another one has
+pub record AreCopies (old new : Sides) : Type 0 where
+  pub large : new.large.items ≡ old.large.items
+  pub bytes : new.bytes.items ≡ old.bytes.items
+  pub runs : new.runs.items ≡ old.runs.items
+  pub lists : new.lists.items ≡ old.lists.items
+  pub places : new.places.items ≡ old.places.items
+  pub addresses : new.addresses.items ≡ old.addresses.items
+  pub spans : new.spans.items ≡ old.spans.items
+  pub ops : new.ops ≡ old.ops
+  pub inner : new.inner.items ≡ old.inner.items
+  pub items : new.items.items ≡ old.items.items
+
 -- ---- how many items the columns have
 
 -- in those into which only values that are read are put

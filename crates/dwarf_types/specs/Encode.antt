@@ -71,11 +71,9 @@ aranges_section graph = over_units graph (λ u unit. aranges_bytes (unit_start g
 abbrev pub frame_section : Graph → List ℕ
 frame_section graph = frames_bytes graph.frames
 
-abbrev pub has_bytes : Written → Bool
-has_bytes section = not (length section.bytes == 0)
-
-abbrev pub encode : Graph → List Written
-encode graph = filter has_bytes (
+-- all of them, also those without bytes
+abbrev pub all_sections : Graph → List Written
+all_sections graph =
     record { part = parts.Abbrev; bytes = abbrev_section graph }
     ∷ record { part = parts.Info; bytes = info_section graph }
     ∷ record { part = parts.Str; bytes = str_section graph }
@@ -86,4 +84,10 @@ encode graph = filter has_bytes (
     ∷ record { part = parts.Loc; bytes = loc_section graph }
     ∷ record { part = parts.Loclists; bytes = loclists_section graph }
     ∷ record { part = parts.Aranges; bytes = aranges_section graph }
-    ∷ record { part = parts.Frame; bytes = frame_section graph } ∷ [])
+    ∷ record { part = parts.Frame; bytes = frame_section graph } ∷ []
+
+abbrev pub has_bytes : Written → Bool
+has_bytes section = not (length section.bytes == 0)
+
+abbrev pub encode : Graph → List Written
+encode graph = filter has_bytes (all_sections graph)

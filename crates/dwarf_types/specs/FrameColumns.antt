@@ -1,5 +1,5 @@
 -- What the rows of frames stand for.
-use Rattle.std.specs.Prelude.{ℕ, ◌+◌, ◌<◌, ◌^◌, List, ◌∷◌, [], All, length, get_or, Option, Some, None}
+use Rattle.std.specs.Prelude.{◌≡◌, ℕ, ◌+◌, ◌<◌, ◌^◌, List, ◌∷◌, [], All, length, get_or, Option, Some, None}
 use Rattle.dwarf_types.specs.declared.frame_columns.Before.{Before}
 use Rattle.dwarf_types.specs.declared.frame_columns.FrameParts.{FrameParts}
 use Rattle.dwarf_types.specs.declared.frame_columns.FrameSides.{FrameSides}
@@ -42,6 +42,11 @@ OutHeld s r = IsHeld s r.parts
 pub record SidesGrow (old new : FrameSides) : Type 0 where
   pub cies : Begins old.cies.items new.cies.items
   pub bytes : Begins old.bytes.items new.bytes.items
+
+-- each column has what another one has
+pub record AreCopies (old new : FrameSides) : Type 0 where
+  pub cies : new.cies.items ≡ old.cies.items
+  pub bytes : new.bytes.items ≡ old.bytes.items
 
 -- ---- columns behind others
 

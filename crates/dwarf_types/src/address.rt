@@ -4,7 +4,7 @@ ghost use Rattle.std.specs.Prelude.{◌≡◌};
 ghost use Rattle.dwarf_types.specs.Addresses;
 
 /// What an address of an object means, before it moves to the linked program.
-#[derive(Clone, Copy, Debug, PartialEq, Eq)]
+#[derive(Clone, Copy)]
 pub enum Addr {
     /// An address in the object's own address space.
     Placed(u64),
@@ -42,7 +42,7 @@ impl Addr {
 }
 
 /// An address of an object, and where it went.
-#[derive(Clone, Copy, Debug, PartialEq, Eq)]
+#[derive(Clone, Copy)]
 pub struct Place {
     pub at: Addr,
     /// The address in the linked program, where the byte there was linked.
@@ -52,7 +52,7 @@ pub struct Place {
 }
 
 /// The addresses from `low` up to `high`, which is not one of them.
-#[derive(Clone, Copy, Debug, PartialEq, Eq)]
+#[derive(Clone, Copy)]
 pub struct Span {
     pub low: u64,
     pub high: u64,

@@ -8,10 +8,11 @@ ghost use Rattle.dwarf_types.specs.Columns.{parent_of};
 ghost use Rattle.dwarf_types.specs.Put.{value_read};
 
 use crate::columns::{Cell, Head, NO_PARENT, cells_from, cells_in, has_name};
-use crate::entries::RawEntries;
+use crate::entries::{Entries, RawEntries};
 use crate::entry::MOST_ENTRIES;
 use crate::entry_ref::{EntryRef, RawEntryRef};
 use crate::put::RawValue;
+use crate::runs::room_for;
 use crate::sides::Sides;
 use ds_base::NoMemory;
 use std::alloc::Global;
@@ -64,6 +65,28 @@ impl Builder {
             cells: room_for(alloc, size / BYTES_AN_ATTRIBUTE),
             ends: room_for(alloc, size / BYTES_AN_ATTRIBUTE),
             sides: Sides::with_texts(alloc, strings, line_strings)?,
+            open_from: 0,
+        })
+    }
+
+    /// The same in the memory of entries that are let go, to which texts are added as [`Builder::new`] has them.
+    pub fn over(
+        alloc: Global,
+        gone: Entries,
+        strings: &[u8],
+        line_strings: &[u8],
+    ) -> Result<Builder, NoMemory>
+        ensures { IfOk result (λ built. built ≡ record { entries = []; attrs = [] }) }
+    {
+        let (mut heads, mut cells, mut sides) = gone.into_columns();
+        heads.clear();
+        cells.clear();
+        sides.begin_again(strings, line_strings)?;
+        Ok(Builder {
+            heads,
+            cells,
+            ends: Vec::new(alloc),
+            sides,
             open_from: 0,
         })
     }
@@ -163,16 +186,6 @@ impl Builder {
             ..
         } = self;
         RawEntries::from_columns(heads, cells, ends, sides)
-    }
-}
-
-/// No items, and room for `count` of them if the allocator has it.
-fn room_for<T: Copy>(alloc: Global, count: usize) -> Vec<T>
-    ensures { result.items ≡ [] }
-{
-    match Vec::with_capacity(alloc, count) {
-        Ok(items) => items,
-        Err(_) => Vec::new(alloc),
     }
 }
 

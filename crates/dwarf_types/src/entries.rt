@@ -1,6 +1,6 @@
 //! Entries in document order, as they are read and as they are understood.
 
-ghost use Rattle.std.specs.Prelude.{◌≡◌, ◌+◌, ◌<◌, ◌≤◌, [], drop, length, map, take, slice_get, slice_index_or, slice_set, Some, OnOk, OnErr};
+ghost use Rattle.std.specs.Prelude.{◌≡◌, ◌+◌, ◌<◌, ◌≤◌, [], drop, length, map, take, slice_get, slice_index_or, slice_set, Some, IfOk, OnOk, OnErr};
 ghost use Rattle.dwarf_types.specs.declared.entry.Attr.{Attr as AnAttr};
 ghost use Rattle.dwarf_types.specs.declared.entry.Entry.{Entry as AnEntry};
 ghost use Rattle.dwarf_types.specs.declared.entry.RawAttr.{RawAttr as ARawAttr};
@@ -12,6 +12,7 @@ ghost use Rattle.dwarf_types.specs.Raw.{attr_count, entry_of, places_of};
 use crate::columns::{Cell, Head, cells_in};
 use crate::entry_ref::{EntryRef, RawEntryRef};
 use crate::put::NewValue;
+use crate::runs::held_by;
 use crate::sides::{Held, Sides};
 use ds_base::NoMemory;
 use std::alloc::Global;
@@ -91,6 +92,33 @@ impl Entries {
         }
     }
 
+    /// The columns, of which nothing is said: they are for others to be put together in.
+    pub(crate) fn into_columns(self) -> (Vec<Head>, Vec<Cell>, Sides) {
+        let Entries {
+            heads,
+            cells,
+            sides,
+        } = self;
+        (heads, cells, sides)
+    }
+
+    /// A copy.
+    pub(crate) fn copy(&self, alloc: Global) -> Result<Entries, NoMemory>
+        ensures { IfOk result (λ it. it ≡ self.now) }
+    {
+        let heads = Vec::from_slice(alloc, &self.heads)?;
+        let cells = Vec::from_slice(alloc, &self.cells)?;
+        let sides = self.sides.copy(alloc)?;
+        Ok(Entries::from_columns(heads, cells, sides))
+    }
+
+    /// How many bytes they hold.
+    pub(crate) fn held_bytes(&self) -> u64 {
+        held_by(&self.heads, size_of::<Head>())
+            .saturating_add(held_by(&self.cells, size_of::<Cell>()))
+            .saturating_add(self.sides.held_bytes())
+    }
+
     /// How many entries there are.
     pub fn len(&self) -> usize
         ensures { result ≡ length self.now }
@@ -166,6 +194,16 @@ impl RawEntries {
             entries: Entries::from_columns(heads, cells, sides),
             ends,
         }
+    }
+
+    /// A copy.
+    pub(crate) fn copy(&self, alloc: Global) -> Result<RawEntries, NoMemory>
+        ensures { IfOk result (λ it. it ≡ self.now) }
+    {
+        Ok(RawEntries {
+            entries: self.entries.copy(alloc)?,
+            ends: Vec::from_slice(alloc, &self.ends)?,
+        })
     }
 
     /// How many entries there are.

@@ -1,9 +1,12 @@
 //! Units, and what contracts see of their entries: these stand in flat columns (`Entries`, `RawEntries`).
 
+ghost use Rattle.std.specs.Prelude.{◌≡◌, IfOk, take};
+
 use crate::entries::RawEntries;
 use crate::lines::OutLines;
 use crate::value::Value;
-use ds_base::List;
+use ds_base::{List, NoMemory};
+use std::alloc::Global;
 
 /// The most entries that an object may have.
 pub const MOST_ENTRIES: usize = 1 << 24;
@@ -72,10 +75,56 @@ pub struct InUnit {
     pub lines: Option<OutLines>,
 }
 
+impl InUnit {
+    /// A copy.
+    fn copy(&self, alloc: Global) -> Result<InUnit, NoMemory>
+        ensures { IfOk result (λ it. it ≡ self.now) }
+    {
+        Ok(InUnit {
+            first: self.first,
+            count: self.count,
+            version: self.version,
+            language: self.language,
+            lines: copy_lines(alloc, &self.lines)?,
+        })
+    }
+}
+
 /// The units of an object as they are read.
 #[derive(Drop)]
 pub struct RawUnits {
     pub units: List<InUnit>,
     /// The entries of all units, in document order: an entry stands before those below it.
     pub entries: RawEntries,
+}
+
+/// A copy of units as they are read. The columns are copied as they stand, so this takes the time to copy their bytes.
+pub fn copy_units(alloc: Global, read: &RawUnits) -> Result<RawUnits, NoMemory>
+    ensures { IfOk result (λ it. it ≡ read.now) }
+{
+    Ok(RawUnits {
+        units: copy_each(alloc, &read.units)?,
+        entries: read.entries.copy(alloc)?,
+    })
+}
+
+/// A copy of units, each with its line table.
+pub(crate) fn copy_each(alloc: Global, units: &List<InUnit>) -> Result<List<InUnit>, NoMemory>
+    ensures { IfOk result (λ it. it ≡ units.now) }
+{
+    let mut made = List::with_capacity(alloc, units.len())?;
+    for unit in units.as_slice() {
+        made.push(unit.copy(alloc)?)?;
+    }
+    Ok(made)
+}
+
+/// A copy of a line table, if there is one.
+fn copy_lines(alloc: Global, lines: &Option<OutLines>) -> Result<Option<OutLines>, NoMemory>
+    ensures { IfOk result (λ it. it ≡ lines.now) }
+{
+    match lines {
+        Some(lines) => Ok(Some(lines.copy(alloc)?)),
+        None => Ok(None),
+    }
 }

@@ -4,7 +4,7 @@ use crate::address::Place;
 use ds_base::{Bytes, List};
 
 /// The base type that an operation names.
-#[derive(Clone, Copy, Debug, PartialEq, Eq)]
+#[derive(Clone, Copy)]
 pub enum Base {
     /// The generic type, spelled 0.
     Generic,

@@ -7,7 +7,7 @@ ghost use Rattle.dwarf_types.specs.LineColumns.{FileWithin, file_of};
 ghost use Rattle.dwarf_types.specs.Runs.{InRun, run_of};
 ghost use Rattle.dwarf_types.specs.SeenLines.{file_seen};
 
-use crate::runs::{Run, TextRun, append, keep_text, part_of, text_in};
+use crate::runs::{Run, TextRun, append, held_by, keep_text, part_of, text_in};
 use crate::shared_texts::SharedTexts;
 use ds_base::NoMemory;
 use std::alloc::Global;
@@ -77,6 +77,27 @@ impl FileNames {
             bytes: Vec::new(alloc),
             rows: Vec::new(alloc),
         }
+    }
+
+    /// A copy, with the same shared texts.
+    pub(crate) fn copy(&self, alloc: Global) -> Result<FileNames, NoMemory>
+        ensures { IfOk result (λ it. it ≡ self.now) }
+    {
+        Ok(FileNames {
+            texts: self.texts.share()?,
+            bytes: Vec::from_slice(alloc, &self.bytes)?,
+            rows: Vec::from_slice(alloc, &self.rows)?,
+        })
+    }
+
+    /// How many bytes they hold, but for the shared texts.
+    pub(crate) fn held_bytes(&self) -> u64 {
+        held_by(&self.bytes, 1).saturating_add(held_by(&self.rows, size_of::<FileRow>()))
+    }
+
+    /// How many bytes the shared texts have.
+    pub(crate) fn shared_bytes(&self) -> u64 {
+        self.texts.as_slice().len() as u64
     }
 
     /// How many files there are.

@@ -1,10 +1,10 @@
 //! What frames are made of: the contents of common information entries, and bytes, in columns.
 
 ghost use Rattle.std.specs.Prelude.{◌≡◌, ◌+◌, ◌++◌, ◌<◌, ◌^◌, All, length, map, IfOk, OnOk, OnErr};
-ghost use Rattle.dwarf_types.specs.FrameColumns.{AreCies, Fits, IsHeld, PartsFit, SidesGrow, code_of, content_of, parts_moved, run_moved};
+ghost use Rattle.dwarf_types.specs.FrameColumns.{AreCies, AreCopies, Fits, IsHeld, PartsFit, SidesGrow, code_of, content_of, parts_moved, run_moved};
 ghost use Rattle.dwarf_types.specs.Runs.{InRun};
 
-use crate::runs::{Run, append, part_of};
+use crate::runs::{Run, append, held_by, part_of};
 use ds_base::NoMemory;
 use std::alloc::Global;
 
@@ -41,6 +41,21 @@ impl FrameSides {
             cies: Vec::new(alloc),
             bytes: Vec::new(alloc),
         }
+    }
+
+    /// A copy of the columns.
+    pub(crate) fn copy(&self, alloc: Global) -> Result<FrameSides, NoMemory>
+        ensures { IfOk result (AreCopies self.now) }
+    {
+        Ok(FrameSides {
+            cies: Vec::from_slice(alloc, &self.cies)?,
+            bytes: Vec::from_slice(alloc, &self.bytes)?,
+        })
+    }
+
+    /// How many bytes they hold.
+    pub(crate) fn held_bytes(&self) -> u64 {
+        held_by(&self.cies, size_of::<Run>()).saturating_add(held_by(&self.bytes, 1))
     }
 
     /// The content of a common information entry.

@@ -7,6 +7,7 @@ ghost use Rattle.dwarf_types.specs.SeenFrames.{at_addresses, frame_seen, raw_fra
 
 use crate::address::Addr;
 use crate::frame_columns::{Before, FrameParts, FrameSides, moved_parts};
+use crate::runs::held_by;
 use ds_base::{Bytes, NoMemory};
 use std::alloc::Global;
 use std::marker::Model;
@@ -217,6 +218,20 @@ impl OutFrames {
         }
     }
 
+    /// A copy.
+    pub(crate) fn copy(&self, alloc: Global) -> Result<OutFrames, NoMemory>
+        ensures { IfOk result (λ it. it ≡ self.now) }
+    {
+        let rows = Vec::from_slice(alloc, &self.rows)?;
+        let sides = self.sides.copy(alloc)?;
+        Ok(OutFrames { rows, sides })
+    }
+
+    /// How many bytes they hold.
+    pub(crate) fn held_bytes(&self) -> u64 {
+        held_by(&self.rows, size_of::<OutRow>()).saturating_add(self.sides.held_bytes())
+    }
+
     /// How many frames there are.
     pub fn len(&self) -> usize
         ensures { result ≡ length self.now }
@@ -237,16 +252,6 @@ impl OutFrames {
             length: row.parts.length,
             code: self.sides.code(row.parts),
         }
-    }
-
-    /// Puts a frame last, with a common information entry of its own.
-    pub fn push(&mut self, cie: &[u8], address: u64, len: u64, code: &[u8]) -> Result<(), NoMemory>
-        ensures ok { OnOk result (self.new ≡ self.old ++ record { cie = cie.now; address = address; length = len; code = code.now } ∷ []) }
-        ensures unchanged { OnErr result (self.new ≡ self.old) }
-    {
-        let parts = self.sides.put(cie, len, code)?;
-        self.rows.push(OutRow { address, parts })?;
-        Ok(())
     }
 
     /// Puts the frames of another list behind.

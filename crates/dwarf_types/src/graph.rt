@@ -71,7 +71,7 @@ pub enum OutValue {
 }
 
 /// An entry to which a reference leads.
-#[derive(Clone, Copy, Debug, PartialEq, Eq)]
+#[derive(Clone, Copy, Debug)]
 pub struct Target {
     /// The number of its unit in the graph, counted from 0.
     pub unit: u32,

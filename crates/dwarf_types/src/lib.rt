@@ -6,9 +6,10 @@
 //! as lists of the records here (`specs/Columns.antt`, `specs/Cells.antt`). The encoding of a
 //! graph is a definition alone (`specs/Encode.antt`): sections of DWARF 4 and 5, section 7, with this
 //! project's choices (docs/PROFILE.md, "Bytes written"). What every linked graph keeps to is
-//! `specs/Well.antt`. There are two tables here: that of the operations of expressions
-//! ([`operands_after`]), by which they are read and written, and that of the places of entries
-//! ([`PlaceTable`]), by which the entry at a place is found. Nothing here reads or writes bytes.
+//! `specs/Well.antt`; that its sections are bytes is proved in `proofs/WellBytes.antt`. There are two tables
+//! here: that of the operations of expressions ([`operands_after`]), by which they are read and written, and
+//! that of the places of entries ([`PlaceTable`]), by which the entry at a place is found. What was read of an
+//! object is copied column by column ([`copy`], [`copy_units`]). Nothing here reads or writes bytes.
 #![tactic(auto)]
 
 mod abbrev;
@@ -48,10 +49,10 @@ mod value;
 
 pub use abbrev::{Abbrev, Declaration, Field, MOST_FIELDS};
 pub use address::{Addr, Place, Span};
-pub use analysis::{Analysis, CodeRange};
+pub use analysis::{Analysis, CodeRange, copy, held_bytes};
 pub use builder::Builder;
 pub use entries::{Entries, RawEntries};
-pub use entry::{Attr, Entry, InUnit, MOST_ENTRIES, RawAttr, RawEntry, RawUnits};
+pub use entry::{Attr, Entry, InUnit, MOST_ENTRIES, RawAttr, RawEntry, RawUnits, copy_units};
 pub use entry_ref::{EntryRef, RawEntryRef};
 pub use expr::{Base, Op, PlainOp};
 pub use files::{FileNameRef, FileNames};

@@ -1,10 +1,13 @@
 //! Line tables (DWARF 4, section 6.2).
 
+ghost use Rattle.std.specs.Prelude.{◌≡◌, IfOk};
+
 use crate::address::Addr;
 use crate::files::FileNames;
 use crate::paths::Paths;
 use crate::sequences::{RawSequences, Sequences};
-use ds_base::{Bytes, List};
+use ds_base::{Bytes, List, NoMemory};
+use std::alloc::Global;
 
 /// A file of a line table (DWARF 4, section 6.2.4).
 #[derive(Drop)]
@@ -21,7 +24,7 @@ pub struct FileName {
 }
 
 /// A row of a line table: the registers of the line state machine (DWARF 4, section 6.2.2).
-#[derive(Clone, Copy, Debug, PartialEq, Eq)]
+#[derive(Clone, Copy)]
 pub struct Row {
     /// In the linked program; of a row as it is read 0.
     pub address: u64,
@@ -55,8 +58,29 @@ pub struct OutLines {
     pub sequences: Sequences,
 }
 
+impl OutLines {
+    /// A copy.
+    pub(crate) fn copy(&self, alloc: Global) -> Result<OutLines, NoMemory>
+        ensures { IfOk result (λ it. it ≡ self.now) }
+    {
+        Ok(OutLines {
+            dirs: self.dirs.copy(alloc)?,
+            files: self.files.copy(alloc)?,
+            sequences: self.sequences.copy(alloc)?,
+        })
+    }
+
+    /// How many bytes its columns hold, but for the shared texts.
+    pub(crate) fn held_bytes(&self) -> u64 {
+        self.dirs
+            .held_bytes()
+            .saturating_add(self.files.held_bytes())
+            .saturating_add(self.sequences.held_bytes())
+    }
+}
+
 /// A row as it is read: its address is the object's.
-#[derive(Clone, Copy, Debug, PartialEq, Eq)]
+#[derive(Clone, Copy)]
 pub struct RawRow {
     pub at: Addr,
     pub row: Row,

@@ -5,7 +5,7 @@ use crate::expr::Op;
 use ds_base::{Bytes, List};
 
 /// An item of a range list as it is read, with its base applied: addresses from `low` up to `high`.
-#[derive(Clone, Copy, Debug, PartialEq, Eq)]
+#[derive(Clone, Copy)]
 pub struct RawSpan {
     pub low: Addr,
     pub high: Addr,

@@ -1,10 +1,10 @@
 //! The rows of operations, which contracts see as the list of them.
 
-ghost use Rattle.std.specs.Prelude.{◌≡◌, ◌<◌, [], ◌∷◌, ◌++◌, length, slice_index_or, OnOk, OnErr};
+ghost use Rattle.std.specs.Prelude.{◌≡◌, ◌<◌, [], ◌∷◌, ◌++◌, length, slice_index_or, IfOk, OnOk, OnErr};
 ghost use Rattle.dwarf_types.specs.Runs.{InRun, run_of};
 
 use crate::packed_op::PackedOp;
-use crate::runs::{Run, part_of};
+use crate::runs::{Run, held_by, part_of};
 use crate::sides::OpRow;
 use ds_base::NoMemory;
 use std::alloc::Global;
@@ -64,6 +64,16 @@ impl OpRows {
         }
     }
 
+    /// A copy.
+    pub(crate) fn copy(&self, alloc: Global) -> Result<OpRows, NoMemory>
+        ensures { IfOk result (λ it. it ≡ self.now) }
+    {
+        Ok(OpRows {
+            packed: Vec::from_slice(alloc, &self.packed)?,
+            wide: Vec::from_slice(alloc, &self.wide)?,
+        })
+    }
+
     /// How many operations there are.
     pub(crate) fn len(&self) -> usize
         ensures { result ≡ length self.now }
@@ -94,6 +104,14 @@ impl OpRows {
         self.wide.push(row)?;
         self.packed.push_reserved(PackedOp::wide_at(place));
         Ok(())
+    }
+
+    /// How many bytes they hold.
+    pub(crate) fn held_bytes(&self) -> u64 {
+        held_by(&self.packed, size_of::<PackedOp>()).saturating_add(held_by(
+            &self.wide,
+            size_of::<OpRow>(),
+        ))
     }
 
     /// Takes all operations out. Their memory is kept.

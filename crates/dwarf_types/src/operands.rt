@@ -18,7 +18,7 @@ use ds_base::dwarf::{
 };
 
 /// What stands behind the code of an operation.
-#[derive(Clone, Copy, Debug)]
+#[derive(Clone, Copy)]
 pub enum Operands {
     /// Nothing.
     Empty,
@@ -53,7 +53,7 @@ pub enum Operands {
 }
 
 /// What the operands of an operation name.
-#[derive(Clone, Copy, Debug)]
+#[derive(Clone, Copy)]
 pub enum Named {
     Nothing,
     /// An address, by its number as stored.

@@ -1,9 +1,9 @@
 //! Names of directories, which contracts see as the list of them.
 
-ghost use Rattle.std.specs.Prelude.{◌≡◌, ◌<◌, [], ◌∷◌, ◌++◌, length, slice_get, slice_index_or, Some, OnOk, OnErr};
+ghost use Rattle.std.specs.Prelude.{◌≡◌, ◌<◌, [], ◌∷◌, ◌++◌, length, slice_get, slice_index_or, Some, IfOk, OnOk, OnErr};
 ghost use Rattle.std.specs.Option.{option_copied};
 
-use crate::runs::{TextRun, keep_text, text_in};
+use crate::runs::{TextRun, held_by, keep_text, text_in};
 use crate::shared_texts::SharedTexts;
 use ds_base::NoMemory;
 use std::alloc::Global;
@@ -48,6 +48,22 @@ impl Paths {
             bytes: Vec::new(alloc),
             runs: Vec::new(alloc),
         }
+    }
+
+    /// A copy, with the same shared texts.
+    pub(crate) fn copy(&self, alloc: Global) -> Result<Paths, NoMemory>
+        ensures { IfOk result (λ it. it ≡ self.now) }
+    {
+        Ok(Paths {
+            texts: self.texts.share()?,
+            bytes: Vec::from_slice(alloc, &self.bytes)?,
+            runs: Vec::from_slice(alloc, &self.runs)?,
+        })
+    }
+
+    /// How many bytes they hold, but for the shared texts.
+    pub(crate) fn held_bytes(&self) -> u64 {
+        held_by(&self.bytes, 1).saturating_add(held_by(&self.runs, size_of::<TextRun>()))
     }
 
     /// How many names there are.

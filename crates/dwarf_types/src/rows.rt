@@ -1,12 +1,12 @@
 //! The rows of line tables, which contracts see as the list of them.
 
-ghost use Rattle.std.specs.Prelude.{◌≡◌, ◌<◌, [], ◌∷◌, ◌++◌, All, length, nat_eq, slice_get, slice_index_or, Some, OnOk, OnErr};
+ghost use Rattle.std.specs.Prelude.{◌≡◌, ◌<◌, [], ◌∷◌, ◌++◌, All, length, nat_eq, slice_get, slice_index_or, Some, IfOk, OnOk, OnErr};
 ghost use Rattle.dwarf_types.specs.Packed.{RowWithin};
 ghost use Rattle.dwarf_types.specs.Runs.{InRun, run_of};
 
 use crate::lines::Row;
 use crate::packed_row::PackedRow;
-use crate::runs::{Run, part_of};
+use crate::runs::{Run, held_by, part_of};
 use ds_base::NoMemory;
 use std::alloc::Global;
 use std::marker::Model;
@@ -54,6 +54,16 @@ impl PackedRows {
         }
     }
 
+    /// A copy.
+    pub(crate) fn copy(&self, alloc: Global) -> Result<PackedRows, NoMemory>
+        ensures { IfOk result (λ it. it ≡ self.now) }
+    {
+        Ok(PackedRows {
+            packed: Vec::from_slice(alloc, &self.packed)?,
+            wide: Vec::from_slice(alloc, &self.wide)?,
+        })
+    }
+
     /// How many rows there are.
     pub(crate) fn len(&self) -> usize
         ensures { result ≡ length self.now }
@@ -84,6 +94,14 @@ impl PackedRows {
         self.wide.push(row)?;
         self.packed.push_reserved(PackedRow::wide_at(place));
         Ok(())
+    }
+
+    /// How many bytes they hold.
+    pub(crate) fn held_bytes(&self) -> u64 {
+        held_by(&self.packed, size_of::<PackedRow>()).saturating_add(held_by(
+            &self.wide,
+            size_of::<Row>(),
+        ))
     }
 
     /// Gives back what memory it holds behind its last rows.
@@ -120,7 +138,7 @@ impl<'a> Rows<'a> {
 
     /// Whether there are none.
     #[tactic(auto, unfolding(crate::specs::SeenLines::rows_seen))]
-    pub fn is_empty(&self) -> bool
+    fn is_empty(&self) -> bool
         ensures { result ≡ nat_eq (length (rows_seen self.now)) 0 }
     {
         self.packed.is_empty()

@@ -1,10 +1,11 @@
 //! Runs of items of a column.
 
-ghost use Rattle.std.specs.Prelude.{◌≡◌, ◌+◌, ◌++◌, length, IfOk, IfSome, OnOk, OnErr};
+ghost use Rattle.std.specs.Prelude.{◌≡◌, ◌+◌, ◌++◌, [], length, IfOk, IfSome, OnOk, OnErr};
 ghost use Rattle.dwarf_types.specs.Cells.{Begins};
 ghost use Rattle.dwarf_types.specs.Runs.{InRun, InTexts, run_between, run_of, text_of};
 
 use ds_base::NoMemory;
+use std::alloc::Global;
 
 /// From one place of a column up to another.
 #[derive(Clone, Copy)]
@@ -37,6 +38,21 @@ pub(crate) fn run_between(from: usize, to: usize) -> Run
     } else {
         Run { from: 0, to: 0 }
     }
+}
+
+/// No items, and room for `count` of them if the allocator has it.
+pub(crate) fn room_for<T: Copy>(alloc: Global, count: usize) -> Vec<T>
+    ensures { result.items ≡ [] }
+{
+    match Vec::with_capacity(alloc, count) {
+        Ok(items) => items,
+        Err(_) => Vec::new(alloc),
+    }
+}
+
+/// How many bytes a column holds, whose items have so many each.
+pub(crate) fn held_by<T>(column: &Vec<T>, size: usize) -> u64 {
+    (column.capacity() as u64).saturating_mul(size as u64)
 }
 
 /// Puts items last, and answers where they lie.

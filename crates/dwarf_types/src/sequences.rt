@@ -6,7 +6,7 @@ ghost use Rattle.dwarf_types.specs.SeenLines.{last_of, raw_sequence_seen, sequen
 use crate::address::Addr;
 use crate::lines::{RawRow, Row};
 use crate::rows::{PackedRows, Rows};
-use crate::runs::{Run, part_of};
+use crate::runs::{Run, held_by, part_of};
 use ds_base::NoMemory;
 use std::alloc::Global;
 use std::marker::Model;
@@ -134,6 +134,23 @@ impl Sequences {
             rows: PackedRows::new(alloc),
             runs: Vec::new(alloc),
         }
+    }
+
+    /// A copy.
+    pub(crate) fn copy(&self, alloc: Global) -> Result<Sequences, NoMemory>
+        ensures { IfOk result (λ it. it ≡ self.now) }
+    {
+        Ok(Sequences {
+            rows: self.rows.copy(alloc)?,
+            runs: Vec::from_slice(alloc, &self.runs)?,
+        })
+    }
+
+    /// How many bytes they hold.
+    pub(crate) fn held_bytes(&self) -> u64 {
+        self.rows
+            .held_bytes()
+            .saturating_add(held_by(&self.runs, size_of::<SequenceRow>()))
     }
 
     /// How many sequences there are.

@@ -4,7 +4,7 @@ use crate::graph::Target;
 use ds_base::List;
 
 /// The entry of an object for which a node stands.
-#[derive(Clone, Copy, Debug, PartialEq, Eq)]
+#[derive(Clone, Copy)]
 pub struct Origin {
     /// The number of the object, counted from 1.
     pub object: u32,

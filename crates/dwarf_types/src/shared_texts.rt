@@ -33,7 +33,7 @@ impl Drop for SharedTexts {
 
 impl SharedTexts {
     /// No texts. It asks the allocator for nothing.
-    pub fn none() -> SharedTexts
+    pub(crate) fn none() -> SharedTexts
         ensures { result ≡ [] }
     {
         SharedTexts { bytes: None }

@@ -6,7 +6,7 @@ ghost use Rattle.dwarf_types.specs.declared.sides.InnerRow.{InnerRow as AnInner}
 ghost use Rattle.dwarf_types.specs.declared.sides.ItemRow.{ItemRow as AnItem};
 ghost use Rattle.dwarf_types.specs.declared.sides.Kind.TheVariants as kinds;
 ghost use Rattle.dwarf_types.specs.declared.sides.OpRow.{OpRow as ARow};
-ghost use Rattle.dwarf_types.specs.Cells.{AreAsMany, Grows, HaveNone, HaveRoom, InnerWithin, IsAddress, IsWithin, ItemWithin, KeepsOthers, MayHold, OpWithin, PutsOver, PutsOwn, PutsRead, held_value, address_at, inner_of, item_of, op_of, own_item, own_items, stored_place};
+ghost use Rattle.dwarf_types.specs.Cells.{AreAsMany, AreCopies, Grows, HaveNone, HaveRoom, InnerWithin, IsAddress, IsWithin, ItemWithin, KeepsOthers, MayHold, OpWithin, PutsOver, PutsOwn, PutsRead, held_value, address_at, inner_of, item_of, op_of, own_item, own_items, stored_place};
 ghost use Rattle.dwarf_types.specs.Put.{number_form, value_put, value_read};
 ghost use Rattle.dwarf_types.specs.Runs.{InRun, run_of};
 ghost use Rattle.dwarf_types.specs.Seen.{inner_seen, location_seen, op_seen};
@@ -16,7 +16,7 @@ use crate::address::{Addr, Place, Span};
 use crate::expr::Base;
 use crate::op_rows::OpRows;
 use crate::put::{NewValue, RawValue};
-use crate::runs::{Run, append, run_between};
+use crate::runs::{Run, append, held_by, room_for, run_between};
 use crate::seen::{InnerOpRef, InnerOpsRef, LocationRef, LocationsRef, OpRef, OpsRef};
 use ds_base::{NoMemory, text_in};
 use std::alloc::Global;
@@ -133,6 +133,58 @@ impl Sides {
         }
     }
 
+    /// A copy of the columns.
+    pub(crate) fn copy(&self, alloc: Global) -> Result<Sides, NoMemory>
+        ensures { IfOk result (AreCopies self.now) }
+    {
+        let mut made = Sides::new(alloc);
+        made.take_copies(alloc, self)?;
+        Ok(made)
+    }
+
+    /// Takes copies of other columns in place of these.
+    fn take_copies(&mut self, alloc: Global, other: &Sides) -> Result<(), NoMemory>
+        ensures { OnOk result (AreCopies other.now self.new) }
+    {
+        self.large = Vec::from_slice(alloc, &other.large)?;
+        self.bytes = Vec::from_slice(alloc, &other.bytes)?;
+        self.runs = Vec::from_slice(alloc, &other.runs)?;
+        self.lists = Vec::from_slice(alloc, &other.lists)?;
+        self.places = Vec::from_slice(alloc, &other.places)?;
+        self.addresses = Vec::from_slice(alloc, &other.addresses)?;
+        self.spans = Vec::from_slice(alloc, &other.spans)?;
+        self.ops = other.ops.copy(alloc)?;
+        self.inner = Vec::from_slice(alloc, &other.inner)?;
+        self.items = Vec::from_slice(alloc, &other.items)?;
+        Ok(())
+    }
+
+    /// How many bytes they hold.
+    pub(crate) fn held_bytes(&self) -> u64 {
+        let numbers = held_by(&self.large, 8).saturating_add(held_by(&self.bytes, 1));
+        let runs = held_by(&self.runs, size_of::<Run>()).saturating_add(held_by(
+            &self.lists,
+            size_of::<Run>(),
+        ));
+        let places = held_by(&self.places, size_of::<Place>()).saturating_add(held_by(
+            &self.addresses,
+            size_of::<Place>(),
+        ));
+        let ops = self
+            .ops
+            .held_bytes()
+            .saturating_add(held_by(&self.inner, size_of::<InnerRow>()));
+        let lists = held_by(&self.spans, size_of::<Span>()).saturating_add(held_by(
+            &self.items,
+            size_of::<ItemRow>(),
+        ));
+        numbers
+            .saturating_add(runs)
+            .saturating_add(places)
+            .saturating_add(ops)
+            .saturating_add(lists)
+    }
+
     /// Columns that are empty but for the sections of texts.
     pub(crate) fn with_texts(
         alloc: Global,
@@ -143,11 +195,47 @@ impl Sides {
     {
         let mut sides = Sides::new(alloc);
         let size = strings.len().saturating_add(line_strings.len());
-        // A little more, so that the few bytes that stand in attributes find room behind the texts.
-        sides.bytes.reserve(size.saturating_add(size / 16))?;
-        sides.bytes.extend_from_slice(strings)?;
-        sides.bytes.extend_from_slice(line_strings)?;
+        // A little more where there is so much, so that the few bytes that stand in attributes find room behind the texts.
+        sides.bytes = room_for(alloc, size.saturating_add(size / 16));
+        sides.put_texts(strings, line_strings)?;
         Ok(sides)
+    }
+
+    /// Puts the sections of texts last, for which no more memory is asked than they need.
+    fn put_texts(&mut self, strings: &[u8], line_strings: &[u8]) -> Result<(), NoMemory>
+        ensures { AreAsMany self.old self.new }
+    {
+        let size = strings.len().saturating_add(line_strings.len());
+        self.bytes.reserve_exact(size)?;
+        self.bytes.extend_from_slice(strings)?;
+        self.bytes.extend_from_slice(line_strings)?;
+        Ok(())
+    }
+
+    /// Takes all out of the columns and puts the sections of texts in. The memory is kept.
+    pub(crate) fn begin_again(
+        &mut self,
+        strings: &[u8],
+        line_strings: &[u8],
+    ) -> Result<(), NoMemory>
+        ensures { HaveNone self.new }
+    {
+        self.clear();
+        self.put_texts(strings, line_strings)
+    }
+
+    /// Takes all out of the columns. The memory is kept.
+    fn clear(&mut self)
+        ensures { HaveNone self.new }
+    {
+        self.clear_ops();
+        self.large.clear();
+        self.runs.clear();
+        self.lists.clear();
+        self.places.clear();
+        self.spans.clear();
+        self.ops.clear();
+        self.items.clear();
     }
 
     /// Puts what a cell cannot hold of a value behind the columns. The value was read in a form.

@@ -82,7 +82,7 @@ inside_is_text path text = by (nat_lt 0 (length (before_last is_open (take (leng
     by false e = rw e text
     by true e = rw e (front_is_text path text (ltb-true _ _ e))
 
-file_is_text : (path : List ℕ) → IsUtf8 path → IsUtf8 (origin_of path).file
+pub file_is_text : (path : List ℕ) → IsUtf8 path → IsUtf8 (origin_of path).file
 unfolding origin_of
 file_is_text path text = by (ends_with nat_eq path closes) refl
   where
