@@ -11,7 +11,7 @@ use ds_base::macho::{MH_DSYM, MH_OBJECT, SEG_DWARF};
 use ds_base::{Fault, Kind, Part};
 
 /// What an image is read for.
-#[derive(Clone, Copy, Debug, PartialEq, Eq)]
+#[derive(Clone, Copy)]
 pub enum Role {
     /// The linked program.
     Program,
