@@ -17,7 +17,7 @@ use Rattle.dwarf_types.specs.SectionBytes.{SectionBytes}
 use Rattle.dwarf_types.specs.LinkedExpressions.{outside}
 use Rattle.expr_walk.specs.Length.{inner_len, op_len, plain_len}
 use Rattle.index_tables.specs.Tables.{address_count, address_place, is_address_table, is_described, is_table, length_of}
-use Rattle.expr_resolve.specs.Context.{Context}
+use Rattle.expr_resolve.specs.Context.{Context, names_of}
 use Rattle.expr_resolve.specs.Expressions.{entry_of, held, holding, index_in, named_by, names_entry, operand_meant, with_inner}
 
 -- ---- entries lie in their section
@@ -123,17 +123,17 @@ held_len s code at base bytes names inside =
     let eight : suc (length (take 8 (drop at s.sections.addr))) ≡ 9 = omega (arith, inside, length-take 8 (drop at s.sections.addr), length-drop at s.sections.addr) in
     holding_len (code == DW_OP_addrx) (holding code ∷ take 8 (drop at s.sections.addr)) ∙ eight ∙ sym (ap (λ (o : Option Operands). plain_len o bytes) (index_row code names))
 
-meant_len : (s : Context) (place : ℕ) (op : PlainOp) (base : Option Base) (entry : Option ℕ) → named_by s op.code op.address ≡ entry
+meant_len : (s : Context) (place : ℕ) (op : PlainOp) (base : Option Base) (entry : Option ℕ) → named_by (names_of s) op.code op.address ≡ entry
     → plain_len (operands_of (operand_meant s place op base entry).code) (operand_meant s place op base entry).bytes ≡ plain_len (operands_of op.code) op.bytes
 meant_len s place op base None is = refl
 meant_len s place op base (Some at) is =
-    let n = named_of (names_entry op.code) (entry_of s op.address) at is in
+    let n = named_of (names_entry op.code) (entry_of (names_of s) op.address) at is in
     held_len s op.code at base op.bytes n.0 (found_ends s (index_in op.address) at n.1)
 
 -- the operation that one becomes has its length in the output
 pub operand_len : (s : Context) (place : ℕ) (op : PlainOp) (base : Option Base)
-    → plain_len (operands_of (operand_meant s place op base (named_by s op.code op.address)).code) (operand_meant s place op base (named_by s op.code op.address)).bytes ≡ plain_len (operands_of op.code) op.bytes
-operand_len s place op base = meant_len s place op base (named_by s op.code op.address) refl
+    → plain_len (operands_of (operand_meant s place op base (named_by (names_of s) op.code op.address)).code) (operand_meant s place op base (named_by (names_of s) op.code op.address)).bytes ≡ plain_len (operands_of op.code) op.bytes
+operand_len s place op base = meant_len s place op base (named_by (names_of s) op.code op.address) refl
 
 -- and names the base type
 pub operand_base : (s : Context) (place : ℕ) (op : PlainOp) (base : Option Base) (entry : Option ℕ) → (operand_meant s place op base entry).base ≡ base
@@ -150,15 +150,15 @@ same_len : (row : Option Operands) (op meant : Op) → meant.bytes ≡ op.bytes 
 same_len (Some operands.Expression) op meant bytes inner = ap (λ (n : ℕ). 1 + uleb_len_of n + n) inner
 same_len other op meant bytes inner = ap (plain_len other) bytes
 
-op_meant_len : (s : Context) (place : ℕ) (op : Op) (base : Option Base) (inner : List PlainOp) (entry : Option ℕ) → named_by s op.code op.address ≡ entry → inner_len inner ≡ inner_len op.inner
+op_meant_len : (s : Context) (place : ℕ) (op : Op) (base : Option Base) (inner : List PlainOp) (entry : Option ℕ) → named_by (names_of s) op.code op.address ≡ entry → inner_len inner ≡ inner_len op.inner
     → op_len (operands_of (operand_meant s place (outside op) base entry).code) (with_inner (operand_meant s place (outside op) base entry) inner) ≡ op_len (operands_of op.code) op
 op_meant_len s place op base inner None is lengths = same_len (operands_of op.code) op (with_inner (operand_meant s place (outside op) base None) inner) refl lengths
 op_meant_len s place op base inner (Some at) is lengths =
-    let n = named_of (names_entry op.code) (entry_of s op.address) at is in
+    let n = named_of (names_entry op.code) (entry_of (names_of s) op.address) at is in
     let inside = found_ends s (index_in op.address) at n.1 in
     let eight : suc (length (take 8 (drop at s.sections.addr))) ≡ 9 = omega (arith, inside, length-take 8 (drop at s.sections.addr), length-drop at s.sections.addr) in
     holding_op_len (op.code == DW_OP_addrx) (with_inner (operand_meant s place (outside op) base (Some at)) inner) ∙ eight ∙ sym (ap (λ (o : Option Operands). op_len o op) (index_row op.code n.0))
 
 pub outer_len : (s : Context) (place : ℕ) (op : Op) (base : Option Base) (inner : List PlainOp) → inner_len inner ≡ inner_len op.inner
-    → op_len (operands_of (operand_meant s place (outside op) base (named_by s op.code op.address)).code) (with_inner (operand_meant s place (outside op) base (named_by s op.code op.address)) inner) ≡ op_len (operands_of op.code) op
-outer_len s place op base inner lengths = op_meant_len s place op base inner (named_by s op.code op.address) refl lengths
+    → op_len (operands_of (operand_meant s place (outside op) base (named_by (names_of s) op.code op.address)).code) (with_inner (operand_meant s place (outside op) base (named_by (names_of s) op.code op.address)) inner) ≡ op_len (operands_of op.code) op
+outer_len s place op base inner lengths = op_meant_len s place op base inner (named_by (names_of s) op.code op.address) refl lengths

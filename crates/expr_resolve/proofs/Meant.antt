@@ -19,7 +19,7 @@ use Rattle.expr_walk.specs.Length.{op_len, ops_len, plain_len}
 use Rattle.dwarf_types.specs.Operations.{operands_of}
 use Rattle.dwarf_types.specs.LinkedExpressions.{outside}
 use Rattle.expr_resolve.specs.declared.context.BaseType.{BaseType}
-use Rattle.expr_resolve.specs.Context.{Context}
+use Rattle.expr_resolve.specs.Context.{Context, names_of}
 use Rattle.expr_resolve.specs.Expressions.{base_meant, base_named, each_from, fault_in, inner_start, is_conversion, named_by, op_meant, op_size, operand_meant, plain_meant, plain_size, with_inner}
 use Rattle.expr_resolve.specs.Sound.{IsKnown, NameKnown}
 use Rattle.expr_resolve.proofs.Entries.{operand_base, operand_len, outer_len}
@@ -56,7 +56,7 @@ found_here p (x ∷ xs) y e = found_first p x xs y (p x) (found_here p xs y) ref
 
 -- the base type that is named, if one is, is of the unit
 abbrev Knows : Context → Option Base → Type 0
-Knows s base = (entry : ℕ) → base_in base ≡ Some entry → IsKnown s entry
+Knows s base = (entry : ℕ) → base_in base ≡ Some entry → IsKnown (names_of s) entry
 
 both : (a b : Bool) → (a && b) ≡ true → a ≡ true
 both true b e = refl
@@ -74,23 +74,23 @@ generic_known : (s : Context) (allowed : Bool) (meant : Base) → (if allowed th
 generic_known s true meant e entry at = let same : base_in (Some bases.Generic) ≡ base_in (Some meant) = ap base_in e in absurd (let gone : None ≡ Some entry = same ∙ at in cc)
 generic_known s false meant e entry at = absurd cc
 
-base_named_known : (s : Context) (code : ℕ) (base meant : Base) → base_named s code base ≡ Some meant → Knows s (Some meant)
+base_named_known : (s : Context) (code : ℕ) (base meant : Base) → base_named (names_of s) code base ≡ Some meant → Knows s (Some meant)
 base_named_known s code bases.Generic meant e = generic_known s (is_conversion code) meant e
 base_named_known s code (bases.Entry n) meant e = named_known s n (find (λ b. b.unit == s.unit && b.place == s.start + n) s.bases) meant refl e
 
-base_known : (s : Context) (place code : ℕ) (base meant : Option Base) → base_meant s place code base ≡ Ok meant → Knows s meant
+base_known : (s : Context) (place code : ℕ) (base meant : Option Base) → base_meant (names_of s) place code base ≡ Ok meant → Knows s meant
 base_known s place code None meant e = subst (Knows s) (ok_is None meant e) (λ entry at. absurd cc)
 base_known s place code (Some base) meant e =
-    let named = bind_ok (or_fault (base_named s code base) (fault_in s kinds.BadOperandType place)) _ meant e in
-    subst (Knows s) (ok_is (Some named.0) meant named.2) (base_named_known s code base named.0 (found_ok (base_named s code base) _ named.0 named.1))
+    let named = bind_ok (or_fault (base_named (names_of s) code base) (fault_in (names_of s) kinds.BadOperandType place)) _ meant e in
+    subst (Knows s) (ok_is (Some named.0) meant named.2) (base_named_known s code base named.0 (found_ok (base_named (names_of s) code base) _ named.0 named.1))
 
 -- ---- operations that are no entry values
 
 plain_known : (s : Context) (place : ℕ) (op meant : PlainOp) → plain_meant s place op ≡ Ok meant → Knows s meant.base
 plain_known s place op meant e =
-    let base = bind_ok (base_meant s place op.code op.base) _ meant e in
+    let base = bind_ok (base_meant (names_of s) place op.code op.base) _ meant e in
     let known = base_known s place op.code op.base base.0 base.1 in
-    let named : Knows s (operand_meant s place op base.0 (named_by s op.code op.address)).base = subst (Knows s) (sym (operand_base s place op base.0 (named_by s op.code op.address))) known in
+    let named : Knows s (operand_meant s place op base.0 (named_by (names_of s) op.code op.address)).base = subst (Knows s) (sym (operand_base s place op base.0 (named_by (names_of s) op.code op.address))) known in
     subst (λ (m : PlainOp). Knows s m.base) (ok_is _ meant base.2) named
 
 abbrev plain_length : PlainOp → ℕ
@@ -98,21 +98,21 @@ plain_length op = plain_len (operands_of op.code) op.bytes
 
 plain_same_length : (s : Context) (place : ℕ) (op meant : PlainOp) → plain_meant s place op ≡ Ok meant → plain_length meant ≡ plain_length op
 plain_same_length s place op meant e =
-    let base = bind_ok (base_meant s place op.code op.base) _ meant e in
-    ap plain_length (sym (ok_is (operand_meant s place op base.0 (named_by s op.code op.address)) meant base.2)) ∙ operand_len s place op base.0
+    let base = bind_ok (base_meant (names_of s) place op.code op.base) _ meant e in
+    ap plain_length (sym (ok_is (operand_meant s place op base.0 (named_by (names_of s) op.code op.address)) meant base.2)) ∙ operand_len s place op base.0
 
 -- ---- operations
 
-all_known : (s : Context) (named : List (Option Base)) → All (Knows s) named → All (IsKnown s) (filter_map base_in named)
-all_known s [] all = All-nil (IsKnown s)
+all_known : (s : Context) (named : List (Option Base)) → All (Knows s) named → All (IsKnown (names_of s)) (filter_map base_in named)
+all_known s [] all = All-nil (IsKnown (names_of s))
 all_known s (b ∷ named) all = one_more (base_in b) (filter_map base_in named) (All-head (Knows s) b named all) (all_known s named (All-tail (Knows s) b named all))
   where
-    one_more : (o : Option ℕ) (behind : List ℕ) → ((entry : ℕ) → o ≡ Some entry → IsKnown s entry) → All (IsKnown s) behind → All (IsKnown s) (cons_option o behind)
+    one_more : (o : Option ℕ) (behind : List ℕ) → ((entry : ℕ) → o ≡ Some entry → IsKnown (names_of s) entry) → All (IsKnown (names_of s)) behind → All (IsKnown (names_of s)) (cons_option o behind)
     one_more None behind one others = others
-    one_more (Some entry) behind one others = All-cons (IsKnown s) entry behind (one entry refl) others
+    one_more (Some entry) behind one others = All-cons (IsKnown (names_of s)) entry behind (one entry refl) others
 
 abbrev OpKnown : Context → Op → Type 0
-OpKnown s op = All (IsKnown s) (op_bases op)
+OpKnown s op = All (IsKnown (names_of s)) (op_bases op)
 
 op_known : (s : Context) (place : ℕ) (op meant : Op) → op_meant s place op ≡ Ok meant → OpKnown s meant
 op_known s place op meant e =
@@ -131,10 +131,10 @@ op_same_length : (s : Context) (place : ℕ) (op meant : Op) → op_meant s plac
 op_same_length s place op meant e =
     let outer = bind_ok (plain_meant s place (outside op)) _ meant e in
     let inner = bind_ok (each_from plain_size (plain_meant s) (inner_start place op) op.inner) _ meant outer.2 in
-    let base = bind_ok (base_meant s place op.code op.base) _ outer.0 outer.1 in
+    let base = bind_ok (base_meant (names_of s) place op.code op.base) _ outer.0 outer.1 in
     let lengths = each_sum plain_length plain_size (plain_meant s) (plain_same_length s) (inner_start place op) op.inner inner.0 inner.1 in
     ap op_length (sym (ok_is (with_inner outer.0 inner.0) meant inner.2))
-    ∙ ap (λ (m : PlainOp). op_length (with_inner m inner.0)) (sym (ok_is (operand_meant s place (outside op) base.0 (named_by s op.code op.address)) outer.0 base.2))
+    ∙ ap (λ (m : PlainOp). op_length (with_inner m inner.0)) (sym (ok_is (operand_meant s place (outside op) base.0 (named_by (names_of s) op.code op.address)) outer.0 base.2))
     ∙ outer_len s place op base.0 inner.0 lengths
 
 -- ---- all operations
@@ -143,9 +143,9 @@ all_flat : {A B : Type 0} (P : B → Type 0) (f : A → List B) (xs : List A) �
 all_flat P f [] all = All-nil P
 all_flat {A = A} P f (x ∷ xs) all = All-append P (f x) (flat_map f xs) (All-head (λ (x : A). All P (f x)) x xs all) (all_flat P f xs (All-tail (λ (x : A). All P (f x)) x xs all))
 
-pub ops_known : (s : Context) (first : ℕ) (ops meant : List Op) → each_from op_size (op_meant s) first ops ≡ Ok meant → NameKnown s meant
+pub ops_known : (s : Context) (first : ℕ) (ops meant : List Op) → each_from op_size (op_meant s) first ops ≡ Ok meant → NameKnown (names_of s) meant
 ops_known s first ops meant e entry there =
-    All-contains (IsKnown s) (flat_map op_bases meant) entry (all_flat (IsKnown s) op_bases meant (each_kept (OpKnown s) op_size (op_meant s) (op_known s) first ops meant e)) there
+    All-contains (IsKnown (names_of s)) (flat_map op_bases meant) entry (all_flat (IsKnown (names_of s)) op_bases meant (each_kept (OpKnown s) op_size (op_meant s) (op_known s) first ops meant e)) there
 
 pub ops_same_length : (s : Context) (first : ℕ) (ops meant : List Op) → each_from op_size (op_meant s) first ops ≡ Ok meant → ops_len meant ≡ ops_len ops
 ops_same_length s first ops meant e = each_sum op_length op_size (op_meant s) (op_same_length s) first ops meant e

@@ -22,9 +22,9 @@ use Rattle.expr_walk.specs.Reading.{walk_of}
 use Rattle.dwarf_types.specs.LinkedExpressions.{outside}
 use Rattle.dwarf_types.specs.Operations.{operands_of}
 use Rattle.moved_parts.specs.Places.{place_of}
-use Rattle.expr_resolve.specs.Context.{Context}
+use Rattle.expr_resolve.specs.Context.{Context, Names, names_of}
 
-abbrev pub fault_in : Context → Kind → ℕ → Fault
+abbrev pub fault_in : Names → Kind → ℕ → Fault
 fault_in s kind place = record { kind = kind; section = s.part; place = place }
 
 -- ---- addresses
@@ -48,12 +48,12 @@ abbrev pub is_conversion : ℕ → Bool
 is_conversion code = code == DW_OP_convert || code == DW_OP_reinterpret
 
 -- the base type that an operation of a code names: one of the unit stands at the place, which counts from the unit's first byte
-abbrev pub base_named : Context → ℕ → Base → Option Base
+abbrev pub base_named : Names → ℕ → Base → Option Base
 base_named s code bases.Generic = if is_conversion code then Some bases.Generic else None
 base_named s code (bases.Entry n) = option_map (λ b. bases.Entry b.entry) (find (λ b. b.unit == s.unit && b.place == s.start + n) s.bases)
 
 -- the base type of an operation that begins at a place, if it names one
-abbrev pub base_meant : Context → ℕ → ℕ → Option Base → Result (Option Base) Fault
+abbrev pub base_meant : Names → ℕ → ℕ → Option Base → Result (Option Base) Fault
 base_meant s place code None = Ok None
 base_meant s place code (Some base) = or_fault (base_named s code base) (fault_in s kinds.BadOperandType place) >>= λ meant. Ok (Some meant)
 
@@ -73,7 +73,7 @@ index_in None = None
 index_in (Some place) = number_in place.at
 
 -- the place in __debug_addr of the entry at an index, if it is there
-abbrev pub entry_of : Context → Option Place → Option ℕ
+abbrev pub entry_of : Names → Option Place → Option ℕ
 entry_of s address = option_and_then (λ index. address_place s.sections s.addr_base index) (index_in address)
 
 -- what the entry at a place means, and where that went
@@ -93,11 +93,11 @@ abbrev pub held : Context → ℕ → Option Base → ℕ → PlainOp
 held s code base at = record { code = holding code; bytes = holding code ∷ take 8 (drop at s.sections.addr); address = entry_address s code at; base = base }
 
 -- the place of the entry that an operation names, if it names one that is there
-abbrev pub named_by : Context → ℕ → Option Place → Option ℕ
+abbrev pub named_by : Names → ℕ → Option Place → Option ℕ
 named_by s code address = if names_entry code then entry_of s address else None
 
 -- an operation names an entry that is not there
-abbrev pub is_lost : Context → ℕ → Option Place → Bool
+abbrev pub is_lost : Names → ℕ → Option Place → Bool
 is_lost s code address = names_entry code && is_none (entry_of s address)
 
 -- ---- operations
@@ -109,7 +109,7 @@ operand_meant s place op base (Some at) = held s op.code base at
 
 -- an operation that begins at a place, and is no entry value
 abbrev pub plain_meant : Context → ℕ → PlainOp → Result PlainOp Fault
-plain_meant s place op = base_meant s place op.code op.base >>= λ base. Ok (operand_meant s place op base (named_by s op.code op.address))
+plain_meant s place op = base_meant (names_of s) place op.code op.base >>= λ base. Ok (operand_meant s place op base (named_by (names_of s) op.code op.address))
 
 -- items one after the other, the first of which begins at a place
 abbrev pub each_from : {A B : Type 0} → (A → ℕ) → (ℕ → A → Result B Fault) → ℕ → List A → Result (List B) Fault
@@ -133,27 +133,37 @@ inner_start place op = place + length op.bytes - sum_by plain_size op.inner
 abbrev pub with_inner : PlainOp → List PlainOp → Op
 with_inner op inner = record { code = op.code; bytes = op.bytes; address = op.address; base = op.base; inner = inner }
 
--- an operation that begins at a place: first its own operands, then those of the operations inside
-abbrev pub op_meant : Context → ℕ → Op → Result Op Fault
-op_meant s place op = do
-  outer ← plain_meant s place (outside op)
-  inner ← each_from plain_size (plain_meant s) (inner_start place op) op.inner
+-- an operation that begins at a place, by what one is that is no entry value: first it alone, then the operations inside
+abbrev pub op_by : (ℕ → PlainOp → Result PlainOp Fault) → ℕ → Op → Result Op Fault
+op_by meant place op = do
+  outer ← meant place (outside op)
+  inner ← each_from plain_size meant (inner_start place op) op.inner
   Ok (with_inner outer inner)
+
+abbrev pub op_meant : Context → ℕ → Op → Result Op Fault
+op_meant s = op_by (plain_meant s)
+
+-- an operation that begins at a place, and is no entry value, as it is stored, but for its base type, which is told by its entry
+abbrev pub plain_stored : Names → ℕ → PlainOp → Result PlainOp Fault
+plain_stored s place op = base_meant s place op.code op.base >>= λ base. Ok (record op { base = base })
+
+abbrev pub op_stored : Names → ℕ → Op → Result Op Fault
+op_stored s = op_by (plain_stored s)
 
 -- ---- indices
 
 -- an operation that begins at a place, and is no entry value, names no entry that is not there
-abbrev pub plain_indexed : Context → ℕ → PlainOp → Result (Unit {0}) Fault
+abbrev pub plain_indexed : Names → ℕ → PlainOp → Result (Unit {0}) Fault
 plain_indexed s place op = refuse_if (is_lost s op.code op.address) (fault_in s kinds.BadIndex place)
 
 -- the same of an operation and of those inside
-abbrev pub op_indexed : Context → ℕ → Op → Result (Unit {0}) Fault
+abbrev pub op_indexed : Names → ℕ → Op → Result (Unit {0}) Fault
 op_indexed s place op = do
   _ ← plain_indexed s place (outside op)
   _ ← each_from plain_size (plain_indexed s) (inner_start place op) op.inner
   Ok tt
 
-abbrev pub indices_tried : Context → ℕ → List Op → Result (Unit {0}) Fault
+abbrev pub indices_tried : Names → ℕ → List Op → Result (Unit {0}) Fault
 indices_tried s first ops = each_from op_size (op_indexed s) first ops >>= λ _. Ok tt
 
 -- ---- branches
@@ -176,11 +186,11 @@ abbrev pub branches_over : List Op → Bool
 branches_over ops = list_any (λ op. is_branch op.code) ops && list_any op_changes ops
 
 -- the expression inside an operation that begins at a place
-abbrev pub inner_tried : Context → ℕ → Op → Result (Unit {0}) Fault
+abbrev pub inner_tried : Names → ℕ → Op → Result (Unit {0}) Fault
 inner_tried s place op = refuse_if (plain_branches_over op.inner) (fault_in s kinds.BranchOverRewrite (inner_start place op))
 
 -- an expression that begins at a place, and then those inside its operations in order
-abbrev pub branches_tried : Context → ℕ → List Op → Result (Unit {0}) Fault
+abbrev pub branches_tried : Names → ℕ → List Op → Result (Unit {0}) Fault
 branches_tried s first ops = do
   _ ← refuse_if (branches_over ops) (fault_in s kinds.BranchOverRewrite first)
   _ ← each_from op_size (inner_tried s) first ops
@@ -193,6 +203,15 @@ unfoldable pub expression_of : Context → List ℕ → ℕ → Result (List Op)
 expression_of s bytes first = do
   ops ← walk_of bytes s.part first s.version
   meant ← each_from op_size (op_meant s) first ops
+  _ ← indices_tried (names_of s) first ops
+  _ ← branches_tried (names_of s) first ops
+  Ok meant
+
+-- The same with each operation as it is stored, where nothing moves: an address is the number in its field, and what an index names stays an index.
+unfoldable pub stored_expression_of : Names → List ℕ → ℕ → Result (List Op) Fault
+stored_expression_of s bytes first = do
+  ops ← walk_of bytes s.part first s.version
+  stored ← each_from op_size (op_stored s) first ops
   _ ← indices_tried s first ops
   _ ← branches_tried s first ops
-  Ok meant
+  Ok stored

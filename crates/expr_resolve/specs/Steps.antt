@@ -13,7 +13,7 @@ use Rattle.expr_resolve.specs.declared.operand.Meaning.TheVariants as meanings
 use Rattle.macho_read.specs.Sound.{IsSound as IsSoundImage}
 use Rattle.reloc_table.specs.Sound.{IsSound as AreSoundRelocs}
 use Rattle.addr_map.specs.Sound.{IsSound as IsSoundMap}
-use Rattle.expr_resolve.specs.Context.{Context, AreInOrder}
+use Rattle.expr_resolve.specs.Context.{Context, Names, AreInOrder}
 use Rattle.expr_resolve.specs.Expressions.{branches_over, each_from, fault_in, inner_tried, op_size, plain_indexed, plain_size}
 
 -- all by which an operand is understood is sound
@@ -52,12 +52,12 @@ abbrev pub put_behind : List Op → Result Op Fault → Result Gathered Fault
 put_behind ops read = read >>= λ op. Ok (record { ops = ops ++ op ∷ []; inner = [] })
 
 -- the entries that operations inside name
-abbrev pub inner_indexed : Context → ℕ → List PlainOp → Result (Unit {0}) Fault
+abbrev pub inner_indexed : Names → ℕ → List PlainOp → Result (Unit {0}) Fault
 inner_indexed s first ops = each_from plain_size (plain_indexed s) first ops >>= λ _. Ok tt
 
 -- the two parts of trying branches: the outermost expression, and then those inside its operations
-abbrev pub outermost_tried : Context → ℕ → List Op → Result (Unit {0}) Fault
+abbrev pub outermost_tried : Names → ℕ → List Op → Result (Unit {0}) Fault
 outermost_tried s first ops = refuse_if (branches_over ops) (fault_in s BranchOverRewrite first)
 
-abbrev pub all_inside_tried : Context → ℕ → List Op → Result (Unit {0}) Fault
+abbrev pub all_inside_tried : Names → ℕ → List Op → Result (Unit {0}) Fault
 all_inside_tried s first ops = each_from op_size (inner_tried s) first ops >>= λ _. Ok tt

@@ -5,11 +5,11 @@ ghost use Rattle.std.specs.List.{All, list_any, sum_by};
 ghost use Rattle.ds_base.specs.Reading.{Finds};
 ghost use Rattle.dwarf_types.specs.Seen.{op_seen};
 ghost use Rattle.expr_walk.specs.Length.{ops_len};
-ghost use Rattle.expr_resolve.specs.Context.{context_in};
+ghost use Rattle.expr_resolve.specs.Context.{names_in};
 ghost use Rattle.expr_resolve.specs.Steps.{all_inside_tried, IsCut, outermost_tried};
 ghost use Rattle.expr_resolve.specs.Expressions.{branches_tried, inner_tried, is_branch, op_changes, op_size, plain_changes, plain_size};
 
-use crate::context::ExprContext;
+use crate::context::ExprNames;
 use crate::length::{changes_length, changes_plain_length};
 use crate::operand::fault_at;
 use crate::operations::inner_first;
@@ -20,51 +20,51 @@ use dwarf_types::{InnerOpsRef, OpRef, OpsRef};
 /// Tests that no expression branches over an operation that changes its length: first the outermost expression, whose
 /// first byte stands at `first`, then those inside its operations, in order. The fault is `BranchOverRewrite`, placed at
 /// the first byte of its expression.
-pub(crate) fn try_branches(context: &ExprContext, first: u64, ops: &OpsRef<'_>) -> Result<(), Fault>
+pub(crate) fn try_branches(names: &ExprNames, first: u64, ops: &OpsRef<'_>) -> Result<(), Fault>
     requires cut { All IsCut ops.now }
     requires short { ops_len ops.now < 2 ^ 64 }
     requires inside { first + sum_by op_size ops.now < 2 ^ 32 }
-    ensures { Finds (λ _. tt) result (branches_tried (context_in context.now) first ops.now) }
+    ensures { Finds (λ _. tt) result (branches_tried (names_in names.now) first ops.now) }
 {
-    try_outermost(context, first, ops)?;
-    try_all_inside(context, first, ops)
+    try_outermost(names, first, ops)?;
+    try_all_inside(names, first, ops)
 }
 
 /// Tests an outermost expression.
-fn try_outermost(context: &ExprContext, first: u64, ops: &OpsRef<'_>) -> Result<(), Fault>
+fn try_outermost(names: &ExprNames, first: u64, ops: &OpsRef<'_>) -> Result<(), Fault>
     requires { ops_len ops.now < 2 ^ 64 }
-    ensures { Finds (λ _. tt) result (outermost_tried (context_in context.now) first ops.now) }
+    ensures { Finds (λ _. tt) result (outermost_tried (names_in names.now) first ops.now) }
 {
     if has_branch(ops) && has_changed(ops) {
-        return Err(fault_at(context, Kind::BranchOverRewrite, first));
+        return Err(fault_at(names, Kind::BranchOverRewrite, first));
     }
     Ok(())
 }
 
 /// Tests the expressions inside operations, the first of which begins at `first`.
-fn try_all_inside(context: &ExprContext, first: u64, ops: &OpsRef<'_>) -> Result<(), Fault>
+fn try_all_inside(names: &ExprNames, first: u64, ops: &OpsRef<'_>) -> Result<(), Fault>
     requires cut { All IsCut ops.now }
     requires inside { first + sum_by op_size ops.now < 2 ^ 32 }
-    ensures { Finds (λ _. tt) result (all_inside_tried (context_in context.now) first ops.now) }
+    ensures { Finds (λ _. tt) result (all_inside_tried (names_in names.now) first ops.now) }
 {
     let mut place = first;
     for k in 0..ops.len() {
         let op = ops.op(k);
-        try_inside(context, place, &op)?;
+        try_inside(names, place, &op)?;
         place += op.bytes.len() as u64;
     }
     Ok(())
 }
 
 /// Tests the expression inside an operation that begins at `place`.
-fn try_inside(context: &ExprContext, place: u64, op: &OpRef<'_>) -> Result<(), Fault>
+fn try_inside(names: &ExprNames, place: u64, op: &OpRef<'_>) -> Result<(), Fault>
     requires inner { sum_by plain_size op.now.inner ≤ length op.now.bytes.now }
     requires inside { place + length op.now.bytes.now < 2 ^ 32 }
-    ensures { Finds (λ _. tt) result (inner_tried (context_in context.now) place (op_seen op.now)) }
+    ensures { Finds (λ _. tt) result (inner_tried (names_in names.now) place (op_seen op.now)) }
 {
     if has_plain_branch(&op.inner) && has_plain_changed(&op.inner) {
         let first = inner_first(place, op);
-        return Err(fault_at(context, Kind::BranchOverRewrite, first));
+        return Err(fault_at(names, Kind::BranchOverRewrite, first));
     }
     Ok(())
 }

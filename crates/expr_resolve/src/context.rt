@@ -1,5 +1,8 @@
 //! What an expression is understood by.
 
+ghost use Rattle.std.specs.Prelude.{◌≡◌};
+ghost use Rattle.expr_resolve.specs.Context.{context_in, names_in, names_of};
+
 use addr_map::AddrMap;
 use ds_base::Part;
 use dwarf_types::Sections;
@@ -7,7 +10,7 @@ use macho_read::Image;
 use reloc_table::Relocs;
 
 /// A base type among an object's entries.
-#[derive(Clone, Copy, Debug)]
+#[derive(Clone, Copy)]
 pub struct BaseType {
     /// The number of its entry in the object, counted from 0.
     pub entry: u32,
@@ -15,6 +18,25 @@ pub struct BaseType {
     pub unit: u32,
     /// Of its first byte in `__debug_info`.
     pub place: u32,
+}
+
+/// What an expression may name, and where it stands.
+#[derive(Clone, Copy)]
+pub struct ExprNames<'a> {
+    /// The base types of the object, in the order of their places.
+    pub bases: &'a [BaseType],
+    /// The part of the file in which it stands.
+    pub part: Part,
+    /// The number of its unit in the object, counted from 0.
+    pub unit: u32,
+    /// Of the first byte of its unit in `__debug_info`.
+    pub start: u32,
+    /// The version of its unit.
+    pub version: u16,
+    /// The debug sections of the object.
+    pub sections: &'a Sections<'a>,
+    /// The place in `__debug_addr` of the first address of its unit's table.
+    pub addr_base: u64,
 }
 
 /// The object of an expression, and where in it the expression stands.
@@ -40,4 +62,21 @@ pub struct ExprContext<'a> {
     pub addresses: &'a Relocs,
     /// The place in `__debug_addr` of the first address of its unit's table.
     pub addr_base: u64,
+}
+
+impl<'a> ExprContext<'a> {
+    /// What the expression may name.
+    pub(crate) fn names(&self) -> ExprNames<'a>
+        ensures { names_in result ≡ names_of (context_in self.now) }
+    {
+        ExprNames {
+            bases: self.bases,
+            part: self.part,
+            unit: self.unit,
+            start: self.start,
+            version: self.version,
+            sections: self.sections,
+            addr_base: self.addr_base,
+        }
+    }
 }

@@ -1,11 +1,11 @@
 //! Entries of a unit's table of addresses, which operations name by their indices.
 
-ghost use Rattle.std.specs.Prelude.{◌≡◌, ◌+◌, ◌≤◌, length, IfSome};
-ghost use Rattle.expr_resolve.specs.Context.{context_in};
+ghost use Rattle.std.specs.Prelude.{◌≡◌, ◌+◌, ◌^◌, ◌<◌, ◌≤◌, length, IfSome};
+ghost use Rattle.expr_resolve.specs.Context.{context_in, names_in};
 ghost use Rattle.expr_resolve.specs.Steps.{IsSoundContext};
 ghost use Rattle.expr_resolve.specs.Expressions.{entry_address, entry_meant, entry_of, holding, index_in, is_lost, named_by, names_entry};
 
-use crate::context::ExprContext;
+use crate::context::{ExprContext, ExprNames};
 use crate::lookup::is_relocated;
 use ds_base::dwarf::{DW_OP_addr, DW_OP_addrx, DW_OP_const8u, DW_OP_constx};
 use dwarf_types::{Addr, Place};
@@ -15,24 +15,24 @@ use reloc_table::resolve;
 
 /// The place in `__debug_addr` of the entry that an operation of this code names, if it names one and that is there.
 /// `address` is the index, as it was read.
-pub(crate) fn find_entry(context: &ExprContext, code: u8, address: Option<Place>) -> Option<u32>
-    requires sound { IsSoundContext (context_in context.now) }
-    ensures is { result ≡ named_by (context_in context.now) code address }
-    ensures inside { IfSome result (λ at. at + 8 ≤ length context.now.sections.now.addr.now) }
+pub(crate) fn find_entry(names: &ExprNames, code: u8, address: Option<Place>) -> Option<u32>
+    requires small { length (names_in names.now).sections.addr < 2 ^ 32 }
+    ensures is { result ≡ named_by (names_in names.now) code address }
+    ensures inside { IfSome result (λ at. at + 8 ≤ length (names_in names.now).sections.addr) }
 {
     if names_entry(code) {
-        entry_at(context, address)
+        entry_at(names, address)
     } else {
         None
     }
 }
 
 /// Whether an operation of this code names an entry that is not there.
-pub(crate) fn is_lost(context: &ExprContext, code: u8, address: Option<Place>) -> bool
-    requires sound { IsSoundContext (context_in context.now) }
-    ensures { result ≡ is_lost (context_in context.now) code address }
+pub(crate) fn is_lost(names: &ExprNames, code: u8, address: Option<Place>) -> bool
+    requires small { length (names_in names.now).sections.addr < 2 ^ 32 }
+    ensures { result ≡ is_lost (names_in names.now) code address }
 {
-    names_entry(code) && entry_at(context, address).is_none()
+    names_entry(code) && entry_at(names, address).is_none()
 }
 
 /// Whether an operation of this code names an entry.
@@ -43,15 +43,15 @@ fn names_entry(code: u8) -> bool
 }
 
 /// The place of the entry at an index.
-fn entry_at(context: &ExprContext, address: Option<Place>) -> Option<u32>
-    requires sound { IsSoundContext (context_in context.now) }
-    ensures is { result ≡ entry_of (context_in context.now) address }
-    ensures inside { IfSome result (λ at. at + 8 ≤ length context.now.sections.now.addr.now) }
+fn entry_at(names: &ExprNames, address: Option<Place>) -> Option<u32>
+    requires small { length (names_in names.now).sections.addr < 2 ^ 32 }
+    ensures is { result ≡ entry_of (names_in names.now) address }
+    ensures inside { IfSome result (λ at. at + 8 ≤ length (names_in names.now).sections.addr) }
 {
     let Some(index) = index_of(address) else {
         return None;
     };
-    match address_at(context.sections, context.addr_base, index) {
+    match address_at(names.sections, names.addr_base, index) {
         Ok(at) => Some(at),
         Err(_) => None,
     }

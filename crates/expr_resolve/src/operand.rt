@@ -4,11 +4,11 @@ ghost use Rattle.std.specs.Prelude.{◌≡◌, ◌+◌, ◌^◌, ◌<◌, ◌≤
 ghost use Rattle.ds_base.specs.Reading.{Finds};
 ghost use Rattle.dwarf_types.specs.declared.expr.PlainOp.{PlainOp as APlainOp};
 ghost use Rattle.dwarf_types.specs.Seen.{inner_seen};
-ghost use Rattle.expr_resolve.specs.Context.{context_in, AreInOrder};
+ghost use Rattle.expr_resolve.specs.Context.{context_in, names_in, AreInOrder};
 ghost use Rattle.expr_resolve.specs.Steps.{bare, HoldsOperand, IsSoundContext, with_meaning};
 ghost use Rattle.expr_resolve.specs.Expressions.{address_meant, base_meant, base_named, fault_in, held, holds_address, is_conversion, operand_place, plain_meant};
 
-use crate::context::ExprContext;
+use crate::context::{ExprContext, ExprNames};
 use crate::entry::{entry_address, find_entry, holding_code};
 use crate::lookup::{find_base, is_relocated};
 use byteorder::{ByteOrder, LittleEndian};
@@ -19,12 +19,12 @@ use moved_parts::place as place_of;
 use reloc_table::resolve;
 
 /// A fault of the expression's part of the file.
-pub(crate) fn fault_at(context: &ExprContext, kind: Kind, place: u64) -> Fault
-    ensures { result ≡ fault_in (context_in context.now) kind place }
+pub(crate) fn fault_at(names: &ExprNames, kind: Kind, place: u64) -> Fault
+    ensures { result ≡ fault_in (names_in names.now) kind place }
 {
     Fault {
         kind,
-        section: context.part,
+        section: names.part,
         place,
     }
 }
@@ -45,19 +45,71 @@ pub(crate) enum Meaning {
     },
 }
 
-/// What an operation becomes, whatever stands inside it. `place` is that of its first byte.
-pub(crate) fn meaning_of(
-    context: &ExprContext,
-    place: u64,
-    op: &InnerOpRef<'_>,
-) -> Result<Meaning, Fault>
+/// By what an operation becomes something else, whatever stands inside it.
+pub(crate) trait Understands {
+    ghost use Rattle.std.specs.Prelude.{ℕ, Result, ◌+◌, ◌^◌, ◌<◌, length};
+    ghost use Rattle.ds_base.specs.declared.fault.Fault.{Fault};
+    ghost use Rattle.ds_base.specs.Reading.{Finds};
+    ghost use Rattle.dwarf_types.specs.declared.expr.PlainOp.{PlainOp};
+    ghost use Rattle.dwarf_types.specs.Seen.{inner_seen};
+    ghost use Rattle.expr_resolve.specs.Steps.{HoldsOperand, with_meaning};
+
+    /// All by which it is understood is sound.
+    ghost ready: { Self → Type 0 };
+
+    /// What an operation is that begins at a place.
+    ghost meant: { Self → ℕ → PlainOp → Result PlainOp Fault };
+
+    /// What an operation becomes. `place` is that of its first byte.
+    fn meaning_of(&self, place: u64, op: &InnerOpRef<'_>) -> Result<Meaning, Fault>
+        requires ready { ready self.now }
+        requires operand { HoldsOperand op.now.code op.now.bytes.now }
+        requires inside { place + length op.now.bytes.now < 2 ^ 32 }
+        ensures { Finds (with_meaning (inner_seen op.now)) result (meant self.now place (inner_seen op.now)) };
+}
+
+/// Addresses are moved, and what an index names stands in the operation.
+impl<'a> Understands for ExprContext<'a> {
+    ghost use Rattle.expr_resolve.specs.Context.{context_in};
+    ghost use Rattle.expr_resolve.specs.Expressions.{plain_meant};
+    ghost use Rattle.expr_resolve.specs.Steps.{IsSoundContext};
+
+    ghost ready = { λ s. IsSoundContext (context_in s) };
+
+    ghost meant = { λ s. plain_meant (context_in s) };
+
+    fn meaning_of(&self, place: u64, op: &InnerOpRef<'_>) -> Result<Meaning, Fault> {
+        moved_meaning(self, place, op)
+    }
+}
+
+/// Each stands as it is stored, but for its base type.
+impl<'a> Understands for ExprNames<'a> {
+    ghost use Rattle.expr_resolve.specs.Context.{AreInOrder, names_in};
+    ghost use Rattle.expr_resolve.specs.Expressions.{plain_stored};
+
+    ghost ready = { λ s. AreInOrder (names_in s).bases };
+
+    ghost meant = { λ s. plain_stored (names_in s) };
+
+    fn meaning_of(&self, place: u64, op: &InnerOpRef<'_>) -> Result<Meaning, Fault> {
+        Ok(Meaning::Stands {
+            address: op.address,
+            base: resolve_base(self, place, op.code, op.base)?,
+        })
+    }
+}
+
+/// What an operation becomes where its addresses are moved.
+fn moved_meaning(context: &ExprContext, place: u64, op: &InnerOpRef<'_>) -> Result<Meaning, Fault>
     requires sound { IsSoundContext (context_in context.now) }
     requires operand { HoldsOperand op.now.code op.now.bytes.now }
     requires inside { place + length op.now.bytes.now < 2 ^ 32 }
     ensures { Finds (with_meaning (inner_seen op.now)) result (plain_meant (context_in context.now) place (inner_seen op.now)) }
 {
-    let base = resolve_base(context, place, op.code, op.base)?;
-    match find_entry(context, op.code, op.address) {
+    let names = context.names();
+    let base = resolve_base(&names, place, op.code, op.base)?;
+    match find_entry(&names, op.code, op.address) {
         Some(at) => Ok(hold_entry(context, op.code, base, at)),
         None => Ok(Meaning::Stands {
             address: address_in(context, place, op.code, op.bytes),
@@ -93,34 +145,34 @@ fn coded_bytes(code: u8, operand: &[u8]) -> [u8; 9]
 
 /// The entry of the base type that an operation names, where it names one. `place` is that of its first byte.
 fn resolve_base(
-    context: &ExprContext,
+    names: &ExprNames,
     place: u64,
     code: u8,
     base: Option<Base>,
 ) -> Result<Option<Base>, Fault>
-    requires { AreInOrder context.now.bases.now }
-    ensures { Finds (λ meant. meant) result (base_meant (context_in context.now) place code base) }
+    requires { AreInOrder (names_in names.now).bases }
+    ensures { Finds (λ meant. meant) result (base_meant (names_in names.now) place code base) }
 {
     let Some(base) = base else {
         return Ok(None);
     };
-    match find_named(context, code, base) {
+    match find_named(names, code, base) {
         Some(meant) => Ok(Some(meant)),
-        None => Err(fault_at(context, Kind::BadOperandType, place)),
+        None => Err(fault_at(names, Kind::BadOperandType, place)),
     }
 }
 
 /// The base type that an operation of this code names, by its entry.
-fn find_named(context: &ExprContext, code: u8, base: Base) -> Option<Base>
-    requires { AreInOrder context.now.bases.now }
-    ensures { result ≡ base_named (context_in context.now) code base }
+fn find_named(names: &ExprNames, code: u8, base: Base) -> Option<Base>
+    requires { AreInOrder (names_in names.now).bases }
+    ensures { result ≡ base_named (names_in names.now) code base }
 {
     match base {
         Base::Generic if takes_generic(code) => Some(Base::Generic),
         Base::Generic => None,
         Base::Entry(at) => {
-            let place = u64::from(context.start) + u64::from(at);
-            match find_base(context.bases, context.unit, place) {
+            let place = u64::from(names.start) + u64::from(at);
+            match find_base(names.bases, names.unit, place) {
                 Some(entry) => Some(Base::Entry(entry)),
                 None => None,
             }

@@ -4,55 +4,53 @@ ghost use Rattle.std.specs.Prelude.{◌≡◌, ◌+◌, ◌^◌, ◌<◌, ◌≤
 ghost use Rattle.std.specs.List.{All, sum_by};
 ghost use Rattle.ds_base.specs.Reading.{Gives};
 ghost use Rattle.dwarf_types.specs.Seen.{inner_seen, op_seen};
-ghost use Rattle.expr_resolve.specs.Context.{context_in};
-ghost use Rattle.expr_resolve.specs.Steps.{IsCut, IsPlainCut, IsSoundContext, put_behind, with_meaning};
-ghost use Rattle.expr_resolve.specs.Expressions.{each_from, inner_start, op_meant, op_size, plain_meant, plain_size};
+ghost use Rattle.expr_resolve.specs.Steps.{IsCut, IsPlainCut, put_behind, with_meaning};
+ghost use Rattle.expr_resolve.specs.Expressions.{each_from, inner_start, op_by, op_size, plain_size};
 
-use crate::context::ExprContext;
-use crate::operand::{Meaning, meaning_of};
+use crate::operand::{Meaning, Understands};
 use ds_base::ReadError;
 use dwarf_types::{InnerOpRef, InnerOpsRef, OpRef, Ops, OpsRef};
 
 /// Puts what the operations of an expression become, one behind the other. `first` is the place of its first byte.
-pub(crate) fn resolve_ops(
-    context: &ExprContext,
+pub(crate) fn resolve_ops<M: Understands>(
+    by: &M,
     first: u64,
     stored: &OpsRef<'_>,
     ops: &mut Ops,
 ) -> Result<(), ReadError>
-    requires sound { IsSoundContext (context_in context.now) }
+    requires ready { M.ready by.now }
     requires none { ops.old ≡ record { ops = []; inner = [] } }
     requires cut { All IsCut stored.now }
     requires inside { first + sum_by op_size stored.now < 2 ^ 32 }
-    ensures exact { Gives (λ _. ops.new.ops) result (each_from op_size (op_meant (context_in context.now)) first stored.now) }
+    ensures exact { Gives (λ _. ops.new.ops) result (each_from op_size (op_by (M.meant by.now)) first stored.now) }
     ensures none { OnOk result (ops.new.inner ≡ []) }
 {
     let mut place = first;
     for k in 0..stored.len() {
         let op = stored.op(k);
-        resolve_op(context, place, &op, ops)?;
+        resolve_op(by, place, &op, ops)?;
         place += op.bytes.len() as u64;
     }
     Ok(())
 }
 
 /// Puts what an operation becomes behind the others: first it is understood, then those inside are.
-fn resolve_op(
-    context: &ExprContext,
+fn resolve_op<M: Understands>(
+    by: &M,
     place: u64,
     op: &OpRef<'_>,
     ops: &mut Ops,
 ) -> Result<(), ReadError>
-    requires sound { IsSoundContext (context_in context.now) }
+    requires ready { M.ready by.now }
     requires none { ops.old.inner ≡ [] }
     requires cut { IsCut (op_seen op.now) }
     requires inside { place + length op.now.bytes.now < 2 ^ 32 }
-    ensures { Gives (λ _. ops.new) result (put_behind ops.old.ops (op_meant (context_in context.now) place (op_seen op.now))) }
+    ensures { Gives (λ _. ops.new) result (put_behind ops.old.ops (op_by (M.meant by.now) place (op_seen op.now))) }
 {
     let outer = op.outside();
-    let meaning = meaning_of(context, place, &outer)?;
+    let meaning = by.meaning_of(place, &outer)?;
     let first = inner_first(place, op);
-    resolve_inner(context, first, &op.inner, ops)?;
+    resolve_inner(by, first, &op.inner, ops)?;
     ops.push(&with_meaning(&outer, &meaning))?;
     Ok(())
 }
@@ -104,23 +102,23 @@ fn inner_size(ops: &InnerOpsRef<'_>) -> u64
 }
 
 /// Puts what the operations inside the next one become, one behind the other. `first` is the place of their first byte.
-fn resolve_inner(
-    context: &ExprContext,
+fn resolve_inner<M: Understands>(
+    by: &M,
     first: u64,
     stored: &InnerOpsRef<'_>,
     ops: &mut Ops,
 ) -> Result<(), ReadError>
-    requires sound { IsSoundContext (context_in context.now) }
+    requires ready { M.ready by.now }
     requires none { ops.old.inner ≡ [] }
     requires cut { All IsPlainCut stored.now }
     requires inside { first + sum_by plain_size stored.now < 2 ^ 32 }
-    ensures inner { Gives (λ _. ops.new.inner) result (each_from plain_size (plain_meant (context_in context.now)) first stored.now) }
+    ensures inner { Gives (λ _. ops.new.inner) result (each_from plain_size (M.meant by.now) first stored.now) }
     ensures others { OnOk result (ops.new.ops ≡ ops.old.ops) }
 {
     let mut place = first;
     for j in 0..stored.len() {
         let op = stored.op(j);
-        let meaning = meaning_of(context, place, &op)?;
+        let meaning = by.meaning_of(place, &op)?;
         ops.push_inner(&with_meaning(&op, &meaning))?;
         place += op.bytes.len() as u64;
     }

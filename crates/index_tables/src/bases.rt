@@ -17,7 +17,7 @@ const TABLE_BASE: u64 = 8;
 const LISTS_BASE: u64 = 12;
 
 /// Where the tables begin to which the indices of a unit's values lead (DWARF 5, section 3.1.1).
-#[derive(Clone, Copy, Debug)]
+#[derive(Clone, Copy)]
 pub struct Bases {
     /// Of string offsets, in `__debug_str_offs`.
     pub texts: u64,

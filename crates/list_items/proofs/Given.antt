@@ -6,7 +6,7 @@ use Rattle.ds_base.specs.declared.fault.Fault.{Fault}
 use Rattle.ds_base.specs.Spot.{Spot}
 use Rattle.ds_base.proofs.Passing.{bind_ok, ok_is}
 use Rattle.dwarf_types.specs.declared.address.Addr.{Addr}
-use Rattle.list_items.specs.Lists.{Says, ends, selects, spans, ListItem, Listing, behind_it, listed, items_from, given, unless_stopped, list_of}
+use Rattle.list_items.specs.Lists.{Says, ends, selects, defaults, spans, ListItem, Listing, behind_it, listed, items_from, given, unless_stopped, list_of}
 
 -- a list that is read came to its end, and is what its items give
 not_stopped : (stop : Option Fault) (u : Unit {0}) → unless_stopped stop ≡ Ok u → stop ≡ None
@@ -26,6 +26,7 @@ AllGive P listing = AllByRecursion (λ item. IfSome (given item.says) P) listing
 behind_gives : {A : Type 0} (P : A → Type 0) (says : Says A) (base : Addr) (more : Addr → Listing A) → ((b : Addr) → AllGive P (more b)) → AllGive P (behind_it says base more)
 behind_gives P ends base more later = tt
 behind_gives P (selects selected) base more later = later selected
+behind_gives P (defaults x) base more later = later base
 behind_gives P (spans span x) base more later = later base
 
 one_gives : {A : Type 0} (P : A → Type 0) (At : Spot → Type 0) (first : Spot) (one : Result (Says A × Spot) Fault) (more : Says A → Spot → Listing A)

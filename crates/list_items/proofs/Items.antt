@@ -20,7 +20,7 @@ use Rattle.list_items.specs.declared.words.Word.{Word}
 use Rattle.list_items.specs.Context.{Context}
 use Rattle.list_items.specs.Ends.{belong_together}
 use Rattle.list_items.specs.EntryKinds.{kind_in}
-use Rattle.list_items.specs.Entries.{indexed, index_at, address_at, offset_at, selected_at, between, no_span, entry_from, entry_at}
+use Rattle.list_items.specs.Entries.{indexed, index_at, address_at, offset_at, selected_at, between, entry_from, entry_at}
 use Rattle.list_items.specs.Items.{span_at}
 use Rattle.list_items.specs.Reading.{formed_at, item_at}
 use Rattle.list_items.specs.Words.{word_at, item_of, words_at}
@@ -49,6 +49,7 @@ number_further n s y some e =
 abbrev pub IsOrdered : Item → Type 0
 IsOrdered items.End = Unit {0}
 IsOrdered (items.Base selected) = Unit {0}
+IsOrdered items.Default = Unit {0}
 IsOrdered (items.Span span) = belong_together span ≡ true
 
 pub record IsKept (s : Spot) (y : Item × Spot) : Type 0 where
@@ -131,10 +132,6 @@ stays_at item s = Ok (item, s)
 plain_kept : (item : Item) (s : Spot) (y : Item × Spot) → IsOrdered item → stays_at item s ≡ Ok y → IsKept s y
 plain_kept item s y ordered e = subst (IsKept s) (ok_is (item, s) y e) (record { onward = stays s; ordered = ordered })
 
-no_span_ordered : belong_together no_span ≡ true
-unfolding belong_together
-no_span_ordered = refl
-
 from_kept : (c : Context) (base : Addr) (first : Spot) (kind : EntryKind) (s : Spot) (y : Item × Spot) → entry_from c base first kind s ≡ Ok y → IsKept s y
 unfolding entry_from
 from_kept c base first entries.EndOfList s y e = plain_kept items.End s y tt e
@@ -142,7 +139,7 @@ from_kept c base first entries.BaseAddressx s y e = selected_kept (index_at c fi
 from_kept c base first entries.StartxEndx s y e = between_kept first (index_at c first) (λ low. index_at c first) (index_onward c first) (λ low. index_onward c first) s y e
 from_kept c base first entries.StartxLength s y e = between_kept first (index_at c first) (λ low. offset_at low) (index_onward c first) (λ low. offset_onward low) s y e
 from_kept c base first entries.OffsetPair s y e = between_kept first (offset_at base) (λ low. offset_at base) (offset_onward base) (λ low. offset_onward base) s y e
-from_kept c base first entries.DefaultLocation s y e = plain_kept (items.Span no_span) s y no_span_ordered e
+from_kept c base first entries.DefaultLocation s y e = plain_kept items.Default s y tt e
 from_kept c base first entries.BaseAddress s y e = selected_kept (address_at c) (address_onward c) s y e
 from_kept c base first entries.StartEnd s y e = between_kept first (address_at c) (λ low. address_at c) (address_onward c) (λ low. address_onward c) s y e
 from_kept c base first entries.StartLength s y e = between_kept first (address_at c) (λ low. offset_at low) (address_onward c) (λ low. offset_onward low) s y e

@@ -4,3 +4,4 @@ pub mod Turns
 pub mod Soundness
 pub mod Wholes
 pub mod Refused
+pub mod SpellingLaws

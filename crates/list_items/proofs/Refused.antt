@@ -1,5 +1,5 @@
 -- Of which kinds the faults of a list are.
-use Rattle.std.proofs.Common.{ℕ, zero, suc, ◌-◌, ◌&&◌, not, List, Result, Ok, Err, refl}
+use Rattle.std.proofs.Common.{ℕ, zero, suc, ◌-◌, ◌&&◌, not, List, Option, Some, None, Result, Ok, Err, refl}
 use Rattle.std.specs.Prelude.{◌==◌}
 use Rattle.ds_base.specs.declared.fault.Fault.{Fault}
 use Rattle.ds_base.specs.declared.fault.Kind.{Kind}
@@ -19,7 +19,7 @@ use Rattle.list_items.specs.Ends.{belong_together}
 use Rattle.list_items.specs.EntryKinds.{kind_in}
 use Rattle.list_items.specs.Entries.{indexed, index_at, address_at, offset_at, selected_at, between, entry_from, entry_at}
 use Rattle.list_items.specs.Items.{span_at}
-use Rattle.list_items.specs.Lists.{Behind, Says, ends, selects, spans, said_at, whole_at, Listing, behind_it, listed, items_from, list_spot, items_in, unless_stopped, list_in}
+use Rattle.list_items.specs.Lists.{Behind, Says, ends, selects, defaults, spans, said_at, whole_at, Listing, behind_it, listed, items_from, list_spot, items_in, unless_stopped, list_in}
 use Rattle.list_items.specs.Reading.{item_at}
 use Rattle.list_items.specs.Words.{word_at, span_of, largest_offset, item_of, words_at}
 use Rattle.ds_base.proofs.FaultKinds.{FaultsAre, ok_kinds, err_kinds, bind_kinds, refuse_kinds, either_kinds, found_kinds, number_kinds, uleb_kinds}
@@ -94,11 +94,12 @@ module _ (P : Kind → Type 0) (cut : P Truncated) (bad : P BadList) where
 -- ---- lists
 
 module _ (P : Kind → Type 0) (cut : P Truncated) where
-  module _ {A : Type 0} (c : Context) (item_kinds : (base : Addr) (s : Spot) → FaultsAre P (item_at c base s)) (behind : Behind A) (behind_kinds : (place : ℕ) (span : RawSpan) (s : Spot) → FaultsAre P (behind place span s)) where
+  module _ {A : Type 0} (c : Context) (item_kinds : (base : Addr) (s : Spot) → FaultsAre P (item_at c base s)) (behind : Behind A) (behind_kinds : (place : ℕ) (span : Option RawSpan) (s : Spot) → FaultsAre P (behind place span s)) where
     said_kinds : (place : ℕ) (item : Item) (s : Spot) → FaultsAre P (said_at behind place item s)
     said_kinds place items.End s = ok_kinds P (ends, s)
     said_kinds place (items.Base selected) s = ok_kinds P (selects selected, s)
-    said_kinds place (items.Span span) s = bind_kinds P (behind place span s) _ (behind_kinds place span s) (λ x. ok_kinds P _)
+    said_kinds place items.Default s = bind_kinds P (behind place None s) _ (behind_kinds place None s) (λ x. ok_kinds P _)
+    said_kinds place (items.Span span) s = bind_kinds P (behind place (Some span) s) _ (behind_kinds place (Some span) s) (λ x. ok_kinds P _)
 
     whole_kinds : (base : Addr) (s : Spot) → FaultsAre P (whole_at c behind base s)
     whole_kinds base s = bind_kinds P (item_at c base s) _ (item_kinds base s) (λ item. said_kinds s.place item.0 item.1)
@@ -110,6 +111,7 @@ module _ (P : Kind → Type 0) (cut : P Truncated) where
     behind_stops : (says : Says A) (base : Addr) (more : Addr → Listing A) → ((b : Addr) → StopsSo (more b)) → StopsSo (behind_it says base more)
     behind_stops ends base more later = ok_kinds P tt
     behind_stops (selects selected) base more later = later selected
+    behind_stops (defaults x) base more later = later base
     behind_stops (spans span x) base more later = later base
 
     one_stops : (first : Spot) (one : Result (Says A × Spot) Fault) (more : Says A → Spot → Listing A) → FaultsAre P one → ((says : Says A) (t : Spot) → StopsSo (more says t)) → StopsSo (listed first one more)

@@ -68,15 +68,30 @@ pub base_selected : {A : Type 0} (c : Context) (behind : Behind A) (left i : ℕ
     → before xs (list_at c behind (left - (i + 1)) selected t) ≡ total
 base_selected c behind left i xs base selected s t total lt item so_far = sym (turn c behind left i xs base s total lt so_far ∙ rw item refl)
 
+-- what follows a default is refused, or memory runs out
+pub default_refused : {A : Type 0} (c : Context) (behind : Behind A) (left i : ℕ) (xs : List A) (base : Addr) (s t u : Spot) (e : ReadError) (total : Result (List A) Fault) → i < left
+    → item_at c base s ≡ Ok (items.Default, t) → ReadsUnlessFull (λ (x : A). x) (Err e) u (behind s.place None t)
+    → before xs (list_at c behind (left - i) base s) ≡ total → Gives (λ (ys : List A). ys) (Err e) total
+default_refused c behind left i xs base s t u (errors.Faulty f) total lt item read so_far = turn c behind left i xs base s total lt so_far ∙ rw (item, read) refl
+default_refused c behind left i xs base s t u errors.NoMemory total lt item read so_far = tt
+
+pub default_kept : {A : Type 0} (c : Context) (behind : Behind A) (left i : ℕ) (xs : List A) (x : A) (base : Addr) (s t u : Spot) (total : Result (List A) Fault) → i < left
+    → item_at c base s ≡ Ok (items.Default, t) → behind s.place None t ≡ Ok (x, u)
+    → before xs (list_at c behind (left - i) base s) ≡ total
+    → before (xs ++ x ∷ []) (list_at c behind (left - (i + 1)) base u) ≡ total
+default_kept {A = A} c behind left i xs x base s t u total lt item read so_far =
+    let more : Listing A = items_from (whole_at c behind) (left - (i + 1)) base u in
+    sym (turn c behind left i xs base s total lt so_far ∙ rw (item, read) (one_given xs x more.stop (filter_map (λ item. given item.says) more.items)))
+
 -- what follows the span is refused, or memory runs out
 pub behind_refused : {A : Type 0} (c : Context) (behind : Behind A) (left i : ℕ) (xs : List A) (base : Addr) (span : RawSpan) (s t u : Spot) (e : ReadError) (total : Result (List A) Fault) → i < left
-    → item_at c base s ≡ Ok (items.Span span, t) → ReadsUnlessFull (λ (x : A). x) (Err e) u (behind s.place span t)
+    → item_at c base s ≡ Ok (items.Span span, t) → ReadsUnlessFull (λ (x : A). x) (Err e) u (behind s.place (Some span) t)
     → before xs (list_at c behind (left - i) base s) ≡ total → Gives (λ (ys : List A). ys) (Err e) total
 behind_refused c behind left i xs base span s t u (errors.Faulty f) total lt item read so_far = turn c behind left i xs base s total lt so_far ∙ rw (item, read) refl
 behind_refused c behind left i xs base span s t u errors.NoMemory total lt item read so_far = tt
 
 pub span_kept : {A : Type 0} (c : Context) (behind : Behind A) (left i : ℕ) (xs : List A) (x : A) (base : Addr) (span : RawSpan) (s t u : Spot) (total : Result (List A) Fault) → i < left
-    → item_at c base s ≡ Ok (items.Span span, t) → behind s.place span t ≡ Ok (x, u) → is_empty span ≡ false
+    → item_at c base s ≡ Ok (items.Span span, t) → behind s.place (Some span) t ≡ Ok (x, u) → is_empty span ≡ false
     → before xs (list_at c behind (left - i) base s) ≡ total
     → before (xs ++ x ∷ []) (list_at c behind (left - (i + 1)) base u) ≡ total
 span_kept {A = A} c behind left i xs x base span s t u total lt item read some so_far =
@@ -84,7 +99,7 @@ span_kept {A = A} c behind left i xs x base span s t u total lt item read some s
     sym (turn c behind left i xs base s total lt so_far ∙ rw (item, read, some) (one_given xs x more.stop (filter_map (λ item. given item.says) more.items)))
 
 pub span_dropped : {A : Type 0} (c : Context) (behind : Behind A) (left i : ℕ) (xs : List A) (x : A) (base : Addr) (span : RawSpan) (s t u : Spot) (total : Result (List A) Fault) → i < left
-    → item_at c base s ≡ Ok (items.Span span, t) → behind s.place span t ≡ Ok (x, u) → is_empty span ≡ true
+    → item_at c base s ≡ Ok (items.Span span, t) → behind s.place (Some span) t ≡ Ok (x, u) → is_empty span ≡ true
     → before xs (list_at c behind (left - i) base s) ≡ total
     → before xs (list_at c behind (left - (i + 1)) base u) ≡ total
 span_dropped c behind left i xs x base span s t u total lt item read none so_far =

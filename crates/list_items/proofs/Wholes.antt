@@ -16,7 +16,7 @@ use Rattle.list_items.specs.declared.item.Item.{Item}
 use Rattle.list_items.specs.declared.item.Item.TheVariants as items
 use Rattle.list_items.specs.Context.{Context}
 use Rattle.list_items.specs.Entries.{entry_at}
-use Rattle.list_items.specs.Lists.{Behind, Says, ends, selects, spans, said_at, whole_at, ListItem, Listing, behind_it, listed, items_from, list_spot, items_in, list_of, list_in}
+use Rattle.list_items.specs.Lists.{Behind, Says, ends, selects, defaults, spans, said_at, whole_at, ListItem, Listing, behind_it, listed, items_from, list_spot, items_in, list_of, list_in}
 use Rattle.list_items.specs.Reading.{formed_at, item_at}
 use Rattle.list_items.specs.Whole.{Reader, IsNext, Follow, Fill, IsAnswer, IsWhole}
 use Rattle.list_items.specs.Words.{word_at, words_at}
@@ -26,14 +26,17 @@ use Rattle.list_items.proofs.Items.{item_kept}
 
 -- reading behind a span goes on from where it begins
 abbrev pub GoesOn : {A : Type 0} → Behind A → Type 0
-GoesOn {A = A} behind = (place : ℕ) (span : RawSpan) (s : Spot) (y : A × Spot) → behind place span s ≡ Ok y → Onward s y.1
+GoesOn {A = A} behind = (place : ℕ) (span : Option RawSpan) (s : Spot) (y : A × Spot) → behind place span s ≡ Ok y → Onward s y.1
 
 said_onward : {A : Type 0} (behind : Behind A) → GoesOn behind → (place : ℕ) (item : Item) (s : Spot) (y : Says A × Spot) → said_at behind place item s ≡ Ok y → Onward s y.1
 said_onward {A = A} behind on place items.End s y e = subst (λ (r : Says A × Spot). Onward s r.1) (ok_is (ends, s) y e) (stays s)
 said_onward {A = A} behind on place (items.Base selected) s y e = subst (λ (r : Says A × Spot). Onward s r.1) (ok_is (selects selected, s) y e) (stays s)
+said_onward {A = A} behind on place items.Default s y e =
+    let p = bind_ok (behind place None s) _ y e in
+    subst (λ (r : Says A × Spot). Onward s r.1) (ok_is (defaults p.0.0, p.0.1) y p.2) (on place None s p.0 p.1)
 said_onward {A = A} behind on place (items.Span span) s y e =
-    let p = bind_ok (behind place span s) _ y e in
-    subst (λ (r : Says A × Spot). Onward s r.1) (ok_is (spans span p.0.0, p.0.1) y p.2) (on place span s p.0 p.1)
+    let p = bind_ok (behind place (Some span) s) _ y e in
+    subst (λ (r : Says A × Spot). Onward s r.1) (ok_is (spans span p.0.0, p.0.1) y p.2) (on place (Some span) s p.0 p.1)
 
 whole_further : {A : Type 0} (c : Context) (behind : Behind A) → GoesOn behind → (base : Addr) (s : Spot) (y : Says A × Spot) → whole_at c behind base s ≡ Ok y → Further s y.1
 whole_further c behind on base s y e =
@@ -73,14 +76,14 @@ whole_cut c behind base s none = rw (item_cut c base s none) refl
 stands_at : (s t : Spot) → Further s t → t ≡ record s { place = t.place }
 stands_at s t f = let o = f.onward in o.is ∙ ap (λ (p : ℕ). record s { place = p }) (sym (ap (λ (x : Spot). x.place) o.is))
 
-inside_end : (s t : Spot) → Further s t → t.place ≤ s.end
+pub inside_end : (s t : Spot) → Further s t → t.place ≤ s.end
 inside_end s t f =
     let o = f.onward in
     let some = f.some in
     let place : t.place ≡ s.place + o.by = ap (λ (x : Spot). x.place) o.is in
     omega (arith, o.fits, place, some)
 
-fewer_left : (s t : Spot) → Further s t → (left : ℕ) → s.end - s.place ≤ suc left → t.end - t.place ≤ left
+pub fewer_left : (s t : Spot) → Further s t → (left : ℕ) → s.end - s.place ≤ suc left → t.end - t.place ≤ left
 fewer_left s t f left le = omega (arith, le, f.some, inside_end s t f, end_kept s t f.onward)
 
 module _ {A : Type 0} (read : Reader A) where
@@ -95,6 +98,7 @@ module _ {A : Type 0} (read : Reader A) where
       → Follow says base (behind_it says base more).items (behind_it says base more).stop (λ b. Fill read b t (behind_it says base more).items (behind_it says base more).stop)
   behind_filled ends base more t later = (refl, refl)
   behind_filled (selects selected) base more t later = later selected
+  behind_filled (defaults x) base more t later = later base
   behind_filled (spans span x) base more t later = later base
 
   one_filled : (base : Addr) (s : Spot) (one : Result (Says A × Spot) Fault) (more : Addr → Spot → Listing A) → read base s ≡ one → ((y : Says A × Spot) → one ≡ Ok y → Further s y.1)

@@ -6,8 +6,6 @@ use Rattle.ds_base.specs.declared.fault.Kind.TheVariants as kinds
 use Rattle.ds_base.specs.Spot.{Spot, fault_at}
 use Rattle.ds_base.specs.Reading.{◌>>=◌, or_fault, number_at, uleb_at}
 use Rattle.dwarf_types.specs.declared.address.Addr.{Addr}
-use Rattle.dwarf_types.specs.declared.address.Addr.TheVariants as addrs
-use Rattle.dwarf_types.specs.declared.lists.RawSpan.{RawSpan}
 use Rattle.dwarf_types.specs.Addresses.{plus}
 use Rattle.index_tables.specs.Tables.{stored, address_place}
 use Rattle.reloc_table.specs.Address.{address_of}
@@ -18,7 +16,7 @@ use Rattle.list_items.specs.declared.kinds.EntryKind.TheVariants as entries
 use Rattle.list_items.specs.Context.{Context}
 use Rattle.list_items.specs.EntryKinds.{kind_in}
 use Rattle.list_items.specs.Items.{span_at}
-use Rattle.list_items.specs.Words.{word_at, largest_offset}
+use Rattle.list_items.specs.Words.{word_at}
 
 -- ---- the ends
 
@@ -61,10 +59,6 @@ between first low_at high_at s = do
   item ← span_at first (record { low = low.0; high = high.0 })
   Ok (item, high.1)
 
--- that of all numbers, of which no part is an address
-abbrev pub no_span : RawSpan
-no_span = record { low = addrs.Fixed 0; high = addrs.Fixed largest_offset }
-
 -- what stands behind the kind of an entry that begins at first
 unfoldable pub entry_from : Context → Addr → Spot → EntryKind → Spot → Result (Item × Spot) Fault
 entry_from c base first entries.EndOfList s = Ok (items.End, s)
@@ -72,7 +66,7 @@ entry_from c base first entries.BaseAddressx s = selected_at (index_at c first) 
 entry_from c base first entries.StartxEndx s = between first (index_at c first) (λ low. index_at c first) s
 entry_from c base first entries.StartxLength s = between first (index_at c first) (λ low. offset_at low) s
 entry_from c base first entries.OffsetPair s = between first (offset_at base) (λ low. offset_at base) s
-entry_from c base first entries.DefaultLocation s = Ok (items.Span no_span, s)
+entry_from c base first entries.DefaultLocation s = Ok (items.Default, s)
 entry_from c base first entries.BaseAddress s = selected_at (address_at c) s
 entry_from c base first entries.StartEnd s = between first (address_at c) (λ low. address_at c) s
 entry_from c base first entries.StartLength s = between first (address_at c) (λ low. offset_at low) s

@@ -8,3 +8,4 @@ pub mod Reading
 pub mod Lists
 pub mod Sound
 pub mod Whole
+pub mod Spelling

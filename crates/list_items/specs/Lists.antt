@@ -17,21 +17,23 @@ use Rattle.list_items.specs.Reading.{item_at}
 
 -- ---- an item
 
--- what is read behind a span whose item begins at a place
+-- what is read behind the span of an item, if it gives one, and the item begins at a place
 abbrev pub Behind : Type 0 → Type 0
-Behind A = ℕ → RawSpan → Spot → Result (A × Spot) Fault
+Behind A = ℕ → Option RawSpan → Spot → Result (A × Spot) Fault
 
--- what an item says: that the list ends, the base of the items behind it, or a span with what is read behind it
+-- what an item says: that the list ends, the base of the items behind it, or, by default or for a span, what is read behind that
 pub data Says (A : Type 0) : Type 0 where
   ends : Says A
   selects : Addr → Says A
+  defaults : A → Says A
   spans : RawSpan → A → Says A
 
 -- what follows an item's span
 abbrev pub said_at : {A : Type 0} → Behind A → ℕ → Item → Spot → Result (Says A × Spot) Fault
 said_at behind place items.End s = Ok (ends, s)
 said_at behind place (items.Base selected) s = Ok (selects selected, s)
-said_at behind place (items.Span span) s = behind place span s >>= λ x. Ok (spans span x.0, x.1)
+said_at behind place items.Default s = behind place None s >>= λ x. Ok (defaults x.0, x.1)
+said_at behind place (items.Span span) s = behind place (Some span) s >>= λ x. Ok (spans span x.0, x.1)
 
 -- the next item of a list that has this base, and what follows its span
 abbrev pub whole_at : {A : Type 0} → Context → Behind A → Addr → Spot → Result (Says A × Spot) Fault
@@ -54,6 +56,7 @@ pub record Listing (A : Type 0) : Type 0 where
 abbrev pub behind_it : {A : Type 0} → Says A → Addr → (Addr → Listing A) → Listing A
 behind_it ends base more = record { items = []; stop = None }
 behind_it (selects selected) base more = more selected
+behind_it (defaults x) base more = more base
 behind_it (spans span x) base more = more base
 
 -- an item before those behind it
@@ -77,10 +80,11 @@ items_in part bytes c behind offset base =
 
 -- ---- what they give
 
--- a span that is not empty gives what is read behind it
+-- a span that is not empty gives what is read behind it, and so does a default
 abbrev pub given : {A : Type 0} → Says A → Option A
 given ends = None
 given (selects selected) = None
+given (defaults x) = Some x
 given (spans span x) = if is_empty span then None else Some x
 
 -- what a listing means

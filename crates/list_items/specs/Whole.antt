@@ -4,7 +4,7 @@ use Rattle.std.specs.List.{filter_map}
 use Rattle.ds_base.specs.declared.fault.Fault.{Fault}
 use Rattle.ds_base.specs.Spot.{Spot}
 use Rattle.dwarf_types.specs.declared.address.Addr.{Addr}
-use Rattle.list_items.specs.Lists.{Says, ends, selects, spans, ListItem, Listing, given}
+use Rattle.list_items.specs.Lists.{Says, ends, selects, defaults, spans, ListItem, Listing, given}
 
 -- what a cursor reads under a base
 abbrev pub Reader : Type 0 → Type 0
@@ -21,6 +21,7 @@ pub record IsNext {A : Type 0} (read : Reader A) (base : Addr) (s : Spot) (item 
 abbrev pub Follow : {A : Type 0} → Says A → Addr → List (ListItem A) → Option Fault → (Addr → Type 0) → Type 0
 Follow ends base more stop under = (more ≡ []) × (stop ≡ None)
 Follow (selects selected) base more stop under = under selected
+Follow (defaults x) base more stop under = under base
 Follow (spans span x) base more stop under = under base
 
 -- Items that follow each other without a gap from where a cursor stands, under a base: each is what is read where the one before ends. They end with the mark, or where the next one is wrong.

@@ -6,7 +6,7 @@ use macho_read::Image;
 use reloc_table::Relocs;
 
 /// How the items of a list are spelled.
-#[derive(Clone, Copy, Debug)]
+#[derive(Clone, Copy)]
 pub enum ListForm {
     /// By two words each: in `__debug_ranges` and `__debug_loc` (DWARF 4, sections 2.17.3 and 2.6.2).
     Words,

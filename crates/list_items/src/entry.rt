@@ -12,15 +12,9 @@ use crate::item::{Item, item_between};
 use crate::kinds::{EntryKind, location_kind, range_kind};
 use crate::words::read_word;
 use ds_base::{Cursor, Fault, Kind};
-use dwarf_types::{Addr, RawSpan};
+use dwarf_types::Addr;
 use index_tables::{address_at, stored_address};
 use reloc_table::resolve;
-
-/// The low and the high end of the span of all numbers.
-const NO_SPAN: RawSpan = RawSpan {
-    low: Addr::Fixed(0),
-    high: Addr::Fixed(0xffff_ffff_ffff_ffff),
-};
 
 /// The next item by its kind and what stands behind that, up to an expression.
 #[tactic(auto, unfolding(crate::specs::Entries::entry_at, ds_base::specs::Reading::number_at))]
@@ -88,7 +82,7 @@ fn read_behind(
             let high = read_offset(cursor, base)?;
             item_between(first, low, high)
         }
-        EntryKind::DefaultLocation => Ok(Item::Span(NO_SPAN)),
+        EntryKind::DefaultLocation => Ok(Item::Default),
         EntryKind::BaseAddress => {
             let selected = read_address(cursor, context)?;
             Ok(Item::Base(selected))

@@ -1,6 +1,6 @@
 //! One item, up to what follows its span.
 
-ghost use Rattle.std.specs.Prelude.{OnOk};
+ghost use Rattle.std.specs.Prelude.{◌≡◌, OnOk};
 ghost use Rattle.ds_base.specs.Reading.{Finds, Reads};
 ghost use Rattle.ds_base.specs.Spot.{IsSmall};
 ghost use Rattle.list_items.specs.Context.{context_in, IsSoundContext};
@@ -21,6 +21,8 @@ pub enum Item {
     End,
     /// The base of the items behind it.
     Base(Addr),
+    /// A default location (DWARF 5, section 2.6.2): no span is given.
+    Default,
     /// A span of addresses, with the base applied. It may be empty.
     Span(RawSpan),
 }
@@ -31,7 +33,6 @@ pub enum Item {
 /// stored, whatever relocations stand there; an end that no relocation changes counts from the base. In the forms of
 /// entries the kind tells what stands behind it, and the ends of an offset pair alone count from the base. An address
 /// that an index names is that in the unit's table of addresses. A selected base doesn't count from the one before it.
-/// A default location, which has no span, has that of all numbers: no number alone is an address, so no part of it moves.
 ///
 /// Each number is an item of its own for `Truncated` and `LebTooWide`. `UnknownListEntry`, `BadIndex` and `BadList`
 /// are placed at the item's first byte, and come as soon as what decides them is read.
@@ -62,4 +63,17 @@ pub(crate) fn item_between(first: &Cursor, low: Addr, high: Addr) -> Result<Item
         return Err(first.fault(Kind::BadList));
     }
     Ok(Item::Span(span))
+}
+
+/// The span of an item, or where it gives none that of all numbers: no number alone is an address, so no part of it moves.
+pub fn covered(span: Option<RawSpan>) -> RawSpan
+    ensures { result ≡ Rattle.list_items.specs.Items.covered span }
+{
+    match span {
+        Some(span) => span,
+        None => RawSpan {
+            low: Addr::Fixed(0),
+            high: Addr::Fixed(u64::MAX),
+        },
+    }
 }

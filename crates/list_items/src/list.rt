@@ -13,7 +13,7 @@ use ds_base::{Cursor, Kind, List, Part, ReadError};
 use dwarf_types::{Addr, RawSpan};
 use std::alloc::Global;
 
-/// What follows the span of an item: nothing in a range list, an expression in a location list.
+/// What follows the span of an item, or a default: nothing in a range list, an expression in a location list.
 pub trait Behind {
     ghost use Rattle.std.specs.Prelude.{OnOk};
     ghost use Rattle.ds_base.specs.Reading.{ReadsUnlessFull};
@@ -23,23 +23,23 @@ pub trait Behind {
     /// A span with what follows it.
     type Item: Drop;
 
-    /// What is read behind a span whose item begins at a place.
+    /// What is read behind the span of an item, if it gives one, and the item begins at a place.
     ghost behind: { Self → ReadBehind Self.Item };
 
-    /// Reads what follows a span whose item begins at `place`.
+    /// Reads what follows the span of an item that begins at `place`; a default location gives none.
     fn read(
         &self,
         alloc: Global,
         place: u64,
-        span: &RawSpan,
+        span: Option<RawSpan>,
         cursor: &mut Cursor<'_>,
     ) -> Result<Self::Item, ReadError>
         requires small { IsSmall cursor.old }
-        ensures read { ReadsUnlessFull (λ item. item) result cursor.new (behind self.now place span.now cursor.old) }
+        ensures read { ReadsUnlessFull (λ item. item) result cursor.new (behind self.now place span cursor.old) }
         ensures small { OnOk result (IsSmall cursor.new) };
 }
 
-/// The items of the list at `offset` of a section whose spans are not empty, in their order (DWARF 4 and 5, sections
+/// The items of the list at `offset` of a section, but for those of empty spans, in their order (DWARF 4 and 5, sections
 /// 2.17.3 and 2.6.2).
 ///
 /// `base` is what offsets count from until the list selects another one. A number that the section cuts off is
@@ -85,8 +85,12 @@ fn read_items<B: Behind>(
         match read_item(cursor, context, &base)? {
             Item::End => return Ok(items),
             Item::Base(selected) => base = selected,
+            Item::Default => {
+                let item = behind.read(alloc, place, None, cursor)?;
+                items.push(item)?;
+            }
             Item::Span(span) => {
-                let item = behind.read(alloc, place, &span, cursor)?;
+                let item = behind.read(alloc, place, Some(span), cursor)?;
                 if !is_empty(&span) {
                     items.push(item)?;
                 }

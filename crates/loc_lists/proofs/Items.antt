@@ -1,5 +1,5 @@
 -- The items of a list are sound, by its definition.
-use Rattle.std.proofs.Common.{◌≡◌, ℕ, ◌+◌, ◌-◌, ◌≤◌, List, length, take, Result, Ok, Err, IfOk, refl, sym, ap, subst, ◌∙◌, arith}
+use Rattle.std.proofs.Common.{◌≡◌, ℕ, ◌+◌, ◌-◌, ◌≤◌, List, Option, length, take, Result, Ok, Err, IfOk, refl, sym, ap, subst, ◌∙◌, arith}
 use Rattle.std.specs.Prelude.{◌==◌}
 use Rattle.std.specs.List.{All}
 use Rattle.std.proofs.lemmas.Bool.{ltb-false}
@@ -10,12 +10,15 @@ use Rattle.ds_base.specs.Reading.{Gives, bytes_at}
 use Rattle.ds_base.proofs.Passing.{bind_ok, guard_ok, ok_is}
 use Rattle.dwarf_types.specs.declared.address.Addr.{Addr}
 use Rattle.dwarf_types.specs.declared.lists.RawLocation.{RawLocation}
+use Rattle.dwarf_types.specs.declared.lists.RawSpan.{RawSpan}
 use Rattle.dwarf_types.specs.SectionBytes.{SectionBytes, location_bytes}
 use Rattle.macho_read.specs.declared.image.Image.{Image}
 use Rattle.reloc_table.specs.declared.relocation.Relocs.{Relocs}
-use Rattle.list_items.proofs.Soundness.{KeepsEnd, Keeps, list_sound}
-use Rattle.loc_lists.specs.Reading.{len_at, expression_at, location_at, location_context, locations_of}
-use Rattle.loc_lists.specs.Sound.{IsSoundLocation}
+use Rattle.list_items.specs.Items.{covered}
+use Rattle.list_items.proofs.Soundness.{KeepsEnd, Keeps, covered_sound, list_sound}
+use Rattle.loc_lists.specs.declared.locations.LocationItem.{LocationItem}
+use Rattle.loc_lists.specs.Reading.{len_at, expression_at, item_behind, location_at, location_context, location_items_of, locations_of}
+use Rattle.loc_lists.specs.Sound.{IsSoundItem, IsSoundLocation}
 use Rattle.loc_lists.proofs.Expressions.{location, len_further}
 
 bytes_fit : (n : ℕ) (s : Spot) (bytes : List ℕ) (t : Spot) → bytes_at n s ≡ Ok (bytes, t) → (length bytes ≤ s.end - s.place) × (t.end ≡ s.end)
@@ -52,8 +55,8 @@ item_kept version end place span s x t at sound e =
     let p = bind_ok (expression_at version s) _ (x, t) e in
     let fits = (expression_fits version s p.0.0 p.0.1 p.1).0 in
     let inside : p.0.0.0 + length p.0.0.1 ≤ end = omega (arith, fits, at) in
-    let made : IsSoundLocation end (location place span p.0.0) = record { span = sound; inside = inside } in
-    subst (IsSoundLocation end) (ap (λ (r : RawLocation × Spot). r.0) (ok_is (location place span p.0.0, p.0.1) (x, t) p.2)) made
+    let made : IsSoundLocation end (location place (covered span) p.0.0) = record { span = covered_sound span sound; inside = inside } in
+    subst (IsSoundLocation end) (ap (λ (r : RawLocation × Spot). r.0) (ok_is (location place (covered span) p.0.0, p.0.1) (x, t) p.2)) made
 
 pub locations_sound : (sections : SectionBytes) (relocs : Relocs) (image : Image) (offset version : ℕ) (base : Addr) (addresses : Relocs) (addr_base : ℕ) (locations : List RawLocation)
     → locations_of sections relocs image offset version base addresses addr_base ≡ Ok locations → All (IsSoundLocation (length (location_bytes sections version))) locations
@@ -65,3 +68,28 @@ pub locations_given : (sections : SectionBytes) (relocs : Relocs) (image : Image
     → Gives (λ (locations : List RawLocation). locations) r (locations_of sections relocs image offset version base addresses addr_base) → IfOk r (All (IsSoundLocation (length (location_bytes sections version))))
 locations_given sections relocs image offset version base addresses addr_base (Ok locations) e = locations_sound sections relocs image offset version base addresses addr_base locations e
 locations_given sections relocs image offset version base addresses addr_base (Err error) e = tt
+
+-- ---- items that tell defaults apart
+
+abbrev item : ℕ → Option RawSpan → ℕ × List ℕ → LocationItem
+item place span expression = record { span = span; place = place; first = expression.0; bytes = expression.1 }
+
+told_end : (version : ℕ) → KeepsEnd (item_behind version)
+told_end version place span s x t e =
+    let p = bind_ok (expression_at version s) _ (x, t) e in
+    sym (ap (λ (r : LocationItem × Spot). r.1.end) (ok_is _ (x, t) p.2)) ∙ (expression_fits version s p.0.0 p.0.1 p.1).1
+
+told_kept : (version end : ℕ) → Keeps (IsSoundItem end) end (item_behind version)
+told_kept version end place span s x t at sound e =
+    let p = bind_ok (expression_at version s) _ (x, t) e in
+    let fits = (expression_fits version s p.0.0 p.0.1 p.1).0 in
+    let inside : p.0.0.0 + length p.0.0.1 ≤ end = omega (arith, fits, at) in
+    let made : IsSoundItem end (item place span p.0.0) = record { span = sound; inside = inside } in
+    subst (IsSoundItem end) (ap (λ (r : LocationItem × Spot). r.0) (ok_is (item place span p.0.0, p.0.1) (x, t) p.2)) made
+
+pub items_sound : (sections : SectionBytes) (relocs : Relocs) (image : Image) (offset version : ℕ) (base : Addr) (addresses : Relocs) (addr_base : ℕ) (r : Result (List LocationItem) ReadError)
+    → Gives (λ (items : List LocationItem). items) r (location_items_of sections relocs image offset version base addresses addr_base) → IfOk r (All (IsSoundItem (length (location_bytes sections version))))
+unfolding location_items_of
+items_sound sections relocs image offset version base addresses addr_base (Ok items) e =
+    list_sound (IsSoundItem (length (location_bytes sections version))) _ (location_context sections relocs image version addresses addr_base) (item_behind version) (told_end version) (told_kept version _) _ base _ items refl e
+items_sound sections relocs image offset version base addresses addr_base (Err error) e = tt

@@ -1,5 +1,5 @@
 -- No byte of a location list that is read is left out, and its faults are of the kinds of its version.
-use Rattle.std.proofs.Common.{◌≡◌, ℕ, Bool, true, false, List, [], ◌∷◌, Ok, refl, subst, arith}
+use Rattle.std.proofs.Common.{◌≡◌, ℕ, Bool, true, false, List, [], ◌∷◌, Option, Ok, refl, subst, arith}
 use Rattle.std.specs.Prelude.{◌==◌, if◌then◌else◌}
 use Rattle.std.specs.List.{Contains}
 use Rattle.ds_base.specs.declared.fault.Kind.{Kind}
@@ -57,7 +57,7 @@ len_kinds : (five : Bool) (s : Spot) → FaultsAre (KindsAre five) (len_at five 
 len_kinds true s = uleb_kinds (KindsAre true) s (0, omega arith, refl) (1, omega arith, refl)
 len_kinds false s = number_kinds (KindsAre false) 2 s (0, omega arith, refl)
 
-behind_kinds : (version place : ℕ) (span : RawSpan) (s : Spot) → FaultsAre (KindsAre (version == 5)) (location_at version place span s)
+behind_kinds : (version place : ℕ) (span : Option RawSpan) (s : Spot) → FaultsAre (KindsAre (version == 5)) (location_at version place span s)
 unfolding expression_at
 behind_kinds version place span s =
     bind_kinds (KindsAre (version == 5)) (expression_at version s) _

@@ -1,5 +1,5 @@
 -- Reading a location list (DWARF 4 and 5, section 2.6.2): its items, or the first fault in their order.
-use Rattle.std.specs.Prelude.{ℕ, ◌==◌, Bool, List, [], ◌∷◌, Result, Ok, if◌then◌else◌}
+use Rattle.std.specs.Prelude.{ℕ, ◌==◌, Bool, List, [], ◌∷◌, Option, Result, Ok, if◌then◌else◌}
 use Rattle.ds_base.specs.declared.fault.Fault.{Fault}
 use Rattle.ds_base.specs.declared.fault.Kind.{Kind}
 use Rattle.ds_base.specs.declared.fault.Kind.TheVariants.{Truncated, LebTooWide, BadList, BadIndex, UnknownListEntry}
@@ -16,7 +16,9 @@ use Rattle.reloc_table.specs.declared.relocation.Relocs.{Relocs}
 use Rattle.list_items.specs.declared.context.ListForm.{ListForm}
 use Rattle.list_items.specs.declared.context.ListForm.TheVariants as forms
 use Rattle.list_items.specs.Context.{Context}
-use Rattle.list_items.specs.Lists.{Listing, items_in, list_of}
+use Rattle.loc_lists.specs.declared.locations.LocationItem.{LocationItem}
+use Rattle.list_items.specs.Items.{covered}
+use Rattle.list_items.specs.Lists.{Listing, items_in, list_in, list_of}
 
 -- ---- where the lists of a unit stand, by the unit's version
 
@@ -46,10 +48,10 @@ expression_at version s = do
 -- ---- lists
 
 -- an expression follows a span, also an empty one
-abbrev pub location_at : ℕ → ℕ → RawSpan → Spot → Result (RawLocation × Spot) Fault
+abbrev pub location_at : ℕ → ℕ → Option RawSpan → Spot → Result (RawLocation × Spot) Fault
 location_at version place span s = do
   expression ← expression_at version s
-  Ok (record { span = span; place = place; first = expression.0.0; bytes = expression.0.1 }, expression.1)
+  Ok (record { span = covered span; place = place; first = expression.0.0; bytes = expression.0.1 }, expression.1)
 
 -- what the items are understood by: the relocations of their section and those of __debug_addr, where the unit's addresses begin at a base
 abbrev pub location_context : SectionBytes → Relocs → Image → ℕ → Relocs → ℕ → Context
@@ -64,3 +66,16 @@ location_items sections relocs image offset version base addresses addr_base =
 -- the locations that they give
 unfoldable pub locations_of : SectionBytes → Relocs → Image → ℕ → ℕ → Addr → Relocs → ℕ → Result (List RawLocation) Fault
 locations_of sections relocs image offset version base addresses addr_base = list_of (location_items sections relocs image offset version base addresses addr_base)
+
+-- ---- items that tell defaults apart
+
+-- an expression follows a span or a default
+abbrev pub item_behind : ℕ → ℕ → Option RawSpan → Spot → Result (LocationItem × Spot) Fault
+item_behind version place span s = do
+  expression ← expression_at version s
+  Ok (record { span = span; place = place; first = expression.0.0; bytes = expression.0.1 }, expression.1)
+
+-- the items of the list at a place, each with its span where it gives one
+unfoldable pub location_items_of : SectionBytes → Relocs → Image → ℕ → ℕ → Addr → Relocs → ℕ → Result (List LocationItem) Fault
+location_items_of sections relocs image offset version base addresses addr_base =
+    list_in (location_part version) (location_bytes sections version) (location_context sections relocs image version addresses addr_base) (item_behind version) offset base

@@ -7,13 +7,13 @@ ghost use Rattle.ds_base.specs.Spot.{IsSmall};
 ghost use Rattle.dwarf_types.specs.SectionBytes.{bytes_in, location_bytes};
 ghost use Rattle.macho_read.specs.Sound.{IsSound as IsSoundImage};
 ghost use Rattle.reloc_table.specs.Sound.{IsSound};
-ghost use Rattle.loc_lists.specs.Reading.{expression_at, len_at, location_at, location_form, location_part, locations_of};
-ghost use Rattle.loc_lists.specs.Sound.{IsSoundLocation};
+ghost use Rattle.loc_lists.specs.Reading.{expression_at, item_behind, len_at, location_at, location_form, location_items_of, location_part, locations_of};
+ghost use Rattle.loc_lists.specs.Sound.{IsSoundItem, IsSoundLocation};
 
 use ds_base::dwarf::DWARF_5;
 use ds_base::{Bytes, Cursor, Fault, List, Part, ReadError};
 use dwarf_types::{Addr, RawLocation, RawSpan, Sections};
-use list_items::{Behind, ListContext, ListForm, ListSection, read_list};
+use list_items::{Behind, ListContext, ListForm, ListSection, covered, read_list};
 use macho_read::Image;
 use reloc_table::Relocs;
 use std::alloc::Global;
@@ -34,12 +34,54 @@ impl Behind for Expressions {
         &self,
         alloc: Global,
         place: u64,
-        span: &RawSpan,
+        span: Option<RawSpan>,
         cursor: &mut Cursor<'_>,
     ) -> Result<RawLocation, ReadError> {
         let (first, expression) = read_expression(cursor, self.version)?;
         Ok(RawLocation {
-            span: *span,
+            span: covered(span),
+            place,
+            first,
+            bytes: Bytes::from_slice(alloc, expression)?,
+        })
+    }
+}
+
+/// An item of a location list as it is read, with its base applied.
+#[derive(Drop)]
+pub struct LocationItem {
+    /// The span of addresses. A default location gives none (DWARF 5, section 2.6.2).
+    pub span: Option<RawSpan>,
+    /// The place of the item in its section.
+    pub place: u64,
+    /// The place of the first byte of its expression in the section.
+    pub first: u64,
+    /// The expression.
+    pub bytes: Bytes,
+}
+
+/// An expression follows each item, a default too.
+#[derive(Clone, Copy)]
+struct Items {
+    /// The unit's version.
+    version: u16,
+}
+
+impl Behind for Items {
+    type Item = LocationItem;
+
+    ghost behind = { λ items. item_behind items.version };
+
+    fn read(
+        &self,
+        alloc: Global,
+        place: u64,
+        span: Option<RawSpan>,
+        cursor: &mut Cursor<'_>,
+    ) -> Result<LocationItem, ReadError> {
+        let (first, expression) = read_expression(cursor, self.version)?;
+        Ok(LocationItem {
+            span,
             place,
             first,
             bytes: Bytes::from_slice(alloc, expression)?,
@@ -96,6 +138,50 @@ pub fn read_locations(
         &context,
         base,
         &Expressions { version },
+    )
+}
+
+/// The same items, each with its span where it gives one: [`read_locations`] gives a default location the span of all
+/// numbers, which an item may have as its own, and here the two are told apart.
+pub fn read_location_items(
+    alloc: Global,
+    sections: &Sections,
+    relocs: &Relocs,
+    image: &Image,
+    offset: u32,
+    version: u16,
+    base: &Addr,
+    addresses: &Relocs,
+    addr_base: u64,
+) -> Result<List<LocationItem>, ReadError>
+    requires inside { offset < length (location_bytes (bytes_in sections.now) version) }
+    requires small { length (location_bytes (bytes_in sections.now) version) < 2 ^ 32 }
+    requires small_addresses { length sections.now.addr.now < 2 ^ 32 }
+    requires sound { IsSound image.now relocs.now }
+    requires sound_addresses { IsSound image.now addresses.now }
+    requires sound_image { IsSoundImage image.now }
+    ensures exact { Gives (λ items. items) result (location_items_of (bytes_in sections.now) relocs.now image.now offset version base.now addresses.now addr_base) }
+
+    // The same holds of each item.
+    ensures sound { IfOk result (All (IsSoundItem (length (location_bytes (bytes_in sections.now) version)))) }
+{
+    let section = section_of(version);
+    let context = ListContext {
+        form: section.form,
+        image,
+        relocs,
+        sections,
+        addresses,
+        addr_base,
+    };
+    read_list(
+        alloc,
+        section.part,
+        sections.location_lists(version),
+        offset,
+        &context,
+        base,
+        &Items { version },
     )
 }
 

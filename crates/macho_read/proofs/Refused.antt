@@ -101,6 +101,7 @@ linked_kinds (Some k) = err_kinds OfRole (already_linked k) (2, omega arith, ref
 dwarf_kinds : (role : Role) (image : Image) → FaultsAre OfRole (holds_no_dwarf role image)
 dwarf_kinds roles.Program image = linked_kinds (dwarf_at image.segments image.sections)
 dwarf_kinds (roles.Object program) image = ok_kinds OfRole tt
+dwarf_kinds roles.Bundle image = ok_kinds OfRole tt
 
 pub role_kinds : (image : Image) (role : Role) → FaultsAre OfRole (kind_of image role)
 role_kinds image role =

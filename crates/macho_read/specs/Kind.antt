@@ -1,10 +1,10 @@
--- Whether an image can be the program, or one of its objects: the first fault, if there is one.
+-- Whether an image can be the program, one of its objects, or the image of a bundle: the first fault, if there is one.
 use Rattle.std.specs.Prelude.{ℕ, ◌==◌, ◌||◌, not, Bool, List, [], ◌∷◌, take, drop, Option, Some, None, Result, Ok, Err}
 use Rattle.std.specs.List.{list_any, position}
 use Rattle.ds_base.specs.declared.fault.Fault.{Fault}
 use Rattle.ds_base.specs.declared.fault.Kind.TheVariants as kinds
 use Rattle.ds_base.specs.declared.fault.Part.TheVariants as parts
-use Rattle.ds_base.specs.MachONumbers.{MH_OBJECT, SEG_DWARF}
+use Rattle.ds_base.specs.MachONumbers.{MH_DSYM, MH_OBJECT, SEG_DWARF}
 use Rattle.ds_base.specs.Reading.{◌>>=◌, refuse_if}
 use Rattle.macho_read.specs.declared.image.Image.{Image}
 use Rattle.macho_read.specs.declared.image.Segment.{Segment}
@@ -44,16 +44,19 @@ not_linked (Some k) = Err (already_linked k)
 abbrev pub is_wrong_cpu : Role → ℕ → Bool
 is_wrong_cpu roles.Program cpu = not (is_known_cpu cpu)
 is_wrong_cpu (roles.Object program) cpu = not (is_known_cpu cpu) || not (cpu == program)
+is_wrong_cpu roles.Bundle cpu = not (is_known_cpu cpu)
 
--- a program is no object, and an object is nothing else
+-- a program is no object, an object is nothing else, and a bundle's image is a dSYM
 abbrev pub is_wrong_type : Role → ℕ → Bool
 is_wrong_type roles.Program filetype = filetype == MH_OBJECT
 is_wrong_type (roles.Object program) filetype = not (filetype == MH_OBJECT)
+is_wrong_type roles.Bundle filetype = not (filetype == MH_DSYM)
 
--- a program has no debug information yet; of an object nothing is asked
+-- a program has no debug information yet; of an object and of a bundle's image nothing is asked
 abbrev pub holds_no_dwarf : Role → Image → Result (Unit {0}) Fault
 holds_no_dwarf roles.Program image = not_linked (dwarf_at image.segments image.sections)
 holds_no_dwarf (roles.Object program) image = Ok tt
+holds_no_dwarf roles.Bundle image = Ok tt
 
 abbrev pub kind_of : Image → Role → Result (Unit {0}) Fault
 kind_of image role = do

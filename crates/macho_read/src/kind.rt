@@ -1,4 +1,4 @@
-//! Whether an image can be the program, or one of its objects.
+//! Whether an image can be the program, one of its objects, or the image of a bundle.
 
 ghost use Rattle.std.specs.Prelude.{◌≡◌, take, drop};
 ghost use Rattle.ds_base.specs.Reading.{Finds};
@@ -7,23 +7,25 @@ ghost use Rattle.macho_read.specs.Kind.{dwarf_at, kind_of, not_linked};
 use crate::fields::is_named;
 use crate::header::{header_fault, is_known_cpu};
 use crate::image::{Image, Section, Segment};
-use ds_base::macho::{MH_OBJECT, SEG_DWARF};
+use ds_base::macho::{MH_DSYM, MH_OBJECT, SEG_DWARF};
 use ds_base::{Fault, Kind, Part};
 
 /// What an image is read for.
-#[derive(Clone, Copy, Debug, PartialEq, Eq)]
+#[derive(Clone, Copy)]
 pub enum Role {
     /// The linked program.
     Program,
     /// An object of a program with this CPU type.
     Object { cpu: u32 },
+    /// The image of a bundle that was written.
+    Bundle,
 }
 
 /// Tests that an image can play a role.
 ///
 /// Its CPU type is one of the two that are read, and an object's is the program's (`WrongCpu`, at the header's
-/// offset 4); subtypes aren't compared. An object has the file type MH_OBJECT, and a program any other
-/// (`BadFileType`, at 12). A program has neither a segment nor a section of `__DWARF` (`AlreadyLinked`, in the
+/// offset 4); subtypes aren't compared. An object has the file type MH_OBJECT, a program any other, and a bundle's image
+/// MH_DSYM (`BadFileType`, at 12). A program has neither a segment nor a section of `__DWARF` (`AlreadyLinked`, in the
 /// commands, at the segment's index, counted from 0). They are tried in this order.
 pub fn check_kind(image: &Image, role: Role) -> Result<(), Fault>
     ensures { Finds (λ _. tt) result (kind_of image.now role) }
@@ -37,6 +39,7 @@ pub fn check_kind(image: &Image, role: Role) -> Result<(), Fault>
     match role {
         Role::Program => check_not_linked(image.segments.as_slice(), image.sections.as_slice()),
         Role::Object { .. } => Ok(()),
+        Role::Bundle => Ok(()),
     }
 }
 
@@ -47,16 +50,18 @@ fn is_wrong_cpu(role: Role, cpu: u32) -> bool
     match role {
         Role::Program => !is_known_cpu(cpu),
         Role::Object { cpu: program } => !is_known_cpu(cpu) || cpu != program,
+        Role::Bundle => !is_known_cpu(cpu),
     }
 }
 
-/// Whether a program is an object, or an object is anything else.
+/// Whether a program is an object, an object is anything else, or a bundle's image is none.
 fn is_wrong_type(role: Role, filetype: u32) -> bool
     ensures { result ≡ Rattle.macho_read.specs.Kind.is_wrong_type role filetype }
 {
     match role {
         Role::Program => filetype == MH_OBJECT,
         Role::Object { .. } => filetype != MH_OBJECT,
+        Role::Bundle => filetype != MH_DSYM,
     }
 }
 

@@ -2,7 +2,7 @@
 //!
 //! Layer: files. Reads 64-bit little-endian files for x86_64 and arm64 (mach-o/loader.h, mach-o/nlist.h).
 //! [`read_image`] gives `image_of` the bytes (`specs/Image.antt`), or the first fault in the order header,
-//! commands, symbols. [`check_kind`] tests that an image can be the program or one of its objects,
+//! commands, symbols. [`check_kind`] tests that an image can be the program, one of its objects or a bundle's image,
 //! [`section_bytes`] cuts the bytes of a debug section, and [`standing_of`] says what a symbol stands for
 //! (`specs/Standings.antt`). Laws say that what is spelled by its records is read back, and of which kinds the
 //! faults of each call are. Nothing here looks into the debug sections, and other load commands are passed over by

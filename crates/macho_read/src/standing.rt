@@ -9,7 +9,7 @@ use crate::symbol_list::SymbolRef;
 use ds_base::macho::{N_EXT, N_SECT, N_STAB, N_TYPE, N_UNDF};
 
 /// What a symbol of an image stands for (mach-o/nlist.h).
-#[derive(Clone, Copy, Debug)]
+#[derive(Clone, Copy)]
 pub enum Standing {
     /// An address in the section of this ordinal, which counts from 1 over the image's sections.
     Defined { section: u8 },

@@ -49,7 +49,7 @@ impl Model for Symbols {
 }
 
 /// A symbol or a stab where it stands.
-#[derive(Clone, Copy, Debug, PartialEq, Eq)]
+#[derive(Clone, Copy)]
 pub struct SymbolRef<'a> {
     pub name: &'a [u8],
     pub kind: u8,

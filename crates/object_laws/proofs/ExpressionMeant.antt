@@ -28,7 +28,7 @@ use Rattle.addr_map.specs.Sound.{IsSound as IsSoundMap}
 use Rattle.expr_walk.specs.Reading.{base_in, base_of}
 use Rattle.expr_walk.specs.Spelling.{Each, IsOp, IsPlain, an_entry_value, alone_it_is}
 use Rattle.expr_resolve.specs.declared.context.BaseType.{BaseType as ContextBase}
-use Rattle.expr_resolve.specs.Context.{Context}
+use Rattle.expr_resolve.specs.Context.{Context, names_of}
 use Rattle.expr_resolve.specs.Expressions.{base_meant, base_named, each_from, entry_of, fault_in, held, holds_address, index_in, indices_tried, inner_start, is_conversion, is_lost, named_by, names_entry, op_indexed, op_meant, op_size, operand_meant, operand_place, plain_indexed, plain_meant, plain_size, with_inner}
 use Rattle.expr_resolve.proofs.Entries.{addr_row, const8u_row, found_ends, index_row, named_of}
 use Rattle.linked_laws.specs.Spellable.{MayName}
@@ -87,22 +87,22 @@ entry_may : (row : Operands) (found : Option ContextBase) (base : Base) → opti
 entry_may row None base e = absurd cc
 entry_may row (Some b) base e = let same : bases.Entry b.entry ≡ base = cc in subst (MayName row) same tt
 
-may_name : (s : Context) (code : ℕ) (row : Operands) (named base : Base) → operands_of code ≡ Some row → base_named s code named ≡ Some base → MayName row base
+may_name : (s : Context) (code : ℕ) (row : Operands) (named base : Base) → operands_of code ≡ Some row → base_named (names_of s) code named ≡ Some base → MayName row base
 may_name s code row bases.Generic base known e = generic_may row (is_conversion code) base (conversion_row code row known) e
 may_name s code row (bases.Entry n) base known e = entry_may row (find (λ b. b.unit == s.unit && b.place == s.start + n) s.bases) base e
 
-none_fits : (s : Context) (place code : ℕ) (read meant : Option Base) → read ≡ None → base_meant s place code read ≡ Ok meant → meant ≡ None
-none_fits s place code read meant none e = sym (ok_is None meant (ap (base_meant s place code) (sym none) ∙ e))
+none_fits : (s : Context) (place code : ℕ) (read meant : Option Base) → read ≡ None → base_meant (names_of s) place code read ≡ Ok meant → meant ≡ None
+none_fits s place code read meant none e = sym (ok_is None meant (ap (base_meant (names_of s) place code) (sym none) ∙ e))
 
-base_fits : (s : Context) (place code : ℕ) (row : Operands) (named : Named) (read meant : Option Base) → operands_of code ≡ Some row → read ≡ base_in named → ((n : ℕ) → named ≡ Index n → ⊥) → base_meant s place code read ≡ Ok meant
+base_fits : (s : Context) (place code : ℕ) (row : Operands) (named : Named) (read meant : Option Base) → operands_of code ≡ Some row → read ≡ base_in named → ((n : ℕ) → named ≡ Index n → ⊥) → base_meant (names_of s) place code read ≡ Ok meant
     → BaseFits row named meant
 base_fits s place code row Nothing read meant known is none e = subst (BaseFits row Nothing) (sym (none_fits s place code read meant is e)) tt
 base_fits s place code row (Address a) read meant known is none e = subst (BaseFits row (Address a)) (sym (none_fits s place code read meant is e)) tt
 base_fits s place code row (Index n) read meant known is none e = absurd (none n refl)
 base_fits s place code row (BaseType n) read meant known is none e =
-    let base = bind_ok (or_fault (base_named s code (base_of n)) (fault_in s kinds.BadOperandType place)) _ meant (ap (base_meant s place code) (sym is) ∙ e) in
+    let base = bind_ok (or_fault (base_named (names_of s) code (base_of n)) (fault_in (names_of s) kinds.BadOperandType place)) _ meant (ap (base_meant (names_of s) place code) (sym is) ∙ e) in
     subst (BaseFits row (BaseType n)) (ok_is (Some base.0) meant base.2)
-    (may_name s code row (base_of n) base.0 known (found_ok (base_named s code (base_of n)) _ base.0 base.1))
+    (may_name s code row (base_of n) base.0 known (found_ok (base_named (names_of s) code (base_of n)) _ base.0 base.1))
 
 -- ---- items one after the other
 
@@ -131,7 +131,7 @@ each_tried P len tried shows place (x ∷ xs) us e =
 -- ---- entries that are named are there
 
 abbrev pub IsFound : Context → PlainOp → Type 0
-IsFound s op = is_lost s op.code op.address ≡ false
+IsFound s op = is_lost (names_of s) op.code op.address ≡ false
 
 -- those that an operation names, and the operations inside
 abbrev pub AreFound : Context → Op → Type 0
@@ -141,19 +141,19 @@ not_refused : (b : Bool) (f : Fault) (u : Unit {0}) → refuse_if b f ≡ Ok u �
 not_refused true f u e = absurd cc
 not_refused false f u e = refl
 
-plain_found : (s : Context) (place : ℕ) (op : PlainOp) (u : Unit {0}) → plain_indexed s place op ≡ Ok u → IsFound s op
-plain_found s place op u e = not_refused (is_lost s op.code op.address) (fault_in s kinds.BadIndex place) u e
+plain_found : (s : Context) (place : ℕ) (op : PlainOp) (u : Unit {0}) → plain_indexed (names_of s) place op ≡ Ok u → IsFound s op
+plain_found s place op u e = not_refused (is_lost (names_of s) op.code op.address) (fault_in (names_of s) kinds.BadIndex place) u e
 
-op_found : (s : Context) (place : ℕ) (op : Op) (u : Unit {0}) → op_indexed s place op ≡ Ok u → AreFound s op
+op_found : (s : Context) (place : ℕ) (op : Op) (u : Unit {0}) → op_indexed (names_of s) place op ≡ Ok u → AreFound s op
 op_found s place op u e =
-    let outer = bind_ok (plain_indexed s place (outside op)) _ u e in
-    let inner = bind_ok (each_from plain_size (plain_indexed s) (inner_start place op) op.inner) _ u outer.2 in
-    (plain_found s place (outside op) outer.0 outer.1, each_tried (IsFound s) plain_size (plain_indexed s) (plain_found s) (inner_start place op) op.inner inner.0 inner.1)
+    let outer = bind_ok (plain_indexed (names_of s) place (outside op)) _ u e in
+    let inner = bind_ok (each_from plain_size (plain_indexed (names_of s)) (inner_start place op) op.inner) _ u outer.2 in
+    (plain_found s place (outside op) outer.0 outer.1, each_tried (IsFound s) plain_size (plain_indexed (names_of s)) (plain_found s) (inner_start place op) op.inner inner.0 inner.1)
 
-pub ops_found : (s : Context) (first : ℕ) (ops : List Op) (u : Unit {0}) → indices_tried s first ops ≡ Ok u → Each (AreFound s) ops
+pub ops_found : (s : Context) (first : ℕ) (ops : List Op) (u : Unit {0}) → indices_tried (names_of s) first ops ≡ Ok u → Each (AreFound s) ops
 ops_found s first ops u e =
-    let each = bind_ok (each_from op_size (op_indexed s) first ops) _ u e in
-    each_tried (AreFound s) op_size (op_indexed s) (op_found s) first ops each.0 each.1
+    let each = bind_ok (each_from op_size (op_indexed (names_of s)) first ops) _ u e in
+    each_tried (AreFound s) op_size (op_indexed (names_of s)) (op_found s) first ops each.0 each.1
 
 -- an operation that names no entry, where none is lost, may name none
 named_none : (names : Bool) (entry : Option ℕ) → (if names then entry else None) ≡ None → (names && is_none entry) ≡ false → names ≡ true → ⊥
@@ -167,7 +167,7 @@ module _ (s : Context) (sound : IsSoundMap s.map) (table : AreBytes s.sections.a
   abbrev IsFine : PlainOp → Type 0
   IsFine op = IsPlain s.version op × IsFound s op
 
-  operand_is : (place : ℕ) (op : PlainOp) (base : Option Base) (entry : Option ℕ) → IsPlain s.version op → named_by s op.code op.address ≡ entry → IsFound s op → base_meant s place op.code op.base ≡ Ok base
+  operand_is : (place : ℕ) (op : PlainOp) (base : Option Base) (entry : Option ℕ) → IsPlain s.version op → named_by (names_of s) op.code op.address ≡ entry → IsFound s op → base_meant (names_of s) place op.code op.base ≡ Ok base
       → IsMeant (operand_meant s place op base entry)
   operand_is place op base None w named found e = record {
     row = w.row;
@@ -178,33 +178,33 @@ module _ (s : Context) (sound : IsSoundMap s.map) (table : AreBytes s.sections.a
     base = base_fits s place op.code w.row w.named op.base base w.known w.base
         (λ n is.
         let row = index_spelled w.row w.spells.back n (subst (λ (x : Named). SpellsOperands w.row w.spells.back x) is w.spells.second) in
-        named_none (names_entry op.code) (entry_of s op.address) named found (index_names op.code (w.known ∙ ap (λ (r : Operands). Some r) row))) e;
+        named_none (names_entry op.code) (entry_of (names_of s) op.address) named found (index_names op.code (w.known ∙ ap (λ (r : Operands). Some r) row))) e;
   }
   operand_is place op base (Some at) w named found e =
-      let n = named_of (names_entry op.code) (entry_of s op.address) at named in
+      let n = named_of (names_entry op.code) (entry_of (names_of s) op.address) at named in
       let row = row_is w.row operands.Index (sym w.known ∙ index_row op.code n.0) in
       let none = none_fits s place op.code op.base base (w.base ∙ index_no_base w.row w.spells.back w.named row w.spells.second) e in
       subst (λ (b : Option Base). IsMeant (held s op.code b at)) (sym none) (held_is s op.code at table sound (found_ends s (index_in op.address) at n.1))
 
   plain_is : (place : ℕ) (op meant : PlainOp) → IsFine op → plain_meant s place op ≡ Ok meant → IsMeant meant
   plain_is place op meant w e =
-      let base = bind_ok (base_meant s place op.code op.base) _ meant e in
-      subst IsMeant (ok_is (operand_meant s place op base.0 (named_by s op.code op.address)) meant base.2) (operand_is place op base.0 (named_by s op.code op.address) w.0 refl w.1 base.1)
+      let base = bind_ok (base_meant (names_of s) place op.code op.base) _ meant e in
+      subst IsMeant (ok_is (operand_meant s place op base.0 (named_by (names_of s) op.code op.address)) meant base.2) (operand_is place op base.0 (named_by (names_of s) op.code op.address) w.0 refl w.1 base.1)
 
   -- an entry value stays one
-  nested_kept : (place : ℕ) (op : PlainOp) (base : Option Base) (entry : Option ℕ) → named_by s op.code op.address ≡ entry → operands_of op.code ≡ Some operands.Expression
+  nested_kept : (place : ℕ) (op : PlainOp) (base : Option Base) (entry : Option ℕ) → named_by (names_of s) op.code op.address ≡ entry → operands_of op.code ≡ Some operands.Expression
       → operands_of (operand_meant s place op base entry).code ≡ Some operands.Expression
   nested_kept place op base None is known = known
   nested_kept place op base (Some at) is known =
-      let n = named_of (names_entry op.code) (entry_of s op.address) at is in
+      let n = named_of (names_entry op.code) (entry_of (names_of s) op.address) at is in
       let never = row_is operands.Expression operands.Index (sym known ∙ index_row op.code n.0) in
       absurd cc
 
   plain_nested : (place : ℕ) (op meant : PlainOp) → plain_meant s place op ≡ Ok meant → operands_of op.code ≡ Some operands.Expression → operands_of meant.code ≡ Some operands.Expression
   plain_nested place op meant e known =
-      let base = bind_ok (base_meant s place op.code op.base) _ meant e in
-      subst (λ (o : PlainOp). operands_of o.code ≡ Some operands.Expression) (ok_is (operand_meant s place op base.0 (named_by s op.code op.address)) meant base.2)
-      (nested_kept place op base.0 (named_by s op.code op.address) refl known)
+      let base = bind_ok (base_meant (names_of s) place op.code op.base) _ meant e in
+      subst (λ (o : PlainOp). operands_of o.code ≡ Some operands.Expression) (ok_is (operand_meant s place op base.0 (named_by (names_of s) op.code op.address)) meant base.2)
+      (nested_kept place op base.0 (named_by (names_of s) op.code op.address) refl known)
 
   abbrev AreFine : Op → Type 0
   AreFine op = IsOp s.version op × AreFound s op

@@ -1,5 +1,5 @@
 -- The expressions of a location list are bytes, as its section is.
-use Rattle.std.proofs.Common.{◌≡◌, ◌==◌, ℕ, Bool, true, false, List, Some, None, IfSome, Result, Ok, subst}
+use Rattle.std.proofs.Common.{◌≡◌, ◌==◌, ℕ, Bool, true, false, List, Option, Some, None, IfSome, Result, Ok, subst}
 use Rattle.std.specs.Prelude.{if◌then◌else◌}
 use Rattle.std.specs.List.{All}
 use Rattle.ds_base.specs.declared.fault.Fault.{Fault}
@@ -24,9 +24,9 @@ use Rattle.list_items.specs.declared.kinds.EntryKind.TheVariants as entries
 use Rattle.list_items.specs.Context.{Context}
 use Rattle.list_items.specs.Ends.{is_empty}
 use Rattle.list_items.specs.EntryKinds.{kind_in}
-use Rattle.list_items.specs.Entries.{address_at, between, entry_at, entry_from, index_at, indexed, no_span, offset_at, selected_at}
+use Rattle.list_items.specs.Entries.{address_at, between, entry_at, entry_from, index_at, indexed, offset_at, selected_at}
 use Rattle.list_items.specs.Items.{span_at}
-use Rattle.list_items.specs.Lists.{Says, ends, selects, spans, said_at, whole_at, given}
+use Rattle.list_items.specs.Lists.{Says, ends, selects, defaults, spans, said_at, whole_at, given}
 use Rattle.list_items.proofs.Given.{all_given}
 use Rattle.list_items.specs.Reading.{formed_at, item_at}
 use Rattle.list_items.specs.Words.{item_of, word_at, words_at}
@@ -101,7 +101,7 @@ from_holds c base first entries.BaseAddressx = selected_holds (index_at c first)
 from_holds c base first entries.StartxEndx = between_holds first (index_at c first) (λ low. index_at c first) (index_holds c first) (λ low. index_holds c first)
 from_holds c base first entries.StartxLength = between_holds first (index_at c first) (λ low. offset_at low) (index_holds c first) (λ low. offset_holds low)
 from_holds c base first entries.OffsetPair = between_holds first (offset_at base) (λ low. offset_at base) (offset_holds base) (λ low. offset_holds base)
-from_holds c base first entries.DefaultLocation = stays (items.Span no_span)
+from_holds c base first entries.DefaultLocation = stays items.Default
 from_holds c base first entries.BaseAddress = selected_holds (address_at c) (address_holds c)
 from_holds c base first entries.StartEnd = between_holds first (address_at c) (λ low. address_at c) (address_holds c) (λ low. address_holds c)
 from_holds c base first entries.StartLength = between_holds first (address_at c) (λ low. offset_at low) (address_holds c) (λ low. offset_holds low)
@@ -137,7 +137,7 @@ expression_holds version s y h e =
     subst (λ (x : (ℕ × List ℕ) × Spot). AreBytes x.0.1 × Holds x.1) (ok_is ((len.0.1.place, bytes.0.0), bytes.0.1) y bytes.2)
     (bytes_are len.0.0 len.0.1 bytes.0 holds bytes.1, bytes_hold len.0.0 len.0.1 bytes.0 holds bytes.1)
 
-location_holds : (version place : ℕ) (span : RawSpan) (s : Spot) (y : RawLocation × Spot) → Holds s → location_at version place span s ≡ Ok y → IsItem y.0 × Holds y.1
+location_holds : (version place : ℕ) (span : Option RawSpan) (s : Spot) (y : RawLocation × Spot) → Holds s → location_at version place span s ≡ Ok y → IsItem y.0 × Holds y.1
 location_holds version place span s y h e =
     let p = bind_ok (expression_at version s) _ y e in
     subst (λ (x : RawLocation × Spot). IsItem x.0 × Holds x.1) (ok_is _ y p.2) (expression_holds version s p.0 h p.1)
@@ -152,9 +152,12 @@ Gives y = IfSome (given y.0) IsItem × Holds y.1
 said_holds : (version place : ℕ) (item : Item) (s : Spot) (y : Says RawLocation × Spot) → Holds s → said_at (location_at version) place item s ≡ Ok y → Gives y
 said_holds version place items.End s y h e = subst Gives (ok_is (ends, s) y e) (tt, h)
 said_holds version place (items.Base selected) s y h e = subst Gives (ok_is (selects selected, s) y e) (tt, h)
+said_holds version place items.Default s y h e =
+    let p = bind_ok (location_at version place None s) _ y e in
+    subst Gives (ok_is (defaults p.0.0, p.0.1) y p.2) (location_holds version place None s p.0 h p.1)
 said_holds version place (items.Span span) s y h e =
-    let p = bind_ok (location_at version place span s) _ y e in
-    let here = location_holds version place span s p.0 h p.1 in
+    let p = bind_ok (location_at version place (Some span) s) _ y e in
+    let here = location_holds version place (Some span) s p.0 h p.1 in
     subst Gives (ok_is (spans span p.0.0, p.0.1) y p.2) (if_given (is_empty span) p.0.0 here.0, here.1)
 
 whole_holds : (version : ℕ) (c : Context) (base : Addr) (s : Spot) (y : Says RawLocation × Spot) → Holds s → whole_at c (location_at version) base s ≡ Ok y → Gives y

@@ -34,8 +34,9 @@ use Rattle.linked_laws.specs.Spellable.{ArePreorder, IsSpellable, IsSpellableEnt
 use Rattle.object_view.specs.Analysis.{analysis_of, units_analysed}
 use Rattle.object_view.specs.Attributes.{all_marked, entries_by, entries_meant, entry_marked, info_context, info_step, line_place, lines_marked, locations_context, locations_step, ranges_step, unit_base, units_meant}
 use Rattle.object_view.specs.Code.{code_of}
-use Rattle.object_view.specs.Opened.{Opened, opened_of, relocs_in, sections_in}
-use Rattle.object_view.specs.Parts.{all_tried, content_of, section_of}
+use Rattle.object_view.specs.Opened.{Opened, opened_of, relocs_in}
+use Rattle.reloc_table.specs.declared.sections.Compressed.TheVariants as compressed
+use Rattle.reloc_table.specs.Parts.{all_tried, content_of, section_of, sections_in}
 use Rattle.macho_read.specs.declared.kind.Role.TheVariants as roles
 use Rattle.macho_read.specs.Image.{image_of}
 use Rattle.macho_read.specs.Kind.{kind_of}
@@ -132,9 +133,9 @@ units_given v raw meant now units plain marked same kept have k d lt =
 sections_are : (bytes : List ℕ) (cpu : ℕ) (o : Opened) → opened_of bytes cpu ≡ Ok o → AreOf bytes o.sections
 unfolding opened_of
 sections_are bytes cpu o e =
-    let image = bind_ok (image_of bytes) (λ image. kind_of image (roles.Object cpu) >>= λ k. all_tried bytes [] image.sections >>= λ t. relocs_in bytes image >>= λ relocs. Ok (record { image = image; sections = sections_in bytes image.sections; relocs = relocs })) o e in
-    let kind = bind_ok (kind_of image.0 (roles.Object cpu)) (λ k. all_tried bytes [] image.0.sections >>= λ t. relocs_in bytes image.0 >>= λ relocs. Ok (record { image = image.0; sections = sections_in bytes image.0.sections; relocs = relocs })) o image.2 in
-    let tried = bind_ok (all_tried bytes [] image.0.sections) (λ t. relocs_in bytes image.0 >>= λ relocs. Ok (record { image = image.0; sections = sections_in bytes image.0.sections; relocs = relocs })) o kind.2 in
+    let image = bind_ok (image_of bytes) (λ image. kind_of image (roles.Object cpu) >>= λ k. all_tried compressed.Tried bytes [] image.sections >>= λ t. relocs_in bytes image >>= λ relocs. Ok (record { image = image; sections = sections_in bytes image.sections; relocs = relocs })) o e in
+    let kind = bind_ok (kind_of image.0 (roles.Object cpu)) (λ k. all_tried compressed.Tried bytes [] image.0.sections >>= λ t. relocs_in bytes image.0 >>= λ relocs. Ok (record { image = image.0; sections = sections_in bytes image.0.sections; relocs = relocs })) o image.2 in
+    let tried = bind_ok (all_tried compressed.Tried bytes [] image.0.sections) (λ t. relocs_in bytes image.0 >>= λ relocs. Ok (record { image = image.0; sections = sections_in bytes image.0.sections; relocs = relocs })) o kind.2 in
     let relocs = bind_ok (relocs_in bytes image.0) (λ relocs. Ok (record { image = image.0; sections = sections_in bytes image.0.sections; relocs = relocs })) o tried.2 in
     record { image = image.0; are = ap (λ (x : Opened). x.sections) (sym (ok_is (record { image = image.0; sections = sections_in bytes image.0.sections; relocs = relocs.0 }) o relocs.2)) }
 

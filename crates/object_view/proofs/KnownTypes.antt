@@ -16,7 +16,7 @@ use Rattle.dwarf_types.specs.LinkedExpressions.{outside}
 use Rattle.ds_base.proofs.Passing.{bind_ok, found_ok, ok_is}
 use Rattle.expr_walk.specs.Reading.{walk_of}
 use Rattle.expr_resolve.specs.declared.context.BaseType.{BaseType}
-use Rattle.expr_resolve.specs.Context.{Context}
+use Rattle.expr_resolve.specs.Context.{Context, names_of}
 use Rattle.expr_resolve.specs.Expressions.{base_meant, base_named, branches_tried, each_from, expression_of, fault_in, indices_tried, inner_start, is_conversion, named_by, op_meant, op_size, operand_meant, plain_meant, plain_size, with_inner}
 use Rattle.object_view.proofs.Names.{all_filtered, each_from_all}
 
@@ -58,7 +58,7 @@ mapped_some : {X Y : Type 0} (f : X → Y) (o : Option X) (y : Y) → option_map
 mapped_some f None y e = absurd cc
 mapped_some f (Some x) y e = (x, refl, cc)
 
-named_known : (s : Context) (code : ℕ) (base meant : Base) → base_named s code base ≡ Some meant → IsKnownBase s.bases s.unit (Some meant)
+named_known : (s : Context) (code : ℕ) (base meant : Base) → base_named (names_of s) code base ≡ Some meant → IsKnownBase s.bases s.unit (Some meant)
 named_known s code bases.Generic meant e entry is = absurd (generic_none (is_conversion code) meant entry e is)
 named_known s code (bases.Entry n) meant e entry is =
     let test : BaseType → Bool = λ b. b.unit == s.unit && b.place == s.start + n in
@@ -67,11 +67,11 @@ named_known s code (bases.Entry n) meant e entry is =
     let named : Some b.0.entry ≡ Some entry = ap (λ (m : Base). base_in (Some m)) b.2 ∙ is in
     record { base = b.0; known = there.0; its_entry = cc; its_unit = eqb-true b.0.unit s.unit (both_true (b.0.unit == s.unit) (b.0.place == s.start + n) there.1) }
 
-base_known : (s : Context) (place code : ℕ) (base meant : Option Base) → base_meant s place code base ≡ Ok meant → IsKnownBase s.bases s.unit meant
+base_known : (s : Context) (place code : ℕ) (base meant : Option Base) → base_meant (names_of s) place code base ≡ Ok meant → IsKnownBase s.bases s.unit meant
 base_known s place code None meant e = subst (IsKnownBase s.bases s.unit) (ok_is None meant e) (λ entry is. absurd cc)
 base_known s place code (Some base) meant e =
-    let b = bind_ok (or_fault (base_named s code base) (fault_in s kinds.BadOperandType place)) (λ m. Ok (Some m)) meant e in
-    subst (IsKnownBase s.bases s.unit) (ok_is (Some b.0) meant b.2) (named_known s code base b.0 (found_ok (base_named s code base) (fault_in s kinds.BadOperandType place) b.0 b.1))
+    let b = bind_ok (or_fault (base_named (names_of s) code base) (fault_in (names_of s) kinds.BadOperandType place)) (λ m. Ok (Some m)) meant e in
+    subst (IsKnownBase s.bases s.unit) (ok_is (Some b.0) meant b.2) (named_known s code base b.0 (found_ok (base_named (names_of s) code base) (fault_in (names_of s) kinds.BadOperandType place) b.0 b.1))
 
 -- whatever becomes of an operation, it names the base
 operand_base : (s : Context) (place : ℕ) (op : PlainOp) (base : Option Base) (at : Option ℕ) → (operand_meant s place op base at).base ≡ base
@@ -80,8 +80,8 @@ operand_base s place op base (Some at) = refl
 
 plain_known : (s : Context) (place : ℕ) (op meant : PlainOp) → plain_meant s place op ≡ Ok meant → IsKnownBase s.bases s.unit meant.base
 plain_known s place op meant e =
-    let at : Option ℕ = named_by s op.code op.address in
-    let b = bind_ok (base_meant s place op.code op.base) (λ base. Ok (operand_meant s place op base at)) meant e in
+    let at : Option ℕ = named_by (names_of s) op.code op.address in
+    let b = bind_ok (base_meant (names_of s) place op.code op.base) (λ base. Ok (operand_meant s place op base at)) meant e in
     subst (λ (o : PlainOp). IsKnownBase s.bases s.unit o.base) (ok_is (operand_meant s place op b.0 at) meant b.2)
     (subst (IsKnownBase s.bases s.unit) (sym (operand_base s place op b.0 at)) (base_known s place op.code op.base b.0 b.1))
 
@@ -101,8 +101,8 @@ op_known s place op meant e =
 pub ops_known : (s : Context) (bytes : List ℕ) (first : ℕ) (ops : List Op) → expression_of s bytes first ≡ Ok ops → All (IsKnownOp s.bases s.unit) ops
 unfolding expression_of
 ops_known s bytes first ops e =
-    let walk = bind_ok (walk_of bytes s.part first s.version) (λ walked. each_from op_size (op_meant s) first walked >>= λ meant. indices_tried s first walked >>= λ v. branches_tried s first walked >>= λ u. Ok meant) ops e in
-    let each = bind_ok (each_from op_size (op_meant s) first walk.0) (λ meant. indices_tried s first walk.0 >>= λ v. branches_tried s first walk.0 >>= λ u. Ok meant) ops walk.2 in
-    let indexed = bind_ok (indices_tried s first walk.0) (λ v. branches_tried s first walk.0 >>= λ u. Ok each.0) ops each.2 in
-    let tried = bind_ok (branches_tried s first walk.0) (λ u. Ok each.0) ops indexed.2 in
+    let walk = bind_ok (walk_of bytes s.part first s.version) (λ walked. each_from op_size (op_meant s) first walked >>= λ meant. indices_tried (names_of s) first walked >>= λ v. branches_tried (names_of s) first walked >>= λ u. Ok meant) ops e in
+    let each = bind_ok (each_from op_size (op_meant s) first walk.0) (λ meant. indices_tried (names_of s) first walk.0 >>= λ v. branches_tried (names_of s) first walk.0 >>= λ u. Ok meant) ops walk.2 in
+    let indexed = bind_ok (indices_tried (names_of s) first walk.0) (λ v. branches_tried (names_of s) first walk.0 >>= λ u. Ok each.0) ops each.2 in
+    let tried = bind_ok (branches_tried (names_of s) first walk.0) (λ u. Ok each.0) ops indexed.2 in
     subst (All (IsKnownOp s.bases s.unit)) (ok_is each.0 ops tried.2) (each_from_all op_size (op_meant s) (IsKnownOp s.bases s.unit) (λ p x y is. op_known s p x y is) first walk.0 each.0 each.1)

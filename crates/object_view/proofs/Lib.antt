@@ -5,7 +5,6 @@ pub mod EachOf
 pub mod FileBytes
 pub mod Fitting
 pub mod InPlace
-pub mod Inside
 pub mod Items
 pub mod Kept
 pub mod KnownTypes
@@ -23,5 +22,4 @@ pub mod Refused
 pub mod Soundness
 pub mod SpelledAnalysis
 pub mod Trees
-pub mod Trying
 pub mod Understood

@@ -50,7 +50,8 @@ use Rattle.object_view.specs.Analysis.{analysis_of, units_analysed}
 use Rattle.object_view.specs.Attributes.{address_named, all_marked, attr_by, attrs_by, dangling, each_of, entries_by, entries_meant, entry_by, info_step, is_too_long, item_meant, lines_meant, locations_at, locations_by_role, locations_meant, locations_read, locations_step, number_at, offset_meant, ranges_at, ranges_by_role, ranges_meant, ranges_read, ranges_relocs, ranges_step, raw_attr_by, raw_attrs_by, raw_entries_by, raw_entry_by, unit_with_lines, unit_with_table, units_meant, unnamed, value_meant}
 use Rattle.object_view.specs.Faults.{object_kinds}
 use Rattle.object_view.specs.Opened.{Opened, opened_of, part_relocs, relocs_among, relocs_in}
-use Rattle.object_view.specs.Parts.{all_tried, is_tried, section_of, section_tried}
+use Rattle.reloc_table.specs.declared.sections.Compressed.TheVariants as compressed
+use Rattle.reloc_table.specs.Parts.{all_tried, is_tried, section_of, section_tried}
 use Rattle.object_view.specs.Units.{unit_context}
 
 abbrev IsOne : Kind → Type 0
@@ -139,13 +140,13 @@ module _ (laws : Laws) where
       let some : List Kind = kinds.CompressedSection ∷ kinds.BadSection ∷ [] in
       All-contains IsOne some f.kind (All-from_recursion IsOne some ((27, omega arith, refl), ((28, omega arith, refl), tt))) (laws.section bytes section index f e)
 
-  section_kinds : (bytes : List ℕ) (before : List Section) (section : Section) → FaultsAre IsOne (section_tried bytes before section)
+  section_kinds : (bytes : List ℕ) (before : List Section) (section : Section) → FaultsAre IsOne (section_tried compressed.Tried bytes before section)
   section_kinds bytes before section =
-      either_kinds IsOne (is_tried before section) _ (Ok tt) (bind_kinds IsOne (section_in bytes section (length before)) _ (one_section_kinds bytes section (length before)) (λ content. ok_kinds IsOne _)) (ok_kinds IsOne tt)
+      either_kinds IsOne (is_tried compressed.Tried before section) _ (Ok tt) (bind_kinds IsOne (section_in bytes section (length before)) _ (one_section_kinds bytes section (length before)) (λ content. ok_kinds IsOne _)) (ok_kinds IsOne tt)
 
-  sections_kinds : (bytes : List ℕ) (before sections : List Section) → FaultsAre IsOne (all_tried bytes before sections)
+  sections_kinds : (bytes : List ℕ) (before sections : List Section) → FaultsAre IsOne (all_tried compressed.Tried bytes before sections)
   sections_kinds bytes before [] = ok_kinds IsOne tt
-  sections_kinds bytes before (section ∷ others) = bind_kinds IsOne (section_tried bytes before section) _ (section_kinds bytes before section) (λ ok. sections_kinds bytes (before ++ section ∷ []) others)
+  sections_kinds bytes before (section ∷ others) = bind_kinds IsOne (section_tried compressed.Tried bytes before section) _ (section_kinds bytes before section) (λ ok. sections_kinds bytes (before ++ section ∷ []) others)
 
   one_relocs_kinds : (bytes : List ℕ) (image : Image) (section : Section) → FaultsAre IsOne (relocs_of bytes image section)
   one_relocs_kinds bytes image section f e =
@@ -172,7 +173,7 @@ module _ (laws : Laws) where
   opened_kinds bytes cpu =
       bind_kinds IsOne (image_of bytes) _ (image_kinds bytes) (λ image.
       bind_kinds IsOne (kind_of image (roles.Object cpu)) _ (role_kinds image cpu) (λ u.
-      bind_kinds IsOne (all_tried bytes [] image.sections) _ (sections_kinds bytes [] image.sections) (λ v.
+      bind_kinds IsOne (all_tried compressed.Tried bytes [] image.sections) _ (sections_kinds bytes [] image.sections) (λ v.
       bind_kinds IsOne (relocs_in bytes image) _ (relocs_kinds bytes image) (λ relocs. ok_kinds IsOne _))))
 
   -- ---- its units

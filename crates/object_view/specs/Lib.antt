@@ -6,10 +6,8 @@ pub mod Faults
 pub mod Infos
 pub mod Numbers
 pub mod Opened
-pub mod Parts
 pub mod Ready
 pub mod Roots
-pub mod Seen
 pub mod Sound
 pub mod Spelled
 pub mod Stages

@@ -14,7 +14,8 @@ use Rattle.reloc_table.specs.declared.relocation.Relocs.{Relocs}
 use Rattle.reloc_table.specs.Table.{relocs_of}
 use Rattle.object_view.specs.declared.open.DebugRelocs.{DebugRelocs}
 use Rattle.object_view.specs.declared.open.OpenObject.{OpenObject}
-use Rattle.object_view.specs.Parts.{section_of, all_tried, part_bytes}
+use Rattle.reloc_table.specs.declared.sections.Compressed.TheVariants as compressed
+use Rattle.reloc_table.specs.Parts.{all_tried, section_of, sections_in}
 
 pub record Opened : Type 0 where
   pub image : Image
@@ -23,25 +24,6 @@ pub record Opened : Type 0 where
 
 abbrev pub opened_seen : OpenObject → Opened
 opened_seen o = record { image = o.image; sections = bytes_in o.sections; relocs = o.relocs }
-
--- ---- sections
-
-abbrev pub sections_in : List ℕ → List Section → SectionBytes
-sections_in bytes sections = record {
-  info = part_bytes bytes sections parts.Info;
-  abbrev_ = part_bytes bytes sections parts.Abbrev;
-  strings = part_bytes bytes sections parts.Str;
-  str_offs = part_bytes bytes sections parts.StrOffs;
-  addr = part_bytes bytes sections parts.Addr;
-  line = part_bytes bytes sections parts.Line;
-  line_str = part_bytes bytes sections parts.LineStr;
-  ranges = part_bytes bytes sections parts.Ranges;
-  rnglists = part_bytes bytes sections parts.Rnglists;
-  loc = part_bytes bytes sections parts.Loc;
-  loclists = part_bytes bytes sections parts.Loclists;
-  aranges = part_bytes bytes sections parts.Aranges;
-  frame = part_bytes bytes sections parts.Frame;
-}
 
 -- ---- relocations
 
@@ -78,6 +60,6 @@ unfoldable pub opened_of : List ℕ → ℕ → Result Opened Fault
 opened_of bytes cpu = do
   image ← image_of bytes
   _ ← kind_of image (roles.Object cpu)
-  _ ← all_tried bytes [] image.sections
+  _ ← all_tried compressed.Tried bytes [] image.sections
   relocs ← relocs_in bytes image
   Ok (record { image = image; sections = sections_in bytes image.sections; relocs = relocs })

@@ -17,7 +17,6 @@ mod line_tables;
 mod locations;
 mod open;
 mod ranges;
-mod sections;
 mod steps;
 mod units;
 

@@ -8,11 +8,10 @@ ghost use Rattle.reloc_table.specs.Sound.{IsSound};
 ghost use Rattle.object_view.specs.Opened as spec;
 ghost use Rattle.object_view.specs.Sound.{AreSmall, AreSound};
 
-use crate::sections::{check_sections, section_of, sections_in};
 use ds_base::{List, Part, ReadError};
 use dwarf_types::Sections;
 use macho_read::{Image, Role, check_kind, read_image};
-use reloc_table::{Relocs, relocs};
+use reloc_table::{Compressed, Relocs, check_sections, relocs, section_of, sections_in};
 use std::alloc::Global;
 
 /// The relocations of an object's debug sections that hold addresses.
@@ -54,7 +53,7 @@ pub(crate) fn open_object(
 {
     let image = read_image(alloc, bytes)?;
     check_kind(&image, Role::Object { cpu })?;
-    check_sections(alloc, bytes, image.sections.as_slice())?;
+    check_sections(alloc, bytes, image.sections.as_slice(), Compressed::Tried)?;
     let relocs = debug_relocs(alloc, bytes, &image)?;
     let sections = sections_in(bytes, image.sections.as_slice());
     Ok(OpenObject {

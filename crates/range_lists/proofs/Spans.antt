@@ -16,24 +16,25 @@ use Rattle.macho_read.specs.declared.image.Image.{Image}
 use Rattle.reloc_table.specs.declared.relocation.Relocs.{Relocs}
 use Rattle.list_items.specs.declared.context.ListForm.TheVariants as forms
 use Rattle.list_items.specs.Context.{Context}
+use Rattle.list_items.specs.Items.{covered}
 use Rattle.list_items.specs.Lists.{list_spot, whole_at}
 use Rattle.list_items.specs.Reading.{formed_at, item_at}
 use Rattle.list_items.specs.Sound.{IsSoundSpan}
 use Rattle.list_items.specs.Whole.{IsWhole}
 use Rattle.ds_base.proofs.FaultKinds.{FaultsAre, ok_kinds}
 use Rattle.list_items.proofs.Refused.{words_kinds, entry_kinds, list_kinds}
-use Rattle.list_items.proofs.Soundness.{KeepsEnd, Keeps, list_sound}
+use Rattle.list_items.proofs.Soundness.{KeepsEnd, Keeps, covered_sound, list_sound}
 use Rattle.list_items.proofs.Wholes.{GoesOn, list_whole}
 use Rattle.range_lists.specs.Reading.{range_part, range_faults, range_at, range_context, range_items, ranges_of}
 
 end_kept : KeepsEnd range_at
-end_kept place span s x t e = sym (ap (λ (r : RawSpan × Spot). r.1.end) (ok_is (span, s) (x, t) e))
+end_kept place span s x t e = sym (ap (λ (r : RawSpan × Spot). r.1.end) (ok_is (covered span, s) (x, t) e))
 
 span_kept : (end : ℕ) → Keeps IsSoundSpan end range_at
-span_kept end place span s x t at sound e = subst IsSoundSpan (ap (λ (r : RawSpan × Spot). r.0) (ok_is (span, s) (x, t) e)) sound
+span_kept end place span s x t at sound e = subst IsSoundSpan (ap (λ (r : RawSpan × Spot). r.0) (ok_is (covered span, s) (x, t) e)) (covered_sound span sound)
 
 goes_on : GoesOn range_at
-goes_on place span s y e = subst (λ (r : RawSpan × Spot). Onward s r.1) (ok_is (span, s) y e) (stays s)
+goes_on place span s y e = subst (λ (r : RawSpan × Spot). Onward s r.1) (ok_is (covered span, s) y e) (stays s)
 
 -- ---- kinds of faults
 
@@ -74,4 +75,4 @@ module _ (sections : SectionBytes) (relocs : Relocs) (image : Image) (offset ver
 
   pub range_kinds : FaultsAre (Contains (range_faults version)) (ranges_of sections relocs image offset version base addresses addr_base)
   unfolding ranges_of
-  range_kinds = list_kinds (KindsAre (version == 5)) (cut (version == 5)) context each_kinds range_at (λ place span s. ok_kinds (KindsAre (version == 5)) (span, s)) (range_part version) bytes offset base
+  range_kinds = list_kinds (KindsAre (version == 5)) (cut (version == 5)) context each_kinds range_at (λ place span s. ok_kinds (KindsAre (version == 5)) (covered span, s)) (range_part version) bytes offset base

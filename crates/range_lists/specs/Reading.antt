@@ -1,5 +1,5 @@
 -- Reading a range list (DWARF 4 and 5, section 2.17.3): its spans, or the first fault in the order of its items.
-use Rattle.std.specs.Prelude.{ℕ, ◌==◌, List, [], ◌∷◌, Result, Ok, if◌then◌else◌}
+use Rattle.std.specs.Prelude.{ℕ, ◌==◌, List, [], ◌∷◌, Option, Result, Ok, if◌then◌else◌}
 use Rattle.ds_base.specs.declared.fault.Fault.{Fault}
 use Rattle.ds_base.specs.declared.fault.Kind.{Kind}
 use Rattle.ds_base.specs.declared.fault.Kind.TheVariants.{Truncated, LebTooWide, BadList, BadIndex, UnknownListEntry}
@@ -14,6 +14,7 @@ use Rattle.reloc_table.specs.declared.relocation.Relocs.{Relocs}
 use Rattle.list_items.specs.declared.context.ListForm.{ListForm}
 use Rattle.list_items.specs.declared.context.ListForm.TheVariants as forms
 use Rattle.list_items.specs.Context.{Context}
+use Rattle.list_items.specs.Items.{covered}
 use Rattle.list_items.specs.Lists.{Listing, items_in, list_of}
 
 -- ---- where the lists of a unit stand, by the unit's version
@@ -31,8 +32,8 @@ range_faults version = if version == 5 then Truncated ∷ LebTooWide ∷ BadList
 -- ---- lists
 
 -- nothing follows a span
-abbrev pub range_at : ℕ → RawSpan → Spot → Result (RawSpan × Spot) Fault
-range_at place span s = Ok (span, s)
+abbrev pub range_at : ℕ → Option RawSpan → Spot → Result (RawSpan × Spot) Fault
+range_at place span s = Ok (covered span, s)
 
 -- what the items are understood by: the relocations of their section and those of __debug_addr, where the unit's addresses begin at a base
 abbrev pub range_context : SectionBytes → Relocs → Image → ℕ → Relocs → ℕ → Context

@@ -12,7 +12,7 @@ ghost use Rattle.range_lists.specs.Reading.{range_at, range_form, range_part, ra
 use ds_base::dwarf::DWARF_5;
 use ds_base::{Cursor, List, Part, ReadError};
 use dwarf_types::{Addr, RawSpan, Sections};
-use list_items::{Behind, ListContext, ListForm, ListSection, read_list};
+use list_items::{Behind, ListContext, ListForm, ListSection, covered, read_list};
 use macho_read::Image;
 use reloc_table::Relocs;
 use std::alloc::Global;
@@ -30,10 +30,10 @@ impl Behind for Alone {
         &self,
         _alloc: Global,
         _place: u64,
-        span: &RawSpan,
+        span: Option<RawSpan>,
         _cursor: &mut Cursor<'_>,
     ) -> Result<RawSpan, ReadError> {
-        Ok(*span)
+        Ok(covered(span))
     }
 }
 

@@ -11,7 +11,7 @@ use ds_base::{Fault, Kind, List, Part};
 use macho_read::{Image, Section};
 
 /// A number of 8 bytes in a section to which the linker adds (mach-o/reloc.h).
-#[derive(Clone, Copy, Debug, PartialEq, Eq)]
+#[derive(Clone, Copy)]
 pub struct Reloc {
     /// Where the number stands, in bytes from the section's start.
     pub place: u32,

@@ -1,11 +1,11 @@
 use Rattle.std.proofs.Common.{◌≡◌, ◌+◌, take, drop, Ok}
 use Rattle.std.specs.List.{sum_by}
 use Rattle.ds_base.specs.Reading.{◌>>=◌}
-use Rattle.expr_resolve.specs.Context.{context_in}
+use Rattle.expr_resolve.specs.Context.{names_in}
 use Rattle.expr_resolve.specs.Expressions.{each_from, inner_tried, op_size}
 use Rattle.expr_resolve.proofs.branches.try_all_inside.Given as goal
 
 abbrev pub invariant-loop-k : goal.invariant-loop-k
 invariant-loop-k l =
-    ((each_from op_size (inner_tried (context_in l.context)) l.place (drop l.k l.ops) >>= λ _. Ok (tt {0})) ≡ (each_from op_size (inner_tried (context_in l.context)) l.first l.ops >>= λ _. Ok (tt {0})))
+    ((each_from op_size (inner_tried (names_in l.names)) l.place (drop l.k l.ops) >>= λ _. Ok (tt {0})) ≡ (each_from op_size (inner_tried (names_in l.names)) l.first l.ops >>= λ _. Ok (tt {0})))
     × (l.place ≡ l.first + sum_by op_size (take l.k l.ops))

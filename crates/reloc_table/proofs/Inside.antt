@@ -13,10 +13,12 @@ use Rattle.ds_base.specs.MachONumbers.{SEG_DWARF}
 use Rattle.ds_base.specs.Reading.{◌>>=◌}
 use Rattle.ds_base.proofs.Passing.{bind_ok, passed}
 use Rattle.macho_read.specs.declared.image.Section.{Section}
-use Rattle.macho_read.specs.Debug.{bad_section, compressed, debug_part, is_compressed, is_debug, named_part, part_in, section_in}
+use Rattle.macho_read.specs.Debug.{bad_section, compressed, debug_part, is_compressed, named_part, part_in, section_in}
 use Rattle.macho_read.specs.Fields.{is_named}
-use Rattle.object_view.specs.Parts.{all_tried, is_of, is_repeated, is_tried, part_of, same_part, section_tried}
-use Rattle.object_view.specs.Seen.{IsInside, LieInside}
+use Rattle.reloc_table.specs.declared.sections.Compressed.{Compressed}
+use Rattle.reloc_table.specs.declared.sections.Compressed.TheVariants.{Tried, Ignored}
+use Rattle.reloc_table.specs.Parts.{all_tried, is_of, is_repeated, is_tried, may_be_tried, part_of, same_part, section_tried}
+use Rattle.reloc_table.specs.Tried.{IsInside, LieInside}
 
 -- ---- a section that was tried
 
@@ -44,6 +46,13 @@ debug_is : (dwarf packed : Bool) (named : Option Part) (own : Part) → dwarf �
 debug_is dwarf true named own d n = rw d refl
 debug_is dwarf false named own d n = rw (d, n) refl
 
+named_is : (dwarf : Bool) (named : Option Part) (own : Part) → dwarf ≡ true → named ≡ Some own → (dwarf && is_some named) ≡ true
+named_is dwarf named own d n = rw (d, n) refl
+
+may_be : (compressed : Compressed) (section : Section) (own : Part) → is_named SEG_DWARF section.segment ≡ true → debug_part section.name ≡ Some own → may_be_tried compressed section ≡ true
+may_be Tried section own d n = debug_is (is_named SEG_DWARF section.segment) (is_compressed section) (debug_part section.name) own d n
+may_be Ignored section own d n = named_is (is_named SEG_DWARF section.segment) (debug_part section.name) own d n
+
 same_among : (before : List Section) (own part : Part) → same_part own part ≡ true → list_any (is_of own) before ≡ list_any (is_of part) before
 same_among before own part e = ap (λ (p : Part). list_any (is_of p) before) (same_true the_type tt own part e)
 
@@ -52,14 +61,14 @@ when_tried true tried is e = e
 when_tried false tried is e = absurd cc
 
 -- the first section that is a part
-part_inside : (bytes : List ℕ) (before : List Section) (section : Section) (part : Part) → is_of part section ≡ true → list_any (is_of part) before ≡ false → section_tried bytes before section ≡ Ok tt → IsInside bytes section
-part_inside bytes before section part is first tried =
+part_inside : (compressed : Compressed) (bytes : List ℕ) (before : List Section) (section : Section) (part : Part) → is_of part section ≡ true → list_any (is_of part) before ≡ false → section_tried compressed bytes before section ≡ Ok tt → IsInside bytes section
+part_inside compressed bytes before section part is first tried =
     let own = own_part (is_named SEG_DWARF section.segment) (debug_part section.name) part is in
     let named : part_of section ≡ Some own.0 = part_is (is_named SEG_DWARF section.segment) (debug_part section.name) own.0 own.1 own.2 in
     let new : is_repeated before section ≡ false = ap (λ (o : Option Part). option_map_or (λ p. list_any (is_of p) before) o false) named ∙ same_among before own.0 part own.3 ∙ first in
-    let debug : is_debug section ≡ true = debug_is (is_named SEG_DWARF section.segment) (is_compressed section) (debug_part section.name) own.0 own.1 own.2 in
-    let counts : is_tried before section ≡ true = rw (debug, new) refl in
-    let read = bind_ok (section_in bytes section (length before)) (λ content. Ok tt) tt (when_tried (is_tried before section) (section_in bytes section (length before) >>= λ content. Ok tt) counts tried) in
+    let may : may_be_tried compressed section ≡ true = may_be compressed section own.0 own.1 own.2 in
+    let counts : is_tried compressed before section ≡ true = rw (may, new) refl in
+    let read = bind_ok (section_in bytes section (length before)) (λ content. Ok tt) tt (when_tried (is_tried compressed before section) (section_in bytes section (length before) >>= λ content. Ok tt) counts tried) in
     section_inside bytes section own.0 (length before) read.0 own.2 read.1
 
 -- ---- all sections
@@ -68,12 +77,12 @@ found_there : {X : Type 0} (P : X → Type 0) (b : Bool) (x : X) (others : Optio
 found_there P true x others here behind = here refl
 found_there P false x others here behind = behind refl
 
-others_inside : (bytes : List ℕ) (part : Part) (before others : List Section) → list_any (is_of part) before ≡ false → all_tried bytes before others ≡ Ok tt → IfSome (find (is_of part) others) (IsInside bytes)
-others_inside bytes part before [] first e = tt
-others_inside bytes part before (section ∷ others) first e =
-    let here = bind_ok (section_tried bytes before section) (λ ok. all_tried bytes (before ++ section ∷ []) others) tt e in
-    found_there (IsInside bytes) (is_of part section) section (find (is_of part) others) (λ is. part_inside bytes before section part is first here.1)
-    (λ other. others_inside bytes part (before ++ section ∷ []) others (rw (list_any-append (is_of part) before (section ∷ []), first, other) refl) here.2)
+others_inside : (compressed : Compressed) (bytes : List ℕ) (part : Part) (before others : List Section) → list_any (is_of part) before ≡ false → all_tried compressed bytes before others ≡ Ok tt → IfSome (find (is_of part) others) (IsInside bytes)
+others_inside compressed bytes part before [] first e = tt
+others_inside compressed bytes part before (section ∷ others) first e =
+    let here = bind_ok (section_tried compressed bytes before section) (λ ok. all_tried compressed bytes (before ++ section ∷ []) others) tt e in
+    found_there (IsInside bytes) (is_of part section) section (find (is_of part) others) (λ is. part_inside compressed bytes before section part is first here.1)
+    (λ other. others_inside compressed bytes part (before ++ section ∷ []) others (rw (list_any-append (is_of part) before (section ∷ []), first, other) refl) here.2)
 
-pub lie_inside : (bytes : List ℕ) (sections : List Section) → all_tried bytes [] sections ≡ Ok tt → LieInside bytes sections
-lie_inside bytes sections e part = others_inside bytes part [] sections refl e
+pub lie_inside : (compressed : Compressed) (bytes : List ℕ) (sections : List Section) → all_tried compressed bytes [] sections ≡ Ok tt → LieInside bytes sections
+lie_inside compressed bytes sections e part = others_inside compressed bytes part [] sections refl e

@@ -1,25 +1,33 @@
-//! The debug sections of an object: which count, which are tried, and their bytes.
+//! The debug sections of an image: which count, which are tried, and their bytes.
 
 ghost use Rattle.std.specs.Prelude.{◌≡◌, ◌≤◌, ◌<◌, ◌^◌, [], ◌∷◌, ◌++◌, List as Listed, length, IsTrue, IfSome, OnOk};
 ghost use Rattle.std.specs.List.{list_any};
 ghost use Rattle.std.specs.Option.{option_copied};
 ghost use Rattle.ds_base.specs.Reading.{Gives};
+ghost use Rattle.macho_read.specs.Debug;
 ghost use Rattle.macho_read.specs.declared.image.Section.{Section as ASection};
 ghost use Rattle.dwarf_types.specs.SectionBytes.{bytes_in};
+ghost use Rattle.reloc_table.specs.Parts as spec;
 ghost use Rattle.reloc_table.specs.Table;
-ghost use Rattle.object_view.specs.Opened;
-ghost use Rattle.object_view.specs.Parts as spec;
-ghost use Rattle.object_view.specs.Seen.{AreParts, IsInside, LieInside};
-ghost use Rattle.object_view.specs.Sound.{AreSmall};
+ghost use Rattle.reloc_table.specs.Tried.{AreParts, AreSmall, IsInside, LieInside};
 
+use crate::table::is_part;
 use ds_base::{List, Part, ReadError, cut};
 use dwarf_types::Sections;
 use macho_read::{Section, debug_part, is_debug, section_bytes};
-use reloc_table::is_part;
 use std::alloc::Global;
 
+/// What is done with compressed debug sections, which are no parts of the file.
+#[derive(Clone, Copy)]
+pub enum Compressed {
+    /// Each of them is tried, and so refused: an object with one can't be read.
+    Tried,
+    /// None is looked at.
+    Ignored,
+}
+
 /// The part of the file that a section is, if it is a debug section that is read.
-pub(crate) fn part_of(section: &Section) -> Option<Part>
+fn part_of(section: &Section) -> Option<Part>
     ensures { result ≡ spec.part_of section.now }
 {
     if is_part(section) {
@@ -40,15 +48,15 @@ fn is_of(section: &Section, part: Part) -> bool
 }
 
 /// The section that is a part of the file: of two of one name the first counts.
-pub(crate) fn section_of(sections: &[Section], part: Part) -> Option<&Section>
+pub fn section_of(sections: &[Section], part: Part) -> Option<&Section>
     ensures found { option_copied result ≡ spec.section_of sections.now part }
     ensures part { IfSome result (λ section. IsTrue (Table.is_part section.now)) }
 {
     sections.iter().find(|section| is_of(section, part))
 }
 
-/// The bytes of a part of the file; a section that is not there has none.
-fn part_bytes<'a>(bytes: &'a [u8], sections: &[Section], part: Part) -> &'a [u8]
+/// The bytes of a part of the file, whose section lies in it; a section that is not there has none.
+pub fn part_bytes<'a>(bytes: &'a [u8], sections: &[Section], part: Part) -> &'a [u8]
     requires { IfSome (spec.section_of sections.now part) (IsInside bytes.now) }
     ensures is { result.now ≡ spec.part_bytes bytes.now sections.now part }
     ensures within { length result.now ≤ length bytes.now }
@@ -68,10 +76,12 @@ fn content_of<'a>(bytes: &'a [u8], section: &Section) -> &'a [u8]
     cut(bytes, section.offset as usize, section.size as usize)
 }
 
-/// The bytes of all debug sections, which were tried.
-pub(crate) fn sections_in<'a>(bytes: &'a [u8], sections: &[Section]) -> Sections<'a>
+/// The bytes of all debug sections, which were tried ([`check_sections`]).
+pub fn sections_in<'a>(bytes: &'a [u8], sections: &[Section]) -> Sections<'a>
     requires { LieInside bytes.now sections.now }
-    ensures are { bytes_in result ≡ Opened.sections_in bytes.now sections.now }
+    ensures are { bytes_in result ≡ spec.sections_in bytes.now sections.now }
+
+    // Where the file has fewer than 2^32 bytes, so has each section.
     ensures small { length bytes.now < 2 ^ 32 → AreSmall (bytes_in result) }
 {
     Sections {
@@ -92,17 +102,24 @@ pub(crate) fn sections_in<'a>(bytes: &'a [u8], sections: &[Section]) -> Sections
 }
 
 /// Tests the debug sections in the order of the image, but for one whose name another has before it.
-pub(crate) fn check_sections(
+///
+/// The first that is faulty is refused as [`section_bytes`] refuses it: `BadSection` of its part, or `CompressedSection`,
+/// which comes only where compressed ones are tried.
+pub fn check_sections(
     alloc: Global,
     bytes: &[u8],
     sections: &[Section],
+    compressed: Compressed,
 ) -> Result<(), ReadError>
     requires { length sections.now < 2 ^ 32 }
-    ensures { Gives (λ _. tt) result (spec.all_tried bytes.now [] sections.now) }
+    ensures exact { Gives (λ _. tt) result (spec.all_tried compressed bytes.now [] sections.now) }
+
+    // Each section lies in the file that is a part of it.
+    ensures inside { OnOk result (LieInside bytes.now sections.now) }
 {
     let mut seen = List::new(alloc);
     for (index, section) in sections.iter().enumerate() {
-        try_section(&mut seen, bytes, section, index as u32)?;
+        try_section(&mut seen, bytes, section, index as u32, compressed)?;
     }
     Ok(())
 }
@@ -113,8 +130,9 @@ fn try_section(
     bytes: &[u8],
     section: &Section,
     index: u32,
+    compressed: Compressed,
 ) -> Result<(), ReadError>
-    ensures tried { (before : Listed ASection) → length before ≡ index → AreParts before seen.old → Gives (λ _. tt) result (spec.section_tried bytes.now before section.now) }
+    ensures tried { (before : Listed ASection) → length before ≡ index → AreParts before seen.old → Gives (λ _. tt) result (spec.section_tried compressed bytes.now before section.now) }
     ensures seen { (before : Listed ASection) → AreParts before seen.old → OnOk result (AreParts (before ++ section.now ∷ []) seen.new) }
 {
     if let Some(part) = part_of(section) {
@@ -123,10 +141,21 @@ fn try_section(
         }
         seen.push(part)?;
     }
-    if is_debug(section) {
+    if may_be_tried(section, compressed) {
         section_bytes(bytes, section, index)?;
     }
     Ok(())
+}
+
+/// Whether a section may be tried: one that is a part of the file, and a compressed one where these are.
+fn may_be_tried(section: &Section, compressed: Compressed) -> bool
+    ensures is { result ≡ spec.may_be_tried compressed section.now }
+    ensures debug { IsTrue result → IsTrue (Debug.is_debug section.now) }
+{
+    match compressed {
+        Compressed::Tried => is_debug(section),
+        Compressed::Ignored => is_part(section),
+    }
 }
 
 /// Whether one of some parts is this one.
