@@ -6,7 +6,7 @@ use Rattle.std.specs.Option.{option_map, option_to_list}
 use Rattle.std.proofs.lemmas.Bool.{cases_eq, ne_eqb, ltb-true, lt-ltb, not-false}
 use Rattle.std.proofs.lemmas.List.{append-nil}
 use Rattle.ds_base.specs.declared.fault.Fault.{Fault}
-use Rattle.ds_base.specs.declared.fault.Kind.TheVariants.{BadIndex, BadOffset}
+use Rattle.ds_base.specs.declared.fault.Kind.TheVariants.{BadIndex, BadOffset, BadOutput}
 use Rattle.ds_base.specs.Spot.{Spot, rest, fault_at}
 use Rattle.ds_base.specs.Reading.{◌>>=◌, or_fault, text_of}
 use Rattle.dwarf_types.specs.declared.abbrev.Field.{Field}
@@ -26,10 +26,12 @@ use Rattle.form_value.proofs.ValueLaws.{value_spelled, value_read}
 use Rattle.index_tables.specs.declared.bases.Bases.{Bases}
 use Rattle.index_tables.specs.Tables.{text_place, address_place, list_place}
 use Rattle.unit_tree.specs.declared.attribute.UnitContext.{UnitContext}
+use Rattle.unit_tree.specs.declared.profile.Profile.{Profile}
+use Rattle.unit_tree.specs.declared.profile.Profile.TheVariants.{Input}
 use Rattle.unit_tree.specs.declared.meaning.Meaning.{Meaning}
 use Rattle.unit_tree.specs.declared.meaning.Meaning.TheVariants.{InUnit, InObject, LineTable, RangeList, LocationList, TextIndex, AddressIndex, RangeListIndex, LocationListIndex, Other}
 use Rattle.unit_tree.specs.declared.reference.Reference.{Reference}
-use Rattle.unit_tree.specs.Attribute.{led_to, names_lines, offset_in, reference_to, text_named, address_named, list_named, meant_at, value_meant_at, attr_at, Described, attrs_at}
+use Rattle.unit_tree.specs.Attribute.{is_output, led_to, names_lines, offset_in, offset_nowhere, reference_to, text_named, address_named, list_named, meant_at, value_meant_at, attr_at, Described, attrs_at}
 use Rattle.unit_tree.specs.Meaning.{meaning_of}
 use Rattle.unit_tree.specs.Reference.{leads}
 use Rattle.unit_tree.specs.Spelling.{Origin, NamesText, NamesAddress, NamesList, Names, Means, IsMeant, SpellsAttr, SpellsAttrs, ValueLeads, AttrsLead, begins_at}
@@ -116,13 +118,20 @@ offset_below section n s y e =
 offset_goes : (section : List ℕ) (n : ℕ) (s : Spot) → n < length section → offset_in section n s ≡ Ok (plain n)
 offset_goes section n s lt = rw (lt-ltb n (length section) lt) refl
 
-lines_below : (lines : Bool) (section : List ℕ) (n : ℕ) (s : Spot) (y : Value × Option Reference) → (if lines then offset_in section n s else Ok (plain n)) ≡ Ok y → (lines ≡ true → n < length section) × (plain n ≡ y)
-lines_below true section n s y e = let o = offset_below section n s y e in (λ t. o.0, o.1)
-lines_below false section n s y e = (λ t. absurd cc, ok_is (plain n) y e)
+-- an offset that leads nowhere and was read
+nowhere_taken : (profile : Profile) (n : ℕ) (s : Spot) (y : Value × Option Reference) → offset_nowhere profile n s ≡ Ok y → plain n ≡ y
+nowhere_taken profile n s y e = ok_is (plain n) y ((passed (is_output profile) (fault_at s BadOutput) (Ok (plain n)) y e).1)
 
-lines_go : (lines : Bool) (section : List ℕ) (n : ℕ) (s : Spot) → (lines ≡ true → n < length section) → (if lines then offset_in section n s else Ok (plain n)) ≡ Ok (plain n)
-lines_go true section n s below = offset_goes section n s (below refl)
-lines_go false section n s below = refl
+nowhere_goes : (profile : Profile) (n : ℕ) (s : Spot) → profile ≡ Input → offset_nowhere profile n s ≡ Ok (plain n)
+nowhere_goes profile n s like = rw like refl
+
+lines_below : (profile : Profile) (lines : Bool) (section : List ℕ) (n : ℕ) (s : Spot) (y : Value × Option Reference) → (if lines then offset_in section n s else offset_nowhere profile n s) ≡ Ok y → (lines ≡ true → n < length section) × (plain n ≡ y)
+lines_below profile true section n s y e = let o = offset_below section n s y e in (λ t. o.0, o.1)
+lines_below profile false section n s y e = (λ t. absurd cc, nowhere_taken profile n s y e)
+
+lines_go : (profile : Profile) (lines : Bool) (section : List ℕ) (n : ℕ) (s : Spot) → profile ≡ Input → (lines ≡ true → n < length section) → (if lines then offset_in section n s else offset_nowhere profile n s) ≡ Ok (plain n)
+lines_go profile true section n s like below = offset_goes section n s (below refl)
+lines_go profile false section n s like below = nowhere_goes profile n s like
 
 -- the value of what was read
 value_is : (value : Value) (y : Value × Option Reference) → (value, None) ≡ y → y.0 ≡ value
@@ -208,7 +217,7 @@ meant_taken all low sections context lines InObject n s y e h =
     let r = reference_taken all n None s low k in
     record { means = ap (λ (p : ℕ). values.Ref p) r.0; leads_on = r.1 }) h
 meant_taken all low sections context lines LineTable n s y e h =
-    let o = lines_below lines sections.line n s y e in
+    let o = lines_below context.profile lines sections.line n s y e in
     record { means = (o.0, value_is (values.Offset n) y o.1); leads_on = tt }
 meant_taken all low sections context lines RangeList n s y e h =
     let o = offset_below (range_bytes sections context.version) n s y e in
@@ -220,25 +229,25 @@ meant_taken all low sections context lines TextIndex n s y e h = record { means 
 meant_taken all low sections context lines AddressIndex n s y e h = record { means = address_taken sections context.bases n s y e; leads_on = tt }
 meant_taken all low sections context lines RangeListIndex n s y e h = record { means = list_taken sections.rnglists (λ bases. bases.ranges) context.bases n s y e; leads_on = tt }
 meant_taken all low sections context lines LocationListIndex n s y e h = record { means = list_taken sections.loclists (λ bases. bases.locations) context.bases n s y e; leads_on = tt }
-meant_taken all low sections context lines Other n s y e h = record { means = value_is (values.Offset n) y (ok_is (plain n) y e); leads_on = tt }
+meant_taken all low sections context lines Other n s y e h = record { means = value_is (values.Offset n) y (nowhere_taken context.profile n s y e); leads_on = tt }
 
-meant_goes : (all : List RawEntry) → AreLow all → (sections : SectionBytes) (context : UnitContext) (lines : Bool) (meaning : Meaning) (n : ℕ) (value : Value) (s : Spot) → Means sections (origin_of context) lines meaning n value → ValueLeads all context.unit meaning value
+meant_goes : (all : List RawEntry) → AreLow all → (sections : SectionBytes) (context : UnitContext) (like : context.profile ≡ Input) (lines : Bool) (meaning : Meaning) (n : ℕ) (value : Value) (s : Spot) → Means sections (origin_of context) lines meaning n value → ValueLeads all context.unit meaning value
     → MeantGoes all sections context lines meaning n value s
 unfolding meant_at
-meant_goes all low sections context lines InUnit n value s means h =
+meant_goes all low sections context like lines InUnit n value s means h =
     let r = leads_as all (context.place + n) (Some context.unit) value s low means (subst (ValueLeads all context.unit InUnit) means h) in
     record { reference = r.0; reads = ap Ok r.1; lead = r.2 }
-meant_goes all low sections context lines InObject n value s means h =
+meant_goes all low sections context like lines InObject n value s means h =
     let r = leads_as all n None value s low means (subst (ValueLeads all context.unit InObject) means h) in
     record { reference = r.0; reads = ap Ok r.1; lead = r.2 }
-meant_goes all low sections context lines LineTable n value s means h = record { reference = None; reads = lines_go lines sections.line n s means.0 ∙ ap (λ (v : Value). Ok (v, None)) (sym means.1); lead = refl }
-meant_goes all low sections context lines RangeList n value s means h = record { reference = None; reads = offset_goes (range_bytes sections context.version) n s means.0 ∙ ap (λ (v : Value). Ok (v, None)) (sym means.1); lead = refl }
-meant_goes all low sections context lines LocationList n value s means h = record { reference = None; reads = offset_goes (location_bytes sections context.version) n s means.0 ∙ ap (λ (v : Value). Ok (v, None)) (sym means.1); lead = refl }
-meant_goes all low sections context lines TextIndex n value s means h = record { reference = None; reads = text_goes sections context.bases n value s means; lead = refl }
-meant_goes all low sections context lines AddressIndex n value s means h = record { reference = None; reads = address_goes sections context.bases n value s means; lead = refl }
-meant_goes all low sections context lines RangeListIndex n value s means h = record { reference = None; reads = list_goes sections.rnglists (λ bases. bases.ranges) context.bases n value s means; lead = refl }
-meant_goes all low sections context lines LocationListIndex n value s means h = record { reference = None; reads = list_goes sections.loclists (λ bases. bases.locations) context.bases n value s means; lead = refl }
-meant_goes all low sections context lines Other n value s means h = record { reference = None; reads = ap (λ (v : Value). Ok (v, None)) (sym means); lead = refl }
+meant_goes all low sections context like lines LineTable n value s means h = record { reference = None; reads = lines_go context.profile lines sections.line n s like means.0 ∙ ap (λ (v : Value). Ok (v, None)) (sym means.1); lead = refl }
+meant_goes all low sections context like lines RangeList n value s means h = record { reference = None; reads = offset_goes (range_bytes sections context.version) n s means.0 ∙ ap (λ (v : Value). Ok (v, None)) (sym means.1); lead = refl }
+meant_goes all low sections context like lines LocationList n value s means h = record { reference = None; reads = offset_goes (location_bytes sections context.version) n s means.0 ∙ ap (λ (v : Value). Ok (v, None)) (sym means.1); lead = refl }
+meant_goes all low sections context like lines TextIndex n value s means h = record { reference = None; reads = text_goes sections context.bases n value s means; lead = refl }
+meant_goes all low sections context like lines AddressIndex n value s means h = record { reference = None; reads = address_goes sections context.bases n value s means; lead = refl }
+meant_goes all low sections context like lines RangeListIndex n value s means h = record { reference = None; reads = list_goes sections.rnglists (λ bases. bases.ranges) context.bases n value s means; lead = refl }
+meant_goes all low sections context like lines LocationListIndex n value s means h = record { reference = None; reads = list_goes sections.loclists (λ bases. bases.locations) context.bases n value s means; lead = refl }
+meant_goes all low sections context like lines Other n value s means h = record { reference = None; reads = nowhere_goes context.profile n s like ∙ ap (λ (v : Value). Ok (v, None)) (sym means); lead = refl }
 
 -- ---- what a value means
 
@@ -268,13 +277,13 @@ value_taken all low sections context root field before value s y stored e h =
     subst (λ (p : Value × Option Reference). ValueTaken all sections context (names_lines root before) field value p) (ok_is (value, None) y e)
     (record { means = refl; leads_on = no_reference all context.unit (meaning_of field.form field.name) value stored })
 
-value_goes : (all : List RawEntry) → AreLow all → (sections : SectionBytes) (context : UnitContext) (root : Bool) (field : Field) (before : List RawAttr) (stored value : Value) (s : Spot) → IsMeant sections (origin_of context) (names_lines root before) field stored value
+value_goes : (all : List RawEntry) → AreLow all → (sections : SectionBytes) (context : UnitContext) (like : context.profile ≡ Input) (root : Bool) (field : Field) (before : List RawAttr) (stored value : Value) (s : Spot) → IsMeant sections (origin_of context) (names_lines root before) field stored value
     → ValueLeads all context.unit (meaning_of field.form field.name) value → ValueGoes all sections context root field before stored value s
 unfolding value_meant_at
-value_goes all low sections context root field before (values.Offset n) value s means h =
-    let m = meant_goes all low sections context (names_lines root before) (meaning_of field.form field.name) n value s means h in
+value_goes all low sections context like root field before (values.Offset n) value s means h =
+    let m = meant_goes all low sections context like (names_lines root before) (meaning_of field.form field.name) n value s means h in
     record { reference = m.reference; reads = m.reads; lead = m.lead }
-value_goes all low sections context root field before stored value s means h = record { reference = None; reads = ap (λ (v : Value). Ok (v, None)) (sym means); lead = refl }
+value_goes all low sections context like root field before stored value s means h = record { reference = None; reads = ap (λ (v : Value). Ok (v, None)) (sym means); lead = refl }
 
 -- ---- no reference is stored as one
 
@@ -335,14 +344,14 @@ record AttrGoes (all : List RawEntry) (sections : SectionBytes) (context : UnitC
   passed : Passed bytes s next
   left : rest next ≡ more
 
-attr_goes : (all : List RawEntry) → AreLow all → (sections : SectionBytes) (context : UnitContext) (root : Bool) (field : Field) (before : List RawAttr) (s : Spot) (bytes : List ℕ) (attr : RawAttr) (more : List ℕ) → Stands s
+attr_goes : (all : List RawEntry) → AreLow all → (sections : SectionBytes) (context : UnitContext) (like : context.profile ≡ Input) (root : Bool) (field : Field) (before : List RawAttr) (s : Spot) (bytes : List ℕ) (attr : RawAttr) (more : List ℕ) → Stands s
     → SpellsAttr sections (origin_of context) (names_lines root before) field attr s.place bytes → ValueLeads all context.unit (meaning_of field.form field.name) attr.value → rest s ≡ bytes ++ more
     → AttrGoes all sections context root field before s bytes attr more
 unfolding attr_at
-attr_goes all low sections context root field before s bytes attr more stands w leads_on parts =
+attr_goes all low sections context like root field before s bytes attr more stands w leads_on parts =
     let r = value_read field context.version sections s bytes w.stored more stands w.spells parts in
     let value_same : attr.value ≡ w.value = ap (λ (a : RawAttr). a.value) w.is in
-    let g = value_goes all low sections context root field before w.stored w.value s w.means (subst (ValueLeads all context.unit (meaning_of field.form field.name)) value_same leads_on) in
+    let g = value_goes all low sections context like root field before w.stored w.value s w.means (subst (ValueLeads all context.unit (meaning_of field.form field.name)) value_same leads_on) in
     let go = passed_by bytes s r.next stands (value_onward field context.version sections s (w.stored, r.next) r.reads) (parts ∙ ap (λ (xs : List ℕ). bytes ++ xs) (sym r.left)) in
     let ended : ℕ → RawAttr = λ n. record { name = field.name; form = field.form; end = n; value = w.value } in
     record {
@@ -399,10 +408,10 @@ pub record AttrsGo (all : List RawEntry) (sections : SectionBytes) (context : Un
   pub passed : Passed bytes s next
   pub left : rest next ≡ more
 
-pub attrs_go : (all : List RawEntry) → AreLow all → (sections : SectionBytes) (context : UnitContext) (root : Bool) (fields : List Field) (own : List RawAttr) (before : Described) (s : Spot) (bytes more : List ℕ) → Stands s
+pub attrs_go : (all : List RawEntry) → AreLow all → (sections : SectionBytes) (context : UnitContext) (like : context.profile ≡ Input) (root : Bool) (fields : List Field) (own : List RawAttr) (before : Described) (s : Spot) (bytes more : List ℕ) → Stands s
     → SpellsAttrs sections (origin_of context) root fields before.0 own s.place bytes → AttrsLead all context.unit fields own → Lead all before.1 → rest s ≡ bytes ++ more → AttrsGo all sections context root fields before s bytes own more
 unfolding attrs_at
-attrs_go all low sections context root [] [] before s bytes more stands w leads_on lead parts =
+attrs_go all low sections context like root [] [] before s bytes more stands w leads_on lead parts =
     record {
       references = before.1;
       next = s;
@@ -411,15 +420,15 @@ attrs_go all low sections context root [] [] before s bytes more stands w leads_
       passed = subst (λ (b : List ℕ). Passed b s s) (sym w) (passed_nothing s stands);
       left = parts ∙ ap (λ (b : List ℕ). b ++ more) w;
     }
-attrs_go all low sections context root [] (attr ∷ own) before s bytes more stands w leads_on lead parts = absurd w
-attrs_go all low sections context root (field ∷ fields) [] before s bytes more stands w leads_on lead parts = absurd w
-attrs_go all low sections context root (field ∷ fields) (attr ∷ own) before s bytes more stands w leads_on lead parts =
+attrs_go all low sections context like root [] (attr ∷ own) before s bytes more stands w leads_on lead parts = absurd w
+attrs_go all low sections context like root (field ∷ fields) [] before s bytes more stands w leads_on lead parts = absurd w
+attrs_go all low sections context like root (field ∷ fields) (attr ∷ own) before s bytes more stands w leads_on lead parts =
     let whole : rest s ≡ w.front ++ (w.back ++ more) = parts ∙ ap (λ (b : List ℕ). b ++ more) w.is ∙ append_assoc w.front w.back more in
-    let a = attr_goes all low sections context root field before.0 s w.front attr (w.back ++ more) stands w.first leads_on.0 whole in
+    let a = attr_goes all low sections context like root field before.0 s w.front attr (w.back ++ more) stands w.first leads_on.0 whole in
     let p = a.passed in
     let now : Described = (before.0 ++ attr ∷ [], before.1 ++ option_to_list a.reference) in
     let rest_spelled = subst (λ (n : ℕ). SpellsAttrs sections (origin_of context) root fields (before.0 ++ attr ∷ []) own n w.back) (sym p.place) w.second in
-    let t = attrs_go all low sections context root fields own now a.next w.back more p.stands rest_spelled leads_on.1 (lead_both all before.1 (option_to_list a.reference) lead a.lead) a.left in
+    let t = attrs_go all low sections context like root fields own now a.next w.back more p.stands rest_spelled leads_on.1 (lead_both all before.1 (option_to_list a.reference) lead a.lead) a.left in
     record {
       references = t.references;
       next = t.next;

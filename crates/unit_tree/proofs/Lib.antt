@@ -17,3 +17,4 @@ pub mod UnitLaws
 pub mod UnitLoop
 pub mod UnitReads
 pub mod Refused
+pub mod Written

@@ -23,10 +23,12 @@ use Rattle.form_value.specs.Reading.{block_at, class_at, coded_at, fixed_address
 use Rattle.index_tables.specs.declared.bases.Bases.{Bases}
 use Rattle.index_tables.specs.Tables.{text_place, address_place, list_place}
 use Rattle.unit_tree.specs.declared.attribute.UnitContext.{UnitContext}
+use Rattle.unit_tree.specs.declared.profile.Profile.{Profile}
+use Rattle.unit_tree.specs.declared.profile.Profile.TheVariants.{Input}
 use Rattle.unit_tree.specs.declared.meaning.Meaning.{Meaning}
 use Rattle.unit_tree.specs.declared.meaning.Meaning.TheVariants.{InUnit, InObject, LineTable, RangeList, LocationList, TextIndex, AddressIndex, RangeListIndex, LocationListIndex, Other}
 use Rattle.unit_tree.specs.declared.reference.Reference.{Reference}
-use Rattle.unit_tree.specs.Attribute.{Described, address_named, attr_at, attrs_at, list_named, meant_at, names_lines, number_in, offset_in, text_named, value_meant_at}
+use Rattle.unit_tree.specs.Attribute.{Described, address_named, attr_at, attrs_at, is_output, list_named, meant_at, names_lines, number_in, offset_in, offset_nowhere, text_named, value_meant_at}
 use Rattle.unit_tree.specs.Entry.{Parsed, Walk, child_at, children_at, entry_at, innermost, root_at, tree_at}
 use Rattle.unit_tree.specs.Meaning.{meaning_of}
 use Rattle.unit_tree.specs.Targets.{target_in, targets_in, targets_of}
@@ -109,22 +111,27 @@ list_noted section (Some base) n s y e =
     let b = bind_ok (or_fault (list_place section base n) (fault_at s kinds.BadIndex)) (λ place. offset_in section place s) y e in
     offset_noted section b.0 s y b.2
 
-line_noted : (b : Bool) (section : List ℕ) (n : ℕ) (s : Spot) (y : Value × Option Reference) → (if b then offset_in section n s else Ok (values.Offset n, None)) ≡ Ok y → IsNoted y
-line_noted true section n s y e = offset_noted section n s y e
-line_noted false section n s y e = is_noted (values.Offset n, None) y e refl
+nowhere_noted : (profile : Profile) (n : ℕ) (s : Spot) (y : Value × Option Reference) → offset_nowhere profile n s ≡ Ok y → IsNoted y
+nowhere_noted profile n s y e =
+    let p = passed (is_output profile) (fault_at s kinds.BadOutput) (Ok (values.Offset n, None)) y e in
+    is_noted (values.Offset n, None) y p.1 refl
+
+line_noted : (profile : Profile) (b : Bool) (section : List ℕ) (n : ℕ) (s : Spot) (y : Value × Option Reference) → (if b then offset_in section n s else offset_nowhere profile n s) ≡ Ok y → IsNoted y
+line_noted profile true section n s y e = offset_noted section n s y e
+line_noted profile false section n s y e = nowhere_noted profile n s y e
 
 meant_noted : (sections : SectionBytes) (context : UnitContext) (lines : Bool) (meaning : Meaning) (n : ℕ) (s : Spot) (y : Value × Option Reference) → meant_at sections context lines meaning n s ≡ Ok y → IsNoted y
 unfolding meant_at
 meant_noted sections context lines InUnit n s y e = is_noted _ y e refl
 meant_noted sections context lines InObject n s y e = is_noted _ y e refl
-meant_noted sections context lines LineTable n s y e = line_noted lines sections.line n s y e
+meant_noted sections context lines LineTable n s y e = line_noted context.profile lines sections.line n s y e
 meant_noted sections context lines RangeList n s y e = offset_noted (range_bytes sections context.version) n s y e
 meant_noted sections context lines LocationList n s y e = offset_noted (location_bytes sections context.version) n s y e
 meant_noted sections context lines TextIndex n s y e = text_noted sections context.bases n s y e
 meant_noted sections context lines AddressIndex n s y e = address_noted sections context.bases n s y e
 meant_noted sections context lines RangeListIndex n s y e = list_noted sections.rnglists (option_map (λ bases. bases.ranges) context.bases) n s y e
 meant_noted sections context lines LocationListIndex n s y e = list_noted sections.loclists (option_map (λ bases. bases.locations) context.bases) n s y e
-meant_noted sections context lines Other n s y e = is_noted (values.Offset n, None) y e refl
+meant_noted sections context lines Other n s y e = nowhere_noted context.profile n s y e
 
 -- a value with a number, or another, which is no reference
 by_number : (f : ℕ → Result (Value × Option Reference) Fault) (o : Option ℕ) (value : Value) (y : Value × Option Reference) → option_map_or f o (Ok (value, None)) ≡ Ok y → ((n : ℕ) → f n ≡ Ok y → IsNoted y) → IsPlain value → IsNoted y
@@ -207,15 +214,15 @@ tree_noted start sections context table before s y e so_far =
 
 -- ---- units
 
-unit_noted : (sections : SectionBytes) (number : ℕ) (before : Parsed) (place : ℕ) (y : (AUnit × Parsed) × ℕ) → unit_at sections number before place ≡ Ok y → AreTargets before → AreTargets y.0.1
+unit_noted : (sections : SectionBytes) (number : ℕ) (before : Parsed) (place : ℕ) (y : (AUnit × Parsed) × ℕ) → unit_at Input sections number before place ≡ Ok y → AreTargets before → AreTargets y.0.1
 unit_noted sections number before place y e so_far =
-    let w = unit_steps sections number before place y e in
+    let w = unit_steps Input sections number before place y e in
     subst (λ (p : (AUnit × Parsed) × ℕ). AreTargets p.0.1) w.is (tree_noted _ sections _ w.table before w.header.1 w.tree w.tree_is so_far)
 
-units_noted_from : (sections : SectionBytes) (left : ℕ) (units : List AUnit) (before : Parsed) (place : ℕ) (y : List AUnit × Parsed) → units_at sections left units before place ≡ Ok y → AreTargets before → AreTargets y.1
-units_noted_from sections zero units before place y e so_far = absurd (some_left sections units before place y e)
+units_noted_from : (sections : SectionBytes) (left : ℕ) (units : List AUnit) (before : Parsed) (place : ℕ) (y : List AUnit × Parsed) → units_at Input sections left units before place ≡ Ok y → AreTargets before → AreTargets y.1
+units_noted_from sections zero units before place y e so_far = absurd (some_left Input sections units before place y e)
 units_noted_from sections (suc left) units before place y e so_far =
-    elim (units_steps sections left units before place y e) [
+    elim (units_steps Input sections left units before place y e) [
       | inl w ↦ subst (λ (p : List AUnit × Parsed). AreTargets p.1) w.1 so_far
       | inr w ↦ units_noted_from sections left _ w.read.0.1 w.read.1 y w.others (unit_noted sections (length units) before place w.read w.unit so_far)
     ]

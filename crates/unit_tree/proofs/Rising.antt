@@ -10,12 +10,13 @@ use Rattle.dwarf_types.specs.declared.entry.RawEntry.{RawEntry}
 use Rattle.dwarf_types.specs.declared.entry.InUnit.{InUnit}
 use Rattle.dwarf_types.specs.SectionBytes.{SectionBytes}
 use Rattle.unit_tree.specs.declared.attribute.UnitContext.{UnitContext}
+use Rattle.unit_tree.specs.declared.profile.Profile.{Profile}
 use Rattle.unit_tree.specs.declared.header.Header.{Header}
 use Rattle.unit_tree.specs.Entry.{Parsed, entry_at, root_at, Walk, child_at, children_at, tree_at}
 use Rattle.unit_tree.specs.Header.{info_at, behind_length, header_at}
 use Rattle.ds_base.specs.DwarfNumbers.{LENGTH_RESERVED}
 use Rattle.unit_tree.specs.Reference.{IsRising}
-use Rattle.unit_tree.specs.Unit.{nothing, parsed_of, unit_at, units_at}
+use Rattle.unit_tree.specs.Unit.{nothing, parsed_by, unit_at, units_at}
 use Rattle.ds_base.proofs.Onward.{Onward, Further, stays, onward_then, further_then, end_kept, place_rises, number_fits, number_onward, uleb_further}
 use Rattle.unit_tree.proofs.Onward.{attrs_onward}
 use Rattle.unit_tree.proofs.Steps.{entry_steps, root_steps, listed_steps, child_steps, children_end, children_steps, tree_steps, FieldsSteps, header_steps, unit_steps, some_left, units_steps}
@@ -165,9 +166,9 @@ record UnitReaches (sections : SectionBytes) (place : ℕ) (y : (InUnit × Parse
   inside : y.1 ≤ length sections.info
   rises : RisesBelow y.0.1.entries y.1
 
-unit_reaches : (sections : SectionBytes) (number : ℕ) (before : Parsed) (place : ℕ) (y : (InUnit × Parsed) × ℕ) → unit_at sections number before place ≡ Ok y → RisesBelow before.entries place → UnitReaches sections place y
-unit_reaches sections number before place y e h =
-    let w = unit_steps sections number before place y e in
+unit_reaches : (profile : Profile) (sections : SectionBytes) (number : ℕ) (before : Parsed) (place : ℕ) (y : (InUnit × Parsed) × ℕ) → unit_at profile sections number before place ≡ Ok y → RisesBelow before.entries place → UnitReaches sections place y
+unit_reaches profile sections number before place y e h =
+    let w = unit_steps profile sections number before place y e in
     let o = header_opens sections place w.header w.header_is in
     let t = tree_reaches _ sections _ w.table before w.header.1 w.tree w.tree_is (higher before.entries place w.header.1.place (omega (arith, o.behind)) h) in
     let go = t.further.onward in
@@ -183,22 +184,22 @@ pub record UnitPasses (sections : SectionBytes) (place : ℕ) (y : (InUnit × Pa
   pub some : place < y.1
   pub inside : y.1 ≤ length sections.info
 
-pub unit_passes : (sections : SectionBytes) (number : ℕ) (before : Parsed) (place : ℕ) (y : (InUnit × Parsed) × ℕ) → unit_at sections number before place ≡ Ok y → UnitPasses sections place y
-unit_passes sections number before place y e =
-    let w = unit_steps sections number before place y e in
+pub unit_passes : (profile : Profile) (sections : SectionBytes) (number : ℕ) (before : Parsed) (place : ℕ) (y : (InUnit × Parsed) × ℕ) → unit_at profile sections number before place ≡ Ok y → UnitPasses sections place y
+unit_passes profile sections number before place y e =
+    let w = unit_steps profile sections number before place y e in
     let o = header_opens sections place w.header w.header_is in
     subst (UnitPasses sections place) w.is (record { some = omega (arith, o.behind, o.end, o.before_end); inside = o.inside })
 
-units_rise_from : (sections : SectionBytes) (left : ℕ) (units : List InUnit) (before : Parsed) (place : ℕ) (y : List InUnit × Parsed) → units_at sections left units before place ≡ Ok y → place ≤ length sections.info → RisesBelow before.entries place
+units_rise_from : (profile : Profile) (sections : SectionBytes) (left : ℕ) (units : List InUnit) (before : Parsed) (place : ℕ) (y : List InUnit × Parsed) → units_at profile sections left units before place ≡ Ok y → place ≤ length sections.info → RisesBelow before.entries place
     → RisesBelow y.1.entries (length sections.info)
-units_rise_from sections zero units before place y e le h = absurd (some_left sections units before place y e)
-units_rise_from sections (suc left) units before place y e le h =
-    elim (units_steps sections left units before place y e) [
+units_rise_from profile sections zero units before place y e le h = absurd (some_left profile sections units before place y e)
+units_rise_from profile sections (suc left) units before place y e le h =
+    elim (units_steps profile sections left units before place y e) [
       | inl w ↦ subst (λ (p : List InUnit × Parsed). RisesBelow p.1.entries (length sections.info)) w.1 (higher before.entries place (length sections.info) le h)
       | inr w ↦
-          let u = unit_reaches sections (length units) before place w.read w.unit h in
-          units_rise_from sections left _ w.read.0.1 w.read.1 y w.others u.inside u.rises
+          let u = unit_reaches profile sections (length units) before place w.read w.unit h in
+          units_rise_from profile sections left _ w.read.0.1 w.read.1 y w.others u.inside u.rises
     ]
 
-pub units_rise : (sections : SectionBytes) (y : List InUnit × Parsed) → parsed_of sections ≡ Ok y → RisesBelow y.1.entries (length sections.info)
-units_rise sections y e = units_rise_from sections (suc (length sections.info)) [] nothing 0 y e (omega arith) (record { rising = λ i j d lt within. absurd (omega (arith, within)); below = λ i d lt. absurd (omega (arith, lt)) })
+pub units_rise : (profile : Profile) (sections : SectionBytes) (y : List InUnit × Parsed) → parsed_by profile sections ≡ Ok y → RisesBelow y.1.entries (length sections.info)
+units_rise profile sections y e = units_rise_from profile sections (suc (length sections.info)) [] nothing 0 y e (omega arith) (record { rising = λ i j d lt within. absurd (omega (arith, within)); below = λ i d lt. absurd (omega (arith, lt)) })

@@ -151,7 +151,7 @@ list_looked section base (Some bases) n value h = inl (h.place, h.is)
 -- ---- a unit whose bases are not known
 
 abbrev pub unbased : UnitContext → UnitContext
-unbased context = record { unit = context.unit; place = context.place; version = context.version; bases = None }
+unbased context = record { profile = context.profile; unit = context.unit; place = context.place; version = context.version; bases = None }
 
 record MeantAlike (sections : SectionBytes) (context : UnitContext) (lines : Bool) (meaning : Meaning) (n : ℕ) (s : Spot) (form : ℕ) (with_bases : Value) : Type 0 where
   y : Value × Option Reference
@@ -230,12 +230,12 @@ attr_alike sections context root field before others s y e same =
       alike = record { name = refl; base = v.base };
     })
 
-record AttrsAlike (sections : SectionBytes) (context : UnitContext) (root : Bool) (fields : List Field) (before : Described) (s : Spot) (y : Described × Spot) : Type 0 where
-  read : Described × Spot
-  reads : attrs_at sections (unbased context) root fields before s ≡ Ok read
-  alike : AreAlike read.0.0 y.0.0
+pub record AttrsAlike (sections : SectionBytes) (context : UnitContext) (root : Bool) (fields : List Field) (before : Described) (s : Spot) (y : Described × Spot) : Type 0 where
+  pub read : Described × Spot
+  pub reads : attrs_at sections (unbased context) root fields before s ≡ Ok read
+  pub alike : AreAlike read.0.0 y.0.0
 
-attrs_alike : (sections : SectionBytes) (context : UnitContext) (root : Bool) (fields : List Field) (before others : Described) (s : Spot) (y : Described × Spot) → attrs_at sections context root fields others s ≡ Ok y → AreAlike before.0 others.0
+pub attrs_alike : (sections : SectionBytes) (context : UnitContext) (root : Bool) (fields : List Field) (before others : Described) (s : Spot) (y : Described × Spot) → attrs_at sections context root fields others s ≡ Ok y → AreAlike before.0 others.0
     → AttrsAlike sections context root fields before s y
 unfolding attrs_at
 attrs_alike sections context root [] before others s y e h = subst (AttrsAlike sections context root [] before s) (ok_is (others, s) y e) (record { read = (before, s); reads = refl; alike = h })

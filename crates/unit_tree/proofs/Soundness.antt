@@ -10,6 +10,7 @@ use Rattle.dwarf_types.specs.declared.entry.InUnit.{InUnit}
 use Rattle.dwarf_types.specs.SectionBytes.{SectionBytes}
 use Rattle.dwarf_types.specs.Sound.{AreUnits, IsParent}
 use Rattle.unit_tree.specs.declared.attribute.UnitContext.{UnitContext}
+use Rattle.unit_tree.specs.declared.profile.Profile.TheVariants.{Input}
 use Rattle.unit_tree.specs.Entry.{Parsed, entry_at, innermost, opened, Walk, child_at, children_at, tree_at}
 use Rattle.unit_tree.specs.Sound.{LiesInUnit, AreSound}
 use Rattle.unit_tree.specs.Unit.{unit_from, nothing, parsed_of, unit_at, units_at}
@@ -215,9 +216,9 @@ tree_grows start sections context table before s y units e is h =
     let root : (Bool × Parsed) × Spot → Type 0 = λ p. Walks units (length before.entries) (p.0.1, opened p.0.0 (length before.entries) []) in
     children_grow sections context table _ _ w.root.1 y units (length before.entries) w.others is (subst root r.is walks)
 
-unit_reads : (sections : SectionBytes) (units : List InUnit) (before : Parsed) (place : ℕ) (y : (InUnit × Parsed) × ℕ) → unit_at sections (length units) before place ≡ Ok y → Reads units before.entries → Reads (units ++ y.0.0 ∷ []) y.0.1.entries
+unit_reads : (sections : SectionBytes) (units : List InUnit) (before : Parsed) (place : ℕ) (y : (InUnit × Parsed) × ℕ) → unit_at Input sections (length units) before place ≡ Ok y → Reads units before.entries → Reads (units ++ y.0.0 ∷ []) y.0.1.entries
 unit_reads sections units before place y e h =
-    let w = unit_steps sections (length units) before place y e in
+    let w = unit_steps Input sections (length units) before place y e in
     let g = tree_grows _ sections _ w.table before w.header.1 w.tree units w.tree_is refl h in
     let n = tree_longer _ sections _ w.table before w.header.1 w.tree w.tree_is in
     let u : InUnit = unit_from w.header.0.version (length before.entries) w.tree.0.entries in
@@ -231,10 +232,10 @@ unit_reads sections units before place y e h =
       ];
     })
 
-units_read : (sections : SectionBytes) (left : ℕ) (units : List InUnit) (before : Parsed) (place : ℕ) (y : List InUnit × Parsed) → units_at sections left units before place ≡ Ok y → Reads units before.entries → Reads y.0 y.1.entries
-units_read sections zero units before place y e h = absurd (some_left sections units before place y e)
+units_read : (sections : SectionBytes) (left : ℕ) (units : List InUnit) (before : Parsed) (place : ℕ) (y : List InUnit × Parsed) → units_at Input sections left units before place ≡ Ok y → Reads units before.entries → Reads y.0 y.1.entries
+units_read sections zero units before place y e h = absurd (some_left Input sections units before place y e)
 units_read sections (suc left) units before place y e h =
-    elim (units_steps sections left units before place y e) [
+    elim (units_steps Input sections left units before place y e) [
       | inl w ↦ subst (λ (p : List InUnit × Parsed). Reads p.0 p.1.entries) w.1 h
       | inr w ↦ units_read sections left _ w.read.0.1 w.read.1 y w.others (unit_reads sections units before place w.read w.unit h)
     ]
@@ -242,5 +243,5 @@ units_read sections (suc left) units before place y e h =
 pub units_sound : (sections : SectionBytes) (units : List InUnit) (parsed : Parsed) → parsed_of sections ≡ Ok (units, parsed) → AreSound (record { units = units; entries = parsed.entries })
 units_sound sections units parsed e =
     let r = units_read sections (suc (length sections.info)) [] nothing 0 (units, parsed) e (record { few = omega arith; follow = refl; each = λ k d at. absurd cc }) in
-    let rises = units_rise sections (units, parsed) e in
+    let rises = units_rise Input sections (units, parsed) e in
     record { few = r.few; units = r.follow; entries = r.each; rising = rises.rising }

@@ -16,6 +16,7 @@ use Rattle.abbrev_read.specs.Reading.{table_at}
 use Rattle.index_tables.specs.declared.bases.Bases.{Bases}
 use Rattle.index_tables.specs.Bases.{bases_in}
 use Rattle.unit_tree.specs.declared.attribute.UnitContext.{UnitContext}
+use Rattle.unit_tree.specs.declared.profile.Profile.{Profile}
 use Rattle.unit_tree.specs.declared.header.Header.{Header}
 use Rattle.ds_base.specs.DwarfNumbers.{DWARF_4, DWARF_5, ADDRESS_SIZE}
 use Rattle.unit_tree.specs.Attribute.{Described, attrs_at}
@@ -308,24 +309,24 @@ refused_not true f u e = absurd cc
 refused_not false f u e = refl
 
 -- a unit
-pub record UnitSteps (sections : SectionBytes) (number : ℕ) (before : Parsed) (place : ℕ) (y : (InUnit × Parsed) × ℕ) : Type 0 where
+pub record UnitSteps (profile : Profile) (sections : SectionBytes) (number : ℕ) (before : Parsed) (place : ℕ) (y : (InUnit × Parsed) × ℕ) : Type 0 where
   pub header : Header × Spot
   pub header_is : header_at sections place ≡ Ok header
   pub table : List Abbrev
   pub table_is : table_at sections.abbrev_ header.0.table ≡ Ok table
   pub bases : Bases
-  pub bases_are : bases_at (info_at sections place) sections (context_in number place header.0.version None) table before header.1 ≡ Ok bases
+  pub bases_are : bases_at (info_at sections place) sections (context_in profile number place header.0.version None) table before header.1 ≡ Ok bases
   pub tree : Parsed × Spot
-  pub tree_is : tree_at (info_at sections place) sections (context_in number place header.0.version (Some bases)) table before header.1 ≡ Ok tree
+  pub tree_is : tree_at (info_at sections place) sections (context_in profile number place header.0.version (Some bases)) table before header.1 ≡ Ok tree
   pub others : List ℕ × Spot
   pub others_is : bytes_at (tree.1.end - tree.1.place) tree.1 ≡ Ok others
   pub zeros : not (list_all is_zero others.0) ≡ false
   pub is : ((unit_from header.0.version (length before.entries) tree.0.entries, tree.0), header.0.end) ≡ y
 
-pub unit_steps : (sections : SectionBytes) (number : ℕ) (before : Parsed) (place : ℕ) (y : (InUnit × Parsed) × ℕ) → unit_at sections number before place ≡ Ok y → UnitSteps sections number before place y
+pub unit_steps : (profile : Profile) (sections : SectionBytes) (number : ℕ) (before : Parsed) (place : ℕ) (y : (InUnit × Parsed) × ℕ) → unit_at profile sections number before place ≡ Ok y → UnitSteps profile sections number before place y
 unfolding unit_at zeros_at
-unit_steps sections number before place y e =
-    let context : Header × Spot → Option Bases → UnitContext = λ header bases. context_in number place header.0.version bases in
+unit_steps profile sections number before place y e =
+    let context : Header × Spot → Option Bases → UnitContext = λ header bases. context_in profile number place header.0.version bases in
     let start : Spot = info_at sections place in
     let last : Header × Spot → Parsed × Spot → Result ((InUnit × Parsed) × ℕ) Fault = λ header tree. Ok ((unit_from header.0.version (length before.entries) tree.0.entries, tree.0), header.0.end) in
     let zeros : Parsed × Spot → Result (Unit {0}) Fault = λ tree. bytes_at (tree.1.end - tree.1.place) tree.1 >>= λ others. refuse_if (not (list_all is_zero others.0)) (fault_at start kinds.BadUnit) in
@@ -340,29 +341,29 @@ unit_steps sections number before place y e =
     record { header = a.0; header_is = a.1; table = b.0; table_is = b.1; bases = g.0; bases_are = g.1; tree = c.0; tree_is = c.1; others = f.0; others_is = f.1; zeros = refused_not (not (list_all is_zero f.0.0)) (fault_at start kinds.BadUnit) d.0 f.2; is = ok_is _ y d.2 }
 
 -- units
-pub record UnitsSteps (sections : SectionBytes) (left : ℕ) (units : List InUnit) (before : Parsed) (place : ℕ) (y : List InUnit × Parsed) : Type 0 where
+pub record UnitsSteps (profile : Profile) (sections : SectionBytes) (left : ℕ) (units : List InUnit) (before : Parsed) (place : ℕ) (y : List InUnit × Parsed) : Type 0 where
   pub more : (place == length sections.info) ≡ false
   pub read : (InUnit × Parsed) × ℕ
-  pub unit : unit_at sections (length units) before place ≡ Ok read
-  pub others : units_at sections left (units ++ read.0.0 ∷ []) read.0.1 read.1 ≡ Ok y
+  pub unit : unit_at profile sections (length units) before place ≡ Ok read
+  pub others : units_at profile sections left (units ++ read.0.0 ∷ []) read.0.1 read.1 ≡ Ok y
 
 choice_is : {A : Type 0} (b : Bool) (x y : A) (next : Result A Fault) → (if b then Ok x else next) ≡ Ok y → ((b ≡ true) × (x ≡ y)) ⊎ ((b ≡ false) × (next ≡ Ok y))
 choice_is true x y next e = inl (refl, cc)
 choice_is false x y next e = inr (refl, e)
 
 -- no units are told where the count ran out
-pub some_left : (sections : SectionBytes) (units : List InUnit) (before : Parsed) (place : ℕ) (y : List InUnit × Parsed) → units_at sections zero units before place ≡ Ok y → ⊥
+pub some_left : (profile : Profile) (sections : SectionBytes) (units : List InUnit) (before : Parsed) (place : ℕ) (y : List InUnit × Parsed) → units_at profile sections zero units before place ≡ Ok y → ⊥
 unfolding units_at
-some_left sections units before place y e = absurd cc
+some_left profile sections units before place y e = absurd cc
 
-pub units_steps : (sections : SectionBytes) (left : ℕ) (units : List InUnit) (before : Parsed) (place : ℕ) (y : List InUnit × Parsed) → units_at sections (suc left) units before place ≡ Ok y
-    → (((place == length sections.info) ≡ true) × ((units, before) ≡ y)) ⊎ UnitsSteps sections left units before place y
+pub units_steps : (profile : Profile) (sections : SectionBytes) (left : ℕ) (units : List InUnit) (before : Parsed) (place : ℕ) (y : List InUnit × Parsed) → units_at profile sections (suc left) units before place ≡ Ok y
+    → (((place == length sections.info) ≡ true) × ((units, before) ≡ y)) ⊎ UnitsSteps profile sections left units before place y
 unfolding units_at
-units_steps sections left units before place y e =
-    let next : Result (List InUnit × Parsed) Fault = unit_at sections (length units) before place >>= λ read. units_at sections left (units ++ read.0.0 ∷ []) read.0.1 read.1 in
+units_steps profile sections left units before place y e =
+    let next : Result (List InUnit × Parsed) Fault = unit_at profile sections (length units) before place >>= λ read. units_at profile sections left (units ++ read.0.0 ∷ []) read.0.1 read.1 in
     elim (choice_is (place == length sections.info) (units, before) y next e) [
       | inl ended ↦ inl ended
       | inr more ↦
-          let b = bind_ok (unit_at sections (length units) before place) (λ read. units_at sections left (units ++ read.0.0 ∷ []) read.0.1 read.1) y more.1 in
+          let b = bind_ok (unit_at profile sections (length units) before place) (λ read. units_at profile sections left (units ++ read.0.0 ∷ []) read.0.1 read.1) y more.1 in
           inr (record { more = more.0; read = b.0; unit = b.1; others = b.2 })
     ]

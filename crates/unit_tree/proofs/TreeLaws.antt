@@ -13,6 +13,7 @@ use Rattle.dwarf_types.specs.declared.entry.RawEntry.{RawEntry}
 use Rattle.dwarf_types.specs.SectionBytes.{SectionBytes}
 use Rattle.dwarf_types.proofs.Readers.{Stands, length_rest}
 use Rattle.unit_tree.specs.declared.attribute.UnitContext.{UnitContext}
+use Rattle.unit_tree.specs.declared.profile.Profile.TheVariants.{Input}
 use Rattle.unit_tree.specs.declared.reference.Reference.{Reference}
 use Rattle.unit_tree.specs.Entry.{Parsed, is_full, entry_at, innermost, closed, opened, Walk, listed_at, child_at, children_at}
 use Rattle.unit_tree.specs.Entry.{declared_as}
@@ -82,18 +83,18 @@ pub record NodeGoes (all : List RawEntry) (sections : SectionBytes) (context : U
   pub passed : Passed bytes s next
   pub left : rest next ≡ more
 
-pub node_goes : (all : List RawEntry) → AreLow all → (sections : SectionBytes) (context : UnitContext) (table : List Abbrev) (parent : Option ℕ) (node : Node) (before : Parsed) (s : Spot) (bytes more : List ℕ) → Stands s
+pub node_goes : (all : List RawEntry) → AreLow all → (sections : SectionBytes) (context : UnitContext) (like : context.profile ≡ Input) (table : List Abbrev) (parent : Option ℕ) (node : Node) (before : Parsed) (s : Spot) (bytes more : List ℕ) → Stands s
     → SpellsNode sections (origin_of context) table (is_none parent) node s.place bytes → NodeLeads all context.unit node → Lead all before.references → rest s ≡ bytes ++ more
     → NodeGoes all sections context table parent node before s bytes more
 unfolding entry_at
-node_goes all low sections context table parent node before s bytes more stands w leads_on lead parts =
+node_goes all low sections context like table parent node before s bytes more stands w leads_on lead parts =
     let spelled = w.spells in
     let first = spelled.first in
     let whole : rest s ≡ spelled.front ++ (spelled.back ++ more) = parts ∙ ap (λ (b : List ℕ). b ++ more) spelled.is ∙ append_assoc spelled.front spelled.back more in
     let c = uleb_goes s spelled.front first.code (spelled.back ++ more) stands first.spells whole in
     let p = c.passed in
     let attrs_spelled = subst (λ (n : ℕ). SpellsAttrs sections (origin_of context) (is_none parent) node.declared.fields [] node.attrs n spelled.back) (sym p.place) spelled.second in
-    let a = attrs_go all low sections context (is_none parent) node.declared.fields node.attrs ([], before.references) c.next spelled.back more p.stands attrs_spelled leads_on lead c.left in
+    let a = attrs_go all low sections context like (is_none parent) node.declared.fields node.attrs ([], before.references) c.next spelled.back more p.stands attrs_spelled leads_on lead c.left in
     let there : node_of node.declared s.place node.attrs ≡ node = ap (λ (place : ℕ). node_of node.declared place node.attrs) (sym w.there) in
     record {
       code = (first.code, c.next);
@@ -217,13 +218,13 @@ with_node all sections context table lists node kids others place a b c depth sp
     }
 
 -- what is open with a node in front of it
-record OpenWith (all : List RawEntry) (sections : SectionBytes) (context : UnitContext) (table : List Abbrev) (p : ℕ) (stack : List ℕ) (place : ℕ) (bytes : List ℕ) (number : ℕ) (entries : List RawEntry) : Type 0 where
-  forests : List Forest
-  there : OpenThere all sections context table (p ∷ stack) forests place bytes
-  entries_are : entries ≡ open_entries context.unit number (p ∷ stack) forests
+pub record OpenWith (all : List RawEntry) (sections : SectionBytes) (context : UnitContext) (table : List Abbrev) (p : ℕ) (stack : List ℕ) (place : ℕ) (bytes : List ℕ) (number : ℕ) (entries : List RawEntry) : Type 0 where
+  pub forests : List Forest
+  pub there : OpenThere all sections context table (p ∷ stack) forests place bytes
+  pub entries_are : entries ≡ open_entries context.unit number (p ∷ stack) forests
 
 -- the node has a list, which is open too
-with_list : (all : List RawEntry) (sections : SectionBytes) (context : UnitContext) (table : List Abbrev) (p : ℕ) (stack : List ℕ) (place : ℕ) (node : Node) (a r : List ℕ) (number : ℕ) → node.declared.children ≡ true → suc (length stack) < 1000
+pub with_list : (all : List RawEntry) (sections : SectionBytes) (context : UnitContext) (table : List Abbrev) (p : ℕ) (stack : List ℕ) (place : ℕ) (node : Node) (a r : List ℕ) (number : ℕ) → node.declared.children ≡ true → suc (length stack) < 1000
     → SpellsNode sections (origin_of context) table false node place a → NodeLeads all context.unit node → (forests : List Forest) → OpenThere all sections context table (number ∷ p ∷ stack) forests (place + length a) r
     → OpenWith all sections context table p stack place (a ++ r) number (entry_of context.unit (Some p) node ∷ open_entries context.unit (number + 1) (number ∷ p ∷ stack) forests)
 with_list all sections context table p stack place node a r number has depth spells leads_on [] there = absurd there
@@ -255,7 +256,7 @@ differs : {b : Bool} → b ≡ true → b ≡ false → ⊥
 differs e f = cc
 
 -- the node has none
-with_none : (all : List RawEntry) (sections : SectionBytes) (context : UnitContext) (table : List Abbrev) (p : ℕ) (stack : List ℕ) (place : ℕ) (node : Node) (a r : List ℕ) (number : ℕ) → node.declared.children ≡ false
+pub with_none : (all : List RawEntry) (sections : SectionBytes) (context : UnitContext) (table : List Abbrev) (p : ℕ) (stack : List ℕ) (place : ℕ) (node : Node) (a r : List ℕ) (number : ℕ) → node.declared.children ≡ false
     → SpellsNode sections (origin_of context) table false node place a → NodeLeads all context.unit node → (forests : List Forest) → OpenThere all sections context table (p ∷ stack) forests (place + length a) r
     → OpenWith all sections context table p stack place (a ++ r) number (entry_of context.unit (Some p) node ∷ open_entries context.unit (number + 1) (p ∷ stack) forests)
 with_none all sections context table p stack place node a r number has spells leads_on [] there = absurd there
@@ -459,10 +460,10 @@ below_none false Kids (tree node more others) place bytes has w = absurd w
 abbrev pub parsed : List RawEntry → List Reference → Parsed
 parsed entries references = record { entries = entries; references = references }
 
-tree_goes : (all : List RawEntry) → AreLow all → (sections : SectionBytes) (context : UnitContext) (table : List Abbrev) (node : Node) (kids others : Forest) (p : ℕ) (stack : List ℕ) (before : Parsed) (s : Spot) (bytes more : List ℕ) → Stands s
+tree_goes : (all : List RawEntry) → AreLow all → (sections : SectionBytes) (context : UnitContext) (like : context.profile ≡ Input) (table : List Abbrev) (node : Node) (kids others : Forest) (p : ℕ) (stack : List ℕ) (before : Parsed) (s : Spot) (bytes more : List ℕ) → Stands s
     → TreesThere all sections context table (suc (length stack)) (tree node kids others) s.place bytes → Lead all before.references → length before.entries + size (tree node kids others) ≤ 2 ^ 24 → rest s ≡ bytes ++ more
     → TreesAreRead all sections context table kids → TreesAreRead all sections context table others → TreesGo all sections context table p stack (tree node kids others) before s bytes more
-tree_goes all low sections context table node kids others p stack before s bytes more stands there lead room parts read_kids read_others = go node.declared.children refl
+tree_goes all low sections context like table node kids others p stack before s bytes more stands there lead room parts read_kids read_others = go node.declared.children refl
   where
     number : ℕ
     number = length before.entries
@@ -489,7 +490,7 @@ tree_goes all low sections context table node kids others p stack before s bytes
     whole = parts ∙ ap (λ (b : List ℕ). b ++ more) parts_of ∙ append_assoc (a ++ k) c more ∙ append_assoc a k (c ++ more)
 
     g : NodeGoes all sections context table (Some p) node before s a (k ++ (c ++ more))
-    g = node_goes all low sections context table (Some p) node before s a (k ++ (c ++ more)) stands spells.first.first there.leads_on.0.0 lead whole
+    g = node_goes all low sections context like table (Some p) node before s a (k ++ (c ++ more)) stands spells.first.first there.leads_on.0.0 lead whole
 
     q : Passed a s g.next
     q = g.passed
@@ -567,7 +568,7 @@ tree_goes all low sections context table node kids others p stack before s bytes
           left = go_on.left;
         }
 
-pub trees_go : (all : List RawEntry) → AreLow all → (sections : SectionBytes) (context : UnitContext) (table : List Abbrev) (trees : Forest) → TreesAreRead all sections context table trees
-trees_go all low sections context table no_more p stack before s bytes more stands there lead room parts = end_goes all sections context table p stack before s bytes more stands there.spells lead parts
-trees_go all low sections context table (tree node kids others) p stack before s bytes more stands there lead room parts =
-    tree_goes all low sections context table node kids others p stack before s bytes more stands there lead room parts (trees_go all low sections context table kids) (trees_go all low sections context table others)
+pub trees_go : (all : List RawEntry) → AreLow all → (sections : SectionBytes) (context : UnitContext) (like : context.profile ≡ Input) (table : List Abbrev) (trees : Forest) → TreesAreRead all sections context table trees
+trees_go all low sections context like table no_more p stack before s bytes more stands there lead room parts = end_goes all sections context table p stack before s bytes more stands there.spells lead parts
+trees_go all low sections context like table (tree node kids others) p stack before s bytes more stands there lead room parts =
+    tree_goes all low sections context like table node kids others p stack before s bytes more stands there lead room parts (trees_go all low sections context like table kids) (trees_go all low sections context like table others)

@@ -24,6 +24,7 @@ use Rattle.abbrev_read.proofs.TableLaws.{table_spelled}
 use Rattle.index_tables.specs.declared.bases.Bases.{Bases}
 use Rattle.index_tables.specs.Bases.{bases_in}
 use Rattle.unit_tree.specs.declared.attribute.UnitContext.{UnitContext}
+use Rattle.unit_tree.specs.declared.profile.Profile.TheVariants.{Input}
 use Rattle.unit_tree.specs.declared.header.Header.{Header}
 use Rattle.ds_base.specs.DwarfNumbers.{LENGTH_RESERVED}
 use Rattle.ds_base.specs.DwarfNumbers.{ADDRESS_SIZE}
@@ -340,14 +341,14 @@ bases_same start sections context table before s bases root behind e first known
     sym w.is ∙ ap (λ (r : Described × Spot). bases_in r.0.0) (sym read) ∙ known.same
 
 unit_taken : (all : List RawEntry) → AreLow all → (sections : SectionBytes) (number : ℕ) (before : Parsed) (place : ℕ) (y : (InUnit × Parsed) × ℕ) → AreBytes sections.info → AreBytes sections.abbrev_ → place ≤ length sections.info
-    → unit_at sections number before place ≡ Ok y → Lead all y.0.1.references → UnitTaken all sections number before place y
+    → unit_at Input sections number before place ≡ Ok y → Lead all y.0.1.references → UnitTaken all sections number before place y
 unit_taken all low sections number before place y info abbrev_bytes le e h =
-    let w = unit_steps sections number before place y e in
+    let w = unit_steps Input sections number before place y e in
     let hd = header_taken sections place w.header info le (header_steps sections place w.header w.header_is) in
     let p = hd.passed in
     let s : Spot = behind_length sections place hd.len in
     let version : ℕ = w.header.0.version in
-    let context : UnitContext = context_in number place version (Some w.bases) in
+    let context : UnitContext = context_in Input number place version (Some w.bases) in
     subst (λ (x : (InUnit × Parsed) × ℕ). Lead all x.0.1.references → UnitTaken all sections number before place x) w.is
     (λ k.
     let tk = tree_taken all low (info_at sections place) sections context w.table before w.header.1 w.tree p.stands w.tree_is k in
@@ -409,10 +410,10 @@ section_taken all sections units before place y le is =
     (record { trees = []; spells = drop_all place sections.info le; units_are = sym (append-nil units); entries = sym (append-nil before.entries); sound = tt; references = []; grown = sym (append-nil before.references); few = λ h. h })
 
 more_taken : (all : List RawEntry) → AreLow all → (sections : SectionBytes) (left : ℕ) (units : List InUnit) (before : Parsed) (place : ℕ) (y : List InUnit × Parsed) → AreBytes sections.info → AreBytes sections.abbrev_ → place ≤ length sections.info
-    → UnitsSteps sections left units before place y → Lead all y.1.references → ((unit : InUnit) (now : Parsed) (next : ℕ) → next ≤ length sections.info → units_at sections left (units ++ unit ∷ []) now next ≡ Ok y → UnitsTaken all sections (units ++ unit ∷ []) now next y)
+    → UnitsSteps Input sections left units before place y → Lead all y.1.references → ((unit : InUnit) (now : Parsed) (next : ℕ) → next ≤ length sections.info → units_at Input sections left (units ++ unit ∷ []) now next ≡ Ok y → UnitsTaken all sections (units ++ unit ∷ []) now next y)
     → UnitsTaken all sections units before place y
 more_taken all low sections left units before place y info abbrev_bytes le w h known =
-    let u = unit_passes sections (length units) before place w.read w.unit in
+    let u = unit_passes Input sections (length units) before place w.read w.unit in
     let r = known w.read.0.0 w.read.0.1 w.read.1 u.inside w.others in
     let t = unit_taken all low sections (length units) before place w.read info abbrev_bytes le w.unit (lead_front all w.read.0.1.references r.references (subst (Lead all) r.grown h)) in
     let number = length before.entries in
@@ -438,10 +439,10 @@ more_taken all low sections left units before place y info abbrev_bytes le w h k
     }
 
 units_taken : (all : List RawEntry) → AreLow all → (sections : SectionBytes) (left : ℕ) (units : List InUnit) (before : Parsed) (place : ℕ) (y : List InUnit × Parsed) → AreBytes sections.info → AreBytes sections.abbrev_ → place ≤ length sections.info
-    → units_at sections left units before place ≡ Ok y → Lead all y.1.references → UnitsTaken all sections units before place y
-units_taken all low sections zero units before place y info abbrev_bytes le e h = absurd (some_left sections units before place y e)
+    → units_at Input sections left units before place ≡ Ok y → Lead all y.1.references → UnitsTaken all sections units before place y
+units_taken all low sections zero units before place y info abbrev_bytes le e h = absurd (some_left Input sections units before place y e)
 units_taken all low sections (suc left) units before place y info abbrev_bytes le e h =
-    elim (units_steps sections left units before place y e) [
+    elim (units_steps Input sections left units before place y e) [
       | inl w ↦ section_taken all sections units before place y (omega (arith, eqb-true _ _ w.0)) w.1
       | inr w ↦ more_taken all low sections left units before place y info abbrev_bytes le w h (λ unit now next inside others. units_taken all low sections left (units ++ unit ∷ []) now next y info abbrev_bytes inside others h)
     ]
@@ -493,7 +494,7 @@ units_spelled sections units small info abbrev_bytes e =
     let a = bind_ok (parsed_of sections) (λ read. resolved read.1.entries read.1.references >>= made read) units e in
     let b = bind_ok (resolved a.0.1.entries a.0.1.references) (made a.0) units a.2 in
     let r = resolved_ok a.0.1.entries a.0.1.references b.0 b.1 in
-    let rise = units_rise sections a.0 a.1 in
+    let rise = units_rise Input sections a.0 a.1 in
     let low = low_below a.0.1.entries (length sections.info) small rise.below in
     let t = units_taken a.0.1.entries low sections (suc (length sections.info)) [] nothing 0 a.0 info abbrev_bytes (omega arith) a.1 r.lead in
     let entries_are : a.0.1.entries ≡ entries_of 0 0 t.trees = t.entries in

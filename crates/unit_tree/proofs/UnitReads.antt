@@ -20,6 +20,7 @@ use Rattle.abbrev_read.proofs.TableLaws.{table_read}
 use Rattle.index_tables.specs.declared.bases.Bases.{Bases}
 use Rattle.index_tables.specs.Bases.{bases_in}
 use Rattle.unit_tree.specs.declared.attribute.UnitContext.{UnitContext}
+use Rattle.unit_tree.specs.declared.profile.Profile.TheVariants.{Input}
 use Rattle.unit_tree.specs.declared.header.Header.{Header}
 use Rattle.ds_base.specs.DwarfNumbers.{LENGTH_RESERVED}
 use Rattle.ds_base.specs.DwarfNumbers.{DWARF_4, DWARF_5, ADDRESS_SIZE}
@@ -138,9 +139,9 @@ tree_reads : (start : Spot) (sections : SectionBytes) (context : UnitContext) (t
 unfolding tree_at
 tree_reads start sections context table before s root first = rw first refl
 
-unit_tree_goes : (all : List RawEntry) → AreLow all → (start : Spot) (sections : SectionBytes) (context : UnitContext) (t : UnitTree) (before : Parsed) (s : Spot) (bytes more : List ℕ) → Stands s → SpellsTree sections (origin_of context) t s.place bytes → IsSoundUnit all context.unit t
+unit_tree_goes : (all : List RawEntry) → AreLow all → (start : Spot) (sections : SectionBytes) (context : UnitContext) (like : context.profile ≡ Input) (t : UnitTree) (before : Parsed) (s : Spot) (bytes more : List ℕ) → Stands s → SpellsTree sections (origin_of context) t s.place bytes → IsSoundUnit all context.unit t
     → t.root.declared.tag ≡ DW_TAG_compile_unit → is_split t.root.declared ≡ false → Lead all before.references → length before.entries + 1 + size t.kids ≤ 2 ^ 24 → rest s ≡ bytes ++ more → TreeGoes all start sections context t before s bytes more
-unit_tree_goes all low start sections context t before s bytes more stands spells sound unit whole lead room parts = go t.root.declared.children refl
+unit_tree_goes all low start sections context like t before s bytes more stands spells sound unit whole lead room parts = go t.root.declared.children refl
   where
     number : ℕ
     number = length before.entries
@@ -158,7 +159,7 @@ unit_tree_goes all low start sections context t before s bytes more stands spell
     whole_is = parts ∙ ap (λ (b : List ℕ). b ++ more) spells.is ∙ append_assoc a k more
 
     g : NodeGoes all sections context t.table None t.root before s a (k ++ more)
-    g = node_goes all low sections context t.table None t.root before s a (k ++ more) stands spells.first sound.root_leads lead whole_is
+    g = node_goes all low sections context like t.table None t.root before s a (k ++ more) stands spells.first sound.root_leads lead whole_is
 
     q : Passed a s g.next
     q = g.passed
@@ -188,7 +189,7 @@ unit_tree_goes all low start sections context t before s bytes more stands spell
         let below = below_list t.root.declared.children (λ x y. SpellsTrees sections (origin_of context) t.table t.kids x y) t.kids (s.place + length a) k has spells.second in
         let here = subst (λ (n : ℕ). SpellsTrees sections (origin_of context) t.table t.kids n k) (sym q.place) below in
         let there : TreesThere all sections context t.table 1 t.kids g.next.place k = record { spells = here; shallow = sound.shallow; leads_on = sound.kids_lead } in
-        let gk = trees_go all low sections context t.table t.kids number [] one g.next k more q.stands there g.lead (omega (arith, len_one, room)) g.left in
+        let gk = trees_go all low sections context like t.table t.kids number [] one g.next k more q.stands there g.lead (omega (arith, len_one, room)) g.left in
         let fuel : ℕ = g.next.end - g.next.place in
         let enough : turns t.kids ≤ fuel = omega (arith, turns_fit sections (origin_of context) t.table t.kids g.next.place k here, length_rest g.next q.stands, ap length g.left, length-append k more) in
         let count : fuel ≡ turns t.kids + (fuel - turns t.kids) = omega (arith, enough) in
@@ -329,13 +330,13 @@ zeros_read start s zeros stands left empty =
 
 record UnitGoes (all : List RawEntry) (sections : SectionBytes) (number : ℕ) (t : UnitTree) (before : Parsed) (place : ℕ) (bytes : List ℕ) : Type 0 where
   references : List Reference
-  reads : unit_at sections number before place ≡ Ok ((in_unit (length before.entries) t, parsed (before.entries ++ unit_entries number (length before.entries) t) references), place + length bytes)
+  reads : unit_at Input sections number before place ≡ Ok ((in_unit (length before.entries) t, parsed (before.entries ++ unit_entries number (length before.entries) t) references), place + length bytes)
   lead : Lead all references
 
 unit_reads : (sections : SectionBytes) (number : ℕ) (before : Parsed) (place : ℕ) (header : Header × Spot) (table : List Abbrev) (bases : Bases) (read : Parsed × Spot) → header_at sections place ≡ Ok header → table_at sections.abbrev_ header.0.table ≡ Ok table
-    → bases_at (info_at sections place) sections (context_in number place header.0.version None) table before header.1 ≡ Ok bases
-    → tree_at (info_at sections place) sections (context_in number place header.0.version (Some bases)) table before header.1 ≡ Ok read → zeros_at (info_at sections place) read.1 ≡ Ok tt
-    → unit_at sections number before place ≡ Ok ((unit_from header.0.version (length before.entries) read.0.entries, read.0), header.0.end)
+    → bases_at (info_at sections place) sections (context_in Input number place header.0.version None) table before header.1 ≡ Ok bases
+    → tree_at (info_at sections place) sections (context_in Input number place header.0.version (Some bases)) table before header.1 ≡ Ok read → zeros_at (info_at sections place) read.1 ≡ Ok tt
+    → unit_at Input sections number before place ≡ Ok ((unit_from header.0.version (length before.entries) read.0.entries, read.0), header.0.end)
 unfolding unit_at
 unit_reads sections number before place header table bases read a b c d e = rw (a, b, c, d, e) refl
 
@@ -350,8 +351,8 @@ unit_goes all low sections number t before place bytes more info abbrev_bytes le
     let before_end = hd.stands in
     let in_order = before_end.place in
     let at : place + 4 + length v.front ≡ hd.next.place = omega (arith, hd.end, len, length_rest hd.next hd.stands, ap length hd.left, in_order.before_end) in
-    let context : UnitContext = context_in number place t.version (Some (bases_in t.root.attrs)) in
-    let tg = unit_tree_goes all low (info_at sections place) sections context t before hd.next b.front b.back hd.stands (subst (λ (n : ℕ). SpellsTree sections (origin_in place t) t n b.front) at b.first) sound w.is_unit w.whole lead room hd.left in
+    let context : UnitContext = context_in Input number place t.version (Some (bases_in t.root.attrs)) in
+    let tg = unit_tree_goes all low (info_at sections place) sections context refl t before hd.next b.front b.back hd.stands (subst (λ (n : ℕ). SpellsTree sections (origin_in place t) t n b.front) at b.first) sound w.is_unit w.whole lead room hd.left in
     let tp = tg.passed in
     let entries : List RawEntry = before.entries ++ unit_entries number (length before.entries) t in
     let table = table_read sections.abbrev_ t.offset t.table w.inside abbrev_bytes w.table in
@@ -369,7 +370,7 @@ unit_goes all low sections number t before place bytes more info abbrev_bytes le
 
 record UnitsGo (all : List RawEntry) (sections : SectionBytes) (trees : List UnitTree) (left : ℕ) (units : List InUnit) (before : Parsed) (place : ℕ) : Type 0 where
   references : List Reference
-  reads : units_at sections left units before place ≡ Ok (units ++ in_units (length before.entries) trees, parsed (before.entries ++ entries_of (length units) (length before.entries) trees) references)
+  reads : units_at Input sections left units before place ≡ Ok (units ++ in_units (length before.entries) trees, parsed (before.entries ++ entries_of (length units) (length before.entries) trees) references)
   lead : Lead all references
 
 units_go : (all : List RawEntry) → AreLow all → (sections : SectionBytes) (trees : List UnitTree) (left : ℕ) (units : List InUnit) (before : Parsed) (place : ℕ) → AreBytes sections.info → AreBytes sections.abbrev_ → place ≤ length sections.info

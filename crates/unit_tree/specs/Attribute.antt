@@ -1,10 +1,10 @@
 -- The attributes of an entry (DWARF 4, section 7.5.3; DWARF 5, section 7.5.3): its values in the order of its declaration, with the references among them.
-use Rattle.std.specs.Prelude.{ℕ, ◌+◌, ◌-◌, ◌^◌, ◌==◌, ◌&&◌, Bool, not, List, [], ◌∷◌, ◌++◌, length, min, Option, Some, None, Result, Ok, nat_lt, if◌then◌else◌}
+use Rattle.std.specs.Prelude.{ℕ, ◌+◌, ◌-◌, ◌^◌, ◌==◌, ◌&&◌, Bool, true, false, not, List, [], ◌∷◌, ◌++◌, length, min, Option, Some, None, Result, Ok, nat_lt, if◌then◌else◌}
 use Rattle.std.specs.List.{list_any}
 use Rattle.std.specs.Option.{option_map, option_map_or, option_to_list}
 use Rattle.ds_base.specs.DwarfNumbers.{DW_AT_stmt_list}
 use Rattle.ds_base.specs.declared.fault.Fault.{Fault}
-use Rattle.ds_base.specs.declared.fault.Kind.TheVariants.{BadIndex, BadOffset}
+use Rattle.ds_base.specs.declared.fault.Kind.TheVariants.{BadIndex, BadOffset, BadOutput}
 use Rattle.ds_base.specs.Spot.{Spot, fault_at}
 use Rattle.ds_base.specs.Reading.{◌>>=◌, refuse_if, or_fault, text_of}
 use Rattle.dwarf_types.specs.declared.abbrev.Field.{Field}
@@ -18,6 +18,8 @@ use Rattle.index_tables.specs.Tables.{text_place, address_place, list_place}
 use Rattle.unit_tree.specs.declared.attribute.UnitContext.{UnitContext}
 use Rattle.unit_tree.specs.declared.meaning.Meaning.{Meaning}
 use Rattle.unit_tree.specs.declared.meaning.Meaning.TheVariants.{InUnit, InObject, LineTable, RangeList, LocationList, TextIndex, AddressIndex, RangeListIndex, LocationListIndex, Other}
+use Rattle.unit_tree.specs.declared.profile.Profile.{Profile}
+use Rattle.unit_tree.specs.declared.profile.Profile.TheVariants.{Input, Output}
 use Rattle.unit_tree.specs.declared.reference.Reference.{Reference}
 use Rattle.unit_tree.specs.Meaning.{meaning_of}
 
@@ -40,6 +42,15 @@ names_lines root before = root && not (has_attr DW_AT_stmt_list before)
 -- an offset to a table or list of a section
 abbrev pub offset_in : List ℕ → ℕ → Spot → Result (Value × Option Reference) Fault
 offset_in section n s = refuse_if (not (nat_lt n (length section))) (fault_at s BadOffset) >>= λ u. Ok (values.Offset n, None)
+
+-- the bytes are those of an image that was written
+abbrev pub is_output : Profile → Bool
+is_output Input = false
+is_output Output = true
+
+-- An offset that leads to no table or list that is read. An object may have one; in an image that was written it is a fault.
+abbrev pub offset_nowhere : Profile → ℕ → Spot → Result (Value × Option Reference) Fault
+offset_nowhere profile n s = refuse_if (is_output profile) (fault_at s BadOutput) >>= λ u. Ok (values.Offset n, None)
 
 -- a reference to a place, from a value that stands here, to an entry of a unit or of any
 abbrev pub reference_to : ℕ → Option ℕ → Spot → Value × Option Reference
@@ -73,14 +84,14 @@ list_named section (Some base) n s = do
 unfoldable pub meant_at : SectionBytes → UnitContext → Bool → Meaning → ℕ → Spot → Result (Value × Option Reference) Fault
 meant_at sections context lines InUnit n s = Ok (reference_to (context.place + n) (Some context.unit) s)
 meant_at sections context lines InObject n s = Ok (reference_to n None s)
-meant_at sections context lines LineTable n s = if lines then offset_in sections.line n s else Ok (values.Offset n, None)
+meant_at sections context lines LineTable n s = if lines then offset_in sections.line n s else offset_nowhere context.profile n s
 meant_at sections context lines RangeList n s = offset_in (range_bytes sections context.version) n s
 meant_at sections context lines LocationList n s = offset_in (location_bytes sections context.version) n s
 meant_at sections context lines TextIndex n s = text_named sections context.bases n s
 meant_at sections context lines AddressIndex n s = address_named sections context.bases n s
 meant_at sections context lines RangeListIndex n s = list_named sections.rnglists (option_map (λ bases. bases.ranges) context.bases) n s
 meant_at sections context lines LocationListIndex n s = list_named sections.loclists (option_map (λ bases. bases.locations) context.bases) n s
-meant_at sections context lines Other n s = Ok (values.Offset n, None)
+meant_at sections context lines Other n s = offset_nowhere context.profile n s
 
 -- what a value means, which stands here as an attribute behind others of a root or another entry
 unfoldable pub value_meant_at : SectionBytes → UnitContext → Bool → Field → List RawAttr → Value → Spot → Result (Value × Option Reference) Fault

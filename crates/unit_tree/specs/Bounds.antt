@@ -4,7 +4,7 @@ use Rattle.std.specs.List.{All}
 use Rattle.ds_base.specs.declared.fault.Fault.{Fault}
 use Rattle.ds_base.specs.declared.fault.Kind.TheVariants.{LimitEntries}
 use Rattle.ds_base.specs.Spot.{Spot, fault_at}
-use Rattle.unit_tree.specs.declared.entry.Parsed.{Parsed as Kept}
+use Rattle.unit_tree.specs.declared.parsed.Parsed.{Parsed as Kept}
 use Rattle.dwarf_types.specs.declared.entry.TheConstants.{MOST_ENTRIES}
 use Rattle.unit_tree.specs.declared.reference.Reference.{Reference}
 use Rattle.unit_tree.specs.Entry.{Parsed, is_full}

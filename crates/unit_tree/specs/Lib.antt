@@ -3,6 +3,7 @@ pub mod Bounds
 pub mod Entry
 pub mod Header
 pub mod Inside
+pub mod Led
 pub mod Meaning
 pub mod Packed
 pub mod Reference

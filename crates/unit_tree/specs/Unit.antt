@@ -7,6 +7,7 @@ use Rattle.ds_base.specs.declared.fault.Fault.{Fault}
 use Rattle.ds_base.specs.declared.fault.Kind.TheVariants as kinds
 use Rattle.ds_base.specs.Spot.{Spot, fault_at}
 use Rattle.ds_base.specs.Reading.{◌>>=◌, refuse_if, bytes_at}
+use Rattle.dwarf_types.specs.declared.abbrev.Abbrev.{Abbrev}
 use Rattle.dwarf_types.specs.declared.entry.RawAttr.{RawAttr}
 use Rattle.dwarf_types.specs.declared.entry.RawEntry.{RawEntry}
 use Rattle.dwarf_types.specs.declared.entry.InUnit.{InUnit}
@@ -18,6 +19,9 @@ use Rattle.abbrev_read.specs.Reading.{table_at}
 use Rattle.dwarf_types.specs.Forms.{is_flag}
 use Rattle.index_tables.specs.declared.bases.Bases.{Bases}
 use Rattle.unit_tree.specs.declared.attribute.UnitContext.{UnitContext}
+use Rattle.unit_tree.specs.declared.header.Header.{Header}
+use Rattle.unit_tree.specs.declared.profile.Profile.{Profile}
+use Rattle.unit_tree.specs.declared.profile.Profile.TheVariants.{Input, Output}
 use Rattle.unit_tree.specs.Header.{info_at, header_at}
 use Rattle.unit_tree.specs.Entry.{Parsed, bases_at, tree_at}
 use Rattle.unit_tree.specs.Reference.{resolved}
@@ -46,36 +50,55 @@ zeros_at start s = do
   refuse_if (not (list_all is_zero others.0)) (fault_at start kinds.BadUnit)
 
 -- a unit of a number that begins at a place, of a version, and the bases of its tables where these are known
-abbrev pub context_in : ℕ → ℕ → ℕ → Option Bases → UnitContext
-context_in number place version bases = record { unit = number; place = place; version = version; bases = bases }
+abbrev pub context_in : Profile → ℕ → ℕ → ℕ → Option Bases → UnitContext
+context_in profile number place version bases = record { profile = profile; unit = number; place = place; version = version; bases = bases }
 
--- The unit of a number that begins at a place, with its entries behind those before, and the place behind it. Its root tells the bases of its tables, and is then read with them.
-unfoldable pub unit_at : SectionBytes → ℕ → Parsed → ℕ → Result ((InUnit × Parsed) × ℕ) Fault
-unit_at sections number before place = do
+abbrev pub based : Bases → UnitContext → UnitContext
+based bases context = record context { bases = Some bases }
+
+-- What is behind the header of a unit of a context without bases: its tree, and zeros. Its root tells the bases of its tables, and is then read with them.
+abbrev pub unit_behind : SectionBytes → UnitContext → Header × Spot → List Abbrev → Parsed → Result ((InUnit × Parsed) × ℕ) Fault
+unit_behind sections context header table before = do
+  bases ← bases_at (info_at sections context.place) sections context table before header.1
+  tree ← tree_at (info_at sections context.place) sections (based bases context) table before header.1
+  _ ← zeros_at (info_at sections context.place) tree.1
+  Ok ((unit_from context.version (length before.entries) tree.0.entries, tree.0), header.0.end)
+
+-- the unit of a number that begins at a place, with its entries behind those before, and the place behind it
+unfoldable pub unit_at : Profile → SectionBytes → ℕ → Parsed → ℕ → Result ((InUnit × Parsed) × ℕ) Fault
+unit_at profile sections number before place = do
   header ← header_at sections place
   table ← table_at sections.abbrev_ header.0.table
-  bases ← bases_at (info_at sections place) sections (context_in number place header.0.version None) table before header.1
-  tree ← tree_at (info_at sections place) sections (context_in number place header.0.version (Some bases)) table before header.1
-  _ ← zeros_at (info_at sections place) tree.1
-  Ok ((unit_from header.0.version (length before.entries) tree.0.entries, tree.0), header.0.end)
+  unit_behind sections (context_in profile number place header.0.version None) header table before
 
 -- Units up to the section's end. Each takes a byte at least, so a count of more than the bytes that are left never runs out; it would be a fault.
-unfoldable pub units_at : SectionBytes → ℕ → List InUnit → Parsed → ℕ → Result (List InUnit × Parsed) Fault
-units_at sections zero units before place = Err (fault_at (info_at sections place) kinds.Truncated)
-units_at sections (suc left) units before place =
+unfoldable pub units_at : Profile → SectionBytes → ℕ → List InUnit → Parsed → ℕ → Result (List InUnit × Parsed) Fault
+units_at profile sections zero units before place = Err (fault_at (info_at sections place) kinds.Truncated)
+units_at profile sections (suc left) units before place =
     if place == length sections.info then Ok (units, before)
-    else (unit_at sections (length units) before place >>= λ read. units_at sections left (units ++ read.0.0 ∷ []) read.0.1 read.1)
+    else (unit_at profile sections (length units) before place >>= λ read. units_at profile sections left (units ++ read.0.0 ∷ []) read.0.1 read.1)
 
 abbrev pub nothing : Parsed
 nothing = record { entries = []; references = [] }
 
--- all units of an object, before it is tried where their references lead
-abbrev pub parsed_of : SectionBytes → Result (List InUnit × Parsed) Fault
-parsed_of sections = units_at sections (suc (length sections.info)) [] nothing 0
+-- all units, before it is tried where their references lead
+abbrev pub parsed_by : Profile → SectionBytes → Result (List InUnit × Parsed) Fault
+parsed_by profile sections = units_at profile sections (suc (length sections.info)) [] nothing 0
 
--- all units of an object
-unfoldable pub units_of : SectionBytes → Result RawUnits Fault
-units_of sections = do
-  read ← parsed_of sections
+-- all units
+abbrev pub units_by : Profile → SectionBytes → Result RawUnits Fault
+units_by profile sections = do
+  read ← parsed_by profile sections
   entries ← resolved read.1.entries read.1.references
   Ok (record { units = read.0; entries = entries })
+
+-- those of an object
+abbrev pub parsed_of : SectionBytes → Result (List InUnit × Parsed) Fault
+parsed_of = parsed_by Input
+
+unfoldable pub units_of : SectionBytes → Result RawUnits Fault
+units_of sections = units_by Input sections
+
+-- those of an image that was written
+unfoldable pub written_units_of : SectionBytes → Result RawUnits Fault
+written_units_of sections = units_by Output sections

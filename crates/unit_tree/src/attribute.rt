@@ -2,7 +2,7 @@
 
 ghost use Rattle.std.specs.Prelude.{◌≡◌, ◌<◌, ◌≤◌, ◌+◌, ◌++◌, not, length, Some, None, IfOk, IfSome, OnOk, nat_lt};
 ghost use Rattle.std.specs.Option.{option_to_list};
-ghost use Rattle.ds_base.specs.declared.fault.Kind.TheVariants.{BadIndex, BadOffset};
+ghost use Rattle.ds_base.specs.declared.fault.Kind.TheVariants.{BadIndex, BadOffset, BadOutput};
 ghost use Rattle.ds_base.specs.Reading.{Finds, Reads, ReadsUnlessFull, refuse_if};
 ghost use Rattle.ds_base.specs.Spot.{IsSmall, fault_at};
 ghost use Rattle.dwarf_types.specs.declared.abbrev.TheConstants.{MOST_FIELDS};
@@ -13,10 +13,11 @@ ghost use Rattle.dwarf_types.specs.declared.value.Value.TheVariants.{Ref};
 ghost use Rattle.unit_tree.specs.declared.packed.TheConstants.{ANY_UNIT};
 ghost use Rattle.unit_tree.specs.Bounds.{IsOf};
 ghost use Rattle.unit_tree.specs.Meaning.{meaning_of};
-ghost use Rattle.unit_tree.specs.Attribute.{number_in, names_lines, offset_in, reference_to, text_named, address_named, list_named, meant_at, value_meant_at, attr_at, attrs_at};
+ghost use Rattle.unit_tree.specs.Attribute.{is_output, number_in, names_lines, offset_in, offset_nowhere, reference_to, text_named, address_named, list_named, meant_at, value_meant_at, attr_at, attrs_at};
 
 use crate::meaning::{Meaning, meaning_of_value};
 use crate::packed::PackedReference;
+use crate::profile::Profile;
 use crate::reference::Reference;
 use ds_base::dwarf::DW_AT_stmt_list;
 use ds_base::{Cursor, Fault, Kind, List, NoMemory, ReadError, text_in};
@@ -27,6 +28,8 @@ use index_tables::{Bases, has_address, list_at, text_at};
 /// The unit whose entries are read.
 #[derive(Clone, Copy)]
 pub(crate) struct UnitContext {
+    /// Whose bytes are read.
+    pub(crate) profile: Profile,
     /// The unit's number in the object, counted from 0.
     pub(crate) unit: u32,
     /// The place of its first byte in `__debug_info`.
@@ -182,7 +185,8 @@ fn value_of_number<'a>(
             let base = context.bases.map(|bases| bases.locations);
             return find_list(first, sections.loclists, base, field, n);
         }
-        _ => {}
+        Meaning::LineTable => refuse_nowhere(first, context.profile)?,
+        Meaning::Other => refuse_nowhere(first, context.profile)?,
     }
     Ok((RawValue::Offset(n), None))
 }
@@ -264,6 +268,17 @@ fn try_offset(first: &Cursor, section: &[u8], n: u64) -> Result<(), Fault>
         return Err(first.fault(Kind::BadOffset));
     }
     Ok(())
+}
+
+/// Tries an offset that leads to no table or list that is read, from a value that stands at the cursor: an image that
+/// was written has none.
+fn refuse_nowhere(first: &Cursor, profile: Profile) -> Result<(), Fault>
+    ensures { Finds (λ u. u) result (refuse_if (is_output profile) (fault_at first.now BadOutput)) }
+{
+    match profile {
+        Profile::Input => Ok(()),
+        Profile::Output => Err(first.fault(Kind::BadOutput)),
+    }
 }
 
 /// A reference to a place, from a value that stands at the cursor.

@@ -13,25 +13,16 @@ ghost use Rattle.unit_tree.specs.Bounds.{AreNumbers, IsReady, NumbersNext, parse
 
 use crate::attribute::{UnitContext, read_attrs};
 use crate::bases::read_bases;
-use crate::packed::PackedReference;
+use crate::parsed::Parsed;
 use crate::table::Table;
 use ds_base::dwarf::{DW_AT_GNU_dwo_name, DW_AT_dwo_name, DW_TAG_compile_unit};
 use ds_base::{Cursor, Fault, Kind, List, NoMemory, ReadError};
-use dwarf_types::{Abbrev, Builder, Field, MOST_ENTRIES, Sections};
+use dwarf_types::{Abbrev, Field, MOST_ENTRIES, Sections};
 use index_tables::Bases;
 use std::alloc::Global;
 
 /// The most lists of children that may be open at once.
 const MOST_OPEN: usize = 1000;
-
-/// What was read of an object.
-#[derive(Drop)]
-pub(crate) struct Parsed {
-    /// The entries in document order.
-    pub(crate) built: Builder,
-    /// The references of their values, in document order.
-    pub(crate) references: List<PackedReference>,
-}
 
 /// Reads the tree of the unit that begins at `start`, and puts its entries behind those before. Answers
 /// the number of its root.

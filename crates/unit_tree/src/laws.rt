@@ -7,7 +7,8 @@ ghost use Rattle.ds_base.specs.declared.fault.Kind.TheVariants.{BadAbbrev, BadIn
 ghost use Rattle.dwarf_types.specs.Spelled.{AreBytes};
 ghost use Rattle.dwarf_types.specs.declared.entry.RawUnits.{RawUnits};
 ghost use Rattle.dwarf_types.specs.SectionBytes.{SectionBytes};
-ghost use Rattle.unit_tree.specs.Unit.{units_of};
+ghost use Rattle.unit_tree.specs.Led.{AreEntriesLed};
+ghost use Rattle.unit_tree.specs.Unit.{units_of, written_units_of};
 ghost use Rattle.unit_tree.specs.Spelling.{UnitTree, SpellsObject, IsSpelled, raw_units};
 
 /// What [`read_units`](crate::read_units) reads is spelled so, and what is spelled so is read (DWARF 4,
@@ -17,6 +18,13 @@ pub fn units_are_read_as_spelled()
         units_of sections ≡ Ok units → IsSpelled sections units }
     ensures only { (sections : SectionBytes) (trees : List UnitTree) → length sections.info < 2 ^ 32 → AreBytes sections.info → AreBytes sections.abbrev_ →
         SpellsObject sections trees → units_of sections ≡ Ok (raw_units trees) }
+{}
+
+/// The units of an image that was written are those of an object, where each section offset leads to a table or a list that is read;
+/// so what is said of an object's units holds of them.
+pub fn written_units_lead_somewhere()
+    ensures found { (sections : SectionBytes) (units : RawUnits) → written_units_of sections ≡ Ok units → (units_of sections ≡ Ok units) × AreEntriesLed units.entries }
+    ensures only { (sections : SectionBytes) (units : RawUnits) → units_of sections ≡ Ok units → AreEntriesLed units.entries → written_units_of sections ≡ Ok units }
 {}
 
 /// Each fault of an object's units is of one of these kinds.

@@ -19,11 +19,16 @@ mod header;
 mod laws;
 mod meaning;
 mod packed;
+mod parsed;
+mod profile;
 mod reference;
 mod table;
 mod unit;
 
 pub use header::header_size;
-pub use laws::{kinds_of_unit_faults, units_are_read_as_spelled};
+pub use laws::{kinds_of_unit_faults, units_are_read_as_spelled, written_units_lead_somewhere};
 pub use meaning::{Meaning, is_address_index, meaning_of_offset};
-pub use unit::{read_resolved_units, read_units};
+pub use parsed::Parsed;
+pub use profile::Profile;
+pub use reference::Reference;
+pub use unit::{read_resolved_units, read_unit, read_units};

@@ -13,7 +13,7 @@ use ds_base::dwarf::{
 };
 
 /// To what the number of a value leads.
-#[derive(Clone, Copy, Debug)]
+#[derive(Clone, Copy)]
 pub enum Meaning {
     /// To an entry of the same unit; it counts bytes from the unit's first byte.
     InUnit,

@@ -14,13 +14,13 @@ use std::alloc::Global;
 
 /// A reference to an entry, which is tried once all entries are known.
 #[derive(Clone, Copy)]
-pub(crate) struct Reference {
+pub struct Reference {
     /// The place of the value in `__debug_info`.
-    pub(crate) place: u32,
+    pub place: u32,
     /// The place in `__debug_info` of the entry to which it leads.
-    pub(crate) target: u32,
+    pub target: u32,
     /// The number of the unit of which that entry must be, if it can't be of any.
-    pub(crate) unit: Option<u32>,
+    pub unit: Option<u32>,
 }
 
 /// The numbers of the entries to which the references lead, in their order: each leads to the first byte of one.

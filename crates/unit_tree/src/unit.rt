@@ -14,22 +14,23 @@ ghost use Rattle.unit_tree.specs.Inside.{AreInside};
 ghost use Rattle.unit_tree.specs.Sound.{AreSound};
 ghost use Rattle.unit_tree.specs.Table.{AreRead};
 ghost use Rattle.unit_tree.specs.Targets.{number_at, targets_of};
-ghost use Rattle.unit_tree.specs.Unit.{short_in, language_of, unit_from, is_zero, zeros_at, unit_at, parsed_of, units_of, nothing};
+ghost use Rattle.unit_tree.specs.Unit.{short_in, language_of, unit_from, is_zero, zeros_at, context_in, unit_behind, unit_at, parsed_of, units_of, nothing};
+ghost use Rattle.unit_tree.specs.declared.profile.Profile.TheVariants.{Input};
+ghost use Rattle.ds_base.specs.Spot.{IsSmall};
 
 use crate::attribute::UnitContext;
-use crate::entry::{Parsed, find_bases, read_tree};
-use crate::header::{info_cursor, read_header};
-use crate::packed::PackedReference;
+use crate::entry::{find_bases, read_tree};
+use crate::header::{Header, info_cursor, read_header};
+use crate::parsed::Parsed;
+use crate::profile::Profile;
 use crate::reference::resolve;
-use crate::table::{Tables, add_table, kept_table};
+use crate::table::{Table, Tables, add_table, kept_table};
+use abbrev_read::read_table;
 use ds_base::dwarf::DW_AT_language;
 use ds_base::{Cursor, Fault, Kind, List, ReadError};
 use dwarf_types::{Builder, InUnit, RawEntryRef, RawUnits, Sections, ValueRef, is_flag};
 use std::alloc::Global;
 use std::collections::BTreeMap;
-
-/// Entries of C++ as compilers write them have one reference in so many bytes, or in a few more.
-const BYTES_A_REFERENCE: usize = 8;
 
 /// The units of an object and their entries, in document order (DWARF 4, section 7.5; DWARF 5, section
 /// 7.5).
@@ -82,30 +83,12 @@ pub fn read_resolved_units(
     // The numbers are those of the entries at the places in `Ref` values.
     ensures numbers { IfOk result (λ r. map Some r.1 ≡ map (number_at (places_of r.0.entries)) (targets_of r.0.entries)) }
 {
-    let mut parsed = Parsed {
-        built: Builder::new(
-            alloc,
-            sections.strings,
-            sections.line_str,
-            sections.info.len(),
-        )?,
-        references: room_for(alloc, sections.info.len() / BYTES_A_REFERENCE),
-    };
+    let mut parsed = Parsed::new(alloc, sections, sections.info.len())?;
     let units = read_each(alloc, sections, &mut parsed)?;
     let Parsed { built, references } = parsed;
     let entries = built.finish();
     let numbers = resolve(alloc, &entries, references.as_slice())?;
     Ok((RawUnits { units, entries }, numbers))
-}
-
-/// No references, and room for `count` of them if the allocator has it.
-fn room_for(alloc: Global, count: usize) -> List<PackedReference>
-    ensures { result ≡ [] }
-{
-    match List::with_capacity(alloc, count) {
-        Ok(references) => references,
-        Err(_) => List::new(alloc),
-    }
 }
 
 /// Reads the units one after the other, and puts their entries behind those before.
@@ -125,17 +108,17 @@ fn read_each(
     let mut place = 0u64;
     while place < end {
         let number = units.len() as u32;
-        let (unit, next) = read_unit(alloc, sections, &mut tables, number, place, parsed)?;
+        let (unit, next) = next_unit(alloc, sections, &mut tables, number, place, parsed)?;
         units.push(unit)?;
         place = next;
     }
     Ok(units)
 }
 
-/// Reads the unit of a number that begins at `place`, and puts its entries behind those before. Answers
-/// the place behind it, too.
+/// Reads the unit of an object that has a number and begins at `place`, and puts its entries behind those before.
+/// Answers the place behind it, too. What was read of abbreviation tables is kept: units may share one.
 #[tactic(auto, unfolding(crate::specs::Unit::unit_at))]
-fn read_unit(
+fn next_unit(
     alloc: Global,
     sections: &Sections,
     tables: &mut Tables,
@@ -148,31 +131,92 @@ fn read_unit(
     requires inside { place ≤ length sections.now.info.now }
     requires ready { IsReady parsed.old }
     requires tables { AreRead sections.now.abbrev.now tables.old }
-    ensures read { Gives (λ unit. ((unit.0, parsed_seen parsed.new), unit.1)) result (unit_at (bytes_in sections.now) number (parsed_seen parsed.old) place) }
+    ensures read { Gives (λ unit. ((unit.0, parsed_seen parsed.new), unit.1)) result (unit_at Input (bytes_in sections.now) number (parsed_seen parsed.old) place) }
     ensures inside { IfOk result (λ unit. unit.1 ≤ length sections.now.info.now) }
     ensures ready { OnOk result (IsReady parsed.new) }
     ensures tables { AreRead sections.now.abbrev.now tables.new }
 {
-    let (header, mut cursor) = read_header(sections, place)?;
-    add_table(alloc, tables, sections.abbrev, header.table)?;
-    let table = kept_table(tables, header.table);
-    let start = info_cursor(sections, place);
-    let unknown = UnitContext {
+    let header = read_header(sections, place)?;
+    add_table(alloc, tables, sections.abbrev, header.0.table)?;
+    let table = kept_table(tables, header.0.table);
+    let context = context_of(Profile::Input, number, place, header.0.version);
+    read_behind(alloc, sections, context, header, table, parsed)
+}
+
+/// Reads the unit of a number that begins at `place`, and puts its entries behind those before. Answers the place
+/// behind it, too.
+///
+/// Of a section that is read unit by unit, and whose entries are let go in between, the entries of each unit are
+/// numbered from 0. The unit's abbreviation table is read anew.
+#[tactic(auto, unfolding(crate::specs::Unit::unit_at))]
+pub fn read_unit(
+    alloc: Global,
+    sections: &Sections,
+    profile: Profile,
+    number: u32,
+    place: u64,
+    into: &mut Parsed,
+) -> Result<(InUnit, u64), ReadError>
+    requires info { length sections.now.info.now < 2 ^ 32 }
+    requires number { number < ANY_UNIT }
+    requires inside { place ≤ length sections.now.info.now }
+    requires ready { IsReady into.old }
+    ensures read { Gives (λ unit. ((unit.0, parsed_seen into.new), unit.1)) result (unit_at profile (bytes_in sections.now) number (parsed_seen into.old) place) }
+    ensures inside { IfOk result (λ unit. unit.1 ≤ length sections.now.info.now) }
+    ensures ready { OnOk result (IsReady into.new) }
+{
+    let header = read_header(sections, place)?;
+    let declarations = read_table(alloc, sections.abbrev, header.0.table)?;
+    let table = Table::new(alloc, declarations)?;
+    let context = context_of(profile, number, place, header.0.version);
+    read_behind(alloc, sections, context, header, &table, into)
+}
+
+/// A unit whose bases are not known yet.
+fn context_of(profile: Profile, number: u32, place: u64, version: u16) -> UnitContext
+    requires { place < 2 ^ 32 }
+    ensures { result ≡ context_in profile number place version None }
+{
+    UnitContext {
+        profile,
         unit: number,
         place: place as u32,
-        version: header.version,
+        version,
         bases: None,
-    };
-    let bases = find_bases(alloc, &start, &cursor, sections, unknown, table, parsed)?;
+    }
+}
+
+/// Reads what is behind the header of a unit whose bases are not known yet, and puts its entries behind those before.
+/// Answers the place behind the unit, too.
+fn read_behind<'a>(
+    alloc: Global,
+    sections: &Sections<'a>,
+    context: UnitContext,
+    header: (Header, Cursor<'a>),
+    table: &Table,
+    parsed: &mut Parsed,
+) -> Result<(InUnit, u64), ReadError>
+    requires unit { context.unit < ANY_UNIT }
+    requires inside { context.place ≤ length sections.now.info.now }
+    requires small { IsSmall header.1 }
+    requires ready { IsReady parsed.old }
+    ensures read { Gives (λ unit. ((unit.0, parsed_seen parsed.new), unit.1)) result (unit_behind (bytes_in sections.now) context header.entry table.now (parsed_seen parsed.old)) }
+    ensures end { IfOk result (λ unit. unit.1 ≡ header.entry.0.end) }
+    ensures ready { OnOk result (IsReady parsed.new) }
+{
+    let (header, mut cursor) = header;
+    let start = info_cursor(sections, u64::from(context.place));
+    let bases = find_bases(alloc, &start, &cursor, sections, context, table, parsed)?;
     let context = UnitContext {
-        unit: number,
-        place: place as u32,
-        version: header.version,
+        profile: context.profile,
+        unit: context.unit,
+        place: context.place,
+        version: context.version,
         bases: Some(bases),
     };
     let first = read_tree(alloc, &start, &mut cursor, sections, context, table, parsed)?;
     read_zeros(&start, &mut cursor)?;
-    Ok((unit_of(header.version, first, &parsed.built), header.end))
+    Ok((unit_of(context.version, first, &parsed.built), header.end))
 }
 
 /// Reads the zero bytes up to the end of the unit that begins at `start`.

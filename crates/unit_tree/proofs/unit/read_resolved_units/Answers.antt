@@ -2,6 +2,7 @@ use Rattle.std.proofs.Common.{ap, arith, map, refl, ◌∙◌}
 use Rattle.std.proofs.lemmas.Result.{err_from_is_err_and}
 use Rattle.dwarf_types.specs.Raw.{places_of}
 use Rattle.dwarf_types.specs.SectionBytes.{bytes_in}
+use Rattle.unit_tree.specs.declared.profile.Profile.TheVariants.{Input}
 use Rattle.unit_tree.specs.Targets.{number_at}
 use Rattle.unit_tree.proofs.InsideLaws.{read_inside}
 use Rattle.unit_tree.proofs.Noted.{units_noted}
@@ -12,7 +13,7 @@ use Rattle.unit_tree.proofs.unit.read_resolved_units.Goals as goal
 
 pub resolve-requires-clause-rising : goal.resolve-requires-clause-rising
 resolve-requires-clause-rising c =
-    let r = units_rise (bytes_in c.args.sections.now) _ c.in_ok-units.ensures.read in
+    let r = units_rise Input (bytes_in c.args.sections.now) _ c.in_ok-units.ensures.read in
     rw c.finish-entries.ensures r.rising
 
 pub resolve-requires-clause-few : goal.resolve-requires-clause-few

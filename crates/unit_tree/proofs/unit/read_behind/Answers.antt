@@ -1,7 +1,7 @@
 use Rattle.std.proofs.Common.{arith}
 use Rattle.dwarf_types.specs.SectionBytes.{bytes_in}
 use Rattle.unit_tree.proofs.Soundness.{tree_longer}
-use Rattle.unit_tree.proofs.unit.read_unit.Goals as goal
+use Rattle.unit_tree.proofs.unit.read_behind.Goals as goal
 
 pub unit_of-requires-clause-root : goal.unit_of-requires-clause-root
 unit_of-requires-clause-root c =
