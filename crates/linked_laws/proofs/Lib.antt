@@ -14,3 +14,4 @@ pub mod Roots
 pub mod Spans
 pub mod Whole
 pub mod Written
+pub mod Places

@@ -46,3 +46,12 @@ module _ (objects : List Object) (i k : ℕ) where
     pub stands : origin_at (before ++ filter_map (shape_in objects) (sources objects)) target ≡ Some origin
     pub object : origin.object ≡ i + 1
     pub entry : origin.entry ≡ k
+
+-- the node at a place stands for an entry that is written, and references to that entry lead there; so many units stand before those of the objects
+pub record IsNodeOfEntry (objects : List Object) (first : ℕ) (target : Target) (origin : Origin) : Type 0 where
+  pub object : ℕ
+  pub counted : origin.object ≡ object + 1
+  pub o : Object
+  pub e : Entry
+  pub is : IsKeptEntry objects object origin.entry o e
+  pub leads : plain_target first objects object origin.entry ≡ Some target

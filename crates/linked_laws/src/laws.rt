@@ -1,7 +1,7 @@
 //! What is linked, and what is marked for it.
 
-ghost use Rattle.std.specs.Prelude.{◌≡◌, ◌↔◌, ◌==◌, ℕ, true, false, slice_get, slice_index_or, Option, Some, List as Listed};
-ghost use Rattle.std.specs.List.{All, Contains};
+ghost use Rattle.std.specs.Prelude.{◌≡◌, ◌≤◌, ◌↔◌, ◌==◌, ◌++◌, ℕ, true, false, length, slice_get, slice_index_or, Option, Some, List as Listed};
+ghost use Rattle.std.specs.List.{All, Contains, filter_map};
 ghost use Rattle.ds_base.specs.DwarfNumbers.{DW_AT_decl_file};
 ghost use Rattle.dwarf_types.specs.declared.entry.Attr.{Attr};
 ghost use Rattle.dwarf_types.specs.declared.entry.Entry.{Entry};
@@ -16,11 +16,13 @@ ghost use Rattle.dwarf_types.specs.declared.operands.Operands.TheVariants as ope
 ghost use Rattle.dwarf_types.specs.declared.parts.ExprPart.TheVariants as parts;
 ghost use Rattle.dwarf_types.specs.declared.parts.PlainPart.{PlainPart};
 ghost use Rattle.dwarf_types.specs.declared.parts.PlainPart.TheVariants as plain;
+ghost use Rattle.dwarf_types.specs.declared.shape.Origin.{Origin};
 ghost use Rattle.dwarf_types.specs.declared.shape.ShapeUnit.{ShapeUnit};
 ghost use Rattle.dwarf_types.specs.declared.value.Value.TheVariants as values;
 ghost use Rattle.dwarf_types.specs.LinkedExpressions.{parts_of};
 ghost use Rattle.dwarf_types.specs.LinkedGraph.{linked, linked_behind};
-ghost use Rattle.dwarf_types.specs.LinkedUnits.{Object, is_kept, plain_target};
+ghost use Rattle.dwarf_types.specs.LinkedShape.{shape_in};
+ghost use Rattle.dwarf_types.specs.LinkedUnits.{Object, is_kept, plain_target, sources};
 ghost use Rattle.dwarf_types.specs.LinkedValues.{FileNumbers, attrs_written, is_left_out};
 ghost use Rattle.dwarf_types.specs.Live.{IsLive, Needs, bases_of};
 ghost use Rattle.dwarf_types.specs.Operations.{operands_of};
@@ -29,7 +31,7 @@ ghost use Rattle.dwarf_types.specs.Well.{IsWell, IsWellAlone, IsWellUnit};
 ghost use Rattle.dwarf_types.specs.WellValues.{IsTarget};
 ghost use Rattle.linked_laws.specs.Ends.{Ends};
 ghost use Rattle.linked_laws.specs.Kept.{IsWhole, Leads};
-ghost use Rattle.linked_laws.specs.Nodes.{HasNode, HasOrigin, IsKeptEntry};
+ghost use Rattle.linked_laws.specs.Nodes.{HasNode, HasOrigin, IsKeptEntry, IsNodeOfEntry, origin_at};
 
 /// What is linked of objects is well, in versions 4 and 5.
 ///
@@ -54,6 +56,13 @@ pub fn written_entries_have_nodes()
     ensures base { (first : ℕ) (objects : Listed Object) (i k j : ℕ) (o : Object) (e : Entry) → IsWhole o → IsKeptEntry objects i k o e → Contains (bases_of e) j
         → (target : Target) × (base : Target) × (plain_target first objects i k ≡ Some target) × (plain_target first objects i j ≡ Some base) × (base.unit ≡ target.unit) }
     ensures only { (first : ℕ) (objects : Listed Object) (i k : ℕ) (target : Target) → plain_target first objects i k ≡ Some target → (o : Object) × (e : Entry) × IsKeptEntry objects i k o e }
+{}
+
+/// Each node stands for an entry that is written, and references to that entry lead to it, behind other units too. So no two
+/// of these nodes stand for one entry.
+pub fn nodes_stand_for_written_entries()
+    ensures { (before : Listed ShapeUnit) (objects : Listed Object) (target : Target) (origin : Origin) → All (λ o. IsSound o.seen) objects → length before ≤ target.unit
+        → origin_at (before ++ filter_map (shape_in objects) (sources objects)) target ≡ Some origin → IsNodeOfEntry objects (length before) target origin }
 {}
 
 /// A reference to an entry that has a node is written, unless its attribute is one that is left out. An operation names the
