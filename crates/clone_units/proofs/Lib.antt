@@ -14,4 +14,4 @@ pub mod Numbered
 pub mod Pooled
 pub mod Asked
 pub mod NamedFiles
-pub mod LastUses
+pub mod NotedUses

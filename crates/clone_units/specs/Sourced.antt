@@ -5,7 +5,7 @@ use Rattle.std.specs.Option.{option_and_then, option_map_or}
 use denote.Ref.{Bor}
 use Rattle.indexmap.specs.IndexSet.{IndexSet, insert_key}
 use Rattle.clone_units.specs.declared.source_files.FileRef.{FileRef}
-use Rattle.clone_units.specs.declared.source_files.FileUse.{FileUse}
+use Rattle.clone_units.specs.declared.noted_uses.FileUse.{FileUse}
 use Rattle.clone_units.specs.declared.entry_sources.SourceRef.{SourceRef}
 use Rattle.clone_values.specs.Images.{NamesAmong, image_at}
 use Rattle.dwarf_types.specs.declared.address.Span.{Span}
@@ -55,10 +55,6 @@ with_named files (Some file) = insert_key same_file files file
 -- the unit of a use is there
 abbrev pub IsUseIn : List Analysis → FileUse → Type 0
 IsUseIn all named = (seen : Analysis) × (slice_get all named.object ≡ Some seen) × (named.unit < length seen.units)
-
--- putting the file of a use, if there is one, leaves the files as they are
-abbrev pub IsPut : List Analysis → Option FileUse → List SourceFile → Type 0
-IsPut all last files = with_named files (option_and_then (file_of_use all) last) ≡ files
 
 -- the directory of a file, unless it is empty
 abbrev pub some_dir : SourceFile → Option (List ℕ)

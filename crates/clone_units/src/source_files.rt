@@ -6,7 +6,8 @@ ghost use Rattle.std.proofs.lemmas.Bool.{and_parts};
 ghost use Rattle.std.specs.Cmp.Lexicographic.{bytes_decides};
 ghost use Rattle.std.specs.List.{All, flat_map};
 ghost use Rattle.std.specs.Option.{option_and_then, option_map, option_map_or};
-ghost use Rattle.clone_units.specs.Sourced.{IsPut, IsSourced, IsUseIn, Names, file_of_use, file_seen, files_seen, uses_of, with_named};
+ghost use Rattle.clone_units.specs.Noted.{AreNoted};
+ghost use Rattle.clone_units.specs.Sourced.{IsSourced, IsUseIn, Names, file_of_use, file_seen, files_seen, uses_of, with_named};
 ghost use Rattle.dwarf_types.specs.declared.entry.Attr.{Attr};
 ghost use Rattle.dwarf_types.specs.Moves.{value_of};
 ghost use Rattle.dwarf_types.specs.Seen.{attr_seen, value_seen};
@@ -17,8 +18,9 @@ ghost use Rattle.link_graph.specs.PoolFiles.{directory_in, directory_of_unit, fi
 
 use crate::entry_sources::{SourceRef, source_of};
 use crate::nodes::{analysis_of, unit_of};
-use ds_base::NoMemory;
+use crate::noted_uses::{FileUse, is_noted, no_marks, note};
 use ds_base::dwarf::{DW_AT_comp_dir, DW_AT_decl_file, DWARF_5};
+use ds_base::{List, NoMemory};
 use dwarf_types::{Analysis, AttrRef, EntryRef, FileNameRef, InUnit, Origin, OutLines, ValueRef};
 use indexmap::IndexSet;
 use std::alloc::Global;
@@ -44,15 +46,6 @@ impl<'a> Hash for FileRef<'a> {
     }
 }
 
-/// By what an attribute names a source file: a number in the table of a unit of an object.
-#[derive(Clone, Copy)]
-struct FileUse {
-    /// The number of the object, counted from 0.
-    object: usize,
-    unit: u32,
-    number: u64,
-}
-
 /// The source files that the entries of nodes name, by first use. Each node stands for an entry.
 pub(crate) fn files_of<'a>(
     alloc: Global,
@@ -63,44 +56,44 @@ pub(crate) fn files_of<'a>(
     ensures { IfOk result (λ files. files_seen files ≡ files_of seen.now origins.now) }
 {
     let mut files = IndexSet::new(alloc);
-    let mut last = None;
+    let mut marks = no_marks(alloc, seen)?;
     for origin in origins {
-        last = add_files(&mut files, last, seen, *origin)?;
+        add_files(&mut files, &mut marks, seen, *origin)?;
     }
     Ok(files)
 }
 
-/// Puts the files that the entry of a node names behind those that are there, each unless it is one of them, and gives the last
-/// use of a file. `last` is the last one before.
+/// Puts the files that the entry of a node names behind those that are there, each unless it is one of them. `marks` tells
+/// the uses whose files are there.
 fn add_files<'a>(
     files: &mut IndexSet<FileRef<'a>>,
-    last: Option<FileUse>,
+    marks: &mut List<List<List<bool>>>,
     seen: &'a [Analysis],
     origin: Origin,
-) -> Result<Option<FileUse>, NoMemory>
+) -> Result<(), NoMemory>
     requires sourced { IsSourced seen.now origin }
-    requires put { IsPut seen.now last (files_seen files.old) }
+    requires noted { AreNoted seen.now marks.old (files_seen files.old) }
     ensures named { OnOk result (files_seen files.new ≡ insert_all same_file (files_seen files.old) (uses_of seen.now origin)) }
-    ensures put { IfOk result (λ now. IsPut seen.now now (files_seen files.new)) }
+    ensures noted { OnOk result (AreNoted seen.now marks.new (files_seen files.new)) }
 {
-    add_files_named(files, last, seen, &source_of(seen, origin))
+    add_files_named(files, marks, seen, &source_of(seen, origin))?;
+    Ok(())
 }
 
 /// The same for an entry of an object.
 fn add_files_named<'a>(
     files: &mut IndexSet<FileRef<'a>>,
-    last: Option<FileUse>,
+    marks: &mut List<List<List<bool>>>,
     seen: &'a [Analysis],
     source: &SourceRef<'a>,
-) -> Result<Option<FileUse>, NoMemory>
+) -> Result<(), NoMemory>
     requires own { slice_get seen.now source.now.object ≡ Some source.now.seen.now }
     requires unit { source.now.entry.unit < length source.now.seen.now.units }
-    requires put { IsPut seen.now last (files_seen files.old) }
+    requires noted { AreNoted seen.now marks.old (files_seen files.old) }
     ensures named { OnOk result (files_seen files.new ≡ insert_all same_file (files_seen files.old) (files_named source.now.seen.now source.now.entry)) }
-    ensures put { IfOk result (λ now. IsPut seen.now now (files_seen files.new)) }
+    ensures noted { OnOk result (AreNoted seen.now marks.new (files_seen files.new)) }
 {
     let entry = &source.entry;
-    let mut last = last;
     for j in 0..entry.len() {
         if let Some(number) = file_number_at(entry, j) {
             let now = FileUse {
@@ -108,11 +101,10 @@ fn add_files_named<'a>(
                 unit: entry.unit(),
                 number,
             };
-            add_use(files, last, seen, now)?;
-            last = Some(now);
+            add_use(files, marks, seen, now)?;
         }
     }
-    Ok(last)
+    Ok(())
 }
 
 /// The number by which the attribute of an entry at a place names a file; the value of another attribute is not read.
@@ -139,39 +131,28 @@ fn file_number(attr: &AttrRef<'_>) -> Option<u64>
     }
 }
 
-/// Puts the file of a use last, unless it is there. That of the last use is there, and most nodes name the file that the node
-/// before them named: then no text is looked at.
+/// Puts the file of a use last, unless it is there. Of a use that is marked no text is looked at, so each file of a unit's
+/// table is hashed once.
 fn add_use<'a>(
     files: &mut IndexSet<FileRef<'a>>,
-    last: Option<FileUse>,
+    marks: &mut List<List<List<bool>>>,
     seen: &'a [Analysis],
     now: FileUse,
 ) -> Result<(), NoMemory>
     requires unit { IsUseIn seen.now now }
-    requires put { IsPut seen.now last (files_seen files.old) }
+    requires noted { AreNoted seen.now marks.old (files_seen files.old) }
     ensures named { OnOk result (files_seen files.new ≡ with_named (files_seen files.old) (file_of_use seen.now now)) }
-    ensures put { OnOk result (IsPut seen.now (Some now) (files_seen files.new)) }
+    ensures noted { OnOk result (AreNoted seen.now marks.new (files_seen files.new)) }
 {
-    if is_same(last, now) {
+    if is_noted(marks.as_slice(), now) {
         return Ok(());
     }
     let Some(file) = file_of_use(seen, now) else {
         return Ok(());
     };
     add_file(files, file)?;
+    note(marks, now);
     Ok(())
-}
-
-/// Whether the last use is this one.
-fn is_same(last: Option<FileUse>, now: FileUse) -> bool
-    ensures { result ≡ true → last ≡ Some now }
-{
-    match last {
-        Some(last) => {
-            last.object == now.object && last.unit == now.unit && last.number == now.number
-        }
-        None => false,
-    }
 }
 
 /// The file of a use, if the table has it.

@@ -6,6 +6,7 @@ pub mod BookPaths
 pub mod Winning
 pub mod Counting
 pub mod Siblings
+pub mod TwinTable
 pub mod Closed
 pub mod EnteringRows
 pub mod MakingBooks

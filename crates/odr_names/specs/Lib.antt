@@ -6,6 +6,7 @@ pub mod Stretches
 pub mod Winners
 pub mod Ranking
 pub mod Twins
+pub mod TwinTable
 pub mod Entering
 pub mod Making
 pub mod Joining

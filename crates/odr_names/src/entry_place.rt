@@ -1,7 +1,7 @@
 //! Where entries of names stand.
 
 /// Where an entry stands.
-#[derive(Clone, Copy, Debug)]
+#[derive(Clone, Copy)]
 pub struct Occurrence {
     /// Counted from 1.
     pub object: u32,

@@ -1,13 +1,14 @@
 //! Names: the paths of pooled entries, which of them are equal, and which entry wins each.
 //!
-//! Layer: names. [`object_names`] makes the names of one object, whatever the others are: [`type_names::type_names`] tells
-//! which entries are pooled, and each of these gets a row (`enter`). A row takes 24 bytes and leads to the row above; names
-//! and linkage names stay in the analyses. [`joined_book`] puts the rows of all objects behind one another (`joining`,
-//! `specs/Joining.antt`), once [`names_together`] has told that they are few enough; [`book`] makes and joins them one by
-//! one. What a book's names are stands in `type_names/specs/Names.antt`; when rows stand for them, in `specs/Book.antt`;
-//! which rows of live entries a book is made of, in `specs/Making.antt`. Paths are compared hash first and then piece by
-//! piece upwards (`path_book`, `piece`). Ordinals (`ordinals`) come from chains of entries whose hashes share a cell, and
-//! winners ([`winners_plain`], `specs/Winners.antt`) from a sort by hashes. A [`PathBook`] is a `NameBook` of `pool_core`
+//! Layer: names. [`object_names`] makes the names of one object, whatever the others are: [`type_names::type_names`]
+//! tells which entries are pooled, and each of these gets a row (`enter`). A row takes 24 bytes and leads to the row
+//! above; names and linkage names stay in the analyses. [`joined_book`] puts the rows of all objects behind one another
+//! (`joining`, `specs/Joining.antt`), once [`names_together`] has told that they are few enough; [`book`] makes and
+//! joins them one by one. What a book's names are stands in `type_names/specs/Names.antt`; when rows stand for them, in
+//! `specs/Book.antt`; which rows of live entries a book is made of, in `specs/Making.antt`. Paths are compared hash
+//! first and then piece by piece upwards (`path_book`, `piece`). Ordinals (`ordinals`) come from chains of entries
+//! whose hashes share a cell, or where these are long from an ordered table (`twin_table`), and winners
+//! ([`winners_plain`], `specs/Winners.antt`) from a sort by hashes. A [`PathBook`] is a `NameBook` of `pool_core`
 //! (`name_book`).
 #![tactic(auto)]
 
@@ -24,6 +25,7 @@ mod path_book;
 mod piece;
 mod row_numbers;
 mod together;
+mod twin_table;
 mod winners;
 
 pub use book_error::BookError;

@@ -1,6 +1,6 @@
 //! Ordinals of pieces: how many earlier siblings have the same parts.
 
-ghost use Rattle.std.specs.Prelude.{◌≡◌, ◌≤◌, ◌<◌, ◌^◌, ◌↔◌, ℕ, true, false, length, slice_get, slice_index_or, Some, None, IfOk, IsTrue, OnOk, ◌+◌, if◌then◌else◌};
+ghost use Rattle.std.specs.Prelude.{◌≡◌, ◌≤◌, ◌<◌, ◌^◌, ◌↔◌, ℕ, true, false, length, slice_get, slice_index_or, Some, None, IfOk, IfSome, IsTrue, OnOk, ◌+◌, if◌then◌else◌};
 ghost use Rattle.std.specs.Option.{option_and_then};
 ghost use Rattle.dwarf_types.specs.declared.entry.Entry.{Entry as AnEntry};
 ghost use Rattle.dwarf_types.specs.Tree.{ParentsStandBefore};
@@ -16,6 +16,7 @@ ghost use Rattle.type_names.specs.Tree.{parent_of};
 use crate::hash::hash_piece;
 use crate::marks::count_marked;
 use crate::piece::{PartsRef, PieceRef, parts_at, parts_equal};
+use crate::twin_table::counts_by_order;
 use ds_base::dwarf::{DW_TAG_namespace, DW_TAG_subprogram};
 use ds_base::{BitRow, NoMemory};
 use dwarf_types::{Analysis, Entries};
@@ -31,6 +32,9 @@ pub(crate) struct Sibling {
 
 const _: () = prove!(size_of::<Sibling>() == 16);
 
+/// So many ranks of one cell are tried at most. There are more cells than ranks, so few chains have more than ten.
+const MOST_TRIED: u32 = 64;
+
 /// Siblings in chains, one for each cell of hashes. A link holds 1 more than the place of a rank, or 0 for none.
 #[derive(Drop)]
 pub(crate) struct Chains {
@@ -44,7 +48,8 @@ pub(crate) struct Chains {
 /// subtrees of heads that their parts don't tell apart.
 ///
 /// The siblings are gone over by their numbers. Those whose hashes share a cell hang in a chain, so that the nearest earlier
-/// one with the same parts is reached first.
+/// one with the same parts is reached first. Where a chain is long, as names can make it that were chosen for their hashes,
+/// an ordered table takes the place of all chains ([`crate::twin_table`]): the time is n log n at most.
 pub(crate) fn twins_of(
     alloc: Global,
     seen: &Analysis,
@@ -155,14 +160,37 @@ fn counts_of(
     requires siblings { AreSiblings object (object_of seen.now live.now) ranks.now (length seen.now.entries) }
     ensures { IfOk result (λ counts. AreCounted object (object_of seen.now live.now) ranks.now counts.items (length ranks.now)) }
 {
+    match counts_by_chains(alloc, seen, live, names, object, ranks)? {
+        Some(counts) => Ok(counts),
+        None => counts_by_order(alloc, seen, live, names, object, ranks),
+    }
+}
+
+/// The same by chains; `None` where one is too long.
+fn counts_by_chains(
+    alloc: Global,
+    seen: &Analysis,
+    live: &BitRow,
+    names: &TypeNames,
+    object: u32,
+    ranks: &[Sibling],
+) -> Result<Option<Vec<u32>>, NoMemory>
+    requires few { length seen.now.entries ≤ 2 ^ 24 }
+    requires parents { ParentsStandBefore seen.now.entries }
+    requires names { AreNames (object_of seen.now live.now) names.now }
+    requires siblings { AreSiblings object (object_of seen.now live.now) ranks.now (length seen.now.entries) }
+    ensures { IfOk result (λ counted. IfSome counted (λ counts. AreCounted object (object_of seen.now live.now) ranks.now counts.items (length ranks.now))) }
+{
     let mut counts = vec![in alloc; 0; seen.entries.len()]?;
     let mut chains = no_chains(alloc, ranks)?;
     for i in 0..ranks.len() {
-        let count = count_at(seen, live, names, object, ranks, &chains, &counts, i);
+        let Some(count) = count_at(seen, live, names, object, ranks, &chains, &counts, i) else {
+            return Ok(None);
+        };
         counts[ranks[i].number as usize] = count;
         hang(&mut chains, ranks, i)?;
     }
-    Ok(counts)
+    Ok(Some(counts))
 }
 
 /// Chains in which none of these ranks hangs yet.
@@ -198,7 +226,8 @@ fn cell_of(rank: Sibling, cells: usize) -> usize
     ((rank.hash >> 32) % cells as u64) as usize
 }
 
-/// The count at rank `i`: one more than that of the nearest rank before it with the same parent and parts, or 0.
+/// The count at rank `i`: one more than that of the nearest rank before it with the same parent and parts, or 0. `None`
+/// where so many ranks of its cell were tried that the others are left.
 fn count_at(
     seen: &Analysis,
     live: &BitRow,
@@ -208,7 +237,7 @@ fn count_at(
     chains: &Chains,
     counts: &[u32],
     i: usize,
-) -> u32
+) -> Option<u32>
     requires few { length seen.now.entries ≤ 2 ^ 24 }
     requires parents { ParentsStandBefore seen.now.entries }
     requires names { AreNames (object_of seen.now live.now) names.now }
@@ -216,22 +245,25 @@ fn count_at(
     requires chained { AreChained ranks.now chains.now i }
     requires within { i < length ranks.now }
     requires counted { AreCounted object (object_of seen.now live.now) ranks.now counts.now i }
-    ensures { (r : ASibling) → slice_get ranks.now i ≡ Some r → result ≡ twins_before object (object_of seen.now live.now) r.number }
+    ensures { (r : ASibling) → slice_get ranks.now i ≡ Some r → IfSome result (λ count. count ≡ twins_before object (object_of seen.now live.now) r.number) }
 {
     let here = rank_at(ranks, i);
     let mut j = chains.newest[cell_of(here, chains.newest.len())];
-    while j > 0 {
+    for _ in 0..MOST_TRIED {
+        if j == 0 {
+            return Some(0);
+        }
         let other = rank_at(ranks, j as usize - 1);
         if are_ranked_twins(seen, live, names, object, other, here) {
-            return counts[other.number as usize] + 1;
+            return Some(counts[other.number as usize] + 1);
         }
         j = chains.before[j as usize - 1];
     }
-    0
+    None
 }
 
 /// The rank at a place.
-fn rank_at(ranks: &[Sibling], i: usize) -> Sibling
+pub(crate) fn rank_at(ranks: &[Sibling], i: usize) -> Sibling
     requires { i < length ranks.now }
     ensures { slice_get ranks.now i ≡ Some result }
 {

@@ -7,7 +7,7 @@ use dwarf_types::Target;
 pub(crate) const OFFSET_LEN: usize = OFFSET_SIZE as usize;
 
 /// What the unit itself tells, once all of it is there. Places count from the unit's header.
-#[derive(Clone, Copy, Debug)]
+#[derive(Clone, Copy)]
 pub enum Own {
     /// `unit_length`, which doesn't count its own four bytes (DWARF 4, section 7.5.1.1).
     Size,
@@ -18,7 +18,7 @@ pub enum Own {
 }
 
 /// What stands outside of the unit. Places count from the start of a section.
-#[derive(Clone, Copy, Debug)]
+#[derive(Clone, Copy)]
 pub enum Outer {
     /// The unit's abbreviations in `__debug_abbrev`.
     Table,
@@ -37,14 +37,14 @@ pub enum Outer {
 }
 
 /// A hole for what the unit tells. `at` counts bytes from the buffer's start.
-#[derive(Clone, Copy, Debug)]
+#[derive(Clone, Copy)]
 pub struct OwnPatch {
     pub at: usize,
     pub hole: Own,
 }
 
 /// A hole for what stands outside. `at` counts bytes from the buffer's start.
-#[derive(Clone, Copy, Debug)]
+#[derive(Clone, Copy)]
 pub struct OuterPatch {
     pub at: usize,
     pub hole: Outer,

@@ -1,15 +1,17 @@
 -- The entries above an entry, from the innermost up.
-use Rattle.std.proofs.Common.{◌≡◌, ℕ, ◌<◌, ◌≤◌, List, [], ◌∷◌, ◌++◌, length, map, drop, reverse, Option, Some, None, true, false, is_some, slice_get, refl, sym, ap, ◌∙◌, arith, append_assoc, subst, Err}
+use Rattle.std.proofs.Common.{◌≡◌, ℕ, ◌<◌, ◌≤◌, ◌+◌, List, [], ◌∷◌, ◌++◌, length, map, drop, reverse, Option, Some, None, true, false, is_some, slice_get, refl, sym, ap, ◌∙◌, arith, append_assoc, subst, Err}
 use Rattle.std.specs.Prelude.{codes}
 use Rattle.std.specs.List.{All, filter_map}
 use Rattle.std.specs.Option.{ForSome, option_and_then, option_map_or}
-use Rattle.std.proofs.lemmas.List.{drop-append-le, get_or_append_left, reverse-append, length-append}
-use Rattle.std.proofs.lemmas.List.Elements.{All-push}
+use Rattle.std.proofs.lemmas.List.{drop-append-le, get_or_append_left, reverse-append, length-append, length_push}
+use Rattle.std.proofs.lemmas.Bool.{lt-leb}
+use Rattle.std.proofs.lemmas.List.Elements.{All-push, filter_map-append}
 use Rattle.std.proofs.lemmas.Option.{none-some, same_Some, slice_get_within}
 use Rattle.dwarf_types.specs.declared.entry.Entry.{Entry}
 use Rattle.dwarf_types.specs.Tree.{ParentsStandBefore}
 use Rattle.type_names.specs.Entries.{Text}
 use Rattle.type_names.specs.declared.spell.SpellError.{SpellError}
+use Rattle.type_names.specs.declared.spell.SpellError.TheVariants as errors
 use Rattle.type_names.specs.Onto.{Writes, onto}
 use Rattle.type_names.specs.Spell.{◌&◌, all_of, scope_name}
 use Rattle.type_names.specs.Tree.{below_unit, lineage, parent_of}
@@ -37,6 +39,7 @@ pub record IsWalked (entries : List Entry) (left : Option ℕ) (scopes whole : L
   pub all : from_up entries left ++ reverse scopes ≡ whole
   pub within : All (λ a. a < length entries) scopes
   pub inside : ForSome left (λ a. a < length entries)
+  pub there : length (filter_map (slice_get entries) (reverse scopes)) ≡ length scopes
 
 -- the walk: what is left above, and what was pushed, make the whole
 pub pushed_more : (entries : List Entry) (a p : ℕ) (scopes whole : List ℕ) → ParentsStandBefore entries → parent_of entries a ≡ Some p
@@ -55,6 +58,13 @@ parent_within entries a p is = go (slice_get entries a) refl is where
   go None at t = absurd (none-some p t)
   go (Some e) at t = slice_get_within entries a e at
 
+-- an entry with a parent is there
+one_there : (entries : List Entry) (a p : ℕ) (numbers : List ℕ) → parent_of entries a ≡ Some p → length (filter_map (slice_get entries) (a ∷ numbers)) ≡ length (filter_map (slice_get entries) numbers) + 1
+one_there entries a p numbers up = go (slice_get entries a) refl up where
+  go : (o : Option Entry) → slice_get entries a ≡ o → option_and_then (λ (e : Entry). e.parent) o ≡ Some p → length (filter_map (slice_get entries) (a ∷ numbers)) ≡ length (filter_map (slice_get entries) numbers) + 1
+  go None at t = absurd (none-some p t)
+  go (Some e) at t = rw at (omega arith)
+
 pub walked_on : (entries : List Entry) (left : Option ℕ) (a : ℕ) (o : Option ℕ) (scopes whole : List ℕ) → ParentsStandBefore entries → left ≡ Some a → parent_of entries a ≡ o → is_some o ≡ true
     → IsWalked entries left scopes whole → IsWalked entries o (scopes ++ a ∷ []) whole
 walked_on entries left a None scopes whole before is up some so_far = absurd (cc)
@@ -62,6 +72,7 @@ walked_on entries left a (Some p) scopes whole before is up some so_far = record
   all = pushed_more entries a p scopes whole before up (ap (λ (o : Option ℕ). from_up entries o ++ reverse scopes) (sym is) ∙ so_far.all);
   within = All-push (λ a. a < length entries) scopes a so_far.within (parent_within entries a p up);
   inside = λ q same. omega (arith, parent_within entries a p up, parent_before entries a p before up, same_Some p q same);
+  there = ap (λ (numbers : List ℕ). length (filter_map (slice_get entries) numbers)) (reverse-append scopes (a ∷ [])) ∙ one_there entries a p (reverse scopes) up ∙ ap (λ (n : ℕ). n + 1) so_far.there ∙ sym (length_push scopes a);
 }
 
 pub walked_out : (entries : List Entry) (left : Option ℕ) (a : ℕ) (o : Option ℕ) (scopes whole : List ℕ) → left ≡ Some a → parent_of entries a ≡ o → is_some o ≡ false
@@ -71,6 +82,7 @@ walked_out entries left a None scopes whole is up none so_far = record {
   all = pushed_last entries a scopes whole up (ap (λ (o : Option ℕ). from_up entries o ++ reverse scopes) (sym is) ∙ so_far.all);
   within = so_far.within;
   inside = λ q same. absurd (none-some q same);
+  there = so_far.there;
 }
 
 -- ---- their names
@@ -111,3 +123,35 @@ pub popped_stops : (entries : List Entry) (was scopes : List ℕ) (a : ℕ) (e :
 popped_stops entries was scopes a e out new whole error is at so_far stop =
     let split = ap (λ (xs : List ℕ). scopes_of entries (reverse xs)) is ∙ scopes_popped entries scopes a e at in
     subst (Writes {A = Unit {0}} (Err error) new) (sym (ap (onto out) split) ∙ so_far.all) (stopped out new new (scope_name e & Some (codes "::")) (scopes_of entries (reverse scopes)) error stop)
+
+-- ---- more of them than can be named
+
+-- each has two bytes at least
+two_each : (es : List Entry) (text : Text) → all_of (map (λ (a : Entry). scope_name a & Some (codes "::")) es) ≡ Some text → length es + length es ≤ length text
+two_each [] text is = omega arith
+two_each (e ∷ es) text is = go (scope_name e) (all_of (map (λ (a : Entry). scope_name a & Some (codes "::")) es)) is (two_each es) where
+  go : (name rest : Option Text) → (name & Some (codes "::")) & rest ≡ Some text → ((more : Text) → rest ≡ Some more → length es + length es ≤ length more) → length (e ∷ es) + length (e ∷ es) ≤ length text
+  go None rest told so_far = absurd (none-some text told)
+  go (Some name) None told so_far = absurd (none-some text told)
+  go (Some name) (Some more) told so_far = (
+      let parts : (name ++ codes "::") ++ more ≡ text = same_Some ((name ++ codes "::") ++ more) text told in
+      omega (arith, so_far more refl, ap length parts, length-append (name ++ codes "::") more, length-append name (codes "::")))
+
+too_many : (es : List Entry) (out : List ℕ) → 2048 < length es → onto out (all_of (map (λ (a : Entry). scope_name a & Some (codes "::")) es)) ≡ None
+unfolding onto
+too_many es out many = go (all_of (map (λ (a : Entry). scope_name a & Some (codes "::")) es)) refl where
+  go : (o : Option Text) → all_of (map (λ (a : Entry). scope_name a & Some (codes "::")) es) ≡ o → onto out o ≡ None
+  go None is = refl
+  go (Some text) is = rw (lt-leb (length (out ++ text)) 4096 (omega (arith, length-append out text, two_each es text is, many))) refl
+
+-- where so many are passed, their names can't be written
+pub too_deep : (entries : List Entry) (left : Option ℕ) (scopes whole out : List ℕ) → IsWalked entries left scopes whole → 2048 < length scopes → onto out (scopes_of entries whole) ≡ None
+too_deep entries left scopes whole out walked many =
+    let all : filter_map (slice_get entries) whole ≡ filter_map (slice_get entries) (from_up entries left) ++ filter_map (slice_get entries) (reverse scopes) =
+    ap (filter_map (slice_get entries)) (sym walked.all) ∙ filter_map-append (slice_get entries) (from_up entries left) (reverse scopes) in
+    too_many (filter_map (slice_get entries) whole) out (omega (arith, ap length all, length-append (filter_map (slice_get entries) (from_up entries left)) (filter_map (slice_get entries) (reverse scopes)), walked.there, many))
+
+-- it stops where its text can't be written
+pub cannot_stops : (new : List ℕ) (told : Option (List ℕ)) (e : SpellError) → (e ≡ errors.Cannot → told ≡ None) → Writes {A = Unit {0}} (Err e) new told
+cannot_stops new told errors.Cannot none = none refl
+cannot_stops new told errors.NoMemory none = tt

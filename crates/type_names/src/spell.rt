@@ -1,6 +1,6 @@
 //! The spelling of types.
 
-ghost use Rattle.std.specs.Prelude.{◌≡◌, ◌+◌, ◌<◌, true, [], ◌∷◌, ◌++◌, length, reverse, slice_get, map, Some, None, All, OnOk, codes, if◌then◌else◌, nat_lt};
+ghost use Rattle.std.specs.Prelude.{◌≡◌, ◌+◌, ◌<◌, true, [], ◌∷◌, ◌++◌, length, reverse, slice_get, map, List as Listed, ℕ, Err, Some, None, All, OnOk, codes, if◌then◌else◌, nat_lt};
 ghost use Rattle.std.specs.Fmt.{decimal};
 ghost use Rattle.std.specs.List.{filter_map};
 ghost use Rattle.std.specs.Option.{option_map};
@@ -13,10 +13,12 @@ ghost use Rattle.type_names.specs.Objects.{LeadsAmong, RefersAmong};
 ghost use Rattle.type_names.specs.Onto.{AreTypes, Writes, may_open, onto, spelled_in};
 ghost use Rattle.type_names.specs.Spell.{◌&◌, all_of, bound_in, count_in, made_by, named_by, number_in, parameter_in, parameters_in, qualified_name, scope_name, spelled_by, spelled_target, subrange_in, subranges_in, type_in};
 ghost use Rattle.type_names.specs.Tree.{above, numbers_above};
+ghost use Rattle.type_names.specs.declared.spell.SpellError.TheVariants as errors;
 
 use crate::children::{Children, first_listed, next_listed};
 use crate::entries::{is_made_up, is_type, name_of, value_of};
 use crate::tree::parent_of;
+use ds_base::BitRow;
 use ds_base::dwarf::{
     DW_AT_containing_type, DW_AT_count, DW_AT_type, DW_AT_upper_bound, DW_TAG_array_type,
     DW_TAG_atomic_type, DW_TAG_base_type, DW_TAG_const_type, DW_TAG_enumeration_type,
@@ -25,9 +27,11 @@ use ds_base::dwarf::{
     DW_TAG_subrange_type, DW_TAG_subroutine_type, DW_TAG_typedef, DW_TAG_union_type,
     DW_TAG_unspecified_parameters, DW_TAG_unspecified_type, DW_TAG_volatile_type,
 };
-use ds_base::{BitRow, NoMemory};
 use dwarf_types::{Entries, EntryRef, ValueRef, is_flag};
 use std::alloc::{AllocError, AllocFailed, Global};
+
+/// So many entries can be named above a type at most: each name takes two bytes behind it, and a spelling has 4,096.
+const MOST_SCOPES: usize = 2048;
 
 /// Why a type was not spelled.
 #[derive(Clone, Copy)]
@@ -49,13 +53,13 @@ impl From<AllocError> for SpellError {
     }
 }
 
-impl From<NoMemory> for SpellError {
+impl<T: Drop> From<AllocFailed<T>> for SpellError {
     ghost use Rattle.std.specs.Prelude.{◌≡◌};
     ghost use Rattle.type_names.specs.declared.spell.SpellError.TheVariants as errors;
 
     ghost from_gives = { λ _ error. error ≡ errors.NoMemory };
 
-    fn from(_error: NoMemory) -> SpellError {
+    fn from(_error: AllocFailed<T>) -> SpellError {
         SpellError::NoMemory
     }
 }
@@ -250,16 +254,21 @@ fn write_scopes(
     write(out, b"")
 }
 
-/// Pushes the numbers of the entries between entry `k` and its unit, from the innermost.
-fn push_scopes(entries: &Entries, k: u32, scopes: &mut Vec<u32>) -> Result<(), NoMemory>
+/// Pushes the numbers of the entries between entry `k` and its unit, from the innermost. Where there are so many that their
+/// names can't fit, it stops.
+fn push_scopes(entries: &Entries, k: u32, scopes: &mut Vec<u32>) -> Result<(), SpellError>
     requires parents { ParentsStandBefore entries.now }
     requires place { k < length entries.now }
     requires none { scopes.old.items ≡ [] }
     ensures all { OnOk result (reverse scopes.new.items ≡ numbers_above entries.now k) }
     ensures within { All (λ a. a < length entries.now) scopes.new.items }
+    ensures deep { result ≡ Err errors.Cannot → (out : Listed ℕ) → onto out (all_of (map (λ a. scope_name a & Some (codes "::")) (above entries.now k))) ≡ None }
 {
     let mut left = parent_of(entries, k);
     while let Some(a) = left {
+        if scopes.len() > MOST_SCOPES {
+            return Err(SpellError::Cannot);
+        }
         left = parent_of(entries, a);
         if left.is_some() {
             scopes.push(a)?;

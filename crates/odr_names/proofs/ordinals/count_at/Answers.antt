@@ -10,8 +10,8 @@ use Rattle.odr_names.proofs.Counting.{twins_few}
 use Rattle.odr_names.proofs.Siblings.{none_taken, taken, walked_begun, walked_more}
 use Rattle.odr_names.proofs.ordinals.count_at.Goals as goal
 
-pub loop-j-init : goal.loop-j-init
-loop-j-init c =
+pub loop-init : goal.loop-init
+loop-init c =
     let o : Object = object_of c.args.seen.now c.args.live.now in
     let n = c.args.object in
     let ranks = c.args.ranks.now in
@@ -34,8 +34,8 @@ overflow_add-result c =
     let newest = c.args.chains.now.newest.items in
     let other = c.rank_at-other.result in
     let before = c.args.chains.now.before.items in
-    let k = c.loop-j.j - 1 in
-    let below : k < c.args.i = omega (arith, c.loop-j.invariant.le, c.loop-j-test.true) in
+    let k = c.loop.j - 1 in
+    let below : k < c.args.i = omega (arith, c.loop.invariant.le, c.if-j-eq0.false) in
     let it = c.requires.siblings.each k other c.rank_at-other.ensures in
     let few = twins_few n o other.number in
     let is = c.requires.counted.each k other below c.rank_at-other.ensures in
@@ -50,14 +50,14 @@ returns-then-are_ranked_twins c = λ r at_r. (
     let newest = c.args.chains.now.newest.items in
     let other = c.rank_at-other.result in
     let before = c.args.chains.now.before.items in
-    let k = c.loop-j.j - 1 in
-    let below : k < c.args.i = omega (arith, c.loop-j.invariant.le, c.loop-j-test.true) in
+    let k = c.loop.j - 1 in
+    let below : k < c.args.i = omega (arith, c.loop.invariant.le, c.if-j-eq0.false) in
     subst (λ (r : Sibling). get_or c.args.counts.now other.number 0 + 1 ≡ twins_before n o r.number) (same_Some here r (sym c.rank_at-here.ensures ∙ at_r))
     (taken n o ranks c.args.counts.now here other k c.args.i c.requires.siblings c.rank_at-here.ensures c.rank_at-other.ensures below (c.are_ranked_twins.ensures.0 c.if-are_ranked_twins.true)
-    (λ m s from under at_m. c.loop-j.invariant.differ m s (omega (arith, from)) under at_m) c.requires.counted))
+    (λ m s from under at_m. c.loop.invariant.differ m s (omega (arith, from)) under at_m) c.requires.counted))
 
-pub loop-j-smaller : goal.loop-j-smaller
-loop-j-smaller c =
+pub loop-preserved : goal.loop-preserved
+loop-preserved c =
     let o : Object = object_of c.args.seen.now c.args.live.now in
     let n = c.args.object in
     let ranks = c.args.ranks.now in
@@ -65,36 +65,21 @@ loop-j-smaller c =
     let newest = c.args.chains.now.newest.items in
     let other = c.rank_at-other.result in
     let before = c.args.chains.now.before.items in
-    let k = c.loop-j.j - 1 in
-    let below : k < c.args.i = omega (arith, c.loop-j.invariant.le, c.loop-j-test.true) in
+    let k = c.loop.j - 1 in
+    let below : k < c.args.i = omega (arith, c.loop.invariant.le, c.if-j-eq0.false) in
     let its = c.requires.chained.before k other below c.rank_at-other.ensures in
-    let link : c.index-j-in-loop-j.result.now ≡ get_or before k 0 = c.index-j-in-loop-j.ensures ∙ get_or_default before k c.index-j-in-loop-j.result.now 0 (omega (arith, below, c.requires.chained.len)) in
-    omega (arith, its.le, link, c.loop-j-test.true)
-
-pub loop-j-preserved : goal.loop-j-preserved
-loop-j-preserved c =
-    let o : Object = object_of c.args.seen.now c.args.live.now in
-    let n = c.args.object in
-    let ranks = c.args.ranks.now in
-    let here = c.rank_at-here.result in
-    let newest = c.args.chains.now.newest.items in
-    let other = c.rank_at-other.result in
-    let before = c.args.chains.now.before.items in
-    let k = c.loop-j.j - 1 in
-    let below : k < c.args.i = omega (arith, c.loop-j.invariant.le, c.loop-j-test.true) in
-    let its = c.requires.chained.before k other below c.rank_at-other.ensures in
-    let link : c.index-j-in-loop-j.result.now ≡ get_or before k 0 = c.index-j-in-loop-j.ensures ∙ get_or_default before k c.index-j-in-loop-j.result.now 0 (omega (arith, below, c.requires.chained.len)) in
-    let back : c.loop-j.j ≡ k + 1 = omega (arith, c.loop-j-test.true) in
-    walked_more n o ranks (length newest) here other k c.index-j-in-loop-j.result.now c.args.i c.requires.siblings c.rank_at-here.ensures c.rank_at-other.ensures
+    let link : c.index-j-in-loop.result.now ≡ get_or before k 0 = c.index-j-in-loop.ensures ∙ get_or_default before k c.index-j-in-loop.result.now 0 (omega (arith, below, c.requires.chained.len)) in
+    let back : c.loop.j ≡ k + 1 = omega (arith, c.if-j-eq0.false) in
+    walked_more n o ranks (length newest) here other k c.index-j-in-loop.result.now c.args.i c.requires.siblings c.rank_at-here.ensures c.rank_at-other.ensures
     (λ twins. both_ways _ c.if-are_ranked_twins.false (c.are_ranked_twins.ensures.1 twins)) (subst (IsNewest ranks (length newest) (cell_of (length newest) other) k) (sym link) its)
-    (subst (λ (j : ℕ). IsWalked n o ranks (length newest) here j c.args.i) back c.loop-j.invariant)
+    (subst (λ (j : ℕ). IsWalked n o ranks (length newest) here j c.args.i) back c.loop.invariant)
 
-pub returns : goal.returns
-returns c = λ r at_r. (
+pub returns-then-j-eq0 : goal.returns-then-j-eq0
+returns-then-j-eq0 c = λ r at_r. (
     let o : Object = object_of c.args.seen.now c.args.live.now in
     let n = c.args.object in
     let ranks = c.args.ranks.now in
     let here = c.rank_at-here.result in
     let newest = c.args.chains.now.newest.items in
     subst (λ (r : Sibling). 0 ≡ twins_before n o r.number) (same_Some here r (sym c.rank_at-here.ensures ∙ at_r))
-    (none_taken n o ranks here c.args.i c.requires.siblings c.rank_at-here.ensures (λ m s from under at_m. c.loop-j.invariant.differ m s (omega (arith, c.loop-j-test.false)) under at_m)))
+    (none_taken n o ranks here c.args.i c.requires.siblings c.rank_at-here.ensures (λ m s from under at_m. c.loop.invariant.differ m s (omega (arith, c.if-j-eq0.true)) under at_m)))

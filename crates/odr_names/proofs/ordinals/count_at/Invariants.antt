@@ -3,8 +3,5 @@ use Rattle.odr_names.specs.Twins.{IsWalked}
 use Rattle.type_names.specs.Objects.{object_of}
 use Rattle.odr_names.proofs.ordinals.count_at.Given as goal
 
-abbrev pub invariant-loop-j : goal.invariant-loop-j
-invariant-loop-j l = IsWalked l.object (object_of l.seen l.live) l.ranks (length l.chains.newest.items) l.here l.j l.i
-
-abbrev pub decreases-loop-j : goal.decreases-loop-j
-decreases-loop-j l = l.j
+abbrev pub invariant-loop : goal.invariant-loop
+invariant-loop l = IsWalked l.object (object_of l.seen l.live) l.ranks (length l.chains.newest.items) l.here l.j l.i

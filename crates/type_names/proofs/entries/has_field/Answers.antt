@@ -1,4 +1,4 @@
-use Rattle.std.proofs.Common.{◌≡◌, ◌∙◌, ◌||◌, ◌+◌, Bool, sym, ap, arith, drop}
+use Rattle.std.proofs.Common.{◌∙◌, ◌||◌, ◌+◌, Bool, sym, ap, arith, drop}
 use Rattle.std.specs.List.{list_any}
 use Rattle.dwarf_types.specs.declared.entry.Attr.{Attr}
 use Rattle.type_names.specs.Entries.{is_field}

@@ -1,4 +1,4 @@
-use Rattle.std.proofs.Common.{◌≡◌, ◌∙◌, Option, false, sym, ap}
+use Rattle.std.proofs.Common.{◌∙◌, Option, false, sym, ap}
 use Rattle.std.specs.Option.{option_map_or}
 use Rattle.dwarf_types.specs.declared.entry.Entry.{Entry}
 use Rattle.type_names.specs.Entries.{is_type, name_of}

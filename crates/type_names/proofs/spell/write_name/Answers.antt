@@ -1,4 +1,3 @@
-use Rattle.std.proofs.Common.{sym, ◌∙◌}
 use Rattle.type_names.specs.Entries.{is_made_up}
 use Rattle.type_names.proofs.Texts.{not_written}
 use Rattle.type_names.proofs.spell.write_name.Goals as goal

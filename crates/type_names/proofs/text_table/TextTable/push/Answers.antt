@@ -1,6 +1,5 @@
-use Rattle.std.proofs.Common.{◌≡◌, ◌++◌, ◌∷◌, ◌∙◌, Bool, List, [], Option, None, Some, arith, ap, sym}
+use Rattle.std.proofs.Common.{◌≡◌, ◌++◌, ◌∷◌, ◌∙◌, Bool, [], None, Some, arith, ap, sym}
 use Rattle.std.specs.Prelude.{if◌then◌else◌}
-use Rattle.type_names.specs.Entries.{Text}
 use Rattle.type_names.proofs.TextRows.{Pushed, held_then, pushed, view_then}
 use Rattle.type_names.proofs.text_table.TextTable.push.Goals as goal
 

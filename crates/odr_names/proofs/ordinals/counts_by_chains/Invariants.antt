@@ -1,6 +1,6 @@
 use Rattle.odr_names.specs.Twins.{AreChained, AreCounted}
 use Rattle.type_names.specs.Objects.{object_of}
-use Rattle.odr_names.proofs.ordinals.counts_of.Given as goal
+use Rattle.odr_names.proofs.ordinals.counts_by_chains.Given as goal
 
 abbrev pub invariant-loop-i : goal.invariant-loop-i
 invariant-loop-i l = record {
