@@ -69,7 +69,8 @@ impl Builder {
         })
     }
 
-    /// The same in the memory of entries that are let go, to which texts are added as [`Builder::new`] has them.
+    /// The same in the memory of entries that are let go. Memory is asked for only as far as these do not have it: for
+    /// texts that are longer, and for the places behind values, of which entries have none.
     pub fn over(
         alloc: Global,
         gone: Entries,
@@ -82,10 +83,11 @@ impl Builder {
         heads.clear();
         cells.clear();
         sides.begin_again(strings, line_strings)?;
+        let ends = room_for(alloc, cells.capacity());
         Ok(Builder {
             heads,
             cells,
-            ends: Vec::new(alloc),
+            ends,
             sides,
             open_from: 0,
         })

@@ -55,6 +55,15 @@ pub(crate) fn held_by<T>(column: &Vec<T>, size: usize) -> u64 {
     (column.capacity() as u64).saturating_mul(size as u64)
 }
 
+/// Takes copies of items in place of those of a column.
+pub(crate) fn take_copy<T: Copy>(column: &mut Vec<T>, items: &[T]) -> Result<(), NoMemory>
+    ensures { OnOk result (column.new.items ≡ items.now) }
+{
+    column.clear();
+    column.extend_from_slice(items)?;
+    Ok(())
+}
+
 /// Puts items last, and answers where they lie.
 pub(crate) fn append<T: Copy>(column: &mut Vec<T>, items: &[T]) -> Result<Run, NoMemory>
     ensures ok { OnOk result (column.new.items ≡ column.old.items ++ items.now) }

@@ -16,7 +16,7 @@ use crate::address::{Addr, Place, Span};
 use crate::expr::Base;
 use crate::op_rows::OpRows;
 use crate::put::{NewValue, RawValue};
-use crate::runs::{Run, append, held_by, room_for, run_between};
+use crate::runs::{Run, append, held_by, room_for, run_between, take_copy};
 use crate::seen::{InnerOpRef, InnerOpsRef, LocationRef, LocationsRef, OpRef, OpsRef};
 use ds_base::{NoMemory, text_in};
 use std::alloc::Global;
@@ -146,16 +146,16 @@ impl Sides {
     fn take_copies(&mut self, alloc: Global, other: &Sides) -> Result<(), NoMemory>
         ensures { OnOk result (AreCopies other.now self.new) }
     {
-        self.large = Vec::from_slice(alloc, &other.large)?;
-        self.bytes = Vec::from_slice(alloc, &other.bytes)?;
-        self.runs = Vec::from_slice(alloc, &other.runs)?;
-        self.lists = Vec::from_slice(alloc, &other.lists)?;
-        self.places = Vec::from_slice(alloc, &other.places)?;
-        self.addresses = Vec::from_slice(alloc, &other.addresses)?;
-        self.spans = Vec::from_slice(alloc, &other.spans)?;
+        take_copy(&mut self.large, &other.large)?;
+        take_copy(&mut self.bytes, &other.bytes)?;
+        take_copy(&mut self.runs, &other.runs)?;
+        take_copy(&mut self.lists, &other.lists)?;
+        take_copy(&mut self.places, &other.places)?;
+        take_copy(&mut self.addresses, &other.addresses)?;
+        take_copy(&mut self.spans, &other.spans)?;
+        take_copy(&mut self.inner, &other.inner)?;
+        take_copy(&mut self.items, &other.items)?;
         self.ops = other.ops.copy(alloc)?;
-        self.inner = Vec::from_slice(alloc, &other.inner)?;
-        self.items = Vec::from_slice(alloc, &other.items)?;
         Ok(())
     }
 

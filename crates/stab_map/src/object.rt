@@ -78,9 +78,7 @@ fn same_entry(a: &MapEntry, b: &MapEntry) -> bool
     ensures same { result ≡ true → a.now ≡ b.now }
     ensures other { result ≡ false → a.now ≡ b.now → ⊥ }
 {
-    a.linked == b.linked
-        && a.size == b.size
-        && same_bytes(a.name.as_slice(), b.name.as_slice())
+    a.linked == b.linked && a.size == b.size && same_bytes(a.name.as_slice(), b.name.as_slice())
 }
 
 /// A copy of an object of a debug map.
