@@ -1,18 +1,16 @@
+pub mod AfterReading
 pub mod Assembling
 pub mod Contexts
 pub mod Definitions
 pub mod EachOf
-pub mod FileBytes
 pub mod Fitting
 pub mod InPlace
-pub mod Inside
 pub mod Items
 pub mod Kept
 pub mod KnownTypes
 pub mod Leading
 pub mod Marking
 pub mod Names
-pub mod Opening
 pub mod Others
 pub mod Outlines
 pub mod Ordered
@@ -23,5 +21,4 @@ pub mod Refused
 pub mod Soundness
 pub mod SpelledAnalysis
 pub mod Trees
-pub mod Trying
 pub mod Understood

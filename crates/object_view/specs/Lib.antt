@@ -5,12 +5,9 @@ pub mod Code
 pub mod Faults
 pub mod Infos
 pub mod Numbers
-pub mod Opened
-pub mod Parts
 pub mod Ready
 pub mod Roots
 pub mod Seen
-pub mod Sound
 pub mod Spelled
 pub mod Stages
 pub mod Units

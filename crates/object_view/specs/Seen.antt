@@ -1,18 +1,13 @@
--- Stations between the code and the definitions: the parts of the sections that were seen, and where those lie that were tried.
-use Rattle.std.specs.Prelude.{◌≡◌, ◌+◌, ◌≤◌, ℕ, List, length, IfSome}
-use Rattle.std.specs.List.{list_any}
-use Rattle.ds_base.specs.declared.fault.Part.{Part}
-use Rattle.macho_read.specs.declared.image.Section.{Section}
-use Rattle.object_view.specs.Parts.{same_part, is_of, section_of}
+-- Stations between the code and the definitions: the object on which readers stand.
+use Rattle.dwarf_types.specs.declared.sections.Sections.{Sections}
+use Rattle.dwarf_types.specs.SectionBytes.{bytes_in}
+use Rattle.object_read.specs.declared.read.ReadObject.{ReadObject}
+use Rattle.object_read.specs.Opened.{Opened}
+use Rattle.object_view.specs.declared.view.ObjectView.{ObjectView}
 
--- they are the parts of these sections
-abbrev pub AreParts : List Section → List Part → Type 0
-AreParts sections seen = (part : Part) → list_any (λ own. same_part own part) seen ≡ list_any (is_of part) sections
+abbrev pub opened_seen : ObjectView → Opened
+opened_seen o = record { image = o.image.now; sections = bytes_in o.sections; relocs = o.relocs.now }
 
--- a section lies in the file
-abbrev pub IsInside : List ℕ → Section → Type 0
-IsInside bytes section = section.offset + section.size ≤ length bytes
-
--- each section does that is a part of the file
-abbrev pub LieInside : List ℕ → List Section → Type 0
-LieInside bytes sections = (part : Part) → IfSome (section_of sections part) (IsInside bytes)
+-- an object that was read, with the bytes of its sections
+abbrev pub opened_with : Sections → ReadObject → Opened
+opened_with sections read = record { image = read.image; sections = bytes_in sections; relocs = read.relocs }

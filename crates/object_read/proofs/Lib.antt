@@ -1,0 +1,5 @@
+pub mod FileBytes
+pub mod Inside
+pub mod Opening
+pub mod Reading
+pub mod Trying

@@ -1,5 +1,0 @@
-use Rattle.object_view.proofs.Trying.{Passed}
-use Rattle.object_view.proofs.sections.check_sections.Given as goal
-
-abbrev pub invariant-loop-index : goal.invariant-loop-index
-invariant-loop-index l = Passed l.bytes l.sections l.seen l.index
