@@ -4,6 +4,7 @@ pub mod Formats
 pub mod Entries
 pub mod Tables
 pub mod Codes
+pub mod Counting
 pub mod Operation
 pub mod Registers
 pub mod Program

@@ -7,12 +7,14 @@
 //! them (`specs/Names.antt`) or by the entry formats of version 5 (`specs/Formats.antt`, `specs/Entries.antt`), one
 //! operation from its bytes (`specs/Operation.antt`), what an operation does to the registers (`specs/Registers.antt`),
 //! and the matrix of rows that the list of operations gives, cut into sequences (`specs/Program.antt`). Addresses stay the
-//! object's: `moved_parts` moves them, by an address map. [`table_version`] tells a table's own version alone. No byte of a
-//! program is left out ([`operations_fill_the_program`]), and no name before version 5 ([`names_end_with_the_empty_one`]).
-//! Faults are of the kinds that [`kinds_of_line_faults`] and [`kinds_of_version_faults`] name.
+//! object's: `moved_parts` moves them, by an address map. [`table_version`] tells a table's own version alone, and
+//! [`lines_as`] gives an older table in the form of a unit of version 5 (`specs/Counting.antt`). No byte of a program is
+//! left out ([`operations_fill_the_program`]), and no name before version 5 ([`names_end_with_the_empty_one`]). Faults are
+//! of the kinds that [`kinds_of_line_faults`] and [`kinds_of_version_faults`] name.
 #![tactic(auto)]
 
 mod codes;
+mod counting;
 mod entries;
 mod formats;
 mod header;
@@ -23,6 +25,7 @@ mod program;
 mod registers;
 mod table;
 
+pub use counting::lines_as;
 pub use laws::{
     kinds_of_line_faults, kinds_of_version_faults, names_end_with_the_empty_one,
     operations_fill_the_program,

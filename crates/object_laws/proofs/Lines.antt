@@ -23,8 +23,8 @@ use Rattle.line_read.specs.Tables.{dirs_at, files_at}
 use Rattle.line_read.proofs.EntryTables.{AreTexts}
 use Rattle.line_read.proofs.OperationPlaces.{program_onward, sizes_onward, version_onward}
 use Rattle.moved_parts.specs.Lines.{lines_moved}
-use Rattle.object_view.specs.Attributes.{counted_from_0, lines_as}
-use Rattle.object_view.specs.Opened.{Opened}
+use Rattle.line_read.specs.Counting.{counted_from_0, lines_as}
+use Rattle.object_read.specs.Opened.{Opened}
 use Rattle.object_laws.proofs.Forms.{IsVersion}
 use Rattle.object_laws.proofs.LinesHeader.{behind_lies, fields_lie, table_lies, table_version}
 use Rattle.object_laws.proofs.LinesMoved.{sequences_are}

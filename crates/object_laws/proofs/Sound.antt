@@ -1,5 +1,5 @@
 -- An analysis of an object is sound, and what is linked of analysed objects is well.
-use Rattle.std.proofs.Common.{◌≡◌, ◌<◌, ◌^◌, ℕ, List, length, Option, Some, None, Ok, Err, subst, arith}
+use Rattle.std.proofs.Common.{◌≡◌, ◌<◌, ◌^◌, ℕ, List, length, Option, Some, None, Ok, Err, subst, sym, ◌∙◌, arith}
 use Rattle.std.specs.List.{All}
 use Rattle.std.specs.Option.{option_map_or}
 use Rattle.std.proofs.lemmas.Option.{get_or_from_slice_get, slice_get_within}
@@ -27,8 +27,9 @@ use Rattle.linked_laws.specs.Kept.{IsWhole}
 use Rattle.linked_laws.proofs.Live.{live_whole}
 use Rattle.linked_laws.proofs.Whole.{graph_well}
 use Rattle.object_view.specs.Analysis.{analysis_of, units_analysed}
-use Rattle.object_view.specs.Opened.{opened_of}
+use Rattle.object_read.specs.Opened.{opened_of}
 use Rattle.object_view.proofs.RawValues.{raw_plain}
+use Rattle.object_view.proofs.AfterReading.{in_steps}
 use Rattle.object_view.proofs.SoundAnalysis.{analysis_sound}
 use Rattle.object_laws.specs.Analysed.{IsAnalysed}
 use Rattle.object_laws.proofs.Whole.{analysis_given, parts_are}
@@ -55,9 +56,8 @@ raw_sound sections raw e =
 -- ---- analyses
 
 sound_analysis : (bytes : List ℕ) (object : MapObject) (cpu : ℕ) (a : Analysis) → length bytes < 2 ^ 32 → AreBytes bytes → analysis_of bytes object cpu ≡ Ok a → IsSound a
-unfolding analysis_of
 sound_analysis bytes object cpu a small are e =
-    let o = bind_ok (opened_of bytes cpu) (λ o. units_of o.sections >>= λ raw. units_analysed o (map_of object o.image) raw) a e in
+    let o = bind_ok (opened_of bytes cpu) (λ o. units_of o.sections >>= λ raw. units_analysed o (map_of object o.image) raw) a (sym (in_steps bytes object cpu) ∙ e) in
     let raw = bind_ok (units_of o.0.sections) (λ raw. units_analysed o.0 (map_of object o.0.image) raw) a o.2 in
     let sections = parts_are bytes cpu o.0 are o.1 in
     let info = sections.info in

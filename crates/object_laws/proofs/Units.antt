@@ -16,7 +16,7 @@ use Rattle.addr_map.specs.declared.map.AddrMap.{AddrMap}
 use Rattle.unit_tree.specs.Spelling.{SpellsUnits, UnitTree, in_unit, in_units, size}
 use Rattle.linked_laws.specs.Spellable.{ArePreorder, IsUp, version_of}
 use Rattle.object_view.specs.Attributes.{comp_dir, line_place, lines_meant, unit_with_lines, unit_with_table, units_meant}
-use Rattle.object_view.specs.Opened.{Opened}
+use Rattle.object_read.specs.Opened.{Opened}
 use Rattle.object_view.specs.Units.{context_of, no_unit, unit_context}
 use Rattle.object_view.proofs.Kept.{Kept, bare, each_seen, stood}
 use Rattle.object_view.proofs.Names.{each_all}

@@ -39,7 +39,7 @@ use Rattle.unit_tree.specs.declared.meaning.Meaning.TheVariants as meanings
 use Rattle.unit_tree.specs.Meaning.{is_address_index, table_of}
 use Rattle.linked_laws.specs.Spellable.{IsSpellableLocation, IsSpellableOp, IsSpellablePlace, IsSpellableValue, is_lines}
 use Rattle.object_view.specs.Attributes.{address_named, dangling, each_of, field_address, is_too_long, item_meant, item_moved, lines_value, locations_by_role, locations_meant, locations_read, number_at, ranges_by_role, ranges_meant, ranges_read, section_offset, unnamed, value_meant}
-use Rattle.object_view.specs.Opened.{Opened}
+use Rattle.object_read.specs.Opened.{Opened}
 use Rattle.object_view.proofs.Names.{all_flat, each_all}
 use Rattle.object_laws.proofs.Expressions.{expressions_are_given, lengths_agree}
 use Rattle.object_laws.proofs.LinesOps.{Second}

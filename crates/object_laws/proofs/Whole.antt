@@ -34,15 +34,12 @@ use Rattle.linked_laws.specs.Spellable.{ArePreorder, IsSpellable, IsSpellableEnt
 use Rattle.object_view.specs.Analysis.{analysis_of, units_analysed}
 use Rattle.object_view.specs.Attributes.{all_marked, entries_by, entries_meant, entry_marked, info_context, info_step, line_place, lines_marked, locations_context, locations_step, ranges_step, unit_base, units_meant}
 use Rattle.object_view.specs.Code.{code_of}
-use Rattle.object_view.specs.Opened.{Opened, opened_of, relocs_in}
-use Rattle.reloc_table.specs.declared.sections.Compressed.TheVariants as compressed
-use Rattle.reloc_table.specs.Parts.{all_tried, content_of, section_of, sections_in}
-use Rattle.macho_read.specs.declared.kind.Role.TheVariants as roles
-use Rattle.macho_read.specs.Image.{image_of}
-use Rattle.macho_read.specs.Kind.{kind_of}
+use Rattle.object_read.specs.Opened.{Opened, opened_of}
+use Rattle.reloc_table.specs.Parts.{content_of, section_of}
 use Rattle.object_view.specs.Units.{base_types, unit_context}
-use Rattle.object_view.proofs.FileBytes.{AreOf}
+use Rattle.object_read.proofs.FileBytes.{sections_are}
 use Rattle.object_view.proofs.Kept.{Kept, all_kept, bare, entries_kept, given_kept, stood}
+use Rattle.object_view.proofs.AfterReading.{in_steps}
 use Rattle.object_view.proofs.Understood.{entries_given, given_is}
 use Rattle.object_laws.proofs.Dirs.{dir_given, unit_dir}
 use Rattle.object_laws.proofs.Frames.{frames_are}
@@ -129,15 +126,6 @@ units_given v raw meant now units plain marked same kept have k d lt =
     unit_given v meant now (get_or units k d) plain marked same (root_kept now raw (get_or units k d) kept h.1) h.0
 
 -- ---- the sections of an object
-
-sections_are : (bytes : List ℕ) (cpu : ℕ) (o : Opened) → opened_of bytes cpu ≡ Ok o → AreOf bytes o.sections
-unfolding opened_of
-sections_are bytes cpu o e =
-    let image = bind_ok (image_of bytes) (λ image. kind_of image (roles.Object cpu) >>= λ k. all_tried compressed.Tried bytes [] image.sections >>= λ t. relocs_in bytes image >>= λ relocs. Ok (record { image = image; sections = sections_in bytes image.sections; relocs = relocs })) o e in
-    let kind = bind_ok (kind_of image.0 (roles.Object cpu)) (λ k. all_tried compressed.Tried bytes [] image.0.sections >>= λ t. relocs_in bytes image.0 >>= λ relocs. Ok (record { image = image.0; sections = sections_in bytes image.0.sections; relocs = relocs })) o image.2 in
-    let tried = bind_ok (all_tried compressed.Tried bytes [] image.0.sections) (λ t. relocs_in bytes image.0 >>= λ relocs. Ok (record { image = image.0; sections = sections_in bytes image.0.sections; relocs = relocs })) o kind.2 in
-    let relocs = bind_ok (relocs_in bytes image.0) (λ relocs. Ok (record { image = image.0; sections = sections_in bytes image.0.sections; relocs = relocs })) o tried.2 in
-    record { image = image.0; are = ap (λ (x : Opened). x.sections) (sym (ok_is (record { image = image.0; sections = sections_in bytes image.0.sections; relocs = relocs.0 }) o relocs.2)) }
 
 -- a section of so many bytes at most
 pub record IsPart (most : ℕ) (bytes : List ℕ) : Type 0 where
@@ -276,9 +264,8 @@ module _ (bytes : List ℕ) (o : Opened) (m : AddrMap) (sound : IsSoundMap m) (a
       })
 
 pub analysis_given : (bytes : List ℕ) (object : MapObject) (cpu : ℕ) (a : Analysis) → length bytes < 2 ^ 32 → AreBytes bytes → analysis_of bytes object cpu ≡ Ok a → IsSpellable a
-unfolding analysis_of
 analysis_given bytes object cpu a small are e =
-    let o = bind_ok (opened_of bytes cpu) (λ o. units_of o.sections >>= λ raw. units_analysed o (map_of object o.image) raw) a e in
+    let o = bind_ok (opened_of bytes cpu) (λ o. units_of o.sections >>= λ raw. units_analysed o (map_of object o.image) raw) a (sym (in_steps bytes object cpu) ∙ e) in
     let raw = bind_ok (units_of o.0.sections) (λ raw. units_analysed o.0 (map_of object o.0.image) raw) a o.2 in
     let sections = parts_are bytes cpu o.0 are o.1 in
     units_analysed_given bytes o.0 (map_of object o.0.image) (map_is_sound object o.0.image) sections raw.0 (raw_read bytes o.0 raw.0 small sections raw.1) a raw.2

@@ -2,7 +2,7 @@
 use Rattle.std.proofs.Common.{◌≡◌, ℕ, List, [], ◌∷◌, None, refl}
 use Rattle.dwarf_types.specs.declared.lines.FileName.{FileName}
 use Rattle.dwarf_types.specs.declared.lines.RawLines.{RawLines}
-use Rattle.object_view.specs.Attributes.{lines_as}
+use Rattle.line_read.specs.Counting.{lines_as}
 
 -- the directories `/d`, that of the unit, and `inc`
 abbrev here : List ℕ

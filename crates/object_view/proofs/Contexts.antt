@@ -16,7 +16,8 @@ use Rattle.object_view.specs.declared.expressions.Expressions.{Expressions}
 use Rattle.ds_base.specs.DwarfNumbers.{DWARF_5}
 use Rattle.object_view.specs.declared.units.UnitContext.{UnitContext}
 use Rattle.object_view.specs.Attributes.{context_at, locations_relocs, ranges_relocs}
-use Rattle.object_view.specs.Opened.{Opened, opened_seen}
+use Rattle.object_read.specs.Opened.{Opened}
+use Rattle.object_view.specs.Seen.{opened_seen}
 use Rattle.object_view.specs.Ready.{IsOpen, IsReady, context_among, info_seen, locations_seen}
 
 -- one of two tables of relocations
@@ -44,12 +45,12 @@ module _ (o : Opened) (m : AddrMap) (sound : IsOpen o m) where
 
 -- the contexts of the expressions of an object
 pub info_ready : (e : Expressions) → IsOpen (opened_seen e.object.now) e.map.now → AreInOrder e.types.now → (unit : ℕ) → IsReady (info_seen e unit)
-info_ready e sound order unit = ready (opened_seen e.object.now) e.map.now sound e.types.now parts.Info e.object.now.relocs.info unit (context_among e.units.now unit) order sound.sound_relocs.info
+info_ready e sound order unit = ready (opened_seen e.object.now) e.map.now sound e.types.now parts.Info e.object.now.relocs.now.info unit (context_among e.units.now unit) order sound.sound_relocs.info
 
 pub locations_ready : (e : Expressions) → IsOpen (opened_seen e.object.now) e.map.now → AreInOrder e.types.now → (unit : ℕ) → IsReady (locations_seen e unit)
 locations_ready e sound order unit =
     let u = context_among e.units.now unit in
-    ready (opened_seen e.object.now) e.map.now sound e.types.now (location_part u.version) (locations_relocs e.object.now.relocs u.version) unit u order
+    ready (opened_seen e.object.now) e.map.now sound e.types.now (location_part u.version) (locations_relocs e.object.now.relocs.now u.version) unit u order
     (locations_sound (opened_seen e.object.now) e.map.now sound u.version)
 
 -- an index that leads to an address does so in the context of its unit

@@ -17,11 +17,14 @@ use Rattle.dwarf_types.specs.declared.entry.RawEntry.{RawEntry}
 use Rattle.dwarf_types.specs.declared.value.Value.{Value}
 use Rattle.dwarf_types.specs.Raw.{entry_of, places_of}
 use Rattle.addr_map.specs.declared.map.AddrMap.{AddrMap}
+use Rattle.frame_table.specs.Frames.{frames_of}
+use Rattle.moved_parts.specs.Frames.{frames_moved}
 use Rattle.object_view.specs.Analysis.{units_analysed}
 use Rattle.object_view.specs.Attributes.{all_marked, base_of, entries_by, entries_meant, info_context, info_step, locations_context, locations_meant, locations_step, ranges_meant, ranges_step, raw_entries_by, unit_base, units_meant, value_meant}
-use Rattle.object_view.specs.Opened.{Opened}
+use Rattle.object_read.specs.Opened.{Opened}
 use Rattle.object_view.specs.Ready.{base_at, context_among}
-use Rattle.object_view.specs.Stages.{MadeOnce, analysed, bases_of, finished, info_done, info_meant, lists_meant, location_meant, made_of, range_meant}
+use Rattle.object_view.specs.Code.{code_of}
+use Rattle.object_view.specs.Stages.{MadeOnce, analysed, bases_of, finished, info_done, info_meant, lists_meant, location_meant, made_of, range_meant, tables_meant}
 use Rattle.object_view.specs.declared.units.UnitContext.{UnitContext}
 use Rattle.object_view.specs.Units.{base_types, context_of, contexts_of, no_unit, unit_context}
 
@@ -44,6 +47,16 @@ base_same units entries unit = look_up (λ (u : InUnit). option_map_or base_of (
 
 pub context_same : (units : List InUnit) (entries : List RawEntry) (unit : ℕ) → context_among (contexts_of entries units) unit ≡ unit_context units entries unit
 context_same units entries unit = look_up (context_of entries) units unit no_unit
+
+-- ---- values made of others
+
+pub from_made : {A B C : Type 0} (a : Result A Fault) (make : A → B) (f : B → Result C Fault) → ((a >>= λ x. Ok (make x)) >>= f) ≡ (a >>= λ x. f (make x))
+from_made (Ok x) make f = refl
+from_made (Err e) make f = refl
+
+pub from_both : {A B C D : Type 0} (a : Result A Fault) (b : A → Result B Fault) (make : A → B → C) (f : C → Result D Fault) → ((a >>= λ x. b x >>= λ y. Ok (make x y)) >>= f) ≡ (a >>= λ x. b x >>= λ y. f (make x y))
+from_both (Ok x) b make f = from_made (b x) (make x) f
+from_both (Err e) b make f = refl
 
 -- ---- steps
 
@@ -101,19 +114,31 @@ module _ (o : Opened) (m : AddrMap) (raw : RawUnits) where
         ap (λ (step : Meant). entries_by step (all_marked meant) >>= λ entries. entries_by (location_meant o m made bases) entries) range_same
         ∙ ap (λ (step : Meant). ranged >>= λ entries. entries_by step entries) location_same
 
+    -- the end, as the definition has it
+    abbrev last : List InUnit → List Entry → Result Analysis Fault
+    last units entries = do
+      frames ← frames_of o.image o.relocs.frame o.sections.frame
+      Ok (record { units = units; entries = entries; code = code_of m entries; frames = frames_moved m frames })
+
+    last_same : finished o m ≡ last
+    last_same = fun_ext (λ units. fun_ext (λ entries.
+        from_made (frames_of o.image o.relocs.frame o.sections.frame) (λ frames. (frames_moved m frames, code_of m entries)) (λ r. Ok (record { units = units; entries = entries; code = r.1; frames = r.0 }))))
+
     -- what is left once attributes of `__debug_info` are understood
     abbrev behind_info : Result Analysis Fault
     behind_info = do
-      with_lines ← units_meant o m meant raw.units
-      listed ← lists_meant o m made bases meant
-      finished o m with_lines listed
+      read ← tables_meant o m made raw.units meant
+      finished o m read.0 read.1
 
-    abbrev defined : Result Analysis Fault
-    defined = do
+    abbrev by_end : (List InUnit → List Entry → Result Analysis Fault) → Result Analysis Fault
+    by_end end = do
       with_lines ← units_meant o m meant raw.units
       entries ← ranged
       listed ← located entries
-      finished o m with_lines listed
+      end with_lines listed
+
+    abbrev defined : Result Analysis Fault
+    defined = by_end last
 
     grouped : (a : Result (List Entry) Fault) (f : List Entry → Result (List Entry) Fault) (g : List Entry → Result Analysis Fault) → ((a >>= f) >>= g) ≡ (a >>= λ x. f x >>= g)
     grouped (Ok x) f g = refl
@@ -123,7 +148,9 @@ module _ (o : Opened) (m : AddrMap) (raw : RawUnits) where
     after_lists with_lines = ap (λ (r : Result (List Entry) Fault). r >>= λ listed. finished o m with_lines listed) lists_same ∙ grouped ranged located (λ listed. finished o m with_lines listed)
 
     behind_same : behind_info ≡ defined
-    behind_same = ap (λ (f : List InUnit → Result Analysis Fault). units_meant o m meant raw.units >>= f) (fun_ext (λ with_lines. after_lists with_lines))
+    behind_same =
+        from_both (units_meant o m meant raw.units) (λ with_lines. lists_meant o m made bases meant) (λ with_lines listed. (with_lines, listed)) (λ r. finished o m r.0 r.1)
+        ∙ ap (λ (f : List InUnit → Result Analysis Fault). units_meant o m meant raw.units >>= f) (fun_ext (λ with_lines. after_lists with_lines)) ∙ ap by_end last_same
 
 -- the stations make the analysis
 pub analysed_same : (o : Opened) (m : AddrMap) (raw : RawUnits) → analysed o m raw ≡ units_analysed o m raw

@@ -37,7 +37,7 @@ use Rattle.unit_tree.specs.Meaning.{is_address_index, table_of}
 use Rattle.unit_tree.specs.Spelling.{begins_at}
 use Rattle.object_view.specs.declared.units.UnitContext.{UnitContext}
 use Rattle.object_view.specs.Attributes.{address_named, all_marked, attr_by, attrs_by, dangling, each_of, entries_by, entry_by, entry_marked, line_place, lines_marked, lines_value, number_at, offset_in, ranges_by_role, ranges_meant, ranges_read, section_offset, unnamed, value_meant, with_value}
-use Rattle.object_view.specs.Opened.{Opened}
+use Rattle.object_read.specs.Opened.{Opened}
 use Rattle.object_view.specs.Ready.{AllAttrs, AllRawAttrs, AreOfUnits, IsLinesInside, IsListAttr, IsReadAttr, IsReadValue, IsRooted, context_among}
 use Rattle.object_view.specs.Stages.{MadeOnce, lists_meant, location_meant, range_meant}
 use Rattle.object_view.specs.Units.{addr_base_of, context_of, contexts_of, no_unit}

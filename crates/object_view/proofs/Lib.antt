@@ -1,8 +1,8 @@
+pub mod AfterReading
 pub mod Assembling
 pub mod Contexts
 pub mod Definitions
 pub mod EachOf
-pub mod FileBytes
 pub mod Fitting
 pub mod InPlace
 pub mod Items
@@ -11,7 +11,6 @@ pub mod KnownTypes
 pub mod Leading
 pub mod Marking
 pub mod Names
-pub mod Opening
 pub mod Others
 pub mod Outlines
 pub mod Ordered

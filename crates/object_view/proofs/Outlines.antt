@@ -40,7 +40,7 @@ use Rattle.object_view.specs.Analysis.{units_analysed}
 use Rattle.object_view.specs.declared.units.UnitContext.{UnitContext}
 use Rattle.object_view.specs.Attributes.{address_named, all_marked, attr_by, attrs_by, dangling, each_of, entries_by, entries_meant, entry_by, info_context, info_step, item_meant, item_moved, lines_marked, lines_meant, lines_value, locations_by_role, locations_context, locations_meant, locations_read, locations_step, number_at, offset_in, ranges_by_role, ranges_meant, ranges_read, ranges_step, unit_base, unit_with_lines, unit_with_table, units_meant, unnamed, value_meant, with_value}
 use Rattle.object_view.specs.Code.{code_of}
-use Rattle.object_view.specs.Opened.{Opened}
+use Rattle.object_read.specs.Opened.{Opened}
 use Rattle.object_view.specs.Ready.{IsReadAttr, IsReadValue, context_among}
 use Rattle.object_view.specs.Spelled.{ByItem, IsAttr, IsEntry, IsUnit, LeadsAs}
 use Rattle.object_view.specs.Units.{base_types, contexts_of, unit_context}

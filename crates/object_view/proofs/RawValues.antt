@@ -19,7 +19,7 @@ use Rattle.form_value.specs.Spelling.{SpellsClass}
 use Rattle.unit_tree.specs.declared.meaning.Meaning.{Meaning}
 use Rattle.unit_tree.specs.declared.meaning.Meaning.TheVariants.{InUnit, InObject, LineTable, RangeList, LocationList, TextIndex, AddressIndex, RangeListIndex, LocationListIndex, Other}
 use Rattle.unit_tree.specs.Meaning.{meaning_of}
-use Rattle.unit_tree.specs.Spelling.{Forest, IsMeant, Means, Names, NamesAddress, NamesList, NamesText, Node, Origin, SpellsAttr, SpellsAttrs, SpellsBelow, SpellsNode, SpellsTrees, SpellsUnit, SpellsUnits, UnitTree, entries_of, entry_of, no_more, origin_in, preorder, size, tree, unit_entries}
+use Rattle.unit_tree.specs.Spelling.{Forest, IsMeant, IsSpelled, Means, Names, NamesAddress, NamesList, NamesText, Node, Origin, SpellsAttr, SpellsAttrs, SpellsBelow, SpellsNode, SpellsTrees, SpellsUnit, SpellsUnits, UnitTree, entries_of, entry_of, no_more, origin_in, preorder, size, tree, unit_entries}
 use Rattle.unit_tree.specs.Unit.{units_of}
 use Rattle.unit_tree.proofs.UnitLaws.{units_spelled}
 
@@ -123,7 +123,8 @@ units_plain sections (t ∷ ts) place bytes h unit number =
     (units_plain sections ts (place + length h.front) h.back h.second (suc unit) (number + 1 + size t.kids))
 
 -- no value of the units of an object has operations
+pub spelled_plain : (sections : SectionBytes) (raw : RawUnits) → IsSpelled sections raw → All IsPlainEntry raw.entries
+spelled_plain sections raw s = subst (λ (r : RawUnits). All IsPlainEntry r.entries) (sym s.is) (units_plain sections s.trees 0 sections.info s.spells.spells 0 0)
+
 pub raw_plain : (sections : SectionBytes) (raw : RawUnits) → length sections.info < 2 ^ 32 → AreBytes sections.info → AreBytes sections.abbrev_ → units_of sections ≡ Ok raw → All IsPlainEntry raw.entries
-raw_plain sections raw small info abbrevs e =
-    let s = units_spelled sections raw small info abbrevs e in
-    subst (λ (r : RawUnits). All IsPlainEntry r.entries) (sym s.is) (units_plain sections s.trees 0 sections.info s.spells.spells 0 0)
+raw_plain sections raw small info abbrevs e = spelled_plain sections raw (units_spelled sections raw small info abbrevs e)

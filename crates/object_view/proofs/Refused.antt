@@ -30,6 +30,7 @@ use Rattle.macho_read.specs.Header.{header_fault}
 use Rattle.macho_read.specs.Image.{image_of}
 use Rattle.macho_read.specs.Kind.{is_wrong_cpu, is_wrong_type, kind_of}
 use Rattle.stab_map.specs.declared.object.MapObject.{MapObject}
+use Rattle.reloc_table.specs.declared.sections.Compressed.TheVariants as compressed
 use Rattle.reloc_table.specs.declared.relocation.Relocs.{Relocs}
 use Rattle.reloc_table.specs.Table.{relocs_of}
 use Rattle.addr_map.specs.declared.map.AddrMap.{AddrMap}
@@ -49,9 +50,9 @@ use Rattle.object_view.specs.declared.units.UnitContext.{UnitContext}
 use Rattle.object_view.specs.Analysis.{analysis_of, units_analysed}
 use Rattle.object_view.specs.Attributes.{address_named, all_marked, attr_by, attrs_by, dangling, each_of, entries_by, entries_meant, entry_by, info_step, is_too_long, item_meant, lines_meant, locations_at, locations_by_role, locations_meant, locations_read, locations_step, number_at, offset_meant, ranges_at, ranges_by_role, ranges_meant, ranges_read, ranges_relocs, ranges_step, raw_attr_by, raw_attrs_by, raw_entries_by, raw_entry_by, unit_with_lines, unit_with_table, units_meant, unnamed, value_meant}
 use Rattle.object_view.specs.Faults.{object_kinds}
-use Rattle.object_view.specs.Opened.{Opened, opened_of, part_relocs, relocs_among, relocs_in}
-use Rattle.reloc_table.specs.declared.sections.Compressed.TheVariants as compressed
+use Rattle.object_read.specs.Opened.{Opened, opened_of, part_relocs, relocs_among, relocs_in}
 use Rattle.reloc_table.specs.Parts.{all_tried, is_tried, section_of, section_tried}
+use Rattle.object_read.specs.Read.{read_of}
 use Rattle.object_view.specs.Units.{unit_context}
 
 abbrev IsOne : Kind → Type 0
@@ -295,8 +296,13 @@ module _ (laws : Laws) where
       bind_kinds IsOne (entries_by (locations_step o map raw meant) ranged) _ (entries_kinds (locations_step o map raw meant) (λ unit a. locations_kinds _ _ a a.value) ranged) (λ entries.
       bind_kinds IsOne (frames_of o.image o.relocs.frame o.sections.frame) _ (frames_kinds o) (λ frames. ok_kinds IsOne _)))))
 
+  read_kinds : (bytes : List ℕ) (cpu : ℕ) → FaultsAre IsOne (read_of bytes cpu)
+  unfolding read_of
+  read_kinds bytes cpu =
+      bind_kinds IsOne (opened_of bytes cpu) _ (opened_kinds bytes cpu) (λ o.
+      bind_kinds IsOne (units_of o.sections) _ (units_kinds o.sections) (λ raw. ok_kinds IsOne _))
+
   pub analysis_kinds : (bytes : List ℕ) (object : MapObject) (cpu : ℕ) → FaultsAre IsOne (analysis_of bytes object cpu)
   unfolding analysis_of
   analysis_kinds bytes object cpu =
-      bind_kinds IsOne (opened_of bytes cpu) _ (opened_kinds bytes cpu) (λ o.
-      bind_kinds IsOne (units_of o.sections) _ (units_kinds o.sections) (λ raw. analysed_kinds o (map_of object o.image) raw))
+      bind_kinds IsOne (read_of bytes cpu) _ (read_kinds bytes cpu) (λ read. analysed_kinds read.opened (map_of object read.opened.image) read.units)

@@ -34,7 +34,7 @@ use Rattle.object_view.specs.Analysis.{units_analysed}
 use Rattle.object_view.specs.declared.units.UnitContext.{UnitContext}
 use Rattle.object_view.specs.Attributes.{all_marked, entries_by, entries_meant, info_context, info_step, lines_meant, locations_context, locations_step, ranges_step, unit_base, unit_with_lines, unit_with_table, units_meant}
 use Rattle.object_view.specs.Code.{code_of, code_ranges, low_high_pieces, ranges_pieces}
-use Rattle.object_view.specs.Opened.{Opened}
+use Rattle.object_read.specs.Opened.{Opened}
 use Rattle.object_view.specs.Stages.{analysed}
 use Rattle.object_view.specs.Units.{base_types, unit_context}
 use Rattle.object_view.proofs.Definitions.{analysed_same}

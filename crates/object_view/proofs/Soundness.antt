@@ -31,7 +31,7 @@ use Rattle.unit_tree.specs.declared.meaning.Meaning.TheVariants as meanings
 use Rattle.unit_tree.specs.Meaning.{is_address_index, table_of}
 use Rattle.object_view.specs.declared.units.UnitContext.{UnitContext}
 use Rattle.object_view.specs.Attributes.{address_named, all_marked, attr_by, attrs_by, dangling, each_of, entries_by, entry_by, entry_marked, is_too_long, item_meant, item_moved, lines_marked, lines_value, locations_by_role, locations_meant, locations_read, number_at, ranges_by_role, ranges_meant, ranges_read, section_offset, unnamed, value_meant, with_value}
-use Rattle.object_view.specs.Opened.{Opened}
+use Rattle.object_read.specs.Opened.{Opened}
 use Rattle.object_view.proofs.KnownTypes.{IsKnownOp, ops_known}
 use Rattle.object_view.proofs.Names.{all_flat, all_map, each_all}
 use Rattle.object_view.proofs.RawValues.{IsPlain}

@@ -8,7 +8,7 @@ use Rattle.dwarf_types.specs.declared.entry.RawUnits.{RawUnits}
 use Rattle.addr_map.specs.declared.map.AddrMap.{AddrMap}
 use Rattle.unit_tree.specs.Inside.{AreInside}
 use Rattle.unit_tree.specs.Spelling.{IsSpelled, raw_units}
-use Rattle.object_view.specs.Opened.{Opened, opened_of}
+use Rattle.object_read.specs.Opened.{Opened, opened_of}
 use Rattle.object_view.specs.Spelled.{IsOfObject}
 use Rattle.object_view.specs.Stages.{analysed}
 use Rattle.object_view.proofs.Definitions.{analysed_same}

@@ -1,5 +1,5 @@
 -- The attributes of an object's entries with what their values mean, step by step: each step goes over all attributes in document order.
-use Rattle.std.specs.Prelude.{ℕ, ◌-◌, ◌^◌, ◌==◌, ◌&&◌, Bool, not, List, [], ◌∷◌, ◌++◌, length, map, slice_get, take, Option, Some, None, is_none, is_some, Result, Ok, nat_lt, if◌then◌else◌}
+use Rattle.std.specs.Prelude.{ℕ, ◌-◌, ◌^◌, ◌==◌, ◌&&◌, Bool, not, List, [], ◌∷◌, length, map, slice_get, Option, Some, None, is_none, is_some, Result, Ok, nat_lt, if◌then◌else◌}
 use Rattle.std.specs.List.{filter_map, find, flat_map}
 use Rattle.std.specs.Option.{option_and_then, option_map, option_map_or, unwrap_or}
 use Rattle.ds_base.specs.DwarfNumbers.{DW_AT_comp_dir, DW_AT_low_pc, DW_AT_stmt_list, DW_FORM_exprloc, DW_FORM_sec_offset}
@@ -19,7 +19,6 @@ use Rattle.dwarf_types.specs.declared.entry.RawEntry.{RawEntry}
 use Rattle.dwarf_types.specs.declared.entry.RawUnits.{RawUnits}
 use Rattle.dwarf_types.specs.declared.expr.Op.{Op}
 use Rattle.dwarf_types.specs.declared.lines.OutLines.{OutLines}
-use Rattle.dwarf_types.specs.declared.lines.RawLines.{RawLines}
 use Rattle.dwarf_types.specs.declared.lists.Location.{Location}
 use Rattle.dwarf_types.specs.declared.lists.RawLocation.{RawLocation}
 use Rattle.dwarf_types.specs.declared.lists.RawSpan.{RawSpan}
@@ -33,6 +32,7 @@ use Rattle.addr_map.specs.declared.map.AddrMap.{AddrMap}
 use Rattle.index_tables.specs.Tables.{address_place, stored}
 use Rattle.expr_walk.specs.Length.{ops_len}
 use Rattle.dwarf_types.specs.Addresses.{number_of}
+use Rattle.line_read.specs.Counting.{lines_as}
 use Rattle.line_read.specs.Header.{version_of}
 use Rattle.line_read.specs.Program.{lines_of}
 use Rattle.loc_lists.specs.Reading.{location_part, locations_of}
@@ -47,10 +47,10 @@ pub use Rattle.unit_tree.specs.Targets.{number_at}
 use Rattle.moved_parts.specs.Lines.{lines_moved}
 use Rattle.moved_parts.specs.Places.{place_of}
 use Rattle.moved_parts.specs.Spans.{span_moved, spans_moved}
-use Rattle.object_view.specs.declared.open.DebugRelocs.{DebugRelocs}
+use Rattle.object_read.specs.declared.open.DebugRelocs.{DebugRelocs}
 use Rattle.ds_base.specs.DwarfNumbers.{DWARF_5}
 use Rattle.object_view.specs.declared.units.UnitContext.{UnitContext}
-use Rattle.object_view.specs.Opened.{Opened}
+use Rattle.object_read.specs.Opened.{Opened}
 use Rattle.object_view.specs.Units.{base_types, unit_context}
 
 -- ---- steps over all attributes
@@ -173,15 +173,6 @@ text_in _ = []
 
 abbrev pub comp_dir : Entry → List ℕ
 comp_dir root = option_map_or text_in (value_of DW_AT_comp_dir root) []
-
--- A table before version 5 counts directories and files from 1, and its directory 0 is the unit's; a table of version 5 counts both from 0, and has the unit's
--- directory and first file there (DWARF 5, section 6.2.4).
-abbrev pub counted_from_0 : List ℕ → RawLines → RawLines
-counted_from_0 dir lines = record lines { dirs = dir ∷ lines.dirs; files = take 1 lines.files ++ lines.files }
-
--- a table of a version, as a unit of a version has it that was compiled in a directory
-abbrev pub lines_as : ℕ → ℕ → List ℕ → RawLines → RawLines
-lines_as unit table dir lines = if unit == DWARF_5 && nat_lt table DWARF_5 then counted_from_0 dir lines else lines
 
 -- the line table at a place, of a unit of a version that was compiled in a directory
 abbrev pub lines_meant : Opened → AddrMap → ℕ → List ℕ → ℕ → Result OutLines Fault

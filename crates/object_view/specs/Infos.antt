@@ -7,7 +7,7 @@ use Rattle.dwarf_types.specs.SectionBytes.{bytes_in}
 use Rattle.expr_resolve.specs.Context.{AreInOrder}
 use Rattle.object_view.specs.declared.expressions.Expressions.{Expressions}
 use Rattle.object_view.specs.Attributes.{value_meant}
-use Rattle.object_view.specs.Opened.{opened_seen}
+use Rattle.object_view.specs.Seen.{opened_seen}
 use Rattle.object_view.specs.Ready.{IsOpen, IsReadAttr, info_seen}
 
 pub record IsReadyInfo (e : Expressions) : Type 0 where

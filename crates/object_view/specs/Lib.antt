@@ -5,10 +5,9 @@ pub mod Code
 pub mod Faults
 pub mod Infos
 pub mod Numbers
-pub mod Opened
 pub mod Ready
 pub mod Roots
-pub mod Sound
+pub mod Seen
 pub mod Spelled
 pub mod Stages
 pub mod Units

@@ -28,8 +28,10 @@ use Rattle.object_view.specs.declared.units.UnitContext.{UnitContext}
 use Rattle.unit_tree.specs.Inside.{IsListInside}
 use Rattle.unit_tree.specs.Meaning.{is_address_index, table_of}
 use Rattle.object_view.specs.Attributes.{each_of, entry_marked, info_context, item_meant, item_moved, line_place, lines_marked, lines_value, locations_context, number_at, with_value}
-use Rattle.object_view.specs.Opened.{Opened, opened_seen}
-use Rattle.object_view.specs.Sound.{AreSmall, AreSound}
+use Rattle.object_read.specs.Opened.{Opened}
+use Rattle.object_view.specs.Seen.{opened_seen}
+use Rattle.reloc_table.specs.Tried.{AreSmall}
+use Rattle.object_read.specs.Sound.{AreSound}
 use Rattle.object_view.specs.Units.{no_unit}
 
 -- what is known of the unit of a number; entries are of units that are there

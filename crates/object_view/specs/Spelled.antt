@@ -11,7 +11,7 @@ use Rattle.dwarf_types.specs.declared.value.Value.TheVariants as values
 use Rattle.dwarf_types.specs.Live.{Stands, target_in}
 use Rattle.dwarf_types.specs.SectionBytes.{SectionBytes}
 use Rattle.unit_tree.specs.Spelling.{SpellsObject, SpellsUnit, SpellsUnits, UnitTree, entries_of, in_units}
-use Rattle.object_view.specs.Opened.{Opened, opened_of}
+use Rattle.object_read.specs.Opened.{Opened, opened_of}
 use Rattle.object_view.specs.Units.{unit_start}
 
 -- two lists, item by item

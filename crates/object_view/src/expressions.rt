@@ -4,23 +4,24 @@ ghost use Rattle.std.specs.Prelude.{◌≡◌, ◌<◌, length};
 ghost use Rattle.expr_resolve.specs.Context.{context_in};
 ghost use Rattle.loc_lists.specs.Reading.{location_part};
 ghost use Rattle.object_view.specs.Attributes;
-ghost use Rattle.object_view.specs.Opened.{opened_seen};
+ghost use Rattle.object_view.specs.Seen.{opened_seen};
 ghost use Rattle.object_view.specs.Ready.{context_among, info_seen, locations_seen};
 
-use crate::open::{DebugRelocs, OpenObject};
 use crate::units::UnitContext;
+use crate::view::ObjectView;
 use addr_map::AddrMap;
 use ds_base::Part;
 use ds_base::dwarf::DWARF_5;
 use dwarf_types::Ops;
 use expr_resolve::{BaseType, ExprContext};
+use object_read::DebugRelocs;
 use reloc_table::Relocs;
 use std::alloc::Global;
 
 /// The expressions of an object, whatever their unit.
 #[derive(Clone, Copy)]
 pub(crate) struct Expressions<'a> {
-    pub(crate) object: &'a OpenObject<'a>,
+    pub(crate) object: &'a ObjectView<'a>,
     pub(crate) map: &'a AddrMap,
     /// The base types of the object, in the order of their places.
     pub(crate) types: &'a [BaseType],
@@ -105,7 +106,7 @@ fn context_at<'a>(
 {
     let context = unit_at(expressions.units, unit);
     ExprContext {
-        image: &expressions.object.image,
+        image: expressions.object.image,
         map: expressions.map,
         bases: expressions.types,
         part,

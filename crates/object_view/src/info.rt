@@ -34,10 +34,28 @@ pub(crate) fn understand_entries(
     requires numbers { AreNumbers places entries.old numbers.now }
     ensures { Gives (λ _. entries.new) result (raw_entries_by (info_value expressions.now places) entries.old) }
 {
-    let mut left = numbers.iter();
     let mut room = ExprRoom::new(alloc);
+    let understood = understand_each(expressions, numbers, entries, &mut room);
+    drop(room);
+    understood
+}
+
+/// The same, with room for expressions.
+fn understand_each(
+    expressions: &Expressions,
+    numbers: &[u32],
+    entries: &mut RawEntries,
+    room: &mut ExprRoom,
+) -> Result<(), ReadError>
+    ghost places: { List ℕ }
+    requires ready { IsReadyInfo expressions.now }
+    requires fits { AllRawAttrs (FitsInfo expressions.now places) entries.old }
+    requires numbers { AreNumbers places entries.old numbers.now }
+    ensures { Gives (λ _. entries.new) result (raw_entries_by (info_value expressions.now places) entries.old) }
+{
+    let mut left = numbers.iter();
     for i in 0..entries.len() {
-        understand_entry(expressions, entries, i, &mut left, &mut room)?;
+        understand_entry(expressions, entries, i, &mut left, room)?;
     }
     Ok(())
 }

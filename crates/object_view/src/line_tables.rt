@@ -1,6 +1,6 @@
 //! The line tables of units (DWARF 4 and 5, section 3.1.1, the statement list).
 
-ghost use Rattle.std.specs.Prelude.{◌≡◌, ◌<◌, ◌∷◌, ◌++◌, length, slice_get, slice_set, take, true, Some, IfOk, IfSome, OnOk};
+ghost use Rattle.std.specs.Prelude.{◌≡◌, ◌<◌, length, slice_get, slice_set, true, Some, IfSome, OnOk};
 ghost use Rattle.std.specs.List.{All};
 ghost use Rattle.ds_base.specs.Reading.{Gives};
 ghost use Rattle.dwarf_types.specs.SectionBytes.{bytes_in};
@@ -9,43 +9,39 @@ ghost use Rattle.dwarf_types.specs.Seen.{attr_seen, value_seen};
 ghost use Rattle.dwarf_types.specs.declared.entry.Attr.{Attr as AnAttr};
 ghost use Rattle.dwarf_types.specs.declared.entry.Entry.{Entry as AnEntry};
 ghost use Rattle.object_view.specs.Attributes;
-ghost use Rattle.object_view.specs.Opened.{opened_seen};
+ghost use Rattle.object_view.specs.Seen.{opened_seen};
 ghost use Rattle.object_view.specs.Ready.{HasRoot, IsFirstList, IsLinesInside, IsMarkedAt, IsOpen};
 
-use crate::open::OpenObject;
+use crate::view::ObjectView;
 use addr_map::AddrMap;
-use ds_base::dwarf::{DW_AT_comp_dir, DW_AT_stmt_list, DW_FORM_sec_offset, DWARF_5};
+use ds_base::dwarf::{DW_AT_comp_dir, DW_AT_stmt_list, DW_FORM_sec_offset};
 use ds_base::{List, NoMemory, ReadError};
-use dwarf_types::{
-    AttrRef, Entries, EntryRef, FileNames, InUnit, NewValue, OutLines, Paths, RawLines,
-    SharedTexts, ValueRef,
-};
-use line_read::{read_lines, table_version};
+use dwarf_types::{AttrRef, Entries, EntryRef, InUnit, NewValue, OutLines, SharedTexts, ValueRef};
+use line_read::{lines_as, read_lines, table_version};
 use moved_parts::move_lines;
 use std::alloc::Global;
 
 /// Reads the line tables of the units, one unit after the other. They share one copy of `__debug_line_str`.
 pub(crate) fn read_line_tables(
     alloc: Global,
-    object: &OpenObject,
+    object: &ObjectView,
     map: &AddrMap,
     entries: &Entries,
-    mut units: List<InUnit>,
-) -> Result<List<InUnit>, ReadError>
+    units: &mut List<InUnit>,
+) -> Result<(), ReadError>
     requires open { IsOpen (opened_seen object.now) map.now }
-    requires roots { All (HasRoot (length entries.now)) units }
-    requires inside { All (IsLinesInside (bytes_in object.now.sections) entries.now) units }
-    ensures { Gives (λ units. units) result (Attributes.units_meant (opened_seen object.now) map.now entries.now units) }
+    requires roots { All (HasRoot (length entries.now)) units.old }
+    requires inside { All (IsLinesInside (bytes_in object.now.sections) entries.now) units.old }
+    ensures { Gives (λ _. units.new) result (Attributes.units_meant (opened_seen object.now) map.now entries.now units.old) }
 {
     let texts = SharedTexts::of(alloc, object.sections.line_str)?;
-    read_each(alloc, object, &texts, map, entries, units.as_mut_slice())?;
-    Ok(units)
+    read_each(alloc, object, &texts, map, entries, units.as_mut_slice())
 }
 
 /// The same, in place.
 fn read_each(
     alloc: Global,
-    object: &OpenObject,
+    object: &ObjectView,
     texts: &SharedTexts,
     map: &AddrMap,
     entries: &Entries,
@@ -65,7 +61,7 @@ fn read_each(
 /// Reads the line table of a unit, if its root names one.
 fn read_unit_lines(
     alloc: Global,
-    object: &OpenObject,
+    object: &ObjectView,
     texts: &SharedTexts,
     map: &AddrMap,
     entries: &Entries,
@@ -88,7 +84,7 @@ fn read_unit_lines(
 /// The line table at a place, of a unit of a version that was compiled in a directory.
 fn lines_at(
     alloc: Global,
-    object: &OpenObject,
+    object: &ObjectView,
     texts: &SharedTexts,
     map: &AddrMap,
     version: u16,
@@ -105,84 +101,12 @@ fn lines_at(
         &object.sections,
         texts,
         &object.relocs.line,
-        &object.image,
+        object.image,
         place as u32,
         version,
     )?;
     let lines = lines_as(alloc, version, table, dir, lines)?;
     Ok(move_lines(alloc, map, lines)?)
-}
-
-/// A line table of a version, as a unit of another has it that was compiled in a directory. A table before version 5
-/// counts directories and files from 1.
-fn lines_as(
-    alloc: Global,
-    unit: u16,
-    table: u16,
-    dir: &[u8],
-    lines: RawLines,
-) -> Result<RawLines, NoMemory>
-    ensures is { IfOk result (λ made. made ≡ Attributes.lines_as unit table dir.now lines) }
-
-    // Its sequences stay.
-    ensures sequences { IfOk result (λ made. made.sequences ≡ lines.sequences) }
-{
-    if unit == DWARF_5 && table < DWARF_5 {
-        counted_from_0(alloc, dir, lines)
-    } else {
-        Ok(lines)
-    }
-}
-
-/// The same table with directories and files counted from 0: the unit's directory goes before its directories, and a
-/// copy of its first file before its files.
-fn counted_from_0(alloc: Global, dir: &[u8], lines: RawLines) -> Result<RawLines, NoMemory>
-    ensures { IfOk result (λ made. made ≡ Attributes.counted_from_0 dir.now lines) }
-{
-    let RawLines {
-        dirs,
-        files,
-        sequences,
-    } = lines;
-    Ok(RawLines {
-        dirs: dirs_behind(alloc, dir, &dirs)?,
-        files: files_behind_first(alloc, &files)?,
-        sequences,
-    })
-}
-
-/// A directory before others.
-fn dirs_behind(alloc: Global, dir: &[u8], dirs: &Paths) -> Result<Paths, NoMemory>
-    ensures { IfOk result (λ all. all ≡ dir.now ∷ dirs.now) }
-{
-    let mut all = Paths::new(alloc);
-    all.push(dir)?;
-    for i in 0..dirs.len() {
-        all.push(dirs.path(i))?;
-    }
-    Ok(all)
-}
-
-/// Files behind a copy of the first, where there is one.
-fn files_behind_first(alloc: Global, files: &FileNames) -> Result<FileNames, NoMemory>
-    ensures { IfOk result (λ all. all ≡ take 1 files.now ++ files.now) }
-{
-    let mut all = first_file(alloc, files)?;
-    for i in 0..files.len() {
-        all.push(&files.file(i))?;
-    }
-    Ok(all)
-}
-
-/// A copy of the first file, where there is one.
-fn first_file(alloc: Global, files: &FileNames) -> Result<FileNames, NoMemory>
-    ensures { IfOk result (λ first. first ≡ take 1 files.now) }
-{
-    let mut first = FileNames::new(alloc);
-    if let Some(file) = files.get(0) {
-        first.push(&file)?;
-    }
-    Ok(first)
 }
 
 /// The place of a unit's line table, which its root's first stmt_list tells where it is a section offset.

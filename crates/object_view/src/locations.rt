@@ -39,7 +39,7 @@ impl<'a> Step for LocationLists<'a> {
     ghost use Rattle.expr_resolve.specs.Context.{AreInOrder};
     ghost use Rattle.dwarf_types.specs.SectionBytes.{bytes_in};
     ghost use Rattle.object_view.specs.Attributes.{locations_meant};
-    ghost use Rattle.object_view.specs.Opened.{opened_seen};
+    ghost use Rattle.object_view.specs.Seen.{opened_seen};
     ghost use Rattle.object_view.specs.Ready.{IsListedAttr, IsOpen, base_at, locations_seen};
 
     ghost ready = { λ s. IsOpen (opened_seen s.expressions.object.now) s.expressions.map.now × AreInOrder s.expressions.types.now × (length s.bases.now ≡ length s.expressions.units.now) };

@@ -9,18 +9,19 @@ ghost use Rattle.dwarf_types.specs.Seen.{attr_seen};
 ghost use Rattle.dwarf_types.specs.declared.address.Addr.TheVariants as addrs;
 ghost use Rattle.dwarf_types.specs.declared.value.Value.TheVariants as values;
 ghost use Rattle.object_view.specs.Attributes;
-ghost use Rattle.object_view.specs.Opened.{opened_seen};
+ghost use Rattle.object_view.specs.Seen.{opened_seen};
 ghost use Rattle.object_view.specs.Ready.{HasRoot, IsOpen, base_at};
 
 use crate::expressions::{ExprRoom, unit_at};
-use crate::open::{DebugRelocs, OpenObject};
 use crate::steps::{Changed, Step};
 use crate::units::UnitContext;
+use crate::view::ObjectView;
 use addr_map::AddrMap;
 use ds_base::dwarf::{DW_AT_low_pc, DWARF_5};
 use ds_base::{List, NoMemory, ReadError};
 use dwarf_types::{Addr, AttrRef, Entries, EntryRef, InUnit, Span, ValueRef};
 use moved_parts::move_spans;
+use object_read::DebugRelocs;
 use range_lists::read_ranges;
 use reloc_table::Relocs;
 use std::alloc::Global;
@@ -29,7 +30,7 @@ use unit_tree::{Meaning, meaning_of_offset};
 /// The step in which section offsets lead to range lists.
 #[derive(Clone, Copy)]
 pub(crate) struct RangeLists<'a> {
-    pub(crate) object: &'a OpenObject<'a>,
+    pub(crate) object: &'a ObjectView<'a>,
     pub(crate) map: &'a AddrMap,
     /// Of each unit, what its values are understood by.
     pub(crate) units: &'a [UnitContext],
@@ -41,7 +42,7 @@ impl<'a> Step for RangeLists<'a> {
     ghost use Rattle.std.specs.Prelude.{◌≡◌, length};
     ghost use Rattle.dwarf_types.specs.SectionBytes.{bytes_in};
     ghost use Rattle.object_view.specs.Attributes.{ranges_meant};
-    ghost use Rattle.object_view.specs.Opened.{opened_seen};
+    ghost use Rattle.object_view.specs.Seen.{opened_seen};
     ghost use Rattle.object_view.specs.Ready.{IsListedAttr, IsOpen, base_at, context_among};
 
     ghost ready = { λ s. IsOpen (opened_seen s.object.now) s.map.now × (length s.bases.now ≡ length s.units.now) };
@@ -73,7 +74,7 @@ impl<'a> Step for RangeLists<'a> {
 /// The range list at a place, moved.
 fn ranges_at(
     alloc: Global,
-    object: &OpenObject,
+    object: &ObjectView,
     map: &AddrMap,
     unit: &UnitContext,
     base: &Addr,
@@ -87,7 +88,7 @@ fn ranges_at(
         alloc,
         &object.sections,
         ranges_relocs(&object.relocs, unit.version),
-        &object.image,
+        object.image,
         place as u32,
         unit.version,
         base,

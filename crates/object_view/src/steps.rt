@@ -69,8 +69,25 @@ pub(crate) fn change_entries<S: Step>(
     ensures { Gives (λ _. entries.new) result (entries_by (S.meant step.now) entries.old) }
 {
     let mut room = ExprRoom::new(alloc);
+    let changed = change_each(alloc, step, entries, &mut room);
+    drop(room);
+    changed
+}
+
+/// The same, with room for expressions.
+fn change_each<S: Step>(
+    alloc: Global,
+    step: &S,
+    entries: &mut Entries,
+    room: &mut ExprRoom,
+) -> Result<(), ReadError>
+    requires ready { S.ready step.now }
+    requires fits { AllAttrs (S.fits step.now) entries.old }
+    requires others { (unit : ℕ) (a : AnAttr) → is_offset a.value ≡ false → S.meant step.now unit a ≡ Ok a.value }
+    ensures { Gives (λ _. entries.new) result (entries_by (S.meant step.now) entries.old) }
+{
     for i in 0..entries.len() {
-        change_entry(alloc, step, entries, i, &mut room)?;
+        change_entry(alloc, step, entries, i, room)?;
     }
     Ok(())
 }

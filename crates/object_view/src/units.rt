@@ -36,8 +36,25 @@ pub(crate) struct Tables<'a> {
     pub(crate) units: &'a [UnitContext],
 }
 
+/// What is made once of units and their entries: all base types, and of each unit what its values are understood by.
+pub(crate) fn made_once(
+    alloc: Global,
+    units: &[InUnit],
+    entries: &RawEntries,
+) -> Result<(List<BaseType>, List<UnitContext>), NoMemory>
+    requires few { length entries.now < 2 ^ 32 }
+    requires roots { All (HasRoot (length entries.now)) units.now }
+    requires behind { All (IsBehindHeader entries.now) units.now }
+    ensures types { IfOk result (λ made. made.0 ≡ Units.base_types entries.now) }
+    ensures contexts { IfOk result (λ made. made.1 ≡ Units.contexts_of entries.now units.now) }
+{
+    let types = base_types(alloc, entries)?;
+    let contexts = unit_contexts(alloc, units, entries)?;
+    Ok((types, contexts))
+}
+
 /// All base types of an object, in the order of the entries.
-pub(crate) fn base_types(alloc: Global, entries: &RawEntries) -> Result<List<BaseType>, NoMemory>
+fn base_types(alloc: Global, entries: &RawEntries) -> Result<List<BaseType>, NoMemory>
     requires { length entries.now < 2 ^ 32 }
     ensures { IfOk result (λ bases. bases ≡ Units.base_types entries.now) }
 {
@@ -56,7 +73,7 @@ pub(crate) fn base_types(alloc: Global, entries: &RawEntries) -> Result<List<Bas
 }
 
 /// Of each unit, what its values are understood by.
-pub(crate) fn unit_contexts(
+fn unit_contexts(
     alloc: Global,
     units: &[InUnit],
     entries: &RawEntries,

@@ -3,7 +3,7 @@ use Rattle.std.proofs.lemmas.Result.{err_from_is_err_and}
 use Rattle.ds_base.proofs.Refusals.{refused_from_gives, refused_gives}
 use Rattle.dwarf_types.specs.SectionBytes.{bytes_in}
 use Rattle.object_view.specs.Attributes.{unit_with_lines}
-use Rattle.object_view.specs.Opened.{opened_seen}
+use Rattle.object_view.specs.Seen.{opened_seen}
 use Rattle.object_view.specs.Ready.{HasRoot, IsLinesInside}
 use Rattle.object_view.proofs.EachOf.{changed_none, changed_more, changed_err, changed_all, unchanged}
 use Rattle.object_view.proofs.line_tables.read_each.Goals as goal

@@ -1,5 +1,5 @@
 use Rattle.object_view.specs.Attributes.{unit_with_lines}
-use Rattle.object_view.specs.Opened.{opened_seen}
+use Rattle.object_view.specs.Seen.{opened_seen}
 use Rattle.object_view.proofs.EachOf.{Changed}
 use Rattle.object_view.proofs.line_tables.read_each.Given as goal
 

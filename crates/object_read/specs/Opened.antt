@@ -12,10 +12,10 @@ use Rattle.macho_read.specs.Image.{image_of}
 use Rattle.macho_read.specs.Kind.{kind_of}
 use Rattle.reloc_table.specs.declared.relocation.Relocs.{Relocs}
 use Rattle.reloc_table.specs.Table.{relocs_of}
-use Rattle.object_view.specs.declared.open.DebugRelocs.{DebugRelocs}
-use Rattle.object_view.specs.declared.open.OpenObject.{OpenObject}
+use Rattle.object_read.specs.declared.open.DebugRelocs.{DebugRelocs}
+use Rattle.object_read.specs.declared.open.OpenObject.{OpenObject}
 use Rattle.reloc_table.specs.declared.sections.Compressed.TheVariants as compressed
-use Rattle.reloc_table.specs.Parts.{all_tried, section_of, sections_in}
+use Rattle.reloc_table.specs.Parts.{section_of, all_tried, sections_in}
 
 pub record Opened : Type 0 where
   pub image : Image

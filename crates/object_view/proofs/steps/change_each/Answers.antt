@@ -6,7 +6,7 @@ use Rattle.dwarf_types.specs.declared.entry.Entry.{Entry}
 use Rattle.object_view.proofs.EachOf.{changed_all, changed_none}
 use Rattle.object_view.proofs.Fitting.{one_of}
 use Rattle.object_view.proofs.InPlace.{entry_turn, item_more, item_refused, item_was, turned}
-use Rattle.object_view.proofs.steps.change_entries.Goals as goal
+use Rattle.object_view.proofs.steps.change_each.Goals as goal
 
 pub loop-i-init : goal.loop-i-init
 loop-i-init g c = changed_none (turned (entry_turn (g.S.Step.meant c.args.step.now))) c.args.entries.now

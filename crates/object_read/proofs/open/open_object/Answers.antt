@@ -1,5 +1,5 @@
-use Rattle.object_view.proofs.Opening.{opened_as}
-use Rattle.object_view.proofs.open.open_object.Goals as goal
+use Rattle.object_read.proofs.Opening.{opened_as}
+use Rattle.object_read.proofs.open.open_object.Goals as goal
 
 pub returns-clause-exact : goal.returns-clause-exact
 returns-clause-exact c =

@@ -1,12 +1,13 @@
 //! An object, opened: what every reader of its debug sections stands on.
 
-ghost use Rattle.std.specs.Prelude.{◌≡◌, ◌<◌, ◌^◌, [], length, IfOk};
+ghost use Rattle.std.specs.Prelude.{◌≡◌, ◌<◌, ◌^◌, [], length, IfOk, OnOk};
 ghost use Rattle.ds_base.specs.Reading.{Gives};
 ghost use Rattle.dwarf_types.specs.SectionBytes.{bytes_in};
 ghost use Rattle.macho_read.specs.Sound.{IsSound as IsSoundImage};
 ghost use Rattle.reloc_table.specs.Sound.{IsSound};
-ghost use Rattle.object_view.specs.Opened as spec;
-ghost use Rattle.object_view.specs.Sound.{AreSmall, AreSound};
+ghost use Rattle.object_read.specs.Opened as spec;
+ghost use Rattle.reloc_table.specs.Tried.{AreSmall};
+ghost use Rattle.object_read.specs.Sound.{AreSound};
 
 use ds_base::{List, Part, ReadError};
 use dwarf_types::Sections;
@@ -16,15 +17,15 @@ use std::alloc::Global;
 
 /// The relocations of an object's debug sections that hold addresses.
 #[derive(Drop)]
-pub(crate) struct DebugRelocs {
-    pub(crate) info: Relocs,
-    pub(crate) addr: Relocs,
-    pub(crate) line: Relocs,
-    pub(crate) ranges: Relocs,
-    pub(crate) rnglists: Relocs,
-    pub(crate) loc: Relocs,
-    pub(crate) loclists: Relocs,
-    pub(crate) frame: Relocs,
+pub struct DebugRelocs {
+    pub info: Relocs,
+    pub addr: Relocs,
+    pub line: Relocs,
+    pub ranges: Relocs,
+    pub rnglists: Relocs,
+    pub loc: Relocs,
+    pub loclists: Relocs,
+    pub frame: Relocs,
 }
 
 /// An object with its debug sections, whose bytes are the file's.
@@ -63,36 +64,57 @@ pub(crate) fn open_object(
     })
 }
 
-/// The relocations of all parts of the file, in their order.
-#[tactic(auto, unfolding(crate::specs::Opened::relocs_in))]
+/// The relocations of all parts of the file.
 fn debug_relocs(alloc: Global, bytes: &[u8], image: &Image) -> Result<DebugRelocs, ReadError>
     requires { IsSoundImage image.now }
     ensures exact { Gives (λ relocs. relocs) result (spec.relocs_in bytes.now image.now) }
     ensures sound { IfOk result (AreSound image.now) }
 {
-    let info = part_relocs(alloc, bytes, image, Part::Info)?;
-    let _abbrev = part_relocs(alloc, bytes, image, Part::Abbrev)?;
-    let _strings = part_relocs(alloc, bytes, image, Part::Str)?;
-    let _str_offs = part_relocs(alloc, bytes, image, Part::StrOffs)?;
-    let addr = part_relocs(alloc, bytes, image, Part::Addr)?;
-    let line = part_relocs(alloc, bytes, image, Part::Line)?;
-    let _line_str = part_relocs(alloc, bytes, image, Part::LineStr)?;
-    let ranges = part_relocs(alloc, bytes, image, Part::Ranges)?;
-    let rnglists = part_relocs(alloc, bytes, image, Part::Rnglists)?;
-    let loc = part_relocs(alloc, bytes, image, Part::Loc)?;
-    let loclists = part_relocs(alloc, bytes, image, Part::Loclists)?;
-    let _aranges = part_relocs(alloc, bytes, image, Part::Aranges)?;
-    let frame = part_relocs(alloc, bytes, image, Part::Frame)?;
-    Ok(DebugRelocs {
-        info,
-        addr,
-        line,
-        ranges,
-        rnglists,
-        loc,
-        loclists,
-        frame,
-    })
+    let mut relocs = no_relocs(alloc);
+    read_relocs(alloc, bytes, image, &mut relocs)?;
+    Ok(relocs)
+}
+
+/// No relocations.
+fn no_relocs(alloc: Global) -> DebugRelocs {
+    DebugRelocs {
+        info: none(alloc),
+        addr: none(alloc),
+        line: none(alloc),
+        ranges: none(alloc),
+        rnglists: none(alloc),
+        loc: none(alloc),
+        loclists: none(alloc),
+        frame: none(alloc),
+    }
+}
+
+/// Reads the relocations of all parts of the file, in their order. Those of a part without addresses are only tried.
+#[tactic(auto, unfolding(crate::specs::Opened::relocs_in))]
+fn read_relocs(
+    alloc: Global,
+    bytes: &[u8],
+    image: &Image,
+    relocs: &mut DebugRelocs,
+) -> Result<(), ReadError>
+    requires { IsSoundImage image.now }
+    ensures exact { Gives (λ _. relocs.new) result (spec.relocs_in bytes.now image.now) }
+    ensures sound { OnOk result (AreSound image.now relocs.new) }
+{
+    relocs.info = part_relocs(alloc, bytes, image, Part::Info)?;
+    part_relocs(alloc, bytes, image, Part::Abbrev)?;
+    part_relocs(alloc, bytes, image, Part::Str)?;
+    part_relocs(alloc, bytes, image, Part::StrOffs)?;
+    relocs.addr = part_relocs(alloc, bytes, image, Part::Addr)?;
+    relocs.line = part_relocs(alloc, bytes, image, Part::Line)?;
+    part_relocs(alloc, bytes, image, Part::LineStr)?;
+    relocs.ranges = part_relocs(alloc, bytes, image, Part::Ranges)?;
+    relocs.rnglists = part_relocs(alloc, bytes, image, Part::Rnglists)?;
+    relocs.loc = part_relocs(alloc, bytes, image, Part::Loc)?;
+    relocs.loclists = part_relocs(alloc, bytes, image, Part::Loclists)?;
+    part_relocs(alloc, bytes, image, Part::Aranges)?;
+    relocs.frame = part_relocs(alloc, bytes, image, Part::Frame)?;
+    Ok(())
 }
 
 /// The relocations of a part of the file; a section that is not there has none.
@@ -103,8 +125,15 @@ fn part_relocs(alloc: Global, bytes: &[u8], image: &Image, part: Part) -> Result
 {
     match section_of(image.sections.as_slice(), part) {
         Some(section) => relocs(alloc, bytes, image, section),
-        None => Ok(Relocs {
-            list: List::new(alloc),
-        }),
+        None => Ok(none(alloc)),
+    }
+}
+
+/// No relocations of a part.
+fn none(alloc: Global) -> Relocs
+    ensures { result.list ≡ [] }
+{
+    Relocs {
+        list: List::new(alloc),
     }
 }

@@ -1,0 +1,3 @@
+pub mod FileBytes
+pub mod Opening
+pub mod Reading

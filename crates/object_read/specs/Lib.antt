@@ -1,0 +1,4 @@
+pub mod Opened
+pub mod Read
+pub mod Seen
+pub mod Sound
