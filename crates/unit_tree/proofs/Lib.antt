@@ -1,3 +1,4 @@
+pub mod Alone
 pub mod AttrLoop
 pub mod AttrLaws
 pub mod ChildLoop

@@ -1,6 +1,6 @@
 -- The units of an image that was written are units of an object, each offset of which leads to a table or a list.
 use Rattle.std.proofs.Common.{◌≡◌, ℕ, zero, suc, ◌-◌, ◌==◌, ◌&&◌, Bool, true, false, not, List, [], ◌∷◌, ◌++◌, length, Option, Some, None, Result, Ok, Err, refl, sym, ap, subst, ◌∙◌, append_assoc, inl, inr}
-use Rattle.std.specs.Prelude.{is_none, nat_lt, if◌then◌else◌}
+use Rattle.std.specs.Prelude.{is_none, if◌then◌else◌}
 use Rattle.std.specs.List.{find, list_all}
 use Rattle.std.specs.Option.{option_map_or, option_to_list}
 use Rattle.std.proofs.lemmas.List.{append-nil}
@@ -29,7 +29,7 @@ use Rattle.unit_tree.specs.declared.profile.Profile.{Profile}
 use Rattle.unit_tree.specs.declared.profile.Profile.TheVariants.{Input, Output}
 use Rattle.unit_tree.specs.declared.reference.Reference.{Reference}
 use Rattle.unit_tree.specs.Attribute.{Described, attr_at, attrs_at, meant_at, names_lines, offset_in, offset_nowhere, value_meant_at}
-use Rattle.unit_tree.specs.Entry.{Parsed, Walk, bases_at, child_at, children_at, declared_as, entry_at, first_at, innermost, listed_at, opened, root_at, tree_at, with_entry}
+use Rattle.unit_tree.specs.Entry.{Parsed, Walk, bases_at, child_at, children_at, entry_at, first_at, innermost, listed_at, opened, root_at, tree_at, with_entry}
 use Rattle.unit_tree.specs.Header.{info_at}
 use Rattle.unit_tree.specs.Led.{AreEntriesLed, AreLed, IsLed, IsValueLed, leads_somewhere}
 use Rattle.unit_tree.specs.Meaning.{meaning_of}
@@ -181,7 +181,7 @@ attrs_up sections context root (field ∷ fields) before s y own e is led =
 -- ---- entries
 
 -- entries behind others
-abbrev Begins : List RawEntry → List RawEntry → Type 0
+abbrev pub Begins : List RawEntry → List RawEntry → Type 0
 Begins before now = (more : List RawEntry) × (now ≡ before ++ more)
 
 begins_itself : (entries : List RawEntry) → Begins entries entries
@@ -205,13 +205,13 @@ led_back (x ∷ xs) ys h = led_back xs ys h.1
 led_begins : (xs ys : List RawEntry) → Begins xs ys → AreEntriesLed ys → AreEntriesLed xs
 led_begins xs ys b h = led_front xs b.0 (subst AreEntriesLed b.1 h)
 
-entry_begins : (sections : SectionBytes) (context : UnitContext) (parent : Option ℕ) (place : ℕ) (declared : Abbrev) (before : Parsed) (s : Spot) (y : Parsed × Spot) → entry_at sections context parent place declared before s ≡ Ok y
+pub entry_begins : (sections : SectionBytes) (context : UnitContext) (parent : Option ℕ) (place : ℕ) (declared : Abbrev) (before : Parsed) (s : Spot) (y : Parsed × Spot) → entry_at sections context parent place declared before s ≡ Ok y
     → Begins before.entries y.0.entries
 entry_begins sections context parent place declared before s y e =
     let w = entry_steps sections context parent place declared before s y e in
     subst (λ (p : Parsed × Spot). Begins before.entries p.0.entries) w.is (record { parent = parent; unit = context.unit; place = place; tag = declared.tag; attrs = w.read.0.0 } ∷ [], refl)
 
-child_begins : (sections : SectionBytes) (context : UnitContext) (table : List Abbrev) (walk : Walk) (s : Spot) (y : Walk × Spot) → child_at sections context table walk s ≡ Ok y → Begins walk.0.entries y.0.0.entries
+pub child_begins : (sections : SectionBytes) (context : UnitContext) (table : List Abbrev) (walk : Walk) (s : Spot) (y : Walk × Spot) → child_at sections context table walk s ≡ Ok y → Begins walk.0.entries y.0.0.entries
 child_begins sections context table walk s y e =
     elim (child_steps sections context table walk s y e) [
       | inl w ↦ subst (λ (p : Walk × Spot). Begins walk.0.entries p.0.0.entries) w.is (begins_itself walk.0.entries)
@@ -220,7 +220,7 @@ child_begins sections context table walk s y e =
           subst (λ (p : Walk × Spot). Begins walk.0.entries p.0.0.entries) l.is (entry_begins sections context (innermost walk.1) s.place w.declared walk.0 w.code.1 l.read l.entry)
     ]
 
-children_begin : (sections : SectionBytes) (context : UnitContext) (table : List Abbrev) (left : ℕ) (walk : Walk) (s : Spot) (y : Parsed × Spot) → children_at sections context table left walk s ≡ Ok y → Begins walk.0.entries y.0.entries
+pub children_begin : (sections : SectionBytes) (context : UnitContext) (table : List Abbrev) (left : ℕ) (walk : Walk) (s : Spot) (y : Parsed × Spot) → children_at sections context table left walk s ≡ Ok y → Begins walk.0.entries y.0.entries
 children_begin sections context table zero walk s y e =
     let w = children_end sections context table walk s y e in
     subst (λ (p : Parsed × Spot). Begins walk.0.entries p.0.entries) w.1 (begins_itself walk.0.entries)
@@ -331,7 +331,7 @@ record Told (start : Spot) (sections : SectionBytes) (context : UnitContext) (ta
   told : bases_at start sections (unbased context) table before s ≡ Ok bases
   are : bases ≡ bases_in attrs
 
-bases_read : (start : Spot) (sections : SectionBytes) (context : UnitContext) (table : List Abbrev) (before : Parsed) (s : Spot) (first : Abbrev × Spot) (read : Described × Spot) → first_at start table before s ≡ Ok first
+pub bases_read : (start : Spot) (sections : SectionBytes) (context : UnitContext) (table : List Abbrev) (before : Parsed) (s : Spot) (first : Abbrev × Spot) (read : Described × Spot) → first_at start table before s ≡ Ok first
     → attrs_at sections context true first.0.fields ([], []) first.1 ≡ Ok read → bases_at start sections context table before s ≡ Ok (bases_in read.0.0)
 unfolding bases_at
 bases_read start sections context table before s first read e f = rw (e, f) refl
@@ -411,7 +411,7 @@ tree_up start sections context table before s y e h =
 -- ---- units
 
 -- zeros up to the end
-no_others : (start s : Spot) (others : List ℕ × Spot) → bytes_at (s.end - s.place) s ≡ Ok others → not (list_all is_zero others.0) ≡ false → zeros_at start s ≡ Ok tt
+pub no_others : (start s : Spot) (others : List ℕ × Spot) → bytes_at (s.end - s.place) s ≡ Ok others → not (list_all is_zero others.0) ≡ false → zeros_at start s ≡ Ok tt
 unfolding zeros_at
 no_others start s others read zeros = rw (read, zeros) refl
 

@@ -1,3 +1,4 @@
+pub mod Alone
 pub mod Attribute
 pub mod Bounds
 pub mod Entry

@@ -166,29 +166,32 @@ fn value_of_number<'a>(
         Meaning::InUnit => {
             let place = u64::from(context.place).saturating_add(n);
             let reference = refer(first, place, Some(context.unit));
-            return Ok((RawValue::Ref(reference.target), Some(reference)));
+            Ok((RawValue::Ref(reference.target), Some(reference)))
         }
         Meaning::InObject => {
             let reference = refer(first, n, None);
-            return Ok((RawValue::Ref(reference.target), Some(reference)));
+            Ok((RawValue::Ref(reference.target), Some(reference)))
         }
-        Meaning::LineTable if lines => try_offset(first, sections.line, n)?,
-        Meaning::RangeList => try_offset(first, sections.range_lists(context.version), n)?,
-        Meaning::LocationList => try_offset(first, sections.location_lists(context.version), n)?,
-        Meaning::TextIndex => return find_text(first, sections, context.bases, field, n),
-        Meaning::AddressIndex => return find_address(first, sections, context.bases, field, n),
+        Meaning::LineTable if lines => find_offset(first, sections.line, field, n),
+        Meaning::LineTable => find_nowhere(first, context.profile, field, n),
+        Meaning::RangeList => {
+            find_offset(first, sections.range_lists(context.version), field, n)
+        }
+        Meaning::LocationList => {
+            find_offset(first, sections.location_lists(context.version), field, n)
+        }
+        Meaning::TextIndex => find_text(first, sections, context.bases, field, n),
+        Meaning::AddressIndex => find_address(first, sections, context.bases, field, n),
         Meaning::RangeListIndex => {
             let base = context.bases.map(|bases| bases.ranges);
-            return find_list(first, sections.rnglists, base, field, n);
+            find_list(first, sections.rnglists, base, field, n)
         }
         Meaning::LocationListIndex => {
             let base = context.bases.map(|bases| bases.locations);
-            return find_list(first, sections.loclists, base, field, n);
+            find_list(first, sections.loclists, base, field, n)
         }
-        Meaning::LineTable => refuse_nowhere(first, context.profile)?,
-        Meaning::Other => refuse_nowhere(first, context.profile)?,
+        Meaning::Other => find_nowhere(first, context.profile, field, n),
     }
-    Ok((RawValue::Offset(n), None))
 }
 
 /// The text at an index, which stands at the cursor.
@@ -256,27 +259,38 @@ fn find_list<'a>(
         Ok(place) => place,
         Err(kind) => return Err(first.fault(kind)),
     };
-    try_offset(first, section, place)?;
-    Ok((RawValue::Offset(place), None))
+    find_offset(first, section, field, place)
 }
 
-/// Tries an offset to a table or list, from a value that stands at the cursor: it is inside of the section.
-fn try_offset(first: &Cursor, section: &[u8], n: u64) -> Result<(), Fault>
-    ensures { Finds (λ u. u) result (refuse_if (not (nat_lt n (length section.now))) (fault_at first.now BadOffset)) }
+/// An offset to a table or list, from a value that stands at the cursor: it is inside of the section.
+fn find_offset<'a>(
+    first: &Cursor,
+    section: &[u8],
+    field: &Field,
+    n: u64,
+) -> Result<(RawValue<'a>, Option<Reference>), Fault>
+    ensures read { Finds (λ meant. (value_read field.now.form meant.0, meant.1)) result (offset_in section.now n first.now) }
+    ensures none { IfOk result (λ meant. meant.1 ≡ None) }
 {
     if n >= section.len() as u64 {
         return Err(first.fault(Kind::BadOffset));
     }
-    Ok(())
+    Ok((RawValue::Offset(n), None))
 }
 
-/// Tries an offset that leads to no table or list that is read, from a value that stands at the cursor: an image that
-/// was written has none.
-fn refuse_nowhere(first: &Cursor, profile: Profile) -> Result<(), Fault>
-    ensures { Finds (λ u. u) result (refuse_if (is_output profile) (fault_at first.now BadOutput)) }
+/// An offset that leads to no table or list that is read, from a value that stands at the cursor: an image that was
+/// written has none.
+fn find_nowhere<'a>(
+    first: &Cursor,
+    profile: Profile,
+    field: &Field,
+    n: u64,
+) -> Result<(RawValue<'a>, Option<Reference>), Fault>
+    ensures read { Finds (λ meant. (value_read field.now.form meant.0, meant.1)) result (offset_nowhere profile n first.now) }
+    ensures none { IfOk result (λ meant. meant.1 ≡ None) }
 {
     match profile {
-        Profile::Input => Ok(()),
+        Profile::Input => Ok((RawValue::Offset(n), None)),
         Profile::Output => Err(first.fault(Kind::BadOutput)),
     }
 }

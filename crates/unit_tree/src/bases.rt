@@ -31,8 +31,24 @@ pub(crate) fn read_bases<'a>(
     ensures { Gives (λ bases. bases) result (bases_told (bytes_in sections.now) context fields.now cursor.old) }
 {
     let mut built = Builder::new(alloc, &[], &[], 0)?;
+    read_into(cursor, sections, context, fields, &mut built)
+}
+
+/// The bases in a root whose attributes stand at the cursor. They are put into `built`, but for their texts.
+fn read_into<'a>(
+    cursor: &mut Cursor<'a>,
+    sections: &Sections<'a>,
+    context: UnitContext,
+    fields: &[Field],
+    built: &mut Builder,
+) -> Result<Bases, ReadError>
+    requires small { IsSmall cursor.old }
+    requires few { length fields.now ≤ MOST_FIELDS }
+    requires nothing { built.old ≡ record { entries = []; attrs = [] } }
+    ensures { Gives (λ bases. bases) result (bases_told (bytes_in sections.now) context fields.now cursor.old) }
+{
     for field in fields {
-        let (end, value, _) = read_attr(cursor, sections, context, true, field, &built)?;
+        let (end, value, _) = read_attr(cursor, sections, context, true, field, built)?;
         built.push(field.name, field.form, end, without_text(value))?;
     }
     Ok(bases_so_far(built)?)
@@ -52,12 +68,11 @@ fn without_text(value: RawValue<'_>) -> RawValue<'_>
 }
 
 /// The bases in a root whose attributes were put.
-fn bases_so_far(built: Builder) -> Result<Bases, NoMemory>
-    requires none { built.entries ≡ [] }
-    requires few { length built.attrs ≤ MOST_FIELDS }
-    ensures { IfOk result (λ bases. bases ≡ bases_in built.attrs) }
+fn bases_so_far(built: &mut Builder) -> Result<Bases, NoMemory>
+    requires none { built.old.entries ≡ [] }
+    requires few { length built.old.attrs ≤ MOST_FIELDS }
+    ensures { IfOk result (λ bases. bases ≡ bases_in built.old.attrs) }
 {
-    let mut built = built;
     built.close(None, 0, 0, DW_TAG_compile_unit)?;
     match built.get(0) {
         Some(root) => Ok(bases_of(&root)),

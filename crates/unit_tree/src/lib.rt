@@ -26,7 +26,10 @@ mod table;
 mod unit;
 
 pub use header::header_size;
-pub use laws::{kinds_of_unit_faults, units_are_read_as_spelled, written_units_lead_somewhere};
+pub use laws::{
+    kinds_of_unit_faults, units_are_read_alone, units_are_read_as_spelled,
+    written_units_lead_somewhere,
+};
 pub use meaning::{Meaning, is_address_index, meaning_of_offset};
 pub use parsed::Parsed;
 pub use profile::Profile;

@@ -147,7 +147,9 @@ fn next_unit(
 /// behind it, too.
 ///
 /// Of a section that is read unit by unit, and whose entries are let go in between, the entries of each unit are
-/// numbered from 0. The unit's abbreviation table is read anew.
+/// numbered from 0. The unit's abbreviation table is read anew. Faults are those of [`read_units`], and for
+/// [`Profile::Output`] also `BadOutput`, at a section offset that leads to no table or list; where references lead is
+/// not tried.
 #[tactic(auto, unfolding(crate::specs::Unit::unit_at))]
 pub fn read_unit(
     alloc: Global,

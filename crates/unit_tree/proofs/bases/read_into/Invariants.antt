@@ -5,7 +5,7 @@ use Rattle.dwarf_types.specs.SectionBytes.{bytes_in}
 use Rattle.unit_tree.specs.declared.reference.Reference.{Reference}
 use Rattle.unit_tree.specs.Attribute.{attrs_at}
 use Rattle.unit_tree.proofs.RootBases.{AreAlike}
-use Rattle.unit_tree.proofs.bases.read_bases.Given as goal
+use Rattle.unit_tree.proofs.bases.read_into.Given as goal
 
 -- what was put is what was read, but for texts
 abbrev pub invariant-loop-field : goal.invariant-loop-field

@@ -13,7 +13,7 @@ use Rattle.unit_tree.specs.Attribute.{Described}
 use Rattle.unit_tree.proofs.AttrLoop.{attr_fails, attr_more, attrs_end, attrs_long, one_put}
 use Rattle.unit_tree.proofs.Onward.{attr_onward}
 use Rattle.unit_tree.proofs.RootBases.{alike_bases, alike_long, alike_push, same_next}
-use Rattle.unit_tree.proofs.bases.read_bases.Goals as goal
+use Rattle.unit_tree.proofs.bases.read_into.Goals as goal
 
 abbrev bases_of_read : Result (Described × Spot) Fault → Result Bases Fault
 bases_of_read attrs = attrs >>= λ read. Ok (bases_in read.0.0)
@@ -23,11 +23,11 @@ some = record { name = 0; form = 0; fixed = pos 0 }
 
 pub loop-field-init : goal.loop-field-init
 loop-field-init c =
-    record { small = c.requires.small; entries = rw c.in_ok-built.ensures refl; count = rw c.in_ok-built.ensures refl; attrs = []; references = []; alike = rw c.in_ok-built.ensures tt; read = refl }
+    record { small = c.requires.small; entries = rw c.requires.nothing refl; count = rw c.requires.nothing refl; attrs = []; references = []; alike = rw c.requires.nothing tt; read = refl }
 
 pub returns-in_err-end : goal.returns-in_err-end
 returns-in_err-end c =
-    let p = err_from_is_err_and c.from_residual-in_err-end.result c.from_residual-in_err-end.ensures.1 in
+    let p = err_from_is_err_and c.from_residual.result c.from_residual.ensures.1 in
     let i = c.loop-field.invariant in
     let sections = bytes_in c.args.sections.now in
     let same = same_next sections c.args.context true _ c.loop-field.built.attrs i.attrs c.loop-field.cursor i.alike in
