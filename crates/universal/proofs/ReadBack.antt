@@ -1,21 +1,19 @@
 -- A joined file is read back: its records, and the bytes of its slices.
-use Rattle.std.proofs.Common.{◌≡◌, ℕ, zero, suc, ◌+◌, ◌-◌, ◌*◌, ◌^◌, ◌<◌, ◌≤◌, ◌==◌, ◌||◌, not, Bool, true, false, List, [], ◌∷◌, ◌++◌, length, map, take, drop, Some, Result, Ok, refl, sym, ap, ap₂, subst, ◌∙◌, append_assoc, append-nil, length-append, arith}
-use Rattle.std.specs.Prelude.{nat_lt, nat_eq}
+use Rattle.std.proofs.Common.{◌≡◌, ℕ, ◌+◌, ◌*◌, ◌^◌, ◌<◌, ◌≤◌, ◌==◌, ◌||◌, false, List, [], ◌∷◌, ◌++◌, length, map, take, drop, Some, Ok, refl, sym, ap, ap₂, subst, ◌∙◌, append_assoc, append-nil, length-append, arith}
+use Rattle.std.specs.Prelude.{nat_lt}
 use Rattle.std.specs.List.{flat_map, AllByRecursion}
 use Rattle.std.proofs.lemmas.Bool.{le-ltb, ne_eqb}
 use Rattle.std.proofs.lemmas.List.{drop_at, length-map, take_at}
 use Rattle.byteorder.specs.Endian.{big_bytes, big_number}
 use Rattle.byteorder.specs.Numbers.{big_number-reads_back}
-use Rattle.ds_base.specs.declared.fault.Fault.{Fault}
-use Rattle.ds_base.specs.MachONumbers.{FAT_MAGIC, FAT_HEADER_SIZE}
+use Rattle.ds_base.specs.MachONumbers.{FAT_MAGIC}
 use Rattle.ds_base.specs.Reading.{items_at}
-use Rattle.universal.specs.declared.parts.Appended.{Appended}
 use Rattle.universal.specs.declared.parts.Thin.{Thin}
 use Rattle.universal.specs.declared.records.Slice.{Slice}
-use Rattle.universal.specs.Records.{IsWithin, all_slices, count_of, head_size, is_universal, number_of, slice_at, slice_of, slices_by, slices_of}
+use Rattle.universal.specs.Records.{IsWithin, count_of, head_size, number_of, slice_at, slice_of, slices_of}
 use Rattle.universal.specs.Choice.{slice_bytes}
-use Rattle.universal.specs.Joined.{appended, head, joined, page_end, page_zeros, paged, placed, record_bytes, slice_from, slices_joined}
-use Rattle.universal.specs.Laws.{HasNumbers, IsReadBack, SlicesReadBack}
+use Rattle.universal.specs.Joined.{appended, head, joined, page_end, page_zeros, paged, placed, record_bytes, slices_joined}
+use Rattle.universal.specs.Laws.{HasNumbers, SlicesReadBack}
 use Rattle.universal.proofs.Pages.{end_kept, length_zeros, page_behind}
 use Rattle.universal.proofs.Rooms.{length_head, length_joined_places, length_number, length_record}
 
@@ -118,11 +116,10 @@ placed_within (p ∷ parts) at total le =
 -- and have numbers of four bytes in a file that these reach
 placed_four : (parts : List Thin) (at : ℕ) → at + length (paged at parts) < 2 ^ 32 → AllByRecursion HasNumbers parts → AllByRecursion HasFour (placed at (map appended parts))
 placed_four [] at lt has = tt
-placed_four (p ∷ parts) at lt has =
-    (
-      record { cpu = has.0.0; sub = has.0.1; offset = omega (arith, lt, end_kept p parts at); size = omega (arith, lt, end_kept p parts at) },
-      placed_four parts (page_end at + length p.bytes) (omega (arith, lt, end_kept p parts at)) has.1,
-    )
+placed_four (p ∷ parts) at lt has = (
+  record { cpu = has.0.0; sub = has.0.1; offset = omega (arith, lt, end_kept p parts at); size = omega (arith, lt, end_kept p parts at) },
+  placed_four parts (page_end at + length p.bytes) (omega (arith, lt, end_kept p parts at)) has.1,
+)
 
 -- each slice has its part's bytes
 bytes_again : (parts : List Thin) (front : List ℕ) (at : ℕ) → length front ≡ at → map (slice_bytes (front ++ paged at parts)) (placed at (map appended parts)) ≡ map (λ p. p.bytes) parts

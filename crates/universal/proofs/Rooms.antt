@@ -1,5 +1,5 @@
 -- Header and records in a room.
-use Rattle.std.proofs.Common.{◌≡◌, ℕ, zero, suc, ◌+◌, ◌-◌, ◌*◌, ◌^◌, ◌<◌, ◌≤◌, List, [], ◌∷◌, ◌++◌, length, map, take, drop, drop-cons, get_or, add-one, All, replicate, refl, sym, ap, ◌∙◌, append_assoc, append-nil, take-append-drop, length-append, arith}
+use Rattle.std.proofs.Common.{◌≡◌, ℕ, ◌+◌, ◌-◌, ◌*◌, ◌^◌, ◌<◌, ◌≤◌, List, [], ◌∷◌, ◌++◌, length, map, take, drop, drop-cons, get_or, add-one, All, replicate, refl, sym, ap, ◌∙◌, append_assoc, take-append-drop, length-append, arith}
 use Rattle.std.specs.List.{flat_map}
 use Rattle.std.proofs.lemmas.List.{drop-append-le, drop-replicate, length-replicate, length-map}
 use Rattle.std.proofs.lemmas.List.Elements.{All-from_recursion}
@@ -12,7 +12,7 @@ use Rattle.universal.specs.declared.parts.Appended.{Appended}
 use Rattle.universal.specs.declared.parts.Thin.{Thin}
 use Rattle.universal.specs.declared.records.Slice.{Slice}
 use Rattle.universal.specs.Records.{head_size}
-use Rattle.universal.specs.Joined.{appended, head, joined, page_end, page_zeros, paged, placed, places, record_bytes, slice_from, slices_joined, unheaded}
+use Rattle.universal.specs.Joined.{appended, head, joined, page_end, paged, placed, places, record_bytes, slice_from, slices_joined, unheaded}
 use Rattle.universal.proofs.Pages.{head_page, length_placed, parts_fit}
 
 -- ---- puts

@@ -1,5 +1,5 @@
 -- The slices of a universal file lie in it; a file that isn't universal stands for itself.
-use Rattle.std.proofs.Common.{◌≡◌, ℕ, zero, suc, ◌+◌, ◌*◌, ◌≤◌, not, Bool, true, false, List, [], ◌∷◌, ◌++◌, length, All, Option, Some, None, Result, Ok, Err, refl, sym, ap, subst, ◌∙◌, append_assoc, append-nil, arith}
+use Rattle.std.proofs.Common.{◌≡◌, ℕ, zero, suc, not, Bool, true, false, List, [], ◌∷◌, ◌++◌, length, Option, Some, None, Result, Ok, Err, refl, sym, ap, subst, ◌∙◌, append_assoc, append-nil, arith}
 use Rattle.std.specs.Prelude.{IfOk, IfSome, if◌then◌else◌}
 use Rattle.std.specs.List.{AllByRecursion}
 use Rattle.std.proofs.lemmas.List.Elements.{All-from_recursion}
@@ -12,7 +12,7 @@ use Rattle.ds_base.proofs.Passing.{bind_ok, ok_is}
 use Rattle.universal.specs.declared.choosing.Arch.{Arch}
 use Rattle.universal.specs.declared.records.Slice.{Slice}
 use Rattle.universal.specs.Records.{AreWithin, IsWithin, all_slices, count_of, is_universal, slice_at, slices_by, slices_of}
-use Rattle.universal.specs.Choice.{cut_to, slice_for}
+use Rattle.universal.specs.Choice.{slice_for}
 use Rattle.universal.proofs.Refused.{count_read, slice_read}
 
 -- what was read behind some slices

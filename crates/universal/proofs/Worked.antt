@@ -1,5 +1,5 @@
 -- Universal files byte for byte, as lipo writes them and as they are read.
-use Rattle.std.proofs.Common.{◌≡◌, ℕ, List, [], ◌∷◌, ◌++◌, length, replicate, take, Some, None, Ok, Err, refl}
+use Rattle.std.proofs.Common.{◌≡◌, ℕ, List, [], ◌∷◌, length, replicate, take, Some, None, Ok, Err, refl}
 use Rattle.ds_base.specs.declared.fault.Kind.TheVariants as kinds
 use Rattle.ds_base.specs.MachONumbers.{CPU_TYPE_ARM64, CPU_TYPE_X86_64}
 use Rattle.ds_base.specs.Room.{put}
@@ -7,8 +7,8 @@ use Rattle.universal.specs.declared.choosing.Arch.{Arch}
 use Rattle.universal.specs.declared.parts.Thin.{Thin}
 use Rattle.universal.specs.declared.records.Slice.{Slice}
 use Rattle.universal.specs.Records.{count_of, header_fault, number_of, slice_at, slice_of, slices_of}
-use Rattle.universal.specs.Choice.{picked, slice_for}
-use Rattle.universal.specs.Joined.{head, joined, places, slices_joined, unheaded}
+use Rattle.universal.specs.Choice.{slice_for}
+use Rattle.universal.specs.Joined.{head, joined, slices_joined}
 
 -- what reading computes with
 reading : Unit {0}

@@ -1,5 +1,5 @@
 -- A universal file (mach-o/fat.h): a header with a magic and a count, and of each slice a record (fat_arch). Numbers have four bytes, the highest first.
-use Rattle.std.specs.Prelude.{ℕ, ◌+◌, ◌*◌, ◌≤◌, ◌==◌, ◌||◌, not, Bool, List, [], length, drop, All, Option, Some, None, Result, Ok, Err, nat_eq, nat_lt, if◌then◌else◌}
+use Rattle.std.specs.Prelude.{ℕ, ◌+◌, ◌*◌, ◌≤◌, ◌==◌, ◌||◌, not, Bool, List, [], length, drop, All, Option, Some, None, Result, Ok, nat_eq, nat_lt, if◌then◌else◌}
 use Rattle.std.specs.List.{starts_with}
 use Rattle.byteorder.specs.Endian.{big_bytes, big_number}
 use Rattle.ds_base.specs.declared.fault.Fault.{Fault}

@@ -35,9 +35,8 @@ fn first_for(slices: &[Slice], cpu: u32, sub: u32) -> Option<usize>
     ensures is { result ≡ position (is_for cpu sub) slices.now }
     ensures within { IfSome result (λ i. i < length slices.now) }
 {
-    slices
-        .iter()
-        .position(|slice| slice.cpu == cpu && plain_subtype(slice.sub) == plain_subtype(sub))
+    slices.iter().position(|slice| slice.cpu == cpu
+        && plain_subtype(slice.sub) == plain_subtype(sub))
 }
 
 /// The index of the first slice with this CPU type.

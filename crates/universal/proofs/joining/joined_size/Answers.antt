@@ -1,4 +1,4 @@
-use Rattle.std.proofs.Common.{◌≡◌, ◌+◌, ◌∙◌, [], ap, sym, length, drop, arith}
+use Rattle.std.proofs.Common.{◌≡◌, ◌+◌, [], ap, length, drop, arith}
 use Rattle.std.proofs.lemmas.List.{drop_all}
 use Rattle.universal.specs.Joined.{paged}
 use Rattle.universal.proofs.Rooms.{length_joined}

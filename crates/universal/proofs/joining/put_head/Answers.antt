@@ -1,4 +1,4 @@
-use Rattle.std.proofs.Common.{ℕ, ◌∙◌, List, ap, sym, length, arith}
+use Rattle.std.proofs.Common.{ℕ, ◌∙◌, ap, sym, length, arith}
 use Rattle.byteorder.specs.Endian.{big_bytes}
 use Rattle.ds_base.specs.Room.{put}
 use Rattle.universal.specs.Records.{head_size}

@@ -1,4 +1,4 @@
-use Rattle.std.proofs.Common.{ℕ, ◌+◌, ◌∙◌, List, ap}
+use Rattle.std.proofs.Common.{ℕ, ◌+◌, ◌∙◌, ap}
 use Rattle.byteorder.specs.Endian.{big_bytes}
 use Rattle.ds_base.specs.Room.{put}
 use Rattle.universal.specs.Joined.{slice_from}
