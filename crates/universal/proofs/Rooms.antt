@@ -7,6 +7,7 @@ use Rattle.byteorder.specs.Endian.{big_bytes}
 use Rattle.byteorder.specs.Numbers.{length-bytes_high_first}
 use Rattle.ds_base.specs.MachONumbers.{FAT_MAGIC}
 use Rattle.ds_base.specs.Room.{put}
+use Rattle.ds_base.proofs.Adding.{length-put}
 use Rattle.ds_base.proofs.Rooms.{put-put}
 use Rattle.universal.specs.declared.parts.Appended.{Appended}
 use Rattle.universal.specs.declared.parts.Thin.{Thin}
@@ -134,6 +135,15 @@ made file new parts [] few is some same was = absurd (omega (arith, some))
 made file new parts (p ∷ thin) few is some same was =
     is ∙ ap (λ (xs : List ℕ). put xs 0 (head (places parts))) was ∙ ap (λ (ps : List Appended). put (unheaded (p ∷ thin)) 0 (head (places ps))) (sym same)
     ∙ head_put p thin (omega (arith, few, ap length same, length-map (p ∷ thin) appended))
+
+-- it is as long as the joined file
+pub length_unheaded : (parts : List Thin) → 1 ≤ length parts → length parts ≤ 16 → length (unheaded parts) ≡ length (joined parts)
+length_unheaded [] some few = absurd (omega (arith, some))
+length_unheaded (p ∷ parts) some few =
+    let h : List ℕ = head (slices_joined (p ∷ parts)) in
+    let len : length h ≡ head_size (length (p ∷ parts)) = length_head (slices_joined (p ∷ parts)) ∙ ap head_size (length_joined_places (p ∷ parts)) in
+    let fits : 0 + length h ≤ length (unheaded (p ∷ parts)) = omega (arith, len, few, length-append (replicate 0x1000 0) (paged 0x1000 (p ∷ parts)), length-replicate {A = ℕ} 0x1000 0) in
+    sym (length-put (unheaded (p ∷ parts)) h 0 fits) ∙ ap length (head_put p parts few)
 
 -- each part of a file of less than 2^32 bytes has as few
 pub parts_small : (parts : List Thin) → length (joined parts) < 2 ^ 32 → All (λ (p : Thin). length p.bytes < 2 ^ 32) parts

@@ -1,6 +1,6 @@
 //! The laws above the definitions.
 
-ghost use Rattle.std.specs.Prelude.{◌≡◌, ℕ, ◌++◌, false, List as Listed, [], ◌∷◌, length, Some, Ok, Err};
+ghost use Rattle.std.specs.Prelude.{◌≡◌, ◌≤◌, ℕ, ◌++◌, false, List as Listed, [], ◌∷◌, length, Some, Ok, Err};
 ghost use Rattle.std.specs.List.{Contains};
 ghost use Rattle.ds_base.specs.declared.fault.Fault.{Fault};
 ghost use Rattle.ds_base.specs.declared.fault.Kind.TheVariants.{BadUniversal, Truncated, WrongCpu};
@@ -8,7 +8,7 @@ ghost use Rattle.universal.specs.declared.choosing.Arch.{Arch};
 ghost use Rattle.universal.specs.declared.parts.Thin.{Thin};
 ghost use Rattle.universal.specs.declared.records.Slice.{Slice};
 ghost use Rattle.universal.specs.Choice.{slice_for};
-ghost use Rattle.universal.specs.Joined.{page_zeros, unheaded};
+ghost use Rattle.universal.specs.Joined.{joined, page_zeros, unheaded};
 ghost use Rattle.universal.specs.Laws.{Refuses, SlicesReadBack};
 ghost use Rattle.universal.specs.Records.{AreWithin, is_universal, slices_of};
 
@@ -40,8 +40,10 @@ pub fn thin_files_stand_for_themselves()
     ensures { (arch : Arch) (file : Listed ℕ) → is_universal file ≡ false → slice_for arch file ≡ Ok file }
 {}
 
-/// A file that is made in place has one part more, once zeros up to the next page and the part's bytes are put last.
+/// A file that is made in place has one part more, once zeros up to the next page and the part's bytes are put last. Of 1
+/// to 16 parts it is as long as the joined file.
 pub fn parts_are_appended()
-    ensures { (parts : Listed Thin) (part : Thin) →
+    ensures appended { (parts : Listed Thin) (part : Thin) →
         unheaded (parts ++ part ∷ []) ≡ unheaded parts ++ (page_zeros (length (unheaded parts)) ++ part.bytes) }
+    ensures size { (parts : Listed Thin) → 1 ≤ length parts → length parts ≤ 16 → length (unheaded parts) ≡ length (joined parts) }
 {}
