@@ -1,0 +1,4 @@
+pub mod Records
+pub mod Choice
+pub mod Joined
+pub mod Laws
