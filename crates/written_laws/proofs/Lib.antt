@@ -30,3 +30,4 @@ pub mod Units
 pub mod Expressions
 pub mod Rising
 pub mod OwnLines
+pub mod ReadAgain

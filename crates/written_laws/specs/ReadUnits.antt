@@ -5,6 +5,7 @@ use Rattle.std.specs.List.{All, sum_by}
 use Rattle.ds_base.specs.DwarfNumbers.{LENGTH_RESERVED}
 use Rattle.dwarf_types.specs.declared.entry.InUnit.{InUnit}
 use Rattle.dwarf_types.specs.declared.entry.RawEntry.{RawEntry}
+use Rattle.dwarf_types.specs.declared.entry.RawUnits.{RawUnits}
 use Rattle.dwarf_types.specs.declared.graph.Graph.{Graph}
 use Rattle.dwarf_types.specs.declared.graph.OutUnit.{OutUnit}
 use Rattle.dwarf_types.specs.Abbreviations.{has_children}
@@ -84,6 +85,10 @@ row_read graph u first unit = record {
 abbrev pub rows_read : Graph → ℕ → ℕ → List OutUnit → List InUnit
 rows_read graph u first [] = []
 rows_read graph u first (unit ∷ units) = row_read graph u first unit ∷ rows_read graph (u + 1) (first + length unit.nodes) units
+
+-- all of them
+abbrev pub read_units : Graph → RawUnits
+read_units graph = record { units = rows_read graph 0 0 graph.units; entries = entries_read graph 0 0 graph.units }
 
 -- the sections of a graph are spelled as trees, whose units and entries are its units and nodes
 pub record IsSpelledGraph (graph : Graph) : Type 0 where

@@ -16,6 +16,7 @@ ghost use Rattle.dwarf_types.specs.Abbreviations.{code_in, declarations_bytes, s
 ghost use Rattle.dwarf_types.specs.Places.{ListPlaces, Places};
 ghost use Rattle.dwarf_types.specs.SectionBytes.{SectionBytes};
 ghost use Rattle.dwarf_types.specs.Values.{values_bytes};
+ghost use Rattle.dwarf_types.specs.Encode.{abbrev_section, info_section};
 ghost use Rattle.dwarf_types.specs.Expressions.{expression_bytes, expression_len};
 ghost use Rattle.dwarf_types.specs.Layout.{lines_place, target_place, unit_start};
 ghost use Rattle.dwarf_types.specs.Spelled.{AreBytes};
@@ -29,11 +30,12 @@ ghost use Rattle.macho_read.specs.declared.image.Image.{Image};
 ghost use Rattle.reloc_table.specs.declared.relocation.Relocs.{Relocs};
 ghost use Rattle.unit_tree.specs.Entry.{declared_as};
 ghost use Rattle.unit_tree.specs.Spelling.{Origin, SpellsAttrs};
+ghost use Rattle.unit_tree.specs.Unit.{units_of};
 ghost use Rattle.written_laws.specs.ReadDeclarations.{AreSmall, abbrev_of, abbrevs_from};
 ghost use Rattle.written_laws.specs.ReadEntries.{AllThere, AreCoded, IsPreorder, IsSpelledTree};
 ghost use Rattle.written_laws.specs.LedBack.{entry_at, first_entry};
 ghost use Rattle.written_laws.specs.ReadParts.{AreCodes, AreCodesOf, IsSaidAgain, LeadBack, SaysAgain};
-ghost use Rattle.written_laws.specs.ReadUnits.{IsReadable, IsSpelledGraph, entries_read, sections_of};
+ghost use Rattle.written_laws.specs.ReadUnits.{IsReadable, IsSpelledGraph, entries_read, read_units, sections_of};
 ghost use Rattle.written_laws.specs.ReadValues.{AreThere, IsOrigin, fields_of, raw_attrs};
 
 /// Declarations with codes from 1 are spelled as a table (DWARF 4, section 7.5.3), wherever it stands in
@@ -71,6 +73,13 @@ pub fn entries_are_spelled_as_written()
 /// names what it names, and each reference leads to an entry.
 pub fn graphs_are_spelled_as_written()
     ensures { (graph : Graph) → IsWell graph → IsReadable graph → IsSpelledGraph graph }
+{}
+
+/// So these units are read: what a reader of objects gives of the sections is the units and entries that are told (DWARF 4,
+/// section 7.5; DWARF 5, section 7.5).
+pub fn units_are_read_as_written()
+    ensures { (graph : Graph) → IsWell graph → IsReadable graph → AreBytes (info_section graph) → AreBytes (abbrev_section graph) →
+        units_of (sections_of graph) ≡ Ok (read_units graph) }
 {}
 
 /// The entry that begins at the place of a node is that node's, counted over all units; so a reference leads back to the
