@@ -14,7 +14,7 @@ use Rattle.universal.specs.declared.choosing.Arch.{Arch}
 use Rattle.universal.specs.declared.records.Slice.{Slice}
 use Rattle.universal.specs.Records.{IsWithin, all_slices, count_of, head_size, header_fault, is_universal, number_of, slice_at, slice_of, slices_by, slices_of}
 use Rattle.universal.specs.Choice.{chosen, cut_to, slice_bytes, slice_for}
-use Rattle.universal.specs.Laws.{Refuses, cut_header, wrong_count, cut_records, passing_slice}
+use Rattle.universal.specs.Laws.{IsCount, Refuses, cut_header, wrong_count, cut_records, passing_slice}
 
 -- ---- causes
 
@@ -51,12 +51,18 @@ count_is n = by (n == 0) (nat_lt 16 n) refl refl
     by true many none_is many_is e = inl (eqb-true n 0 none_is)
     by false many none_is many_is e = inr (ltb-true 16 n (many_is ∙ e))
 
+right_count : (n : ℕ) → (n == 0 || nat_lt 16 n) ≡ false → IsCount n
+right_count n e =
+    let p = or_parts (n == 0) (nat_lt 16 n) e in
+    let some : (n ≡ 0 → ⊥) = eqb-false n 0 p.0 in
+    (omega (arith, some), ltb-false 16 n p.1)
+
 counting_fails : (bytes : List ℕ) → FaultsHave (Refuses bytes) (count_of bytes)
 unfolding count_of
 counting_fails bytes =
     test_fails (Refuses bytes) (nat_lt (length bytes) FAT_HEADER_SIZE) (header_fault kinds.Truncated 0) _ (λ e. cut_header (ltb-true _ _ e))
-    (λ long. test_fails (Refuses bytes) (number_of 4 bytes == 0 || nat_lt 16 (number_of 4 bytes)) (header_fault kinds.BadUniversal 4) _ (λ e. wrong_count (count_is (number_of 4 bytes) e))
-    (λ few. test_fails (Refuses bytes) (nat_lt (length bytes) (head_size (number_of 4 bytes))) (header_fault kinds.Truncated 0) _ (λ e. cut_records (ltb-true _ _ e))
+    (λ long. test_fails (Refuses bytes) (number_of 4 bytes == 0 || nat_lt 16 (number_of 4 bytes)) (header_fault kinds.BadUniversal 4) _ (λ e. wrong_count (ltb-false _ _ long) (count_is (number_of 4 bytes) e))
+    (λ few. test_fails (Refuses bytes) (nat_lt (length bytes) (head_size (number_of 4 bytes))) (header_fault kinds.Truncated 0) _ (λ e. cut_records (ltb-false _ _ long) (right_count (number_of 4 bytes) few) (ltb-true _ _ e))
     (λ fits. none_fail (Refuses bytes) (number_of 4 bytes))))
 
 -- one more record whose slice lies in the file
@@ -82,42 +88,36 @@ slice_read bytes at item is =
     let g = guard (nat_lt (length bytes) (s.offset + s.size)) (header_fault kinds.BadUniversal at) (s, at + FAT_ARCH_SIZE) item is in
     record { within = ltb-false _ _ g.0; is = g.1 }
 
-slice_fails : (bytes : List ℕ) (i : ℕ) → i < number_of 4 bytes → ((k : ℕ) → k < i → IsWithin bytes (slice_of bytes (head_size k))) → FaultsHave (Refuses bytes) (slice_at bytes (head_size i))
+slice_fails : (bytes : List ℕ) (i : ℕ) → IsCount (number_of 4 bytes) → head_size (number_of 4 bytes) ≤ length bytes → i < number_of 4 bytes → ((k : ℕ) → k < i → IsWithin bytes (slice_of bytes (head_size k))) → FaultsHave (Refuses bytes) (slice_at bytes (head_size i))
 unfolding slice_at
-slice_fails bytes i few within =
+slice_fails bytes i count fits few within =
     let s = slice_of bytes (head_size i) in
-    test_fails (Refuses bytes) (nat_lt (length bytes) (s.offset + s.size)) (header_fault kinds.BadUniversal (head_size i)) _ (λ e. passing_slice i few within (ltb-true _ _ e))
-    (λ fits. none_fail (Refuses bytes) (s, head_size i + FAT_ARCH_SIZE))
+    test_fails (Refuses bytes) (nat_lt (length bytes) (s.offset + s.size)) (header_fault kinds.BadUniversal (head_size i)) _ (λ e. passing_slice i count fits few within (ltb-true _ _ e))
+    (λ inside. none_fail (Refuses bytes) (s, head_size i + FAT_ARCH_SIZE))
 
 next_place : (i : ℕ) → head_size (suc i) ≡ head_size i + FAT_ARCH_SIZE
 next_place i = omega arith
 
-records_fail : (bytes : List ℕ) (left i : ℕ) (before : List Slice) → i + left ≤ number_of 4 bytes → ((k : ℕ) → k < i → IsWithin bytes (slice_of bytes (head_size k)))
+records_fail : (bytes : List ℕ) (left i : ℕ) (before : List Slice) → IsCount (number_of 4 bytes) → head_size (number_of 4 bytes) ≤ length bytes → i + left ≤ number_of 4 bytes → ((k : ℕ) → k < i → IsWithin bytes (slice_of bytes (head_size k)))
     → FaultsHave (Refuses bytes) (items_at (slice_at bytes) left before (head_size i))
-records_fail bytes zero i before few within = none_fail (Refuses bytes) (before, head_size i)
-records_fail bytes (suc left) i before few within =
+records_fail bytes zero i before count fits few within = none_fail (Refuses bytes) (before, head_size i)
+records_fail bytes (suc left) i before count fits few within =
     let s = slice_of bytes (head_size i) in
-    then_fail (Refuses bytes) (slice_at bytes (head_size i)) (λ item. items_at (slice_at bytes) left (before ++ item.0 ∷ []) item.1) (slice_fails bytes i (omega (arith, few)) within)
+    then_fail (Refuses bytes) (slice_at bytes (head_size i)) (λ item. items_at (slice_at bytes) left (before ++ item.0 ∷ []) item.1) (slice_fails bytes i count fits (omega (arith, few)) within)
     (λ item is.
     let read = slice_read bytes (head_size i) item is in
     subst (λ (p : Slice × ℕ). FaultsHave (Refuses bytes) (items_at (slice_at bytes) left (before ++ p.0 ∷ []) p.1)) read.is
     (subst (λ (at : ℕ). FaultsHave (Refuses bytes) (items_at (slice_at bytes) left (before ++ s ∷ []) at)) (next_place i)
-    (records_fail bytes left (suc i) (before ++ s ∷ []) (omega (arith, few)) (one_within bytes i within read.within))))
+    (records_fail bytes left (suc i) (before ++ s ∷ []) count fits (omega (arith, few)) (one_within bytes i within read.within))))
 
 -- the count that was read
-pub record IsCount (bytes : List ℕ) (count : ℕ) : Type 0 where
+pub record IsCounted (bytes : List ℕ) (count : ℕ) : Type 0 where
   pub is : count ≡ number_of 4 bytes
   pub some : 1 ≤ count
   pub few : count ≤ 16
   pub fits : head_size count ≤ length bytes
 
-right_count : (n : ℕ) → (n == 0 || nat_lt 16 n) ≡ false → (1 ≤ n) × (n ≤ 16)
-right_count n e =
-    let p = or_parts (n == 0) (nat_lt 16 n) e in
-    let some : (n ≡ 0 → ⊥) = eqb-false n 0 p.0 in
-    (omega (arith, some), ltb-false 16 n p.1)
-
-pub count_read : (bytes : List ℕ) (count : ℕ) → count_of bytes ≡ Ok count → IsCount bytes count
+pub count_read : (bytes : List ℕ) (count : ℕ) → count_of bytes ≡ Ok count → IsCounted bytes count
 unfolding count_of
 count_read bytes count e =
     let n = number_of 4 bytes in
@@ -135,7 +135,7 @@ all_fail bytes =
     (λ count is.
     let c = count_read bytes count is in
     then_fail (Refuses bytes) (slices_by bytes count) (λ slices. Ok (Some slices))
-    (then_fail (Refuses bytes) (items_at (slice_at bytes) count [] FAT_HEADER_SIZE) (λ read. Ok read.0) (records_fail bytes count 0 [] (omega (arith, c.is)) (λ k lt. absurd (omega (arith, lt)))) (λ read e. none_fail (Refuses bytes) read.0))
+    (then_fail (Refuses bytes) (items_at (slice_at bytes) count [] FAT_HEADER_SIZE) (λ read. Ok read.0) (records_fail bytes count 0 [] (omega (arith, c.is, c.some), omega (arith, c.is, c.few)) (omega (arith, c.is, c.fits)) (omega (arith, c.is)) (λ k lt. absurd (omega (arith, lt)))) (λ read e. none_fail (Refuses bytes) read.0))
     (λ slices e. none_fail (Refuses bytes) (Some slices)))
 
 pub refusal_has_cause : (bytes : List ℕ) (f : Fault) → slices_of bytes ≡ Err f → Refuses bytes f
@@ -156,9 +156,9 @@ OfSlice = Contains (kinds.Truncated ∷ kinds.BadUniversal ∷ kinds.WrongCpu �
 
 cause_kinds : (bytes : List ℕ) (f : Fault) → Refuses bytes f → OfSlices f.kind × OfSlice f.kind
 cause_kinds bytes f (cut_header h) = ((0, omega arith, refl), (0, omega arith, refl))
-cause_kinds bytes f (wrong_count h) = ((1, omega arith, refl), (1, omega arith, refl))
-cause_kinds bytes f (cut_records h) = ((0, omega arith, refl), (0, omega arith, refl))
-cause_kinds bytes f (passing_slice i lt before passes) = ((1, omega arith, refl), (1, omega arith, refl))
+cause_kinds bytes f (wrong_count long h) = ((1, omega arith, refl), (1, omega arith, refl))
+cause_kinds bytes f (cut_records long count h) = ((0, omega arith, refl), (0, omega arith, refl))
+cause_kinds bytes f (passing_slice i count fits lt before passes) = ((1, omega arith, refl), (1, omega arith, refl))
 
 pub slices_kinds : (bytes : List ℕ) (f : Fault) → slices_of bytes ≡ Err f → OfSlices f.kind
 slices_kinds bytes f e = (cause_kinds bytes f (refusal_has_cause bytes f e)).0

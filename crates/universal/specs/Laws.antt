@@ -22,10 +22,14 @@ pub record IsReadBack (parts : List Thin) : Type 0 where
 abbrev pub SlicesReadBack : Type 0
 SlicesReadBack = (parts : List Thin) → 1 ≤ length parts → length parts ≤ 16 → AllByRecursion HasNumbers parts → length (joined parts) < 2 ^ 32 → IsReadBack parts
 
--- why a universal file is refused: its header is cut; its count is wrong; its records are cut; slice i passes the file, and none before it does
+-- a file has 1 to 16 slices
+abbrev pub IsCount : ℕ → Type 0
+IsCount n = (1 ≤ n) × (n ≤ 16)
+
+-- why a universal file is refused, each cause where none before it is: its header is cut; its count is wrong; its records are cut; slice i passes the file
 pub data Refuses (bytes : List ℕ) : Fault → Type 0 where
   cut_header : length bytes < FAT_HEADER_SIZE → Refuses bytes (header_fault kinds.Truncated 0)
-  wrong_count : (number_of 4 bytes ≡ 0) ⊎ (16 < number_of 4 bytes) → Refuses bytes (header_fault kinds.BadUniversal 4)
-  cut_records : length bytes < head_size (number_of 4 bytes) → Refuses bytes (header_fault kinds.Truncated 0)
-  passing_slice : (i : ℕ) → i < number_of 4 bytes → ((k : ℕ) → k < i → IsWithin bytes (slice_of bytes (head_size k)))
+  wrong_count : FAT_HEADER_SIZE ≤ length bytes → (number_of 4 bytes ≡ 0) ⊎ (16 < number_of 4 bytes) → Refuses bytes (header_fault kinds.BadUniversal 4)
+  cut_records : FAT_HEADER_SIZE ≤ length bytes → IsCount (number_of 4 bytes) → length bytes < head_size (number_of 4 bytes) → Refuses bytes (header_fault kinds.Truncated 0)
+  passing_slice : (i : ℕ) → IsCount (number_of 4 bytes) → head_size (number_of 4 bytes) ≤ length bytes → i < number_of 4 bytes → ((k : ℕ) → k < i → IsWithin bytes (slice_of bytes (head_size k)))
       → length bytes < (slice_of bytes (head_size i)).offset + (slice_of bytes (head_size i)).size → Refuses bytes (header_fault kinds.BadUniversal (head_size i))

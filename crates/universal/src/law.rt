@@ -23,7 +23,7 @@ pub fn slices_lie_in_the_file()
     ensures { (bytes : Listed ℕ) (slices : Listed Slice) → slices_of bytes ≡ Ok (Some slices) → AreWithin bytes slices }
 {}
 
-/// Each fault of a universal file has its cause, which says its place.
+/// Each fault of a universal file has its cause, which says its place, and no cause that is tried before.
 pub fn universal_faults_have_causes()
     ensures { (bytes : Listed ℕ) (f : Fault) → slices_of bytes ≡ Err f → Refuses bytes f }
 {}

@@ -48,7 +48,7 @@ pub fn slices(alloc: Global, bytes: &[u8]) -> Result<Option<List<Slice>>, ReadEr
     read_slices(alloc, bytes)
 }
 
-/// The same, of which contracts know what is read alone.
+/// The same. That slices lie in the file follows from what is read.
 #[tactic(auto, unfolding(crate::specs::Records::slices_of))]
 fn read_slices(alloc: Global, bytes: &[u8]) -> Result<Option<List<Slice>>, ReadError>
     ensures { Gives (λ slices. slices) result (slices_of bytes.now) }
