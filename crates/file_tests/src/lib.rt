@@ -10,3 +10,5 @@ pub mod object;
 pub mod program;
 #[cfg(test)]
 mod runs;
+#[cfg(test)]
+mod universal_runs;

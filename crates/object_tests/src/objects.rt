@@ -6,9 +6,10 @@ ghost use Rattle.std.specs.Prelude.{◌<◌, length};
 
 use crate::parts::same;
 use ds_base::{Bytes, List};
-use dwarf_types::Analysis;
-use object_view::analyse;
-use stab_map::{MapEntry, MapObject};
+use dwarf_types::{Analysis, copy};
+use object_read::read_object;
+use object_view::{analyse, analyse_read};
+use stab_map::{MapEntry, MapObject, copy_object, same_object};
 use std::alloc::Global;
 use std::process::Abort;
 
@@ -158,13 +159,20 @@ fn assert_code(rt: &impl Abort, analysis: &Analysis, units: usize, entries: usiz
     same(rt, "code", seen, (entry, 0x1_0000_1000, 0x1_0000_1002));
 }
 
-/// An object is read so.
+/// An object is read so, and a copy of its analysis says the same.
 fn is_read(rt: &impl Abort, alloc: Global, bytes: &[u8], units: usize, entries: usize, entry: u32)
     requires { length bytes.now < 1000 }
 {
     let analysis = analysed(rt, alloc, bytes);
     assert_code(rt, &analysis, units, entries, entry);
+    let twin = copied(rt, alloc, &analysis);
     drop(analysis);
+    assert_code(rt, &twin, units, entries, entry);
+    drop(twin);
+}
+
+fn copied(rt: &impl Abort, alloc: Global, analysis: &Analysis) -> Analysis {
+    copy(alloc, analysis).expect(rt, "memory")
 }
 
 #[test]
@@ -172,4 +180,32 @@ fn a_function_of_an_object_is_where_the_program_has_it(rt: HostRuntime) {
     let alloc = rt.alloc();
     is_read(&rt, alloc, OBJECT, 2, 5, 2);
     is_read(&rt, alloc, OBJECT_5, 1, 2, 1);
+}
+
+/// The analysis of an object that is read first, and then analysed by its part of a map.
+fn read_and_analysed(rt: &impl Abort, alloc: Global, bytes: &[u8]) -> Analysis
+    requires { length bytes.now < 1000 }
+{
+    let object = map_object(rt, alloc);
+    let read = read_object(alloc, bytes, CPU_TYPE_X86_64).expect(rt, "an object");
+    let analysis = analyse_read(alloc, bytes, read, &object);
+    drop(object);
+    analysis.expect(rt, "an analysis")
+}
+
+#[test]
+fn an_object_is_analysed_of_what_was_read(rt: HostRuntime) {
+    let analysis = read_and_analysed(&rt, rt.alloc(), OBJECT_5);
+    assert_code(&rt, &analysis, 1, 2, 1);
+    drop(analysis);
+}
+
+#[test]
+fn a_copy_of_an_object_of_the_map_is_the_same(rt: HostRuntime) {
+    let object = map_object(&rt, rt.alloc());
+    let twin = copy_object(rt.alloc(), &object).expect(&rt, "memory");
+    let is_same = same_object(&object, &twin);
+    drop(object);
+    drop(twin);
+    assert!(rt; is_same);
 }

@@ -4,7 +4,7 @@ ghost use Rattle.std.specs.Prelude.{◌≡◌};
 
 use crate::parts::same;
 use ds_base::{Cursor, Part};
-use dwarf_types::{Field, RawValue, Sections};
+use dwarf_types::{Field, RawValue, Sections, copy_units};
 use form_value::read_value;
 use unit_tree::read_units;
 
@@ -57,6 +57,10 @@ fn a_unit_is_read_by_its_table(rt: HostRuntime) {
     let abbrev = b"\x01\x11\0\x03\x0e\0\0\0";
     let read = read_units(rt.alloc(), &sections(info, abbrev)).expect(&rt, "units");
     let counts = (read.units.len(), read.entries.len());
+    let twin = copy_units(rt.alloc(), &read).expect(&rt, "memory");
     drop(read);
+    let copied = (twin.units.len(), twin.entries.len());
+    drop(twin);
     same(&rt, "units and entries", counts, (1, 1));
+    same(&rt, "of a copy", copied, (1, 1));
 }
