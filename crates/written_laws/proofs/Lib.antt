@@ -31,3 +31,5 @@ pub mod Expressions
 pub mod Rising
 pub mod OwnLines
 pub mod ReadAgain
+pub mod NodeEntries
+pub mod OwnExpressions

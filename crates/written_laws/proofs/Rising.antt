@@ -28,7 +28,7 @@ use Rattle.written_laws.proofs.OwnPlaces.{head_len, length-made}
 -- ---- numbers that rise
 
 -- each is greater than those before it, and none is below a bound
-abbrev Rise : ℕ → List ℕ → Type 0
+abbrev pub Rise : ℕ → List ℕ → Type 0
 Rise from [] = Unit {0}
 Rise from (p ∷ ps) = (from ≤ p) × Rise (p + 1) ps
 
@@ -42,7 +42,7 @@ not_below from (q ∷ ps) zero p h at = omega (arith, h.0, same_Some q p at)
 not_below from (q ∷ ps) (suc i) p h at = omega (arith, h.0, not_below (q + 1) ps i p h.1 at)
 
 -- so one of them stands where it is found
-found_at : (k from : ℕ) (ps : List ℕ) (i p : ℕ) → Rise from ps → slice_get ps i ≡ Some p → position_from (λ q. q == p) k ps ≡ Some (k + i)
+pub found_at : (k from : ℕ) (ps : List ℕ) (i p : ℕ) → Rise from ps → slice_get ps i ≡ Some p → position_from (λ q. q == p) k ps ≡ Some (k + i)
 found_at k from [] i p h at = absurd (omega (arith, slice_get_within [] i p at))
 found_at k from (q ∷ ps) zero p h at =
     let same : k ≡ k + zero = omega arith in
@@ -52,7 +52,7 @@ found_at k from (q ∷ ps) (suc i) p h at =
     let next : k + 1 + i ≡ k + suc i = omega arith in
     ap (λ (b : Bool). cond b (Some k) (position_from (λ r. r == p) (k + 1) ps)) (ne_eqb q p (λ e. absurd (omega (arith, e, less)))) ∙ found_at (k + 1) (q + 1) ps i p h.1 at ∙ ap (λ (n : ℕ). Some n) next
 
-position_mapped : {X : Type 0} (f : X → ℕ) (p k : ℕ) (xs : List X) → position_from (λ x. f x == p) k xs ≡ position_from (λ q. q == p) k (map f xs)
+pub position_mapped : {X : Type 0} (f : X → ℕ) (p k : ℕ) (xs : List X) → position_from (λ x. f x == p) k xs ≡ position_from (λ q. q == p) k (map f xs)
 position_mapped f p k [] = refl
 position_mapped f p k (x ∷ xs) = ap (λ (o : Option ℕ). cond (f x == p) (Some k) o) (position_mapped f p (k + 1) xs)
 
@@ -62,10 +62,10 @@ some_len : (n : ℕ) → 0 < uleb_len_of n
 some_len n = some_digits n
 
 module _ (places : Places) (nodes : List Node) where
-  abbrev places_made : List (Option ℕ × TreeNode) → List ℕ
+  abbrev pub places_made : List (Option ℕ × TreeNode) → List ℕ
   places_made es = map (λ e. e.1.place) es
 
-  made_rise : (ns : List Node) (next : ListPlaces) (place k : ℕ) (rest : List ℕ) → Rise (place + sum_by entry_len (map (λ n. out_entry places.unit nodes n.0 n.1) (enumerate_from k ns))) rest
+  pub made_rise : (ns : List Node) (next : ListPlaces) (place k : ℕ) (rest : List ℕ) → Rise (place + sum_by entry_len (map (λ n. out_entry places.unit nodes n.0 n.1) (enumerate_from k ns))) rest
       → Rise place (places_made (made_from places nodes next place k ns) ++ rest)
   made_rise [] next place k rest h = rise_weaker place (place + 0) rest (omega arith) h
   made_rise (n ∷ ns) next place k rest h =
@@ -77,7 +77,7 @@ module _ (places : Places) (nodes : List Node) where
       (omega arith, rise_weaker (place + 1) (place + length (head_bytes places nodes next k n) + lists_ended nodes k) (places_made (made_from places nodes (behind_node places.version next n) (place + length (head_bytes places nodes next k n) + lists_ended nodes k) (k + 1) ns) ++ rest) (omega (arith, some, len)) r)
 
   -- an entry stands where its node does
-  made_at : (ns : List Node) (next : ListPlaces) (place k i : ℕ) (rest : List ℕ) → i < length ns
+  pub made_at : (ns : List Node) (next : ListPlaces) (place k i : ℕ) (rest : List ℕ) → i < length ns
       → slice_get (places_made (made_from places nodes next place k ns) ++ rest) i ≡ Some (place + sum_by entry_len (take i (map (λ n. out_entry places.unit nodes n.0 n.1) (enumerate_from k ns))))
   made_at [] next place k i rest lt = absurd (omega (arith, lt))
   made_at (n ∷ ns) next place k zero rest lt = let same : place ≡ place + 0 = omega arith in ap (λ (p : ℕ). Some p) same

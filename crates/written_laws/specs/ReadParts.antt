@@ -1,12 +1,14 @@
 -- What the operations of an expression that is read say: parts, with the operations' own bytes, and base types by the nodes at their places.
-use Rattle.std.specs.Prelude.{◌≡◌, ◌<◌, ◌^◌, ℕ, List, [], ◌∷◌, drop, Option, Some, None}
-use Rattle.std.specs.List.{flat_map}
+use Rattle.std.specs.Prelude.{◌≡◌, ◌<◌, ◌+◌, ◌==◌, ◌^◌, ℕ, List, [], ◌∷◌, drop, Option, Some, None}
+use Rattle.std.specs.List.{flat_map, position}
 use Rattle.std.specs.Option.{option_map_or}
 use Rattle.dwarf_types.specs.declared.expr.Base.{Base}
 use Rattle.dwarf_types.specs.declared.expr.Base.TheVariants as bases
 use Rattle.dwarf_types.specs.declared.expr.Op.{Op}
 use Rattle.dwarf_types.specs.declared.expr.PlainOp.{PlainOp}
+use Rattle.dwarf_types.specs.declared.graph.Graph.{Graph}
 use Rattle.dwarf_types.specs.declared.graph.Node.{Node}
+use Rattle.dwarf_types.specs.declared.graph.OutUnit.{OutUnit}
 use Rattle.dwarf_types.specs.declared.operands.Operands.{Operands}
 use Rattle.dwarf_types.specs.declared.operands.Operands.TheVariants as operands
 use Rattle.dwarf_types.specs.declared.parts.ExprPart.{ExprPart}
@@ -14,10 +16,12 @@ use Rattle.dwarf_types.specs.declared.parts.ExprPart.TheVariants as parts
 use Rattle.dwarf_types.specs.declared.parts.PlainPart.{PlainPart}
 use Rattle.dwarf_types.specs.declared.parts.PlainPart.TheVariants as plain
 use Rattle.dwarf_types.specs.Expressions.{expression_bytes, inner_bytes}
+use Rattle.dwarf_types.specs.Layout.{unit_start}
 use Rattle.dwarf_types.specs.LinkedExpressions.{as_part, before_base, behind_base, joined, joined_plain, outside}
 use Rattle.dwarf_types.specs.Operations.{operands_of}
 use Rattle.dwarf_types.specs.WholeParts.{IsBaseType}
 use Rattle.expr_walk.specs.Spelling.{Each, IsPlain, SpellsExpression}
+use Rattle.written_laws.specs.ReadUnits.{made_of}
 
 -- the node of a base type that is named by its place in the unit
 abbrev pub base_told : (ℕ → Option ℕ) → Base → Option ℕ
@@ -58,6 +62,10 @@ pub record SaysAgain (place : ℕ → ℕ) (node : ℕ → Option ℕ) (version 
   pub whole : flat_map (λ op. op.bytes) ops ≡ inner_bytes place parts
   pub each : Each (IsPlain version) ops
   pub back : parts_told node ops ≡ parts
+
+-- which node of a unit begins at a place that counts from the unit's first byte
+abbrev pub node_in : Graph → ℕ → OutUnit → ℕ → Option ℕ
+node_in graph u unit place = position (λ e. e.1.place == unit_start graph u + place) (made_of graph u unit)
 
 -- ---- outermost expressions
 

@@ -13,12 +13,12 @@ ghost use Rattle.dwarf_types.specs.declared.lines.OutLines.{OutLines};
 ghost use Rattle.dwarf_types.specs.declared.parts.ExprPart.{ExprPart};
 ghost use Rattle.dwarf_types.specs.declared.parts.PlainPart.{PlainPart};
 ghost use Rattle.dwarf_types.specs.Abbreviations.{code_in, declarations_bytes, same_declaration};
-ghost use Rattle.dwarf_types.specs.Places.{ListPlaces, Places};
+ghost use Rattle.dwarf_types.specs.Places.{ListPlaces, Places, own_node};
 ghost use Rattle.dwarf_types.specs.SectionBytes.{SectionBytes};
 ghost use Rattle.dwarf_types.specs.Values.{values_bytes};
 ghost use Rattle.dwarf_types.specs.Encode.{abbrev_section, info_section};
-ghost use Rattle.dwarf_types.specs.Expressions.{expression_bytes, expression_len};
-ghost use Rattle.dwarf_types.specs.Layout.{lines_place, target_place, unit_start};
+ghost use Rattle.dwarf_types.specs.Expressions.{expression_len};
+ghost use Rattle.dwarf_types.specs.Layout.{lines_place, places_of, target_place, unit_start};
 ghost use Rattle.dwarf_types.specs.Spelled.{AreBytes};
 ghost use Rattle.dwarf_types.specs.Well.{IsWell};
 ghost use Rattle.dwarf_types.specs.WellValues.{IsTarget};
@@ -33,8 +33,8 @@ ghost use Rattle.unit_tree.specs.Spelling.{Origin, SpellsAttrs};
 ghost use Rattle.unit_tree.specs.Unit.{units_of};
 ghost use Rattle.written_laws.specs.ReadDeclarations.{AreSmall, abbrev_of, abbrevs_from};
 ghost use Rattle.written_laws.specs.ReadEntries.{AllThere, AreCoded, IsPreorder, IsSpelledTree};
-ghost use Rattle.written_laws.specs.LedBack.{entry_at, first_entry};
-ghost use Rattle.written_laws.specs.ReadParts.{AreCodes, AreCodesOf, IsSaidAgain, LeadBack, SaysAgain};
+ghost use Rattle.written_laws.specs.LedBack.{StandsFor, entry_at, first_entry};
+ghost use Rattle.written_laws.specs.ReadParts.{AreCodes, IsSaidAgain, LeadBack, SaysAgain, node_in};
 ghost use Rattle.written_laws.specs.ReadUnits.{IsReadable, IsSpelledGraph, entries_read, read_units, sections_of};
 ghost use Rattle.written_laws.specs.ReadValues.{AreThere, IsOrigin, fields_of, raw_attrs};
 
@@ -82,6 +82,13 @@ pub fn units_are_read_as_written()
         units_of (sections_of graph) ≡ Ok (read_units graph) }
 {}
 
+/// Each node of a graph is the entry of its number, counted over all units: with its tag, its parent, and its values as they
+/// are read, at the place that is told for it.
+pub fn entries_are_the_nodes()
+    ensures { (graph : Graph) (u : ℕ) (unit : OutUnit) (k : ℕ) (node : Node) → slice_get graph.units u ≡ Some unit → slice_get unit.nodes k ≡ Some node →
+        StandsFor graph (entries_read graph 0 0 graph.units) u unit k node }
+{}
+
 /// The entry that begins at the place of a node is that node's, counted over all units; so a reference leads back to the
 /// node that it was written for.
 pub fn references_lead_back()
@@ -105,10 +112,10 @@ pub fn expressions_say_what_was_written()
         IsWholeInner nodes inner → AreCodes inner → LeadBack nodes place node → SaysAgain place node version inner }
 {}
 
-/// The parts of an expression that is whole are spelled as operations (DWARF 4 and 5, section 7.7.1), an entry value among
-/// them as one with those inside of it, and these say the parts again.
+/// The parts of a whole expression of a unit are spelled as operations (DWARF 4 and 5, section 7.7.1), an entry value among
+/// them as one with those inside of it, and these say the parts again, with base types by the nodes at their places.
 pub fn whole_expressions_say_what_was_written()
-    ensures { (nodes : Listed Node) (place : ℕ → ℕ) (node : ℕ → Maybe ℕ) (version : ℕ) (expression : Listed ExprPart) →
-        IsWhole nodes expression → AreCodesOf expression → LeadBack nodes place node → expression_len expression < 2 ^ 64 → AreBytes (expression_bytes place expression) →
-        IsSaidAgain place node version expression }
+    ensures { (graph : Graph) (u : ℕ) (unit : OutUnit) (expression : Listed ExprPart) → IsReadable graph → slice_get graph.units u ≡ Some unit →
+        IsWhole unit.nodes expression → expression_len expression < 2 ^ 64 →
+        IsSaidAgain (own_node (places_of graph u unit)) (node_in graph u unit) unit.version expression }
 {}
