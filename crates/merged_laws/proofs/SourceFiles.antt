@@ -1,7 +1,7 @@
 -- A number of a source file in the table of merged entries names the file that the entry's own number names.
-use Rattle.std.proofs.Common.{◌≡◌, inl, inr, ℕ, zero, suc, ◌+◌, ◌-◌, ◌<◌, ◌==◌, not, Bool, true, false, cond, List, [], ◌∷◌, ◌++◌, length, map, take, get_or, slice_get, Option, Some, None, is_none, refl, sym, ap, subst, ◌∙◌, arith}
+use Rattle.std.proofs.Common.{◌≡◌, inl, inr, ℕ, suc, ◌+◌, ◌-◌, ◌<◌, ◌==◌, not, Bool, true, false, cond, List, [], ◌∷◌, ◌++◌, length, map, take, get_or, slice_get, Option, Some, None, is_none, refl, sym, ap, subst, ◌∙◌, arith}
 use Rattle.std.specs.Cmp.Lexicographic.{bytes_decides}
-use Rattle.std.specs.List.{All, Contains, cons_option, filter, filter_map, flat_map, position, position_or_len}
+use Rattle.std.specs.List.{Contains, filter, filter_map, position, position_or_len}
 use Rattle.std.specs.Option.{option_and_then, option_map, option_map_or, unwrap_or}
 use Rattle.std.specs.Str.{bytes_eq}
 use Rattle.std.proofs.lemmas.Bool.{both_ways, cases_lt, eq-eqb, eqb-true, lt-ltb, ne_eqb}
@@ -17,10 +17,9 @@ use Rattle.dwarf_types.specs.declared.entry.InUnit.{InUnit}
 use Rattle.dwarf_types.specs.declared.graph.OutUnit.{OutUnit}
 use Rattle.dwarf_types.specs.declared.lines.FileName.{FileName}
 use Rattle.dwarf_types.specs.declared.lines.OutLines.{OutLines}
-use Rattle.dwarf_types.specs.declared.value.Value.{Value}
 use Rattle.dwarf_types.specs.declared.value.Value.TheVariants as values
-use Rattle.link_graph.specs.PoolFiles.{SourceFile, directories, file_at, file_by, file_in, file_named, file_written, files_named, first_directory, first_file, listed_directory, number_among, number_of, number_of_directory, place_of_number, same_file, table_of}
-use Rattle.merged_laws.specs.SourceFiles.{Becomes, directory_told, file_as_told, file_told, names_none}
+use Rattle.link_graph.specs.PoolFiles.{SourceFile, directories, file_at, file_by, file_in, file_named, file_written, files_named, number_among, number_of, number_of_directory, place_of_number, same_file, table_of}
+use Rattle.merged_laws.specs.SourceFiles.{Becomes, file_as_told, file_told, names_none}
 use Rattle.merged_laws.proofs.Members.{first_in, in_cases, in_filter, in_filter_map, later_in, none_in}
 use Rattle.merged_laws.proofs.Plain.{and_made, and_parts}
 

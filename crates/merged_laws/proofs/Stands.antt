@@ -1,6 +1,6 @@
 -- Each node of a link stands for a live entry, and no two to which references lead for one.
-use Rattle.std.proofs.Common.{◌≡◌, ◌⊎◌, inl, inr, ℕ, zero, suc, ◌+◌, ◌-◌, ◌^◌, ◌<◌, ◌≤◌, ◌==◌, ◌&&◌, Bool, true, false, cond, List, [], ◌∷◌, ◌++◌, length, map, get_or, slice_get, Option, Some, None, refl, sym, ap, subst, ◌∙◌, arith}
-use Rattle.std.specs.List.{All, AllPairs, Contains, filter_map, position}
+use Rattle.std.proofs.Common.{◌≡◌, ◌⊎◌, inl, inr, ℕ, zero, suc, ◌+◌, ◌-◌, ◌^◌, ◌<◌, ◌≤◌, ◌&&◌, Bool, true, false, cond, List, [], ◌∷◌, ◌++◌, length, map, get_or, slice_get, Option, Some, refl, sym, ap, subst, ◌∙◌, arith}
+use Rattle.std.specs.List.{All, AllPairs, position}
 use Rattle.std.specs.Option.{option_and_then, option_map}
 use Rattle.std.proofs.lemmas.Bool.{cases_lt, cases_order}
 use Rattle.std.proofs.lemmas.List.Quantifiers.{position-Some}
@@ -17,13 +17,13 @@ use Rattle.dwarf_types.specs.Sound.{IsSound}
 use Rattle.dwarf_types.specs.Tree.{ParentsStandBefore}
 use Rattle.link_graph.specs.Graph.{image_of, pool_version}
 use Rattle.link_graph.specs.Merged.{kept_object, kept_objects, linked_names, object_units, pool_count, pool_origin, pool_units, shape_of}
-use Rattle.link_graph.specs.Pool.{node_of_path, pool_names, same_path, winners}
+use Rattle.link_graph.specs.Pool.{node_of_path, pool_names, same_path}
 use Rattle.linked_laws.specs.Nodes.{origin_at}
 use Rattle.linked_laws.proofs.Attributes.{mapped_some}
 use Rattle.linked_laws.proofs.Places.{node_of_one}
 use Rattle.odr_names.specs.Numbered.{merged, objects_of}
 use Rattle.odr_names.specs.Making.{AreLiveRows}
-use Rattle.type_names.specs.Heads.{Object, entries_of, is_live, is_pooled}
+use Rattle.type_names.specs.Heads.{Object, entries_of, is_pooled}
 use Rattle.type_names.specs.Names.{Named}
 use Rattle.type_names.specs.Paths.{Piece, path_of}
 use Rattle.type_names.proofs.Pooling.{sound_parents}
@@ -34,9 +34,9 @@ use Rattle.merged_laws.proofs.Names.{IsNameOf, paths_same}
 use Rattle.merged_laws.proofs.Nodes.{IsGood, merged_good, node_there, objects_good, one_node}
 use Rattle.merged_laws.proofs.Members.{in_at}
 use Rattle.merged_laws.proofs.PathTree.{Differs}
-use Rattle.merged_laws.proofs.Plain.{and_made, and_parts, kept_holds, kept_live, kept_namespace}
+use Rattle.merged_laws.proofs.Plain.{and_made, kept_holds, kept_live, kept_namespace}
 use Rattle.merged_laws.proofs.Says.{all_are_names}
-use Rattle.merged_laws.proofs.Told.{origins_of, pool_shape}
+use Rattle.merged_laws.proofs.Told.{origins_of}
 use Rattle.merged_laws.proofs.Versions.{pooled_live}
 
 -- ---- the first place of a path

@@ -1,10 +1,10 @@
 -- Where no two names bid the same, each has one winner.
-use Rattle.std.proofs.Common.{◌≡◌, inl, inr, ℕ, zero, suc, ◌<◌, ◌≤◌, List, [], ◌∷◌, length, get_or, slice_get, Option, Some, None, refl, sym, ap, ◌∙◌, arith}
+use Rattle.std.proofs.Common.{◌≡◌, inl, inr, ℕ, suc, ◌<◌, List, [], ◌∷◌, length, get_or, Option, None, refl, sym, ap, ◌∙◌, arith}
 use Rattle.std.specs.List.{AllPairs}
 use Rattle.std.specs.Option.{option_map_or}
 use Rattle.std.proofs.lemmas.Bool.{cases_order}
 use Rattle.std.proofs.lemmas.Option.{slice_get-get_or}
-use Rattle.odr_names.specs.Numbered.{SamePath, bid_at}
+use Rattle.odr_names.specs.Numbered.{bid_at}
 use Rattle.odr_names.specs.Winners.{AreWinners, IsWinner}
 use Rattle.type_names.specs.Names.{Named}
 
