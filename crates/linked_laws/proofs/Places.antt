@@ -15,7 +15,7 @@ use Rattle.dwarf_types.specs.LinkedShape.{origin_of, shape_in}
 use Rattle.dwarf_types.specs.LinkedUnits.{Object, Source, kept_entries, plain_target, sources, sources_in}
 use Rattle.dwarf_types.specs.LinkedUnits as linked_units
 use Rattle.dwarf_types.specs.Sound.{IsSound}
-use Rattle.linked_laws.specs.Nodes.{IsKeptEntry, IsNodeOfEntry, origin_at}
+use Rattle.linked_laws.specs.Nodes.{IsNodeOfEntry, origin_at}
 use Rattle.linked_laws.proofs.Attributes.{mapped_some}
 use Rattle.linked_laws.proofs.Images.{IsSource, all_sources, lies, slice_get_behind, source_by}
 use Rattle.linked_laws.proofs.Lists.{kept_at}

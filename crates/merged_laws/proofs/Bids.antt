@@ -1,5 +1,5 @@
 -- No two names of a link have one bid.
-use Rattle.std.proofs.Common.{◌≡◌, ℕ, ◌+◌, ◌*◌, ◌^◌, ◌<◌, ◌≤◌, Bool, true, false, cond, List, [], ◌∷◌, length, Option, Some, None, refl, sym, ◌∙◌, arith}
+use Rattle.std.proofs.Common.{◌≡◌, ℕ, ◌+◌, ◌-◌, ◌*◌, ◌^◌, ◌<◌, ◌≤◌, Bool, true, false, cond, List, [], ◌∷◌, length, Option, Some, None, refl, sym, ◌∙◌, arith}
 use Rattle.std.specs.Prelude.{if◌then◌else◌}
 use Rattle.std.specs.List.{All, AllPairs, cons_option, enumerate_from, filter_map, flat_map}
 use Rattle.std.proofs.lemmas.List.Elements.{All-append, All-cons, All-head, All-nil, All-tail, All-weaker}
@@ -99,3 +99,14 @@ all_apart n (o ∷ objects) le few =
 -- no two names have one bid
 pub bids_differ : (objects : List Object) → length objects < 2 ^ 16 → AreFew objects → AllPairs (λ a b. a.bid ≡ b.bid → ⊥) (names objects)
 bids_differ objects lt few = pairs_from_apart Differ (names objects) (all_apart 1 objects (omega (arith, lt)) few)
+
+-- and none is 2^64 - 1
+pub bids_low : (objects : List Object) → length objects < 2 ^ 16 → AreFew objects → All (λ w. w.bid < 2 ^ 64 - 1) (names objects)
+bids_low objects lt few = All-weaker (IsFrom 1) (λ w. w.bid < 2 ^ 64 - 1) low (names objects) (all_from 1 objects (omega (arith, lt)) few)
+  where
+    low_by : (b : Bool) (n k : ℕ) → n < 2 ^ 16 → k < 2 ^ 24 → (if b then 2 ^ 63 else 0) + n * 2 ^ 32 + k < 2 ^ 64 - 1
+    low_by true n k nl kl = omega (arith, nl, kl)
+    low_by false n k nl kl = omega (arith, nl, kl)
+
+    low : (w : Named) → IsFrom 1 w → w.bid < 2 ^ 64 - 1
+    low w h = let lt = low_by h.has.declared h.object h.has.entry h.few h.has.small in omega (arith, lt, h.has.bid)

@@ -42,7 +42,7 @@ use Rattle.merged_laws.proofs.Told.{image_read, in_object, origins_of, pool_shap
 use Rattle.merged_laws.proofs.Untied.{no_bases, none_pass}
 use Rattle.merged_laws.proofs.Versions.{pooled_live}
 
-abbrev target_by : ℕ → ℕ → Target
+abbrev pub target_by : ℕ → ℕ → Target
 target_by unit node = record { unit = unit; node = node }
 
 -- ---- the unit of merged entries
@@ -133,7 +133,7 @@ module _ (odr : Bool) (seen : List Analysis) (live : List (List Bool)) (sound : 
     lives : is_live o k ≡ true
     lives = (good.row.exact k).1 it.lives
 
-    image_is : image_of shape i k ≡ cond (odr && is_pooled o k) (option_map (target_by 0) (node_of_path ns (path_of (i + 1) o k))) (plain_target (pool_count ns) objects i k)
+    pub image_is : image_of shape i k ≡ cond (odr && is_pooled o k) (option_map (target_by 0) (node_of_path ns (path_of (i + 1) o k))) (plain_target (pool_count ns) objects i k)
     image_is = image_read odr seen live i k ∙ ap (option_and_then (in_object odr seen live i k)) it.object ∙ ap (option_and_then (λ (e : Entry). image_in odr seen live (i, o) k)) it.stands
 
     -- ---- its own node
@@ -145,7 +145,7 @@ module _ (odr : Bool) (seen : List Analysis) (live : List (List Bool)) (sound : 
       kept = holds_kept odr o k e before good.lives it.stands (record { number = k; within = slice_get_within (entries_of o) k e it.stands; lives = lives; own = own; inside = in_itself (entries_of o) k before });
     }
 
-    own_image : (odr && is_pooled o k) ≡ false → image_of shape i k ≡ plain_target (pool_count ns) objects i k
+    pub own_image : (odr && is_pooled o k) ≡ false → image_of shape i k ≡ plain_target (pool_count ns) objects i k
     own_image own = image_is ∙ ap (λ (b : Bool). cond b (option_map (target_by 0) (node_of_path ns (path_of (i + 1) o k))) (plain_target (pool_count ns) objects i k)) own
 
     pub leads_own : (odr && is_pooled o k) ≡ false → LeadsTo shape i k (i + 1) k
@@ -162,7 +162,7 @@ module _ (odr : Bool) (seen : List Analysis) (live : List (List Bool)) (sound : 
 
     -- ---- the node of its path
 
-    some_path : is_pooled o k ≡ true → path_of (i + 1) o k ≡ [] → ⊥
+    pub some_path : is_pooled o k ≡ true → path_of (i + 1) o k ≡ [] → ⊥
     some_path pooled empty =
         let up = pooled_parent o k before good.lives pooled in
         let piece : Piece = record { parts = parts_of (i + 1) o k e; ordinal = ordinal_of (i + 1) o k e } in

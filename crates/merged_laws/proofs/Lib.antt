@@ -17,3 +17,6 @@ pub mod FilesFew
 pub mod Versions
 pub mod Leads
 pub mod Says
+pub mod SourceFiles
+pub mod Stands
+pub mod Winners

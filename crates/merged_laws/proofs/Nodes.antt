@@ -31,7 +31,7 @@ use Rattle.type_names.proofs.Lineages.{parent_before}
 use Rattle.type_names.proofs.Pooling.{sound_parents}
 use Rattle.type_names.proofs.Scopes.{parent_within}
 use Rattle.type_names.proofs.Subtrees.{by_parents}
-use Rattle.merged_laws.proofs.Bids.{AreFew, bids_differ}
+use Rattle.merged_laws.proofs.Bids.{AreFew, bids_differ, bids_low}
 use Rattle.merged_laws.proofs.Members.{in_cases, in_numbered, none_in, pairs_from_apart}
 use Rattle.merged_laws.proofs.Names.{IsNameOf, all_names, name_there, same_paths, winner_of}
 use Rattle.merged_laws.proofs.PathTree.{Differs, at_top, deeper, more_levels, pool_apart}
@@ -202,6 +202,9 @@ nodes_there odr seen live sound rows = all_have_nodes (merged odr seen live) (me
 
 pub bids_apart : (odr : Bool) (seen : List Analysis) (live : List (List Bool)) → length seen < 2 ^ 16 → All IsSound seen → AreLiveRows seen live → AllPairs (λ a b. a.bid ≡ b.bid → ⊥) (linked_names odr seen live)
 bids_apart odr seen live few sound rows = bids_differ (merged odr seen live) (omega (arith, few, merged_few odr seen live)) (few_by (merged odr seen live) (merged_good odr seen live sound rows))
+
+pub bids_some : (odr : Bool) (seen : List Analysis) (live : List (List Bool)) → length seen < 2 ^ 16 → All IsSound seen → AreLiveRows seen live → All (λ w. w.bid < 2 ^ 64 - 1) (linked_names odr seen live)
+bids_some odr seen live few sound rows = bids_low (merged odr seen live) (omega (arith, few, merged_few odr seen live)) (few_by (merged odr seen live) (merged_good odr seen live sound rows))
 
 -- and each path one node
 pub one_node : (odr : Bool) (seen : List Analysis) (live : List (List Bool)) → length seen < 2 ^ 16 → All IsSound seen → AreLiveRows seen live → AllPairs Differs (pool_names (linked_names odr seen live))

@@ -2,7 +2,7 @@
 use Rattle.std.proofs.Common.{◌≡◌, ◌⊎◌, inl, inr, ℕ, zero, suc, ◌+◌, ◌<◌, ◌==◌, ◌||◌, ◌&&◌, not, Bool, true, false, cond, List, [], ◌∷◌, length, map, slice_get, slice_index_or, Option, Some, None, is_some, refl, sym, ap, subst, ◌∙◌, arith}
 use Rattle.std.specs.List.{Contains, enumerate_from, filter, list_all, list_any}
 use Rattle.std.specs.Option.{option_and_then, option_map, option_map_or}
-use Rattle.std.proofs.lemmas.Bool.{both_ways, eq-eqb}
+use Rattle.std.proofs.lemmas.Bool.{both_ways, eq-eqb, eqb-true}
 use Rattle.std.proofs.lemmas.Option.{get_or_from_slice_get, none-some, same_Some, slice_get-map, slice_get_within}
 use Rattle.ds_base.specs.DwarfNumbers.{DW_TAG_base_type, DW_TAG_namespace}
 use Rattle.dwarf_types.specs.declared.entry.Entry.{Entry}
@@ -172,7 +172,7 @@ module _ (odr : Bool) (o : Object) where
     pub own : merges number ≡ false
     pub inside : is_in entries a number ≡ true
 
-  kept_holds : (k : ℕ) (e : Entry) → ParentsStandBefore entries → slice_get entries k ≡ Some e → is_kept (kept_object odr o) k ≡ true → Holds k
+  pub kept_holds : (k : ℕ) (e : Entry) → ParentsStandBefore entries → slice_get entries k ≡ Some e → is_kept (kept_object odr o) k ≡ true → Holds k
   kept_holds k e before at kept = elim (or_cases (plain k) _ (sym (kept_is k e at) ∙ kept)) [
     | inl here ↦ holds k e at here (in_itself entries k before)
     | inr above ↦ (
@@ -188,6 +188,13 @@ module _ (odr : Bool) (o : Object) where
       holds j x at is inside =
           let parts = and_parts (is_live o j) (not (merges j)) (sym (plain_is j x at) ∙ is) in
           record { number = j; within = slice_get_within entries j x at; lives = parts.0; own = not_true (merges j) parts.1; inside = inside }
+
+  -- a merged entry that is kept is a namespace
+  pub kept_namespace : (k : ℕ) (e : Entry) → slice_get entries k ≡ Some e → is_kept (kept_object odr o) k ≡ true → merges k ≡ true → e.tag ≡ DW_TAG_namespace
+  kept_namespace k e at kept merged = elim (or_cases (plain k) (is_plain_above entries o.live (merged_in odr o) (k, e)) (sym (kept_is k e at) ∙ kept)) [
+    | inl here ↦ absurd (both_ways _ (not_true (merges k) (and_parts (is_live o k) (not (merges k)) (sym (plain_is k e at) ∙ here)).1) merged)
+    | inr above ↦ eqb-true e.tag DW_TAG_namespace (and_parts (e.tag == DW_TAG_namespace) _ (and_parts (slice_index_or (merged_in odr o) k false) _ above).1).0
+  ]
 
   plain_in : (a : ℕ) (h : Holds a) → plain h.number ≡ true
   plain_in a h = let it = entry_at entries h.number h.within in plain_is h.number it.0 it.1 ∙ and_made (is_live o h.number) (not (merges h.number)) h.lives (ap not h.own)

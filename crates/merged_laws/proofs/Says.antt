@@ -1,6 +1,6 @@
 -- What the nodes of a linked graph say, by the nodes of its shape.
 use Rattle.std.proofs.Common.{◌≡◌, inl, inr, ℕ, zero, suc, ◌+◌, ◌-◌, ◌<◌, ◌==◌, Bool, true, false, cond, List, [], ◌∷◌, ◌++◌, length, map, slice_get, Option, Some, None, append-nil, refl, sym, ap, subst, ◌∙◌, arith}
-use Rattle.std.specs.List.{All, Contains, filter_map}
+use Rattle.std.specs.List.{All, Contains, filter_map, flat_map}
 use Rattle.std.specs.Option.{is_some, option_and_then, option_map}
 use Rattle.std.proofs.lemmas.Bool.{cases_lt, ne_eqb}
 use Rattle.std.proofs.lemmas.List.Elements.{All-contains, All-map, All-weaker}
@@ -21,9 +21,9 @@ use Rattle.dwarf_types.specs.LinkedValues.{attrs_written}
 use Rattle.dwarf_types.specs.WellRoots.{closing_pair}
 use Rattle.link_graph.specs.Graph.{files_of, graph_in, image_of, pool_node, pool_unit, pool_version, source_of}
 use Rattle.link_graph.specs.Graph as graph_of
-use Rattle.link_graph.specs.Merged.{kept_object, kept_objects, linked_names, object_units, pool_origin, pool_units, shape_of}
+use Rattle.link_graph.specs.Merged.{kept_object, kept_objects, linked_names, object_units, pool_origin, pool_root, pool_units, shape_of}
 use Rattle.link_graph.specs.Pool.{pool_names, winners}
-use Rattle.link_graph.specs.PoolFiles.{SourceFile, number_among}
+use Rattle.link_graph.specs.PoolFiles.{SourceFile, files_named, number_among, same_file}
 use Rattle.linked_laws.specs.Nodes.{node_at, origin_at}
 use Rattle.linked_laws.proofs.Attributes.{mapped_some}
 use Rattle.linked_laws.proofs.Images.{IsSource, all_sources, all_there, slice_get_behind, source_written}
@@ -36,8 +36,10 @@ use Rattle.odr_names.proofs.ObjectLists.{object_parts}
 use Rattle.type_names.specs.Names.{Named}
 use Rattle.merged_laws.specs.Says.{Says}
 use Rattle.merged_laws.proofs.Leads.{as_many}
+use Rattle.merged_laws.proofs.Members.{in_at, in_filter_map, in_flat_map, later_in}
 use Rattle.merged_laws.proofs.Names.{IsNameOf, all_names, winner_named}
 use Rattle.merged_laws.proofs.PathTree.{all_win}
+use Rattle.merged_laws.proofs.SourceFiles.{becomes, file_of_entry, files_tell, once_has}
 use Rattle.merged_laws.proofs.Told.{as_many_pools, objects_back, origins_of, pool_by, pool_made, pool_shape}
 
 module _ (odr : Bool) (seen : List Analysis) (live : List (List Bool)) where
@@ -116,7 +118,10 @@ module _ (odr : Bool) (seen : List Analysis) (live : List (List Bool)) where
                 ∙ slice_get-map f (kept_entries h.object s.unit) target.node ∙ ap (option_map f) w.1;
             tag = refl;
             parent = refl;
+            unit = unit_written (image s.object) h.object s.unit h.unit;
+            its_unit = ap (λ (graph : Graph). slice_get graph.units target.unit) graph_is ∙ unit;
             files = None;
+            keeps_files = (h.unit, ap (slice_get h.object.seen.units) it.unit ∙ h.is, refl, refl);
             more = closing x.1 spans;
             attrs = refl;
             no_more = λ below. ap (λ (b : Bool). cond b (cond (length spans == 0) [] (closing_pair spans)) []) below;
@@ -153,12 +158,22 @@ module _ (odr : Bool) (seen : List Analysis) (live : List (List Bool)) where
       ap (λ (n : ℕ). source_of seen (record { object = n; entry = w.entry; parent = (pool_origin ns w).parent })) (sym back)
       ∙ entry_source (w.object - 1) w.entry is.object.seen is.entry (pool_origin ns w).parent (name_seen w is) is.stands
 
-  all_are_names : All (IsNameOf (merged odr seen live)) (pool_names ns)
+  pub all_are_names : All (IsNameOf (merged odr seen live)) (pool_names ns)
   all_are_names = All-weaker (Contains (winners ns)) (IsNameOf (merged odr seen live)) (λ w wins. All-contains (IsNameOf (merged odr seen live)) ns w (all_names (merged odr seen live)) (winner_named ns w wins)) (pool_names ns) (all_win ns (length ns) [])
 
   all_made : All (λ origin. is_some (pool_node image seen files origin) ≡ true) (map (pool_origin ns) (pool_names ns))
   all_made = All-map (λ (origin : Origin). is_some (pool_node image seen files origin) ≡ true) (pool_origin ns) (pool_names ns)
       (All-weaker (IsNameOf (merged odr seen live)) (λ w. is_some (pool_node image seen files (pool_origin ns w)) ≡ true) (λ w is. ap (λ (found : Option graph_of.Source). is_some (option_map (made (pool_origin ns w)) found)) (name_source w is)) (pool_names ns) all_are_names)
+
+  -- the files of an entry that is merged are among those of the unit
+  file_there : (n : ℕ) (w : Named) (is : IsNameOf (merged odr seen live) w) → slice_get (pool_names ns) n ≡ Some w → (file : SourceFile) → Contains (files_named is.object.seen is.entry) file → Contains files file
+  file_there n w is at file has =
+      let source = source_by (w.object - 1) is.object.seen is.entry in
+      let origin : Contains (origins_of ns) (pool_origin ns w) = later_in pool_root (map (pool_origin ns) (pool_names ns)) (pool_origin ns w)
+      (in_at (map (pool_origin ns) (pool_names ns)) n (pool_origin ns w) (slice_get-map (pool_origin ns) (pool_names ns) n ∙ ap (option_map (pool_origin ns)) at)) in
+      once_has same_file files_tell (flat_map (λ source. files_named source.seen source.entry) (filter_map (source_of seen) (origins_of ns))) file
+      (in_flat_map (λ (source : graph_of.Source). files_named source.seen source.entry) (filter_map (source_of seen) (origins_of ns)) source file
+      (in_filter_map (source_of seen) (origins_of ns) (pool_origin ns w) source origin (name_source w is)) has)
 
   says_of_name : (target : Target) (origin : Origin) (n : ℕ) → slice_get (pools ++ own) target.unit ≡ Some (pool_unit image seen version (origins_of ns)) → target.node ≡ suc n → slice_get (map (pool_origin ns) (pool_names ns)) n ≡ Some origin → Says seen shape target origin
   says_of_name target origin n unit place there =
@@ -177,7 +192,10 @@ module _ (odr : Bool) (seen : List Analysis) (live : List (List Bool)) where
             ∙ ap (option_map (made (pool_origin ns w))) (name_source w is);
         tag = refl;
         parent = refl;
+        unit = pool_unit image seen version (origins_of ns);
+        its_unit = ap (λ (graph : Graph). slice_get graph.units target.unit) graph_is ∙ unit;
         files = Some (number_among files is.object.seen is.entry.unit);
+        keeps_files = λ a form m has name value. becomes files (pool_unit image seen version (origins_of ns)) refl is.object.seen is.entry.unit m (λ file named. file_there n w is v.1 file (file_of_entry is.object.seen is.entry a form m file has name value named));
         more = [];
         attrs = sym (append-nil (attrs_written (image (w.object - 1)) (Some (number_among files is.object.seen is.entry.unit)) is.entry));
         no_more = λ below. refl;

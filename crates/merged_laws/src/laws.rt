@@ -1,6 +1,6 @@
 //! What is linked where entries are merged with others of their name.
 
-ghost use Rattle.std.specs.Prelude.{◌≡◌, ◌<◌, ◌+◌, ◌^◌, ◌&&◌, ℕ, Bool as Choice, true, false, List as Listed, [], ◌∷◌, ◌++◌, length, Some, None};
+ghost use Rattle.std.specs.Prelude.{◌≡◌, ◌↔◌, ◌<◌, ◌+◌, ◌-◌, ◌^◌, ◌&&◌, ℕ, Bool as Choice, true, false, List as Listed, [], ◌∷◌, ◌++◌, length, Some, None};
 ghost use Rattle.std.specs.List.{All, AllPairs, Contains};
 ghost use Rattle.dwarf_types.specs.declared.analysis.Analysis.{Analysis};
 ghost use Rattle.dwarf_types.specs.declared.entry.Entry.{Entry};
@@ -20,7 +20,9 @@ ghost use Rattle.linked_laws.specs.Spellable.{IsSpellable};
 ghost use Rattle.merged_laws.specs.Files.{FilesFit};
 ghost use Rattle.merged_laws.specs.Leads.{IsLiveEntry, LeadsBeside, LeadsTo, Wins};
 ghost use Rattle.merged_laws.specs.Says.{Says};
+ghost use Rattle.merged_laws.specs.Stands.{IsNodeOf, IsOfLiveEntry};
 ghost use Rattle.odr_names.specs.Making.{AreLiveRows};
+ghost use Rattle.odr_names.specs.Winners.{AreWinners};
 ghost use Rattle.type_names.specs.Heads.{Object, is_pooled};
 ghost use Rattle.type_names.specs.Names.{Named};
 ghost use Rattle.type_names.specs.Paths.{path_of};
@@ -61,7 +63,34 @@ pub fn live_entries_have_nodes()
         → (o : Object) × (e : Entry) × IsLiveEntry seen live i k o e }
 {}
 
-/// Each node of the linked graph says what the entry says for which it stands. The root of the merged entries stands for none.
+/// No two names of a link have one bid, and none bids 2^64 - 1.
+///
+/// So each path has one winner: all rows of winners of such names are one, however they were found.
+pub fn names_bid_apart()
+    ensures apart { (odr : Choice) (seen : Listed Analysis) (live : Listed (Listed Choice)) → length seen < 2 ^ 16 → All IsSound seen → AreLiveRows seen live
+        → AllPairs (λ a b. a.bid ≡ b.bid → ⊥) (linked_names odr seen live) }
+    ensures low { (odr : Choice) (seen : Listed Analysis) (live : Listed (Listed Choice)) → length seen < 2 ^ 16 → All IsSound seen → AreLiveRows seen live
+        → All (λ name. name.bid < 2 ^ 64 - 1) (linked_names odr seen live) }
+    ensures winners { (names : Listed Named) (winners others : Listed ℕ) → AllPairs (λ a b. a.bid ≡ b.bid → ⊥) names → AreWinners names winners → AreWinners names others → winners ≡ others }
+{}
+
+/// Each node of the linked graph stands for a live entry, but the root of the merged entries, which stands for none and is
+/// the first node of the first unit.
+///
+/// Two nodes of one entry are one, where references to the entry lead to both or to neither. So an entry has one node to
+/// which references lead, and a second one, in its own unit, only if it is a merged namespace above an entry that isn't
+/// merged.
+pub fn nodes_stand_for_live_entries()
+    ensures live { (odr : Choice) (seen : Listed Analysis) (live : Listed (Listed Choice)) → length seen < 2 ^ 16 → All IsSound seen → AreLiveRows seen live → (target : Target) (origin : Origin) → origin_at (shape_of odr seen live).units target ≡ Some origin → (origin.object ≡ 0 → ⊥)
+        → IsOfLiveEntry odr seen live target origin }
+    ensures root { (odr : Choice) (seen : Listed Analysis) (live : Listed (Listed Choice)) → length seen < 2 ^ 16 → All IsSound seen → AreLiveRows seen live → (target : Target) (origin : Origin) → origin_at (shape_of odr seen live).units target ≡ Some origin → origin.object ≡ 0
+        → target ≡ record { unit = 0; node = 0 } }
+    ensures one { (odr : Choice) (seen : Listed Analysis) (live : Listed (Listed Choice)) → length seen < 2 ^ 16 → All IsSound seen → AreLiveRows seen live → (i k : ℕ) (a b : Target) → IsNodeOf odr seen live i k a → IsNodeOf odr seen live i k b
+        → ((image_of (shape_of odr seen live) i k ≡ Some a) ↔ (image_of (shape_of odr seen live) i k ≡ Some b)) → a ≡ b }
+{}
+
+/// Each node of the linked graph says what the entry says for which it stands, and names the source files that the entry
+/// names. The root of the merged entries stands for none.
 pub fn nodes_say_what_their_entries_say()
     ensures { (odr : Choice) (seen : Listed Analysis) (live : Listed (Listed Choice)) (target : Target) (origin : Origin) → origin_at (shape_of odr seen live).units target ≡ Some origin → (origin.object ≡ 0 → ⊥)
         → Says seen (shape_of odr seen live) target origin }

@@ -4,15 +4,18 @@
 //! (`link_graph/specs/Graph.antt`, `Merged.antt`) keeps to the rules of a well graph
 //! (`dwarf_types/specs/Well.antt`), where the source files that merged entries name have numbers of 64 bits
 //! (`specs/Files.antt`). [`nothing_merged_is_linked`] says that without merging it is the graph of the live entries alone,
-//! and [`every_path_has_a_node`] that each name has a node, that of its path. [`live_entries_have_nodes`] says where
-//! references to live entries lead (`specs/Leads.antt`), [`nodes_say_what_their_entries_say`] what stands there
-//! (`specs/Says.antt`), and [`lineages_reach_the_top`] which entries stand above one (`dwarf_types/specs/Tree.antt`).
-//! Nothing here runs.
+//! [`every_path_has_a_node`] that each name has a node, that of its path, and [`names_bid_apart`] that each path has one
+//! winner. [`live_entries_have_nodes`] says where references to live entries lead (`specs/Leads.antt`),
+//! [`nodes_stand_for_live_entries`] that all nodes are of these (`specs/Stands.antt`), and
+//! [`nodes_say_what_their_entries_say`] what stands there (`specs/Says.antt`), the source files that are named included
+//! (`specs/SourceFiles.antt`). [`lineages_reach_the_top`] says which entries stand above one
+//! (`dwarf_types/specs/Tree.antt`). Nothing here runs.
 #![tactic(auto)]
 
 mod laws;
 
 pub use laws::{
     every_path_has_a_node, lineages_reach_the_top, live_entries_have_nodes, merged_is_well,
-    nodes_say_what_their_entries_say, nothing_merged_is_linked,
+    names_bid_apart, nodes_say_what_their_entries_say, nodes_stand_for_live_entries,
+    nothing_merged_is_linked,
 };
