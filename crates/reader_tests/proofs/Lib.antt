@@ -1,5 +1,4 @@
 pub mod Object
-pub mod WorkedEntries
 pub mod WorkedExpressions
 pub mod WorkedLines
 pub mod WorkedLists

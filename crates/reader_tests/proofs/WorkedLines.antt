@@ -155,3 +155,22 @@ a_directory_that_begins_behind_the_texts : table 5 (
     ) ≡ Err (fault kinds.BadOffset 22)
 unfolding heading
 a_directory_that_begins_behind_the_texts = refl
+
+-- contents of entries of version 5 (DWARF 5, section 7.22, table 7.27): one that isn't known (0x2001, LLVM's) is passed over; of two paths, times and directories the first counts; a time that is a block counts as 0
+contents_that_repeat : table 5 (
+    0x34 ∷ 0 ∷ 0 ∷ 0 ∷ 5 ∷ 0 ∷ 8 ∷ 0 ∷ 0x2c ∷ 0 ∷ 0 ∷ 0 ∷ 1 ∷ 1 ∷ 1 ∷ 0xfb ∷ 0x0e ∷ 1
+    ∷ 1 ∷ 1 ∷ 0x08 ∷ 1 ∷ 0x64 ∷ 0
+    ∷ 7 ∷ 0x81 ∷ 0x40 ∷ 0x05 ∷ 1 ∷ 0x08 ∷ 1 ∷ 0x08 ∷ 3 ∷ 0x09 ∷ 3 ∷ 0x06 ∷ 2 ∷ 0x0b ∷ 2 ∷ 0x0f
+    ∷ 1 ∷ 0xaa ∷ 0xbb ∷ 0x61 ∷ 0 ∷ 0x62 ∷ 0 ∷ 2 ∷ 0xcc ∷ 0xdd ∷ 0x11 ∷ 0x22 ∷ 0x33 ∷ 0x44 ∷ 3 ∷ 4 ∷ []
+    ) ≡ Ok (record { dirs = codes "d" ∷ []; files = record { name = codes "a"; dir = 3; time = 0; size = 0; digest = None } ∷ []; sequences = [] })
+unfolding reading
+contents_that_repeat = refl
+
+-- a time has no form of one byte
+a_time_in_one_byte : table 5 (
+    0x18 ∷ 0 ∷ 0 ∷ 0 ∷ 5 ∷ 0 ∷ 8 ∷ 0 ∷ 0x10 ∷ 0 ∷ 0 ∷ 0 ∷ 1 ∷ 1 ∷ 1 ∷ 0xfb ∷ 0x0e ∷ 1
+    ∷ 1 ∷ 1 ∷ 0x08 ∷ 1 ∷ 0x64 ∷ 0
+    ∷ 1 ∷ 3 ∷ 0x0b ∷ 0 ∷ []
+    ) ≡ Err (fault kinds.BadEntryFormat 0)
+unfolding heading
+a_time_in_one_byte = refl
