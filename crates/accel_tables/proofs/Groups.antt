@@ -34,8 +34,10 @@ pub run_of : {A : Type 0} (key : A → ℕ) (rest : List A) (d : A) (n : ℕ) �
 run_of key [] d n some is = absurd (omega (arith, some))
 run_of {A} key (x ∷ xs) d n some is =
     let m : ℕ = like key (key x) xs in
-    let full : n ≡ 1 + m = is ∙ ap (λ (b : Bool). cond b (1 + m) 0) (eq-eqb (key x) (key x) refl) in
-    (first_group key x xs
-     ∙ ap (λ (front : List A). front ∷ groups key (drop m xs)) (sym (one_more m x xs))
-     ∙ ap (λ (more : List A). take (1 + m) (x ∷ xs) ∷ groups key more) (sym (one_less m x xs))
-     ∙ ap (λ (k : ℕ). take k (x ∷ xs) ∷ groups key (drop k (x ∷ xs))) (sym full), omega (arith, full))
+    let full : n ≡ 1 + m = is ∙ ap (λ (b : Bool). cond b (1 + m) 0) (eq-eqb (key x) (key x) refl) in (
+      first_group key x xs
+          ∙ ap (λ (front : List A). front ∷ groups key (drop m xs)) (sym (one_more m x xs))
+          ∙ ap (λ (more : List A). take (1 + m) (x ∷ xs) ∷ groups key more) (sym (one_less m x xs))
+          ∙ ap (λ (k : ℕ). take k (x ∷ xs) ∷ groups key (drop k (x ∷ xs))) (sym full),
+      omega (arith, full),
+    )

@@ -1,12 +1,12 @@
 -- Items by rising keys, kept in a map of their keys.
-use Rattle.std.proofs.Common.{◌≡◌, ℕ, ◌+◌, ◌<◌, ◌≤◌, ◌==◌, Bool, true, false, cond, List, [], ◌∷◌, length, map, nat_lt, refl, sym, ap, ◌∙◌, arith, Less, Equal, Greater}
+use Rattle.std.proofs.Common.{◌≡◌, ℕ, ◌<◌, ◌==◌, Bool, true, false, cond, List, [], ◌∷◌, length, map, nat_lt, refl, sym, ap, ◌∙◌, arith, Less, Equal, Greater}
 use Rattle.std.specs.BTreeMap.{insert_entry}
 use Rattle.std.specs.Ordering.{match_ordering, nat_cmp}
 use Rattle.std.proofs.lemmas.Bool.{eqb-true}
 use Rattle.std.proofs.lemmas.List.{length-map}
 use Rattle.ds_base.specs.InOrder.{in_order, placed}
 use Rattle.accel_tables.specs.declared.rows.Row.{Row}
-use Rattle.accel_tables.specs.Table.{bucket_count, hash_count}
+use Rattle.accel_tables.specs.Table.{hash_count}
 
 -- items with their keys
 abbrev pub by_key : {A : Type 0} → (A → ℕ) → List A → List (ℕ × A)

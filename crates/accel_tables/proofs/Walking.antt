@@ -1,5 +1,5 @@
 -- A turn of each walk over a table.
-use Rattle.std.proofs.Common.{◌≡◌, ℕ, zero, suc, ◌+◌, ◌-◌, ◌%◌, ◌==◌, Bool, true, false, List, [], ◌∷◌, ◌++◌, length, drop, Ok, Err, Result, refl, sym, ap, ◌∙◌}
+use Rattle.std.proofs.Common.{◌≡◌, ℕ, suc, ◌+◌, ◌%◌, ◌==◌, Bool, true, false, List, [], ◌∷◌, ◌++◌, length, Ok, Err, refl}
 use Rattle.ds_base.specs.declared.fault.Fault.{Fault}
 use Rattle.accel_tables.specs.declared.header.Counts.{Counts}
 use Rattle.accel_tables.specs.Hash.{hash_of}

@@ -1,5 +1,5 @@
 -- Refusals that a walk over a table hands on.
-use Rattle.std.proofs.Common.{◌≡◌, ℕ, suc, ◌∷◌, Bool, true, false, List, length, Result, Ok, Err, ◌==◌, sym, ◌∙◌}
+use Rattle.std.proofs.Common.{◌≡◌, ℕ, suc, ◌∷◌, true, false, List, length, Result, Ok, Err, ◌==◌, sym, ◌∙◌}
 use Rattle.ds_base.specs.declared.fault.Fault.{Fault}
 use Rattle.ds_base.specs.declared.fault.ReadError.{ReadError}
 use Rattle.ds_base.specs.declared.fault.ReadError.TheVariants as errors

@@ -104,7 +104,7 @@ unfoldable pub lists_from : List ℕ → List ℕ → List ℕ → Counts → Li
 lists_from table strings name counts [] before i = Ok before
 lists_from table strings name counts (hash ∷ hashes) before i =
     if hash == hash_of name then
-      (number_in 4 table (offset_place counts i) >>= λ place. list_from table strings name (length table) before place >>= λ entries. lists_from table strings name counts hashes entries (i + 1))
+    (number_in 4 table (offset_place counts i) >>= λ place. list_from table strings name (length table) before place >>= λ entries. lists_from table strings name counts hashes entries (i + 1))
     else lists_from table strings name counts hashes before (i + 1)
 
 -- ---- all of it

@@ -152,7 +152,13 @@ fn read_item(
         return Err(ReadError::Faulty(table_fault(Kind::BadTable, place)));
     };
     let count = u32_in(search.table, place + 4)?;
-    read_entries(search.table, spelled == search.name, count, place + 8, entries)
+    read_entries(
+        search.table,
+        spelled == search.name,
+        count,
+        place + 8,
+        entries,
+    )
 }
 
 /// Puts so many entries behind others, if they are wanted, and answers the place behind them.

@@ -94,7 +94,8 @@ fn read_counts(table: &[u8]) -> Result<Counts, Fault>
     Ok(Counts { buckets, hashes })
 }
 
-/// The counts of a table, once all fields of its header are tried.
+/// The counts of a table, once all fields of its header are tried: the header tells besides them that twelve bytes follow
+/// of the data's description, in which offsets have no base and each item has one atom, an entry's place in four bytes.
 #[tactic(auto, unfolding(crate::specs::Found::header_of))]
 pub(crate) fn read_header(table: &[u8]) -> Result<Counts, Fault>
     ensures read { Finds (λ counts. counts) result (header_of table.now) }

@@ -190,12 +190,7 @@ fn data_start(buckets: usize, hashes: usize) -> u128
 }
 
 /// The table of data lists, which has so many bytes.
-fn write_table(
-    alloc: Global,
-    buckets: usize,
-    lists: &Lists,
-    size: usize,
-) -> Result<Bytes, NoMemory>
+fn write_table(alloc: Global, buckets: usize, lists: &Lists, size: usize) -> Result<Bytes, NoMemory>
     requires some { 0 < buckets }
     requires few { length lists.now.hashes.items < 2 ^ 32 }
     ensures { IfOk result (λ table. table ≡ table_with buckets lists.now.hashes.items lists.now.starts.items lists.now.bytes) }
@@ -203,7 +198,13 @@ fn write_table(
     let hashes = lists.hashes.as_slice();
     let firsts = firsts_of(alloc, hashes, buckets)?;
     let mut table = empty_room(alloc, size)?;
-    put_table(&mut table, &firsts, hashes, lists.starts.as_slice(), lists.bytes.as_slice())?;
+    put_table(
+        &mut table,
+        &firsts,
+        hashes,
+        lists.starts.as_slice(),
+        lists.bytes.as_slice(),
+    )?;
     Ok(table)
 }
 

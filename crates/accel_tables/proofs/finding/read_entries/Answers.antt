@@ -1,6 +1,5 @@
 use Rattle.std.proofs.Common.{◌≡◌, ◌+◌, ◌-◌, ◌∙◌, suc, sym, arith}
 use Rattle.std.proofs.lemmas.Result.{err_from_is_err_and}
-use Rattle.accel_tables.specs.Found.{with_entry}
 use Rattle.accel_tables.proofs.Walking.{entries_end, entry_fault, entry_more}
 use Rattle.accel_tables.proofs.finding.read_entries.Goals as goal
 

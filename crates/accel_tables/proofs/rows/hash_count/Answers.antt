@@ -1,4 +1,4 @@
-use Rattle.std.proofs.Common.{◌≡◌, length, ap, refl, ◌∙◌}
+use Rattle.std.proofs.Common.{length, ap, refl, ◌∙◌}
 use Rattle.ds_base.proofs.Backwards.{done_all, done_more}
 use Rattle.accel_tables.specs.declared.rows.Row.{Row}
 use Rattle.accel_tables.proofs.Order.{as_many, put_more}

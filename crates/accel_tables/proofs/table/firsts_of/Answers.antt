@@ -1,4 +1,4 @@
-use Rattle.std.proofs.Common.{ℕ, ◌≡◌, ◌+◌, ◌-◌, ◌≤◌, ◌%◌, ◌∙◌, List, ◌∷◌, drop, get_or, refl, length, ap, sym, arith}
+use Rattle.std.proofs.Common.{ℕ, ◌≡◌, ◌+◌, ◌-◌, ◌%◌, ◌∙◌, List, get_or, refl, length, ap, sym, arith}
 use Rattle.std.proofs.lemmas.List.{drop_more, length-replicate, length-set}
 use Rattle.std.proofs.lemmas.Nat.{mod_below}
 use Rattle.accel_tables.proofs.Firsts.{row_from, row_more, row_none}

@@ -1,4 +1,4 @@
-use Rattle.std.proofs.Common.{ℕ, ◌≡◌, ◌+◌, ◌<◌, ◌∙◌, List, ◌∷◌, length, drop, ap, sym, arith}
+use Rattle.std.proofs.Common.{ℕ, ◌+◌, ◌<◌, ◌∙◌, List, ◌∷◌, length, drop, ap, sym, arith}
 use Rattle.std.proofs.lemmas.List.{drop-drop}
 use Rattle.accel_tables.specs.declared.rows.Row.{Row}
 use Rattle.accel_tables.specs.Table.{groups}
@@ -16,4 +16,4 @@ returns-clause-group c =
     ∙ first.0
     ∙ ap (λ (front : List Row). front ∷ groups (λ (r : Row). r.text) (drop n rest)) (sym c.rows_to.ensures.is)
     ∙ ap (λ (more : List Row). c.rows_to.result.now ∷ groups (λ (r : Row). r.text) more)
-        (ap (drop n) c.rows_from-rest.ensures.is ∙ drop-drop n c.args.i c.args.rows.now ∙ ap (λ (m : ℕ). drop (c.args.i + m) c.args.rows.now) (sym c.rows_to.ensures.len))
+    (ap (drop n) c.rows_from-rest.ensures.is ∙ drop-drop n c.args.i c.args.rows.now ∙ ap (λ (m : ℕ). drop (c.args.i + m) c.args.rows.now) (sym c.rows_to.ensures.len))
