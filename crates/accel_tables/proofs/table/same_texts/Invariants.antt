@@ -1,0 +1,7 @@
+use Rattle.std.proofs.Common.{◌≡◌, ◌+◌, ◌==◌, drop}
+use Rattle.std.specs.List.{prefix_len}
+use Rattle.accel_tables.proofs.table.same_texts.Given as goal
+
+-- all so far have it
+abbrev pub invariant-loop-i : goal.invariant-loop-i
+invariant-loop-i l = l.i + prefix_len (λ r. l.text == r.text) (drop l.i l.rows) ≡ prefix_len (λ r. l.text == r.text) l.rows

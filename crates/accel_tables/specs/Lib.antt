@@ -1,0 +1,5 @@
+pub mod Hash
+pub mod Found
+pub mod Table
+pub mod DataLists
+pub mod EnteredNames
