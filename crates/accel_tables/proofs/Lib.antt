@@ -6,3 +6,4 @@ pub mod Order
 pub mod Firsts
 pub mod Worked
 pub mod WorkedNames
+pub mod Refused

@@ -9,12 +9,14 @@
 mod finding;
 mod hash;
 mod header;
+mod law;
 mod rows;
 mod table;
 mod which;
 
 pub use finding::look_up;
 pub use hash::name_hash;
+pub use law::kinds_of_table_faults;
 pub use rows::{Entered, Row, TableError};
 pub use table::table_bytes;
 pub use which::Which;
