@@ -55,7 +55,7 @@ row_in rows x within = elim (slice_get_cases rows x).1 [
   | inr past ↦ absurd (omega (arith, past.0))
 ]
 
-path_of_row : (objects : List Object) (rows : List Row) (x : ℕ) (row : Row) (sound : AreRows objects rows) (at : slice_get rows x ≡ Some row)
+pub path_of_row : (objects : List Object) (rows : List Row) (x : ℕ) (row : Row) (sound : AreRows objects rows) (at : slice_get rows x ≡ Some row)
     → path_in objects rows x ≡ path_above objects rows (row_above x row) ++ (sound.linked x row at).piece ∷ []
 path_of_row objects rows x row sound at = ap (λ (o : Option Row). option_map_or (row_path objects) o []) at ∙ (sound.linked x row at).path
 

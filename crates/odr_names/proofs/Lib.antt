@@ -3,6 +3,8 @@ pub mod Innermost
 pub mod FourBytes
 pub mod ObjectLists
 pub mod BookPaths
+pub mod PathOrder
+pub mod ComparedPaths
 pub mod Winning
 pub mod Counting
 pub mod Siblings

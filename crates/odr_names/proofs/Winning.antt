@@ -1,13 +1,10 @@
--- Winners found in the order by hash and bid.
-use Rattle.std.proofs.Common.{◌≡◌, ◌<◌, ◌≤◌, ◌+◌, ◌-◌, ◌⊎◌, inl, inr, ℕ, List, [], ◌∷◌, ◌++◌, length, Some, refl, sym, ap, ◌∙◌, arith, subst, slice_get, get_or, set}
-use Rattle.std.proofs.Common.{true, false}
-use Rattle.std.specs.Cmp.{IsTotalOrder}
-use Rattle.std.specs.Ordering.{is_lt, nat_cmp, ordering_then}
+-- Winners found in the order by hash, path and bid.
+use Rattle.std.proofs.Common.{◌≡◌, ◌<◌, ◌≤◌, ◌+◌, ◌-◌, inl, inr, ℕ, List, [], ◌∷◌, ◌++◌, length, Some, refl, sym, ap, ◌∙◌, arith, subst, slice_get, get_or, set}
+use Rattle.std.specs.Ordering.{is_lt}
 use Rattle.std.specs.List.{Contains}
 use Rattle.std.specs.List.Sorted.{IsPermutation, IsSortedBy}
-use Rattle.std.proofs.lemmas.Cmp.{nat_cmp_total, on_total, then_total}
 use Rattle.std.proofs.lemmas.List.Sorted.{Contains-permutation, IsPermutation-sym, ranks_by, sorted_far}
-use Rattle.std.proofs.lemmas.Bool.{both_ways, cases_eq, cases_lt, eq-eqb, le-ltb, lt-ltb}
+use Rattle.std.proofs.lemmas.Bool.{cases_eq, cases_lt}
 use Rattle.std.proofs.lemmas.List.{get_or-set_other, get_or-set_same, length-set, length_push}
 use Rattle.std.proofs.lemmas.Option.{get_or_from_slice_get, same_Some, slice_get-get_or, slice_get_read, slice_get_within}
 use Rattle.odr_names.specs.declared.winners.Ranked.{Ranked}
@@ -15,8 +12,10 @@ use Rattle.odr_names.specs.Innermost.{rank_hash}
 use Rattle.type_names.specs.Names.{Named}
 use Rattle.odr_names.specs.Numbered.{SamePath, bid_at, path_at}
 use Rattle.odr_names.specs.Winners.{ArePut, AreWholePaths, AreWinners, IsWinner}
-use Rattle.odr_names.specs.Ranking.{AreFound, AreInOrder, AreOthersKept, AreRanked, AreRankedTo, AreRanksOf, IsAmong, IsRank, IsRun}
+use Rattle.odr_names.specs.Ranking.{AreFound, AreInOrder, AreOthersKept, AreRanked, AreRankedTo, AreRanksOf, IsAmong, IsRank}
+use Rattle.odr_names.specs.PathOrder.{rank_order}
 use Rattle.odr_names.proofs.BookPaths.{get_before, get_last}
+use Rattle.odr_names.proofs.PathOrder.{between, bids_rise, not_behind, ranks_total}
 
 -- ---- ranks
 
@@ -79,25 +78,16 @@ ranks_whole names some ranks whole are = record {
 
 -- ---- the winner at a rank
 
-pub run_more : (names : List Named) (ranks : List Ranked) (here r : Ranked) (j i : ℕ) → slice_get ranks (j - 1) ≡ Some r → (SamePath names r.name here.name → ⊥)
-    → IsRun names ranks here j i → IsRun names ranks here (j - 1) i
-run_more names ranks here r j i at differs so_far = record {
-  le = omega (arith, so_far.le);
-  differ = λ k s from below at_k same. elim (cases_eq k (j - 1)) [
-    | inl first ↦ (let one : r ≡ s = same_Some r s (sym at ∙ ap (slice_get ranks) (sym first) ∙ at_k) in differs (ap (λ (t : Ranked). path_at names t.name) one ∙ same))
-    | inr other ↦ so_far.differ k s (omega arith) below at_k same
-  ];
-}
-
 pub winner_taken : (names : List Named) (ranks : List Ranked) (winners : List ℕ) (here r : Ranked) (j i : ℕ) → slice_get ranks j ≡ Some r → j < i → SamePath names r.name here.name
     → AreFound names ranks winners i → IsWinner names here.name (get_or winners r.name 0)
 winner_taken names ranks winners here r j i at below same found =
     let its = found.each j r below at in
     record { within = its.within; same = its.same ∙ same; least = λ y within is. its.least y within (is ∙ sym same) }
 
-pub winner_itself : (names : List Named) (ranks : List Ranked) (here : Ranked) (j i : ℕ) → AreRanked names ranks → AreInOrder ranks → slice_get ranks i ≡ Some here → IsRun names ranks here j i
-    → ((r : Ranked) → 0 < j → slice_get ranks (j - 1) ≡ Some r → r.hash ≡ here.hash → ⊥) → IsWinner names here.name here.name
-winner_itself names ranks here j i ranked order at run begins =
+-- where the rank before is of another path, no rank before is of this one
+pub winner_itself : (names : List Named) (ranks : List Ranked) (here : Ranked) (i : ℕ) → AreRanked names ranks → AreInOrder names ranks → slice_get ranks i ≡ Some here
+    → ((s : Ranked) → 0 < i → slice_get ranks (i - 1) ≡ Some s → SamePath names s.name here.name → ⊥) → IsWinner names here.name here.name
+winner_itself names ranks here i ranked order at begins =
     let rank = ranked.each i here at in
     record {
       within = rank.within;
@@ -107,28 +97,18 @@ winner_itself names ranks here j i ranked order at run begins =
           let k = found.0 in
           let r = found.1 in
           let r_rank = ranked.each k r found.2 in
-          let hash : r.hash ≡ here.hash = r_rank.hash ∙ ap (λ (x : ℕ). rank_hash (path_at names x)) found.3 ∙ ap rank_hash is ∙ sym rank.hash in
+          let path : SamePath names r.name here.name = ap (path_at names) found.3 ∙ is in
+          let hash : r.hash ≡ here.hash = r_rank.hash ∙ ap rank_hash path ∙ sym rank.hash in
           let bid : r.bid ≡ bid_at names y = r_rank.bid ∙ ap (bid_at names) found.3 in
           elim (cases_lt k i) [
-            | inr later ↦ elim (order i k here r later at found.2) [
-              | inl above ↦ absurd (omega arith)
-              | inr not_above ↦ omega (arith, not_above.1, rank.bid)
-            ]
-            | inl earlier ↦ elim (cases_lt k j) [
-              | inr in_run ↦ absurd (run.differ k r in_run earlier found.2 (ap (path_at names) found.3 ∙ is))
-              | inl before ↦ absurd (
-                  let d : Ranked = record { hash = 0; bid = 0; name = 0 } in
-                  let s = get_or ranks (j - 1) d in
-                  let s_at : slice_get ranks (j - 1) ≡ Some s = slice_get-get_or ranks (j - 1) d (omega (arith, slice_get_within ranks i here at, run.le)) in
-                  let low : r.hash ≤ s.hash = up (order k (j - 1) r s (omega arith) found.2 s_at) in
-                  let high : s.hash ≤ here.hash = up (order (j - 1) i s here (omega (arith, run.le)) s_at at) in
-                  begins s (omega arith) s_at (omega arith))
-            ]
+            | inr later ↦ (let rise = bids_rise names here r (sym hash) (sym path) (order i k here r later at found.2) in omega (arith, rise, bid, rank.bid))
+            | inl earlier ↦ absurd (
+                let d : Ranked = record { hash = 0; bid = 0; name = 0 } in
+                let s = get_or ranks (i - 1) d in
+                let s_at : slice_get ranks (i - 1) ≡ Some s = slice_get-get_or ranks (i - 1) d (omega (arith, slice_get_within ranks i here at)) in
+                begins s (omega arith) s_at (between names r s here hash path (order k (i - 1) r s (omega arith) found.2 s_at) (order (i - 1) i s here (omega arith) s_at at)))
           ]);
-    } where
-      up : {a b c e : ℕ} → (a < b) ⊎ ((a ≡ b) × (c ≤ e)) → a ≤ b
-      up (inl lt) = omega arith
-      up (inr same) = omega (arith, same.0)
+    }
 
 -- ---- winners rank by rank
 
@@ -172,31 +152,13 @@ found_these names some ranks sorted old winners are moved len found kept = recor
 
 -- ---- the order
 
--- the order by two numbers
-pub told : (a b c e : ℕ) → is_lt (ordering_then (nat_cmp b a) (nat_cmp e c)) ≡ false → (a < b) ⊎ ((a ≡ b) × (c ≤ e))
-told a b c e not_below = elim (cases_lt a b) [
-  | inl lt ↦ inl lt
-  | inr ge ↦ elim (cases_lt b a) [
-    | inl lower ↦ absurd (let less : is_lt (ordering_then (nat_cmp b a) (nat_cmp e c)) ≡ true = rw (lt-ltb b a lower) refl in both_ways _ not_below less)
-    | inr le ↦ (
-        let same : a ≡ b = omega arith in
-        elim (cases_lt e c) [
-          | inl less ↦ absurd (let below : is_lt (ordering_then (nat_cmp b a) (nat_cmp e c)) ≡ true = rw (le-ltb b a le, eq-eqb b a (sym same), lt-ltb e c less) refl in both_ways _ not_below below)
-          | inr no_less ↦ inr (same, no_less)
-        ])
-  ]
-]
-
-by_hash : IsTotalOrder (λ (x y : Ranked). ordering_then (nat_cmp x.hash y.hash) (nat_cmp x.bid y.bid))
-by_hash = then_total (on_total (λ (r : Ranked). r.hash) nat_cmp_total) (on_total (λ (r : Ranked). r.bid) nat_cmp_total)
-
-pub in_order : (ranks : List Ranked) → IsSortedBy (λ x y. is_lt (ordering_then (nat_cmp x.hash y.hash) (nat_cmp x.bid y.bid))) ranks → AreInOrder ranks
-in_order ranks sorted = λ i j r s le at_i at_j. (
+pub in_order : (names : List Named) (ranks : List Ranked) → IsSortedBy (λ x y. is_lt (rank_order names x y)) ranks → AreInOrder names ranks
+in_order names ranks sorted = λ i j r s le at_i at_j. (
     let d : Ranked = record { hash = 0; bid = 0; name = 0 } in
-    let far = sorted_far (λ (x y : Ranked). is_lt (ordering_then (nat_cmp x.hash y.hash) (nat_cmp x.bid y.bid))) (ranks_by by_hash (λ (r : Ranked). r)) ranks sorted i j d le (slice_get_within ranks j s at_j) in
+    let far = sorted_far (λ (x y : Ranked). is_lt (rank_order names x y)) (ranks_by (ranks_total names) (λ (r : Ranked). r)) ranks sorted i j d le (slice_get_within ranks j s at_j) in
     let r_is = get_or_from_slice_get ranks i r d at_i in
     let s_is = get_or_from_slice_get ranks j s d at_j in
-    told r.hash s.hash r.bid s.bid (rw (r_is, s_is) at far))
+    not_behind names r s (rw (r_is, s_is) at far))
 
 pub ranked_moved : (names : List Named) (ranks moved : List Ranked) → AreRanked names ranks → IsPermutation ranks moved → AreRanked names moved
 ranked_moved names ranks moved ranked same_ranks = record {

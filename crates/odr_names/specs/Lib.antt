@@ -4,6 +4,7 @@ pub mod Numbered
 pub mod Book
 pub mod Stretches
 pub mod Winners
+pub mod PathOrder
 pub mod Ranking
 pub mod Twins
 pub mod TwinTable

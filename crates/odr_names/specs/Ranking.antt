@@ -1,9 +1,11 @@
--- Names in the order in which their winners are found: those of one rank hash stand together, and of these the lowest bid first.
-use Rattle.std.specs.Prelude.{◌≡◌, ℕ, ◌<◌, ◌≤◌, ◌⊎◌, List, length, slice_get, slice_index_or, Some}
+-- Names in the order in which their winners are found: those of one path stand together, and of these the lowest bid first.
+use Rattle.std.specs.Prelude.{◌≡◌, ℕ, ◌<◌, ◌≤◌, false, List, length, slice_get, slice_index_or, Some}
+use Rattle.std.specs.Ordering.{is_gt}
 use Rattle.odr_names.specs.declared.winners.Ranked.{Ranked}
 use Rattle.type_names.specs.Names.{Named}
 use Rattle.odr_names.specs.Numbered.{SamePath, bid_at, path_at}
 use Rattle.odr_names.specs.Innermost.{rank_hash}
+use Rattle.odr_names.specs.PathOrder.{rank_order}
 use Rattle.odr_names.specs.Winners.{IsWinner}
 
 -- the rank of name x
@@ -21,9 +23,9 @@ pub record AreRanked (names : List Named) (ranks : List Ranked) : Type 0 where
   -- of a path all names are among them, or none
   pub whole : (x y : ℕ) → IsAmong ranks x → y < length names → SamePath names y x → IsAmong ranks y
 
--- by hash, and then by bid
-abbrev pub AreInOrder : List Ranked → Type 0
-AreInOrder ranks = (i j : ℕ) (r s : Ranked) → i ≤ j → slice_get ranks i ≡ Some r → slice_get ranks j ≡ Some s → (r.hash < s.hash) ⊎ ((r.hash ≡ s.hash) × (r.bid ≤ s.bid))
+-- none is behind a later one
+abbrev pub AreInOrder : List Named → List Ranked → Type 0
+AreInOrder names ranks = (i j : ℕ) (r s : Ranked) → i ≤ j → slice_get ranks i ≡ Some r → slice_get ranks j ≡ Some s → is_gt (rank_order names r s) ≡ false
 
 -- the winners of the first i ranks are found
 pub record AreFound (names : List Named) (ranks : List Ranked) (winners : List ℕ) (i : ℕ) : Type 0 where
@@ -43,8 +45,3 @@ pub record AreRankedTo (names : List Named) (ranks : List Ranked) (n : ℕ) : Ty
 pub record AreRanksOf (names : List Named) (some : List ℕ) (ranks : List Ranked) (n : ℕ) : Type 0 where
   pub len : length ranks ≡ n
   pub each : (i : ℕ) (r : Ranked) → slice_get ranks i ≡ Some r → (slice_get some i ≡ Some r.name) × IsRank names r
-
--- the names from rank j up to rank i have the hash of rank i, and none has its path
-pub record IsRun (names : List Named) (ranks : List Ranked) (here : Ranked) (j i : ℕ) : Type 0 where
-  pub le : j ≤ i
-  pub differ : (k : ℕ) (r : Ranked) → j ≤ k → k < i → slice_get ranks k ≡ Some r → SamePath names r.name here.name → ⊥

@@ -8,7 +8,7 @@
 //! `specs/Book.antt`; which rows of live entries a book is made of, in `specs/Making.antt`. Paths are compared hash
 //! first and then piece by piece upwards (`path_book`, `piece`). Ordinals (`ordinals`) come from chains of entries
 //! whose hashes share a cell, or where these are long from an ordered table (`twin_table`), and winners
-//! ([`winners_plain`], `specs/Winners.antt`) from a sort by hashes. A [`PathBook`] is a `NameBook` of `pool_core`
+//! ([`winners_plain`], `specs/Winners.antt`) from a sort by hashes and paths (`path_order`, `specs/PathOrder.antt`). A [`PathBook`] is a `NameBook` of `pool_core`
 //! (`name_book`).
 #![tactic(auto)]
 
@@ -22,6 +22,7 @@ mod name_book;
 mod one_object;
 mod ordinals;
 mod path_book;
+mod path_order;
 mod piece;
 mod row_numbers;
 mod together;

@@ -63,8 +63,8 @@ const _: () = prove!(size_of::<Row>() == 24);
 /// Contracts see the list of the names.
 #[derive(Drop)]
 pub struct PathBook<'a> {
-    objects: Objects<'a>,
-    rows: Vec<Row>,
+    pub(crate) objects: Objects<'a>,
+    pub(crate) rows: Vec<Row>,
 }
 
 impl<'a> Model for PathBook<'a> {
@@ -286,7 +286,7 @@ fn innermost_of(objects: &Objects, rows: &[Row], x: u32) -> Option<Private>
 }
 
 /// The row of a name.
-fn row_at(rows: &[Row], x: u32) -> Row
+pub(crate) fn row_at(rows: &[Row], x: u32) -> Row
     requires { x < length rows.now }
     ensures { slice_get rows.now x ≡ Some result }
 {
@@ -294,7 +294,7 @@ fn row_at(rows: &[Row], x: u32) -> Row
 }
 
 /// The number of the row of the entry above that of row `x`, where that is not the unit.
-fn row_above(x: u32, row: Row) -> Option<u32>
+pub(crate) fn row_above(x: u32, row: Row) -> Option<u32>
     requires { row.up ≤ x }
     ensures { result ≡ row_above x row }
 {
@@ -377,7 +377,7 @@ fn may_be_equal(objects: &Objects, a: Row, b: Row) -> bool
 }
 
 /// The piece of a row.
-fn piece_of<'b>(objects: &'b Objects, row: Row) -> PieceRef<'b>
+pub(crate) fn piece_of<'b>(objects: &'b Objects, row: Row) -> PieceRef<'b>
     requires told { AreTold objects.now }
     requires row { IsRowOf (objects_in objects.now) row }
     ensures { row_piece (objects_in objects.now) row ≡ Some (piece_seen result) }

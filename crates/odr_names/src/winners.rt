@@ -4,13 +4,16 @@ ghost use Rattle.std.specs.Prelude.{◌≡◌, ◌<◌, ◌≤◌, ◌^◌, ◌�
 ghost use Rattle.std.specs.List.{All};
 ghost use Rattle.std.specs.List.Sorted.{IsPermutation};
 ghost use Rattle.odr_names.specs.Numbered.{SamePath, path_at};
+ghost use Rattle.odr_names.specs.PathOrder.{rank_order};
 ghost use Rattle.odr_names.specs.Ranking.{AreFound, AreInOrder, AreOthersKept, AreRanked, AreRanksOf, IsAmong, IsRank};
 ghost use Rattle.odr_names.specs.Winners.{ArePut, AreWholePaths, AreWinners, IsWinner};
 ghost use Rattle.odr_names.specs.declared.winners.Ranked.{Ranked as RankedAs};
 
 use crate::path_book::{PathBook, count, number, path_equal, rank_hash_at};
+use crate::path_order::path_cmp;
 use ds_base::NoMemory;
 use std::alloc::Global;
+use std::cmp::Ordering;
 
 /// A name by a hash of its path and its bid.
 #[derive(Clone, Copy)]
@@ -22,14 +25,15 @@ pub(crate) struct Ranked {
 
 /// Of each name, the one that wins its path.
 ///
-/// Names of one path have one hash, so in the order by hash and bid they stand among a run of one hash, the winner
-/// before all others. The hash is a finer one than that by which a table is searched ([`crate::path_start`]): it takes in
-/// the object and the entry of a [`crate::piece::Private`] (`specs/Innermost.antt`), so runs that hold two paths are rare.
+/// In the order by hash, path and bid the names of one path stand behind one another, the winner before all others. So
+/// the time is n log n comparisons at most, whatever hashes the names were made to have. The hash is a finer one than
+/// that by which a table is searched ([`crate::path_start`]): it takes in the object and the entry of a
+/// [`crate::piece::Private`] (`specs/Innermost.antt`), so paths are seldom compared that differ.
 pub fn winners_plain(alloc: Global, names: &PathBook) -> Result<Vec<u32>, NoMemory>
     ensures { IfOk result (λ winners. AreWinners names.now winners.items) }
 {
     let mut ranks = ranks_of(alloc, names)?;
-    sort_ranks(&mut ranks);
+    sort_ranks(names, &mut ranks);
     let mut winners = vec![in alloc; 0; count(names) as usize]?;
     rank_winners(names, &ranks, &mut winners);
     Ok(winners)
@@ -50,7 +54,7 @@ pub fn put_winners(
     ensures unchanged { OnErr result (winners.new ≡ winners.old) }
 {
     let mut ranks = ranks_among(alloc, names, some)?;
-    sort_ranks(&mut ranks);
+    sort_ranks(names, &mut ranks);
     rank_winners(names, &ranks, winners);
     Ok(())
 }
@@ -92,18 +96,29 @@ fn rank_of(names: &PathBook, x: u32) -> Ranked
     }
 }
 
-/// Puts ranks in order: by hash, and then by bid.
-fn sort_ranks(ranks: &mut Vec<Ranked>)
+/// Puts ranks in order: by hash, then by path, and then by bid.
+fn sort_ranks(names: &PathBook, ranks: &mut Vec<Ranked>)
     ensures same { IsPermutation ranks.old.items ranks.new.items }
-    ensures order { AreInOrder ranks.new.items }
+    ensures order { AreInOrder names.now ranks.new.items }
 {
-    ranks.sort_unstable_by_key(|r| (r.hash, r.bid));
+    ranks.sort_unstable_by(|a, b| rank_cmp(names, a, b));
+}
+
+/// How two ranks stand in that order. Paths are looked at only where hashes agree.
+fn rank_cmp(names: &PathBook, a: &Ranked, b: &Ranked) -> Ordering
+    ensures { result ≡ rank_order names.now a.now b.now }
+{
+    match a.hash.cmp(&b.hash) {
+        Ordering::Less => Ordering::Less,
+        Ordering::Equal => path_cmp(names, a.name, b.name).then(a.bid.cmp(&b.bid)),
+        Ordering::Greater => Ordering::Greater,
+    }
 }
 
 /// Puts the winners in their places, rank by rank.
 fn rank_winners(names: &PathBook, ranks: &[Ranked], winners: &mut Vec<u32>)
     requires ranked { AreRanked names.now ranks.now }
-    requires order { AreInOrder ranks.now }
+    requires order { AreInOrder names.now ranks.now }
     requires len { length winners.old.items ≡ length names.now }
     ensures found { AreFound names.now ranks.now winners.new.items (length ranks.now) }
     ensures others { AreOthersKept ranks.now winners.old.items winners.new.items }
@@ -114,21 +129,22 @@ fn rank_winners(names: &PathBook, ranks: &[Ranked], winners: &mut Vec<u32>)
     }
 }
 
-/// The winner of the name at rank `i`: that of the nearest name before it with the same path, or itself.
+/// The winner of the name at rank `i`: that of the rank before it, where that has the same path, or itself.
 fn winner_at(names: &PathBook, ranks: &[Ranked], winners: &[u32], i: usize) -> u32
     requires ranked { AreRanked names.now ranks.now }
-    requires order { AreInOrder ranks.now }
+    requires order { AreInOrder names.now ranks.now }
     requires within { i < length ranks.now }
     requires found { AreFound names.now ranks.now winners.now i }
     ensures { (r : RankedAs) → slice_get ranks.now i ≡ Some r → IsWinner names.now r.name result }
 {
     let here = ranks[i];
-    let mut j = i;
-    while j > 0 && ranks[j - 1].hash == here.hash {
-        j -= 1;
-        if path_equal(names, ranks[j].name, here.name) {
-            return winners[ranks[j].name as usize];
-        }
+    if i == 0 {
+        return here.name;
     }
-    here.name
+    let before = ranks[i - 1];
+    if path_equal(names, before.name, here.name) {
+        winners[before.name as usize]
+    } else {
+        here.name
+    }
 }
