@@ -6,7 +6,7 @@ use mathlib.Core.Logic.{dite}
 use native.Mathlib.Decide.{dec_le, ℕ_discrete}
 use Rattle.pool_core.specs.declared.state.Step.{Step}
 use Rattle.pool_core.specs.declared.state.Step.TheVariants.{Intern, Lower}
-use Rattle.pool_core.specs.Machine.{cells_after, cells_run, first_word, interned, IsLeast, least_after, least_run, lowered, OrderDoesNotMatter, put_in}
+use Rattle.pool_core.specs.Machine.{cells_after, cells_run, first_word, interned, IsLeast, least_after, least_run, lowered, FillsAndLowers, OrderDoesNotMatter, put_in, RunsFillAndLower}
 
 -- a test of two numbers, by whether they are equal
 pub tested : (F : Bool → Type 0) (a b : ℕ) → (a ≡ b → F true) → (a ≢ b → F false) → F (eqb a b)
@@ -86,6 +86,9 @@ least_lowers least (Lower seat cell number ∷ steps) c inside =
     (λ ne.
     let off : c ≢ cell = λ e. ne (sym e) in
     subst (λ (w : ℕ). IsLeast w (Contains (lowered c steps)) (get_or (least_run next steps) c 0)) (get_or-set_other least cell c word 0 off) rest)
+
+pub all_runs : RunsFillAndLower
+all_runs cells least steps c inside within = record { kept = filled_stays cells steps c inside; first = empty_fills cells steps c inside; lowered = least_lowers least steps c within }
 
 -- two minima of the same numbers are one
 pub one_least : (before : ℕ) (A B : ℕ → Type 0) (m n : ℕ) → ((x : ℕ) → A x → B x) → ((x : ℕ) → B x → A x) → IsLeast before A m → IsLeast before B n → m ≡ n

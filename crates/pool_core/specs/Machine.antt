@@ -1,13 +1,8 @@
 -- What steps do to the words of a pool: names are put into empty cells, and least words are lowered.
-use Rattle.std.specs.Prelude.{◌≡◌, ℕ, ◌+◌, ◌<◌, ◌≤◌, ◌==◌, ◌⊎◌, ◌↔◌, List, [], ◌∷◌, length, min, if◌then◌else◌, slice_index, slice_set}
+use Rattle.std.specs.Prelude.{◌≡◌, ◌≢◌, ℕ, ◌+◌, ◌<◌, ◌≤◌, ◌==◌, ◌⊎◌, ◌↔◌, List, [], ◌∷◌, length, min, if◌then◌else◌, slice_index, slice_set}
 use Rattle.std.specs.List.{Contains}
 use Rattle.pool_core.specs.declared.state.Step.{Step}
 use Rattle.pool_core.specs.declared.state.Step.TheVariants.{Intern, Lower}
-
--- the cell that a step is at
-abbrev pub cell_of : Step → ℕ
-cell_of (Intern seat cell name) = cell
-cell_of (Lower seat cell number) = cell
 
 -- the word of a cell once the name was brought to it: an empty cell takes the name, and a filled one keeps its own
 abbrev pub put_in : ℕ → ℕ → ℕ
@@ -22,11 +17,6 @@ cells_after cells (Lower seat cell number) = cells
 abbrev pub least_after : List ℕ → Step → List ℕ
 least_after least (Intern seat cell name) = least
 least_after least (Lower seat cell number) = slice_set least cell (min (slice_index least cell) number)
-
--- the word that a step finds
-abbrev pub found_by : List ℕ → List ℕ → Step → ℕ
-found_by cells least (Intern seat cell name) = slice_index cells cell
-found_by cells least (Lower seat cell number) = slice_index least cell
 
 -- the cells after a list of steps
 abbrev pub cells_run : List ℕ → List Step → List ℕ
@@ -60,6 +50,18 @@ pub record IsLeast (before : ℕ) (Made : ℕ → Type 0) (n : ℕ) : Type 0 whe
   pub below : n ≤ before
   pub each : (x : ℕ) → Made x → n ≤ x
   pub one : (n ≡ before) ⊎ Made n
+
+-- what a run of the steps makes of one cell and of its least word
+pub record FillsAndLowers (cells least : List ℕ) (steps : List Step) (c : ℕ) : Type 0 where
+  -- a filled cell stays as it was, and an empty one gets the first name that is brought to it
+  pub kept : slice_index cells c ≢ 0 → slice_index (cells_run cells steps) c ≡ slice_index cells c
+  pub first : slice_index cells c ≡ 0 → slice_index (cells_run cells steps) c ≡ first_word (interned c steps)
+  -- the least word is the minimum of the word before and of all numbers that are brought to the cell
+  pub lowered : IsLeast (slice_index least c) (Contains (lowered c steps)) (slice_index (least_run least steps) c)
+
+-- so it is at each cell, whatever the words and the steps
+abbrev pub RunsFillAndLower : Type 0
+RunsFillAndLower = (cells least : List ℕ) (steps : List Step) (c : ℕ) → c < length cells → c < length least → FillsAndLowers cells least steps c
 
 -- two lists of steps bring the same numbers to the cell c
 abbrev pub SameNumbers : ℕ → List Step → List Step → Type 0
