@@ -51,6 +51,18 @@ stands_there same old new start cells x turn cell name is near at equal others =
   others = others_on same (Has old) (Has ((cell, name) ∷ old)) start cells x turn (λ c n has. inr has) others;
 }
 
+-- the first cell that is probed, where an equal name was seen
+pub stands_first : (same Holds : ℕ → ℕ → Type 0) (start cells x cell name : ℕ) → cell ≡ probe start cells 0 → Holds (probe start cells 0) name → same name x → StandsAt same Holds start cells x cell
+stands_first same Holds start cells x cell name at there equal = record {
+  turn = 0;
+  near = omega arith;
+  probed = at;
+  name = name;
+  there = subst (λ (c : ℕ). Holds c name) (sym at) there;
+  equal = equal;
+  others = λ turn before. absurd (omega arith);
+}
+
 pub others_there : (same : ℕ → ℕ → Type 0) (old new : List (ℕ × ℕ)) (start cells x turn cell name : ℕ) → new ≡ (cell, name) ∷ old → cell ≡ probe start cells turn → (same name x → ⊥)
     → OthersStand same (Has old) start cells x turn → OthersStand same (Has new) start cells x (turn + 1)
 others_there same old new start cells x turn cell name is at other others = subst (λ (notes : List (ℕ × ℕ)). OthersStand same (Has notes) start cells x (turn + 1)) (sym is)

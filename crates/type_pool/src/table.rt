@@ -27,9 +27,9 @@ pub struct Pool {
 impl Pool {
     ghost use Rattle.type_pool.specs.Pairs.{Has, HasOneEach};
     ghost use Rattle.type_pool.specs.Views.{bidden, noted, put, united};
-    ghost use Rattle.type_pool.specs.Standing.{IsCrowded};
+    ghost use Rattle.type_pool.specs.Standing.{IsCrowded, probe};
     ghost use Rattle.type_pool.specs.Seats.{AreHalves, Belongs, known, Learns, Placed, PutsAtMost};
-    ghost use Rattle.type_pool.specs.declared.placing.Placing.TheVariants.{Crowded};
+    ghost use Rattle.type_pool.specs.declared.placing.Placing.TheVariants.{Cell, Crowded};
 
     /// Finds the cell of the name `x`, or puts `x` into the first empty cell of those probed for it.
     ///
@@ -67,6 +67,43 @@ impl Pool {
         self.table
             .shared
             .fetch_min::<Underbids>(&mut seat.seat, 2 * cell as usize + 1, number);
+    }
+
+    /// The name in the first cell that is probed for `x`, if one stands there. Nothing is put.
+    ///
+    /// It is what [`Pool::place`] would look at first. Where these calls for several names stand one behind the other, so do
+    /// memory's waits for their cells, which else come one after the other.
+    pub fn look_ahead<N: NameBook>(&self, seat: &mut PoolSeat, names: &N, x: u32) -> Option<u32>
+        requires belongs { Belongs self.now seat.old }
+        requires book { (N.size names.now ≡ self.now.names) × (x < N.size names.now) }
+        ensures belongs { Belongs self.now seat.new }
+        ensures learns { Learns (known seat.old) (known seat.new) }
+        ensures puts { (known seat.new).puts ≡ (known seat.old).puts }
+        ensures found { IfSome result (λ name. (name < self.now.names) × Has (known seat.new).notes (probe (N.start_of names.now x self.now.cells) self.now.cells 0) name) }
+    {
+        let cell = probed(names.start(x, self.cells), self.cells, 0);
+        let standing = self.look(seat, cell);
+        if standing == 0 {
+            None
+        } else {
+            Some((standing - 1) as u32)
+        }
+    }
+
+    /// Bids the number for the name `x` at the first cell that is probed for it, where a name equal to it was seen there, and
+    /// answers that cell.
+    pub fn settle<N: NameBook>(&self, seat: &mut PoolSeat, names: &N, x: u32, number: u64) -> u32
+        requires belongs { Belongs self.now seat.old }
+        requires book { (N.size names.now ≡ self.now.names) × (x < N.size names.now) }
+        requires seen { (name : ℕ) × Has (known seat.old).notes (probe (N.start_of names.now x self.now.cells) self.now.cells 0) name × N.same names.now name x }
+        ensures belongs { Belongs self.now seat.new }
+        ensures bids { known seat.new ≡ bidden (known seat.old) result number }
+        ensures placed { Placed (N.same names.now) (known seat.old).notes (N.start_of names.now x self.now.cells) self.now.cells x (Cell result) }
+        ensures inside { result < self.now.cells }
+    {
+        let cell = probed(names.start(x, self.cells), self.cells, 0);
+        self.bid(seat, cell, number);
+        cell
     }
 
     /// Splits a seat off: it gets half of the share, rounded down, and all notes. `None` exactly where the share is 1.
