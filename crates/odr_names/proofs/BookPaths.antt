@@ -149,6 +149,12 @@ length_names objects rows = length-map rows (row_name objects)
 pub path_at_names : (objects : List Object) (rows : List Row) (x : ℕ) → x < length rows → path_at (map (row_name objects) rows) x ≡ path_in objects rows x
 path_at_names objects rows x within = let row = row_in rows x within in rw (name_is objects rows x row.0 row.1, row.1) refl
 
+pub path_at_all : (objects : List Object) (rows : List Row) (x : ℕ) → path_at (map (row_name objects) rows) x ≡ path_in objects rows x
+path_at_all objects rows x = ap (λ (o : Option Named). option_map_or (λ name. name.path) o []) (slice_get-map (row_name objects) rows x) ∙ go (slice_get rows x) where
+  go : (o : Option Row) → option_map_or (λ (name : Named). name.path) (option_map (row_name objects) o) [] ≡ option_map_or (row_path objects) o []
+  go None = refl
+  go (Some row) = refl
+
 pub bid_at_names : (objects : List Object) (rows : List Row) (x : ℕ) (row : Row) → slice_get rows x ≡ Some row → bid_at (map (row_name objects) rows) x ≡ row_bid row
 bid_at_names objects rows x row at = rw (name_is objects rows x row at) refl
 

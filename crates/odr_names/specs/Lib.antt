@@ -5,6 +5,7 @@ pub mod Book
 pub mod Stretches
 pub mod Winners
 pub mod PathOrder
+pub mod Known
 pub mod Ranking
 pub mod Twins
 pub mod TwinTable

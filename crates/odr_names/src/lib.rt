@@ -9,7 +9,7 @@
 //! first and then piece by piece upwards (`path_book`, `piece`). Ordinals (`ordinals`) come from chains of entries
 //! whose hashes share a cell, or where these are long from an ordered table (`twin_table`), and winners
 //! ([`winners_plain`], `specs/Winners.antt`) from a sort by hashes and paths (`path_order`, `specs/PathOrder.antt`). A [`PathBook`] is a `NameBook` of `pool_core`
-//! (`name_book`).
+//! (`name_book`), and so is a [`KnownBook`], which need not compare what stands above names that are known to be equal.
 #![tactic(auto)]
 
 mod book_error;
@@ -17,6 +17,7 @@ mod enter;
 mod entry_place;
 mod hash;
 mod joining;
+mod known_book;
 mod marks;
 mod name_book;
 mod one_object;
@@ -31,10 +32,11 @@ mod winners;
 
 pub use book_error::BookError;
 pub use entry_place::Occurrence;
+pub use known_book::KnownBook;
 pub use one_object::{ObjectNames, object_names};
 pub use path_book::{
-    PathBook, above, bids_are_some, book, count, first_of, joined_book, names_are_linked, number,
-    object_count, occurrence, path_equal, path_start,
+    PathBook, above, bids_are_some, book, count, first_of, have_one_hash, joined_book,
+    names_are_linked, number, object_count, occurrence, path_equal, path_start,
 };
 pub use together::names_together;
 pub use winners::{put_winners, winners_plain};

@@ -1,6 +1,6 @@
 //! The book of names.
 
-ghost use Rattle.std.specs.Prelude.{◌≡◌, ◌<◌, ◌≤◌, ◌-◌, ◌/◌, ◌%◌, ◌^◌, ◌↔◌, ℕ, [], ◌∷◌, ◌++◌, length, slice_get, IsTrue, Some, Err, IfOk};
+ghost use Rattle.std.specs.Prelude.{◌≡◌, ◌+◌, ◌<◌, ◌≤◌, ◌-◌, ◌/◌, ◌%◌, ◌^◌, ◌↔◌, ℕ, [], ◌∷◌, ◌++◌, length, slice_get, IsTrue, Some, Err, IfOk};
 ghost use Rattle.std.specs.List.{All};
 ghost use Rattle.std.specs.List.Sorted.{IsNonDecreasingBy, IsPartitionPoint};
 ghost use Rattle.std.specs.Option.{ForSome, option_map, option_map_or};
@@ -9,6 +9,7 @@ ghost use Rattle.odr_names.specs.declared.book_error.BookError.TheVariants as er
 ghost use Rattle.odr_names.specs.Book.{AreRows, AreTold, IsBook, IsRowOf, objects_in, path_in, row_above, row_bid, row_piece};
 ghost use Rattle.odr_names.specs.Numbered.{IsLinkedUp, IsOfParent, SamePath, bid_at, objects_of, path_at, merged};
 ghost use Rattle.odr_names.specs.Innermost.{innermost, rank_hash};
+ghost use Rattle.odr_names.specs.Known.{AreKnown};
 ghost use Rattle.odr_names.specs.Joining.{AreAllNames};
 ghost use Rattle.odr_names.specs.Making.{AreLiveRows};
 ghost use Rattle.odr_names.specs.Stretches.{AreOfObjects, IsFirstOf, last_object, object_at};
@@ -236,7 +237,24 @@ pub fn path_equal(names: &PathBook, a: u32, b: u32) -> bool
     requires { (a < length names.now) × (b < length names.now) }
     ensures { IsTrue result ↔ SamePath names.now a b }
 {
-    rows_equal(&names.objects, &names.rows, a, b)
+    rows_equal(&names.objects, &names.rows, a, b, 0, &[])
+}
+
+/// The same, where of some names others are known that have their paths ([`crate::KnownBook`]).
+pub(crate) fn known_equal(names: &PathBook, first: u32, words: &[u32], a: u32, b: u32) -> bool
+    requires names { (a < length names.now) × (b < length names.now) }
+    requires known { AreKnown names.now first words.now }
+    ensures { IsTrue result ↔ SamePath names.now a b }
+{
+    rows_equal(&names.objects, &names.rows, a, b, first, words)
+}
+
+/// Whether the paths of two names have one hash, without which they differ. It looks at the two rows alone.
+pub fn have_one_hash(names: &PathBook, a: u32, b: u32) -> bool
+    requires { (a < length names.now) × (b < length names.now) }
+    ensures { IsTrue result ↔ (path_hash (path_at names.now a) ≡ path_hash (path_at names.now b)) }
+{
+    hash_at(names, a) == hash_at(names, b)
 }
 
 /// The cell, below `cells`, at which the search for a name begins.
@@ -341,10 +359,11 @@ fn start_among(hash: u64, cells: u32) -> u32
     ((hash >> 32) % u64::from(cells)) as u32
 }
 
-/// Whether two rows have the same path.
-fn rows_equal(objects: &Objects, rows: &[Row], a: u32, b: u32) -> bool
+/// Whether two rows have the same path. `words` tells of rows from `first` on others that are known to have their paths.
+fn rows_equal(objects: &Objects, rows: &[Row], a: u32, b: u32, first: u32, words: &[u32]) -> bool
     requires book { IsBook objects.now rows.now }
     requires inside { (a < length rows.now) × (b < length rows.now) }
+    requires known { (i x : ℕ) → slice_get words.now i ≡ Some (x + 1) → path_in (objects_in objects.now) rows.now x ≡ path_in (objects_in objects.now) rows.now (first + i) }
     ensures { IsTrue result ↔ (path_in (objects_in objects.now) rows.now a ≡ path_in (objects_in objects.now) rows.now b) }
 {
     let mut left = Some(a);
@@ -356,15 +375,29 @@ fn rows_equal(objects: &Objects, rows: &[Row], a: u32, b: u32) -> bool
         if x == y {
             return true;
         }
-        let first = row_at(rows, x);
-        let second = row_at(rows, y);
-        if !may_be_equal(objects, first, second) {
+        if is_known(first, words, x, y) {
+            return true;
+        }
+        let here = row_at(rows, x);
+        let there = row_at(rows, y);
+        if !may_be_equal(objects, here, there) {
             return false;
         }
-        left = row_above(x, first);
-        right = row_above(y, second);
+        left = row_above(x, here);
+        right = row_above(y, there);
     }
     right.is_none()
+}
+
+/// Whether it is known of row `y` that row `x` has its path.
+fn is_known(first: u32, words: &[u32], x: u32, y: u32) -> bool
+    requires { x < 2 ^ 25 }
+    ensures { IsTrue result → (first ≤ y) × (slice_get words.now (y - first) ≡ Some (x + 1)) }
+{
+    if y < first || (y - first) as usize >= words.len() {
+        return false;
+    }
+    words[(y - first) as usize] == x + 1
 }
 
 /// Whether two rows have the same hash and the same piece.
