@@ -4,3 +4,4 @@ pub mod Tables
 pub mod Workers
 pub mod Reading
 pub mod NotedCells
+pub mod SeenAhead

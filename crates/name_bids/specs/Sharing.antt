@@ -1,5 +1,5 @@
 -- The names of a book shared by so many workers: what they begin with, and what they come back with.
-use Rattle.std.specs.Prelude.{◌≡◌, ℕ, ◌^◌, ◌<◌, ◌≤◌, true, List, ◌++◌, length, is_some}
+use Rattle.std.specs.Prelude.{◌≡◌, ℕ, ◌^◌, ◌<◌, ◌≤◌, true, List, [], ◌∷◌, ◌++◌, length, is_some}
 use Rattle.odr_names.specs.Stretches.{AreOfObjects}
 use Rattle.type_names.specs.Names.{Named}
 use Rattle.type_pool.specs.declared.seat.PoolSeat.{PoolSeat}
@@ -49,6 +49,16 @@ pub record HasWorked (names : List Named) (pool : Pool) (work : Tasks) (v : View
   pub more : (turn_view turn).drawn ≡ t.drawn ++ drawn
   pub bid : HasBid names pool.cells v (seat_view seat) (IsOfTasks names drawn)
   pub cells : AreNoted (length names) (IsPlacedAt names pool.cells (seat_view seat).notes) noted (IsOfTasks names drawn)
+
+-- memory ran out at the last task that was drawn: the seats are as they would be before it, but that it was drawn
+pub record HasStopped (names : List Named) (pool : Pool) (work : Tasks) (v : View) (t : TaskView) (seat : PoolSeat) (turn : TaskSeat) : Type 0 where
+  pub belong : Belong pool work seat turn
+  pub seat_share : (seat_view seat).share ≡ v.share
+  pub turn_share : (turn_view turn).share ≡ t.share
+  pub drawn : List ℕ
+  pub last : ℕ
+  pub more : (turn_view turn).drawn ≡ t.drawn ++ (drawn ++ last ∷ [])
+  pub bid : HasBid names pool.cells v (seat_view seat) (IsOfTasks names drawn)
 
 -- all workers are done: seats with all shares, no task left, and all numbers that were drawn have their names bid for
 pub record HasEnded (names : List Named) (pool : Pool) (seat : PoolSeat) (turn : TaskSeat) : Type 0 where

@@ -82,11 +82,14 @@ impl<'a, G: Gate> Worker for Bidder<'a, G> {
     fn work(
         &self,
         pool: &Pool,
-        seat: PoolSeat,
+        mut seat: PoolSeat,
         tasks: &Tasks,
-        turn: TaskSeat,
+        mut turn: TaskSeat,
     ) -> Result<Worked, NoMemory> {
-        bid_objects(self.alloc, pool, seat, self.names, tasks, turn, self.gate)
+        let noted = bid_objects(
+            self.alloc, pool, &mut seat, self.names, tasks, &mut turn, self.gate,
+        )?;
+        Ok((seat, turn, noted))
     }
 }
 

@@ -11,6 +11,7 @@ use pool_core::NameBook;
 /// `words` has of each of these names one more than the number of such another, or 0 where none is known. Where a
 /// comparison of two paths comes to a name and the one that is known of it, what stands above them is not compared. So two
 /// names whose parents are known are told apart by one piece.
+#[derive(Drop)]
 pub struct KnownBook<'a, 'b> {
     pub names: &'a PathBook<'b>,
     pub first: u32,

@@ -36,7 +36,7 @@ pub use known_book::KnownBook;
 pub use one_object::{ObjectNames, object_names};
 pub use path_book::{
     PathBook, above, bids_are_some, book, count, first_of, have_one_hash, joined_book,
-    names_are_linked, number, object_count, occurrence, path_equal, path_start,
+    names_are_few, names_are_linked, number, object_count, occurrence, path_equal, path_start,
 };
 pub use together::names_together;
 pub use winners::{put_winners, winners_plain};

@@ -207,6 +207,13 @@ pub fn number(names: &PathBook, x: u32) -> u64
     bid_of(row_at(&names.rows, x))
 }
 
+/// A book has fewer than 2^25 names.
+pub fn names_are_few(names: &PathBook)
+    ensures { length names.now < 2 ^ 25 }
+{
+    let _count = names.rows.len();
+}
+
 /// No bid is 2^64 - 1, which stands for none.
 pub fn bids_are_some(names: &PathBook)
     ensures { (x : ℕ) → x < length names.now → bid_at names.now x < 2 ^ 64 - 1 }
