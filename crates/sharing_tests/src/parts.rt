@@ -4,6 +4,7 @@ ghost use Rattle.std.specs.Prelude.{◌≡◌, ◌+◌, ◌<◌, ◌^◌, ◌≤
 ghost use Rattle.type_pool.specs.Seats.{Belongs, known};
 
 use crate::keyed::KeyedBook;
+use pool_core::NameBook;
 use std::alloc::Global;
 use std::process::Abort;
 use type_pool::{ClosedPool, Placing, Pool, PoolSeat, pool};
@@ -42,6 +43,27 @@ pub(crate) fn bid_for(pool: &Pool, seat: &mut PoolSeat, book: &KeyedBook, x: u32
     match pool.place(seat, book, x) {
         Placing::Cell(cell) => pool.bid(seat, cell, number),
         Placing::Crowded => {}
+    }
+}
+
+/// Bids where the name is looked for first, if an equal name is seen there, and gives that cell.
+pub(crate) fn bid_ahead(
+    pool: &Pool,
+    seat: &mut PoolSeat,
+    book: &KeyedBook,
+    x: u32,
+    number: u64,
+) -> Option<u32>
+    requires belongs { Belongs pool.now seat.old }
+    requires book { (length book.now.keys.now ≡ pool.now.names) × (x < pool.now.names) }
+    ensures belongs { Belongs pool.now seat.new }
+    ensures share { (known seat.new).share ≡ (known seat.old).share }
+{
+    let name = pool.look_ahead(seat, book, x)?;
+    if book.equal(name, x) {
+        Some(pool.settle(seat, book, x, number))
+    } else {
+        None
     }
 }
 

@@ -4,7 +4,7 @@ ghost use Rattle.std.specs.Prelude.{◌≡◌, ◌<◌, length};
 ghost use Rattle.type_pool.specs.Seats.{Belongs, known};
 
 use crate::keyed::KeyedBook;
-use crate::parts::{bid_for, closed, open, other, same};
+use crate::parts::{bid_ahead, bid_for, closed, open, other, same};
 use std::process::Abort;
 use type_pool::{ClosedPool, Found, Placing, Pool, PoolSeat, find};
 
@@ -59,6 +59,38 @@ fn have_cells(rt: &impl Abort, closed: ClosedPool, book: &KeyedBook)
     has_least(rt, &closed, book, 1, 63, 3);
     has_least(rt, &closed, book, 2, 0, u64::MAX);
     drop(closed);
+}
+
+// What a bid ahead answers.
+fn is_bid_ahead(
+    rt: &impl Abort,
+    pool: &Pool,
+    seat: &mut PoolSeat,
+    book: &KeyedBook,
+    x: u32,
+    want: Option<u32>,
+)
+    requires belongs { Belongs pool.now seat.old }
+    requires book { (length book.now.keys.now ≡ pool.now.names) × (x < pool.now.names) }
+    ensures belongs { Belongs pool.now seat.new }
+    ensures share { (known seat.new).share ≡ (known seat.old).share }
+{
+    same(rt, bid_ahead(pool, seat, book, x, 3), want);
+}
+
+// Of an empty cell nothing is seen, in a filled one an equal name or another.
+#[test]
+fn bids_ahead_are_made_where_equal_names_stand(rt: HostRuntime) {
+    let book = KeyedBook {
+        keys: &[63, 63, 127],
+    };
+    let (pool, mut seat) = open(&rt, rt.alloc(), 64, 3);
+    is_bid_ahead(&rt, &pool, &mut seat, &book, 0, None);
+    bid_for(&pool, &mut seat, &book, 0, 5);
+    is_bid_ahead(&rt, &pool, &mut seat, &book, 1, Some(63));
+    is_bid_ahead(&rt, &pool, &mut seat, &book, 2, None);
+    is_placed(&rt, &pool, &mut seat, &book, 2, Placing::Cell(0));
+    have_cells(&rt, closed(pool, seat), &book);
 }
 
 // Names 0 and 1 are equal and start at the last cell, and so does name 2, which is another.
