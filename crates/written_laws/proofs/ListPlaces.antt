@@ -24,15 +24,15 @@ use Rattle.written_laws.proofs.OwnValues.{Fits}
 
 -- ---- how long the lists of a unit are
 
-ranges_each : (version : ℕ) (value : OutValue) → length (ranges_bytes version value) ≡ ranges_len version value
+pub ranges_each : (version : ℕ) (value : OutValue) → length (ranges_bytes version value) ≡ ranges_len version value
 ranges_each version (outs.Ranges spans) = length-range_list version spans
 ranges_each version value = refl
 
-locations_each : (version : ℕ) (place : ℕ → ℕ) (value : OutValue) → length (locations_bytes version place value) ≡ locations_len version value
+pub locations_each : (version : ℕ) (place : ℕ → ℕ) (value : OutValue) → length (locations_bytes version place value) ≡ locations_len version value
 locations_each version place (outs.Locations items) = length-location_list version place items
 locations_each version place value = refl
 
-over : {X : Type 0} (f : X → List ℕ) (len : X → ℕ) → ((x : X) → length (f x) ≡ len x) → (xs : List X) → length (flat_map f xs) ≡ sum_by len xs
+pub over : {X : Type 0} (f : X → List ℕ) (len : X → ℕ) → ((x : X) → length (f x) ≡ len x) → (xs : List X) → length (flat_map f xs) ≡ sum_by len xs
 over {X} f len each xs = length-flat_map f xs ∙ ap (λ (g : X → ℕ). sum_by g xs) (fun_ext each)
 
 over_nodes : (part : OutValue → List ℕ) (len : OutValue → ℕ) → ((value : OutValue) → length (part value) ≡ len value) → (unit : OutUnit)
@@ -41,13 +41,13 @@ over_nodes part len each unit =
     over (λ (node : Node). flat_map (λ (a : OutAttr). part a.value) node.attrs) (λ (node : Node). sum_by (λ (a : OutAttr). len a.value) node.attrs)
     (λ (node : Node). over (λ (a : OutAttr). part a.value) (λ (a : OutAttr). len a.value) (λ (a : OutAttr). each a.value) node.attrs) unit.nodes
 
-ranges_size : (unit : OutUnit) → length (unit_ranges unit) ≡ sum_by (node_ranges_len unit.version) unit.nodes
+pub ranges_size : (unit : OutUnit) → length (unit_ranges unit) ≡ sum_by (node_ranges_len unit.version) unit.nodes
 ranges_size unit = over_nodes (ranges_bytes unit.version) (ranges_len unit.version) (ranges_each unit.version) unit
 
-locations_size : (place : ℕ → ℕ) (unit : OutUnit) → length (unit_locations place unit) ≡ sum_by (node_locations_len unit.version) unit.nodes
+pub locations_size : (place : ℕ → ℕ) (unit : OutUnit) → length (unit_locations place unit) ≡ sum_by (node_locations_len unit.version) unit.nodes
 locations_size place unit = over_nodes (locations_bytes unit.version place) (locations_len unit.version) (locations_each unit.version place) unit
 
-chosen : (b : Bool) (lists : List ℕ) (n : ℕ) → length lists ≡ n → length (if b then lists else []) ≡ (if b then n else 0)
+pub chosen : (b : Bool) (lists : List ℕ) (n : ℕ) → length lists ≡ n → length (if b then lists else []) ≡ (if b then n else 0)
 chosen true lists n e = e
 chosen false lists n e = refl
 
