@@ -1,0 +1,5 @@
+use Rattle.frame_laws.proofs.Framed.{spelled_read}
+use Rattle.frame_laws.proofs.laws.frames_are_read_as_spelled.Goals as goal
+
+pub returns : goal.returns
+returns c = spelled_read
