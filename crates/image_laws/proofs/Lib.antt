@@ -1,0 +1,5 @@
+pub mod Commands
+pub mod Symbols
+pub mod Spelled
+pub mod Sections
+pub mod Whole
