@@ -143,7 +143,7 @@ some_len version = by (version == 5)
     by false = omega arith
 
 -- items that are well, in a list that isn't too long
-all_short : (version : ℕ) (nodes : List Node) (list : List OutLocation) → All (IsLocation version nodes) list → sum_by (location_len version) list < 2 ^ 64 → All (IsShort version) list
+pub all_short : (version : ℕ) (nodes : List Node) (list : List OutLocation) → All (IsLocation version nodes) list → sum_by (location_len version) list < 2 ^ 64 → All (IsShort version) list
 all_short version nodes [] all fits = All-nil (IsShort version)
 all_short version nodes (item ∷ list) all fits =
     let is = All-head (IsLocation version nodes) item list all in
@@ -167,14 +167,14 @@ module _ (graph : Graph) (well : IsWell graph) (u : ℕ) (unit : OutUnit) (k : �
         let a = all_at (IsAttribute (IsTarget graph) unit.version unit.nodes) node.attrs i holds.attr n.attrs holds.in_node in
         subst (IsValue (IsTarget graph) unit.version unit.nodes) holds.is a.value
 
-  range_bytes_are : AreBytes (range_bytes (sections_of graph) unit.version)
+  pub range_bytes_are : AreBytes (range_bytes (sections_of graph) unit.version)
   range_bytes_are = by (unit.version == 5)
     where
       by : (b : Bool) → AreBytes (if b then (sections_of graph).rnglists else (sections_of graph).ranges)
       by true = rnglists_bytes graph well
       by false = ranges_section_bytes graph well
 
-  location_bytes_are : AreBytes (location_bytes (sections_of graph) unit.version)
+  pub location_bytes_are : AreBytes (location_bytes (sections_of graph) unit.version)
   location_bytes_are = by (unit.version == 5)
     where
       by : (b : Bool) → AreBytes (if b then (sections_of graph).loclists else (sections_of graph).loc)
@@ -198,7 +198,7 @@ module _ (graph : Graph) (well : IsWell graph) (u : ℕ) (unit : OutUnit) (k : �
     at : IsAt (location_bytes (sections_of graph) unit.version) locations_there (location_list_bytes unit.version (node_at graph u unit) list)
     at = let some = some_len unit.version in locations_stand graph u unit k node i (outs.Locations list) holds (omega (arith, length-location_list unit.version (node_at graph u unit) list, some))
 
-    short : All (IsShort unit.version) list
+    pub short : All (IsShort unit.version) list
     short =
         let len = length-location_list unit.version (node_at graph u unit) list in
         let inside = fits_inside (location_bytes (sections_of graph) unit.version) (location_list_bytes unit.version (node_at graph u unit) list) locations_there at in

@@ -36,7 +36,7 @@ inner_codes nodes (plain.Typed code before base after ∷ inner) all =
     let w = All-head (IsWholePlainPart nodes) (plain.Typed code before base after) inner all in
     (code_small code w.row w.known, inner_codes nodes inner (All-tail (IsWholePlainPart nodes) (plain.Typed code before base after) inner all))
 
-all_codes : (nodes : List Node) (expression : List ExprPart) → All (IsWholePart nodes) expression → AreCodesOf expression
+pub all_codes : (nodes : List Node) (expression : List ExprPart) → All (IsWholePart nodes) expression → AreCodesOf expression
 all_codes nodes [] all = tt
 all_codes nodes (parts.Plain bytes ∷ expression) all = (tt, all_codes nodes expression (All-tail (IsWholePart nodes) (parts.Plain bytes) expression all))
 all_codes nodes (parts.Typed code before base after ∷ expression) all =
