@@ -33,3 +33,4 @@ pub mod OwnLines
 pub mod ReadAgain
 pub mod NodeEntries
 pub mod OwnExpressions
+pub mod Led

@@ -30,7 +30,7 @@ ghost use Rattle.macho_read.specs.declared.image.Image.{Image};
 ghost use Rattle.reloc_table.specs.declared.relocation.Relocs.{Relocs};
 ghost use Rattle.unit_tree.specs.Entry.{declared_as};
 ghost use Rattle.unit_tree.specs.Spelling.{Origin, SpellsAttrs};
-ghost use Rattle.unit_tree.specs.Unit.{units_of};
+ghost use Rattle.unit_tree.specs.Unit.{units_of, written_units_of};
 ghost use Rattle.written_laws.specs.ReadDeclarations.{AreSmall, abbrev_of, abbrevs_from};
 ghost use Rattle.written_laws.specs.ReadEntries.{AllThere, AreCoded, IsPreorder, IsSpelledTree};
 ghost use Rattle.written_laws.specs.LedBack.{StandsFor, entry_at, first_entry};
@@ -80,6 +80,12 @@ pub fn graphs_are_spelled_as_written()
 pub fn units_are_read_as_written()
     ensures { (graph : Graph) → IsWell graph → IsReadable graph → AreBytes (info_section graph) → AreBytes (abbrev_section graph) →
         units_of (sections_of graph) ≡ Ok (read_units graph) }
+{}
+
+/// The units of a written image are read so too, where each section offset has to lead to a table or a list that is read:
+/// those of a well graph all do.
+pub fn units_of_images_are_read_as_written()
+    ensures { (graph : Graph) → IsWell graph → IsReadable graph → written_units_of (sections_of graph) ≡ Ok (read_units graph) }
 {}
 
 /// Each node of a graph is the entry of its number, counted over all units: with its tag, its parent, and its values as they

@@ -6,7 +6,8 @@
 //! of attributes ([`attributes_are_spelled_as_written`]), the entries of a unit as a tree
 //! ([`entries_are_spelled_as_written`]), and expressions ([`expressions_say_what_was_written`],
 //! [`whole_expressions_say_what_was_written`]). And as a whole: the sections of a well graph spell its units
-//! ([`graphs_are_spelled_as_written`]), which are read so ([`units_are_read_as_written`]); each node is the entry of its
+//! ([`graphs_are_spelled_as_written`]), which are read so ([`units_are_read_as_written`]), also as those of a written image
+//! ([`units_of_images_are_read_as_written`]); each node is the entry of its
 //! number ([`entries_are_the_nodes`]), each reference leads back to the node that it was written for
 //! ([`references_lead_back`]), and each line table is read at its place ([`line_tables_are_read_at_their_places`]).
 //!
@@ -20,6 +21,6 @@ pub use laws::{
     attributes_are_spelled_as_written, codes_find_their_declarations,
     entries_are_spelled_as_written, entries_are_the_nodes, expressions_say_what_was_written,
     graphs_are_spelled_as_written, line_tables_are_read_at_their_places, references_lead_back,
-    tables_are_spelled_as_written, units_are_read_as_written,
+    tables_are_spelled_as_written, units_are_read_as_written, units_of_images_are_read_as_written,
     whole_expressions_say_what_was_written,
 };
