@@ -1,4 +1,5 @@
 pub mod Rows
 pub mod Framed
 pub mod Written
+pub mod Taken
 pub mod Whole
