@@ -1,8 +1,14 @@
-//! Links of a generated program by two threads.
+//! Links of generated programs by two threads.
 
-ghost use Rattle.std.specs.Prelude.{◌≡◌, length};
+ghost use Rattle.std.specs.Prelude.{◌≡◌, ◌<◌, ◌^◌, length, IfOk, IfSome, Ok};
+ghost use Rattle.std.specs.List.{All};
+ghost use Rattle.macho_read.specs.declared.kind.Role.TheVariants as roles;
+ghost use Rattle.macho_read.specs.Kind.{kind_of};
+ghost use Rattle.macho_read.specs.Sound.{IsSound};
 
 use crate::meeting::{Meeting, met};
+use ds_base::{List, NoMemory};
+use ds_files::{Gate, OpenGate};
 use link_core::{Linked, Options, link_files};
 use sample_objects::{Generated, generated};
 use std::alloc::Global;
@@ -10,11 +16,11 @@ use std::process::Abort;
 use std::thread::Threads;
 use type_pool::ClosedPool;
 
-/// A generated program has two objects, each with its file.
-fn has_two(rt: &impl Abort, made: &Generated)
-    ensures { (length made.now.objects ≡ 2) × (length made.now.files ≡ 2) }
+/// A generated program has so many objects, each with its file.
+fn has_objects(rt: &impl Abort, made: &Generated, count: usize)
+    ensures { (length made.now.objects ≡ count) × (length made.now.files ≡ count) }
 {
-    assert!(rt; made.objects.len() == 2 && made.files.len() == 2);
+    assert!(rt; made.objects.len() == count && made.files.len() == count);
 }
 
 /// What two threads link of a generated program of two objects, with types merged or not.
@@ -25,7 +31,48 @@ fn link_two<R: Threads + Abort + Sync>(
     gate: &Meeting,
 ) -> Option<Linked> {
     let made = generated(alloc, 2).expect(rt, "memory");
-    has_two(rt, &made);
+    has_objects(rt, &made, 2);
+    link_all(rt, alloc, made, &[Some(0), Some(1)], odr, gate)
+}
+
+/// The numbers below this one.
+fn numbers_below(alloc: Global, count: u32) -> Result<List<Option<u32>>, NoMemory>
+    ensures { IfOk result (λ made. (length made ≡ count) × All (λ k. IfSome k (λ n. n < count)) made) }
+{
+    let mut numbers = List::new(alloc);
+    for k in 0..count {
+        numbers.push(Some(k))?;
+    }
+    Ok(numbers)
+}
+
+/// What two threads link of a generated program of forty objects, with types merged.
+fn link_forty<R: Threads + Abort + Sync>(rt: &R, alloc: Global) -> Option<Linked> {
+    let made = generated(alloc, 40).expect(rt, "memory");
+    has_objects(rt, &made, 40);
+    let source = numbers_below(alloc, 40).expect(rt, "memory");
+    let gate = OpenGate::new();
+    let linked = link_all(rt, alloc, made, source.as_slice(), true, &gate);
+    drop(source);
+    linked
+}
+
+/// What two threads link of a generated program, the files of whose objects have these numbers.
+fn link_all<R: Threads + Abort + Sync, G: Gate + Sync>(
+    rt: &R,
+    alloc: Global,
+    made: Generated,
+    source: &[Option<u32>],
+    odr: bool,
+    gate: &G,
+) -> Option<Linked>
+    requires sound { IsSound made.program }
+    requires kind { kind_of made.program roles.Program ≡ Ok tt }
+    requires few { length made.objects < 2 ^ 16 }
+    requires each { length source.now ≡ length made.objects }
+    requires held { All (λ k. IfSome k (λ n. n < length made.files)) source.now }
+    requires small { All (λ file. length file < 2 ^ 32) made.files }
+{
     let Generated {
         program,
         objects,
@@ -38,7 +85,7 @@ fn link_two<R: Threads + Abort + Sync>(
         "a.out",
         objects.as_slice(),
         files,
-        &[Some(0), Some(1)],
+        source,
         &Options { odr, workers: 2 },
         gate,
     );
@@ -78,4 +125,10 @@ fn share<R: Threads + Abort + Sync>(rt: &R, alloc: Global, odr: bool, count: u32
 fn two_workers_share_each_phase(rt: HostRuntime) {
     share(&rt, rt.alloc(), true, 8);
     share(&rt, rt.alloc(), false, 6);
+}
+
+// The names of forty objects, over ten thousand of them, share the table with a cell each.
+#[test]
+fn few_names_are_crowded(rt: HostRuntime) {
+    each_has_a_cell(&rt, link_forty(&rt, rt.alloc()));
 }
