@@ -127,7 +127,7 @@ fn two_workers_share_each_phase(rt: HostRuntime) {
     share(&rt, rt.alloc(), false, 6);
 }
 
-// The names of forty objects, over ten thousand of them, share the table with a cell each.
+// The names of forty objects, 14,001 of them, share the table with a cell each.
 #[test]
 fn few_names_are_crowded(rt: HostRuntime) {
     each_has_a_cell(&rt, link_forty(&rt, rt.alloc()));
