@@ -11,88 +11,28 @@ import subprocess
 import sys
 import tempfile
 
-CPU = 0x0100000C
-ADDRESS = 0x100003F50
-SIZE = 0x2A
-EMPTY, MANY = [], [b"/no/such/%d.o" % n for n in range(65536)]
+from laid_out import N_FUN, N_OSO, TEXT, object_file as file_of_object, program_file, relocation
 
-
-def name16(text):
-    return text.encode().ljust(16, b"\0")
-
-
-def uleb(n):
-    out = b""
-    while n >= 128:
-        out, n = out + bytes([n % 128 + 128]), n // 128
-    return out + bytes([n])
-
-
-def symbols(rows):
-    """Symbols and their strings; a row is name, type, section, description, value."""
-    table, strings = b"", b"\0"
-    for name, kind, section, description, value in rows:
-        place = 0
-        if name:
-            place, strings = len(strings), strings + name + b"\0"
-        table += struct.pack("<IBBHQ", place, kind, section, description, value)
-    return table, strings
-
-
-def mach_o(filetype, segment, sections, rows, uuid=None):
-    """A file of one segment. A section is its name, its segment, its address, its size, its bytes, relocations, flags."""
-    table, strings = symbols(rows)
-    commands = 1 + 1 + (uuid is not None)
-    size = (24 if uuid else 0) + 72 + 80 * len(sections) + 24
-    place = 32 + size
-    bodies, records, tables = b"", b"", []
-    for name, own, address, length, body, relocations, flags in sections:
-        records += name16(name) + name16(own) + struct.pack("<QQII", address, length, place + len(bodies) if body else 0, 4 if address == ADDRESS else 0)
-        tables.append((len(records), relocations))
-        records += struct.pack("<IIIIII", 0, len(relocations) // 8, flags, 0, 0, 0)
-        bodies += body
-    filled = len(bodies)
-    behind = place + filled
-    for at, relocations in tables:
-        if relocations:
-            records = records[:at] + struct.pack("<I", behind) + records[at + 4 :]
-            bodies, behind = bodies + relocations, behind + len(relocations)
-    out = struct.pack("<IIIIIIII", 0xFEEDFACF, CPU, 0, filetype, commands, size, 0, 0)
-    if uuid:
-        out += struct.pack("<II", 0x1B, 24) + uuid
-    out += struct.pack("<II", 0x19, 72 + 80 * len(sections)) + name16(segment)
-    out += struct.pack("<QQQQ", *((0x100000000, 0x4000, 0, 0) if segment else (0, 0x10000000, place, filled)))
-    out += struct.pack("<IIII", 5, 5, len(sections), 0) + records
-    out += struct.pack("<IIIIII", 2, 24, behind, len(rows), behind + len(table), len(strings))
-    return out + bodies + table + strings
+ADDRESS, SIZE = TEXT[2], TEXT[3]
+MANY = [b"/no/such/%d.o" % n for n in range(65536)]
+INPUT = 1 << 29
 
 
 def program(paths, functions):
     """A program of objects, each with functions of a name, an address and a size."""
     rows = []
     for path in paths:
-        rows.append((path, 0x66, 0, 1, 0))
+        rows.append((path, N_OSO, 0, 1, 0))
         for name, address, size in functions:
-            rows += [(name, 0x24, 1, 0, address), (b"", 0x24, 0, 0, size)]
+            rows += [(name, N_FUN, 1, 0, address), (b"", N_FUN, 0, 0, size)]
     for name, address, _ in functions:
         rows.append((name, 0x0F, 1, 0, address))
-    text = ("__text", "__TEXT", ADDRESS, SIZE, b"", b"", 0x80000400)
-    return mach_o(2, "__TEXT", [text], rows, bytes.fromhex("00112233445566778899aabbccddeeff"))
-
-
-def relocation(place):
-    """Eight bytes at a place, of section 1."""
-    return struct.pack("<II", place, 1 | 3 << 25)
+    return program_file(rows)
 
 
 def object_file(abbreviations, info, strings, relocations, functions):
-    sections = [
-        ("__text", "__TEXT", 0, 16 * len(functions) + SIZE, bytes(16 * len(functions) + SIZE), b"", 0x80000400),
-        ("__debug_abbrev", "__DWARF", 0x1000, len(abbreviations), abbreviations, b"", 0x02000000),
-        ("__debug_info", "__DWARF", 0x2000, len(info), info, relocations, 0x02000000),
-        ("__debug_str", "__DWARF", 0x8000000, len(strings), strings, b"", 0x02000000),
-    ]
-    return mach_o(1, "", sections, [(name, 0x0F, 1, 0, address) for name, address in functions])
+    debug = [("__debug_abbrev", abbreviations, b""), ("__debug_info", info, relocations), ("__debug_str", strings, b"")]
+    return file_of_object(16 * len(functions) + SIZE, debug, functions)
 
 
 STRINGS = b"m.c\0main\0"
@@ -145,7 +85,10 @@ NEST = 11 + len(ROOT) + len(MAIN)
 
 
 def cases(stored):
-    """What is tried: a name, the program, its object, options, the status, the message, and whether the image is the stored one."""
+    """What is tried: a name, the program, its object, options, the status, the message, and whether the image is the stored one.
+
+    A file is its bytes, or its first bytes and its size, where zeros follow.
+    """
     yield "the object laid out here links as the stored one", ONE, small_object(), [], 0, b"", True
     yield "a thousand open lists", ONE, nested(1000), [], 0, b"", True
     yield "one more", ONE, nested(1001), [], 4, b"m.o: LimitDepth in __debug_info at %d" % (NEST + 999), False
@@ -160,6 +103,10 @@ def cases(stored):
     warnings = b"".join(b"dsymlink: warning: missing: %s\n" % path for path in MANY[:65535])
     yield "65,535 objects that are missing", program(MANY[:65535], []), b"", ["--keep-going"], 0, warnings, False
     yield "one more object", program(MANY, []), b"", ["--keep-going"], 5, b"Objects 65536", False
+    full = INPUT - len(ONE)
+    yield "files of 2^29 bytes", ONE, (small_object(), full), [], 0, b"", True
+    yield "one more", ONE, (small_object(), full + 1), [], 5, b"Input 536870912", False
+    yield "a program of one more", (ONE, INPUT + 1), b"", [], 5, b"Input 536870912", False
     whole = open(os.path.join(stored, "before", "m.o"), "rb").read()
     commands = 32 + struct.unpack_from("<I", whole, 20)[0]
     for size in range(len(whole)):
@@ -176,8 +123,10 @@ def told(status, message):
 def wrong(tool, folder, stored, case):
     _, executable, content, options, status, message, same = case
     for name, data in (("a.out", executable), ("m.o", content)):
+        data, size = data if isinstance(data, tuple) else (data, len(data))
         with open(os.path.join(folder, name), "wb") as file:
             file.write(data)
+            file.truncate(size)
     ran = subprocess.run([tool, *options, "-o", "bundle", "a.out"], cwd=folder, stdin=subprocess.DEVNULL, capture_output=True, timeout=60)
     if ran.returncode != status or ran.stderr:
         return "status %d, not %d: %r %r" % (ran.returncode, status, ran.stdout[-300:], ran.stderr[-300:])
