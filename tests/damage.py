@@ -46,6 +46,8 @@ def stretches(data, base=0):
                 size = int(data[at + 48 : at + 58])
             except ValueError:
                 break
+            if size < 0:
+                break
             body, name = at + 60, data[at : at + 16]
             if name[:3] == b"#1/":
                 body += int(name[3:])
@@ -58,6 +60,8 @@ def stretches(data, base=0):
     found, at = [(base, 32, 2), (base + 32, size, 6)], 32
     for _ in range(count):
         command, length = struct.unpack_from("<II", data, at)
+        if length < 8:
+            break
         if command == 2:
             symbols, many, strings, bytes_ = struct.unpack_from("<IIII", data, at + 8)
             found += [(base + symbols, 16 * many, 6), (base + strings, bytes_, 2)]
@@ -193,7 +197,7 @@ def main():
         statuses[status] = statuses.get(status, 0) + 1
         if why:
             failed += 1
-            print("damage %s/%d of %s: %s" % (seed, number, name, why))
+            print("damage %s/%d of %s: %s" % (seed, number, name, why), flush=True)
     told = ", ".join("%s: %d" % (status, statuses[status]) for status in sorted(statuses, key=str))
     print("damaged programs by status: %s" % told)
     print("%d passed, %d failed" % (count - failed, failed))
