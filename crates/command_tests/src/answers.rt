@@ -2,7 +2,7 @@
 
 use crate::bytes::{OBJECT, SECTIONS};
 use crate::objects::{CIRCLES_LINKED, circular, crowd, deep, endless, overlapping, wide};
-use crate::worlds::{World, bundle_is, first_world, run, same, told_is};
+use crate::worlds::{THREADS, World, bundle_is, first_world, run, same, told_is};
 use ds_base::{Bytes, Fault, Kind, NoMemory, Part};
 use ds_files::OpenGate;
 use link_core::{LimitKind, Status};
@@ -30,13 +30,20 @@ fn with_object(alloc: Global, object: &[u8]) -> Result<World, NoMemory> {
     Ok(world)
 }
 
-/// The command of a line over these files ends so, tells this and writes that.
-fn answers<R: Threads + Abort + Sync>(rt: &R, alloc: Global, world: World, row: &Row) {
+/// The command of a line over these files, by so many threads, ends so, tells this and writes that.
+fn answers<R: Threads + Abort + Sync>(
+    rt: &R,
+    alloc: Global,
+    threads: &str,
+    world: World,
+    row: &Row,
+) {
     let (line, status, text, sections) = *row;
     let mut world = world;
+    let gate = OpenGate::new();
     same(
         rt,
-        run(rt, alloc, line, &mut world, &OpenGate::new()),
+        run(rt, alloc, threads, line, &mut world, &gate),
         status,
         line,
     );
@@ -44,21 +51,24 @@ fn answers<R: Threads + Abort + Sync>(rt: &R, alloc: Global, world: World, row: 
     bundle_is(rt, &world, sections.is_some(), sections, line);
 }
 
+/// The command of a line over the first program ends so, by one thread, by two and by eight.
+fn answers_each<R: Threads + Abort + Sync>(rt: &R, alloc: Global, row: &Row) {
+    for threads in THREADS {
+        let world = first_world(alloc, 0, 0).expect(rt, "memory");
+        answers(rt, alloc, threads, world, row);
+    }
+}
+
 // Info.plist and the image are those of the first program, or an earlier link's.
 #[test]
 fn each_mode_and_each_refusal_has_its_status_its_message_and_its_files(rt: HostRuntime) {
     let alloc = rt.alloc();
-    let rows: [Row; 11] = [
+    let unlinked = faulty(0, Kind::BadFileType, Part::Header, 12);
+    let rows: [Row; 9] = [
         ("-o bundle a.out", Status::Done, "", Some(SECTIONS)),
-        ("-j 1 -o bundle a.out", Status::Done, "", Some(SECTIONS)),
+        ("--no-odr -o bundle a.out", Status::Done, "", Some(SECTIONS)),
         (
-            "-j 8 --no-odr -o bundle a.out",
-            Status::Done,
-            "",
-            Some(SECTIONS),
-        ),
-        (
-            "-j 64 --keep-going -o bundle a.out",
+            "--keep-going -o bundle a.out",
             Status::Done,
             "",
             Some(SECTIONS),
@@ -77,33 +87,16 @@ fn each_mode_and_each_refusal_has_its_status_its_message_and_its_files(rt: HostR
             None,
         ),
         (
-            "-j 1 --generate 2 -o bundle a.out",
-            Status::Done,
-            GENERATED,
-            None,
-        ),
-        (
             "-o bundle none",
             Status::Missing { file: 0 },
-            "dsymlink: missing: none\n",
+            NO_PROGRAM,
             None,
         ),
-        (
-            "--dump-map -o bundle m.o",
-            faulty(0, Kind::BadFileType, Part::Header, 12),
-            OBJECT_LINKED,
-            None,
-        ),
-        (
-            "-o bundle m.o",
-            faulty(0, Kind::BadFileType, Part::Header, 12),
-            OBJECT_LINKED,
-            None,
-        ),
+        ("--dump-map -o bundle m.o", unlinked, NO_PROGRAM_FILE, None),
+        ("-o bundle m.o", unlinked, NO_PROGRAM_FILE, None),
     ];
     for row in &rows {
-        let world = first_world(alloc, 0, 0).expect(&rt, "memory");
-        answers(&rt, alloc, world, row);
+        answers_each(&rt, alloc, row);
     }
 }
 
@@ -118,14 +111,16 @@ const MAP: &str =
 const GENERATED: &str =
     "objects 2\nentries 3606\nlive 2706\npooled 2102\nnames 2101\nnodes 2706\nbytes 38857\n";
 
-const OBJECT_LINKED: &str = "dsymlink: faulty: m.o: BadFileType in header at 12\n";
+const NO_PROGRAM: &str = "dsymlink: missing: none\n";
+
+const NO_PROGRAM_FILE: &str = "dsymlink: faulty: m.o: BadFileType in header at 12\n";
 
 /// The words of a line are refused: the command is told, and no file changes.
 fn is_usage<R: Threads + Abort + Sync>(rt: &R, alloc: Global, line: &str) {
     let mut world = first_world(alloc, 0, 0).expect(rt, "memory");
     same(
         rt,
-        run(rt, alloc, line, &mut world, &OpenGate::new()),
+        run(rt, alloc, "", line, &mut world, &OpenGate::new()),
         Status::Usage,
         line,
     );
@@ -166,11 +161,13 @@ fn object_answers<R: Threads + Abort + Sync>(
     row: &Row,
 ) {
     let object = object.expect(rt, "memory");
-    let world = with_object(alloc, object.as_slice()).expect(rt, "memory");
-    answers(rt, alloc, world, row);
+    for threads in THREADS {
+        let world = with_object(alloc, object.as_slice()).expect(rt, "memory");
+        answers(rt, alloc, threads, world, row);
+    }
 }
 
-const LINK: &str = "-j 2 -o bundle a.out";
+const LINK: &str = "-o bundle a.out";
 
 #[test]
 fn objects_at_the_limits_are_linked_and_behind_them_refused(rt: HostRuntime) {
@@ -213,7 +210,7 @@ fn lengths_places_and_circles_that_programs_do_not_have(rt: HostRuntime) {
     object_answers(&rt, alloc, overlapping(alloc), &twice);
     let counts = "objects 1\nentries 5\nlive 5\npooled 0\nnames 0\nnodes 5\nbytes 4298\n";
     let circles = (
-        "-j 2 --statistics -o bundle a.out",
+        "--statistics -o bundle a.out",
         Status::Done,
         counts,
         Some(CIRCLES_LINKED),
@@ -248,7 +245,7 @@ fn an_object_without_its_last_bytes_is_refused_wherever_it_is_cut(rt: HostRuntim
     for size in 0..OBJECT.len() {
         let world = with_object(alloc, &OBJECT[..size]).expect(&rt, "memory");
         let (status, text) = cut_behind(size);
-        answers(&rt, alloc, world, &(LINK, status, text, None));
+        answers(&rt, alloc, "-j 2", world, &(LINK, status, text, None));
     }
 }
 
@@ -266,7 +263,7 @@ fn lets_go<R: Threads + Abort + Sync>(rt: &R, alloc: Global, count: u32, status:
     let mut world = with_crowd(alloc, count).expect(rt, "memory");
     same(
         rt,
-        run(rt, alloc, line, &mut world, &OpenGate::new()),
+        run(rt, alloc, "", line, &mut world, &OpenGate::new()),
         status,
         line,
     );

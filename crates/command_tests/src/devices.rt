@@ -5,8 +5,8 @@ ghost use Rattle.std.specs.Prelude.{◌≡◌, length};
 use crate::bytes::{OBJECT, PROGRAM, SECTIONS};
 use crate::meeting::{Meeting, met};
 use crate::worlds::{
-    EARLIER, IMAGE_NAME, PLIST_NAME, World, bundle_is, earlier_world, file_is, first_world, run,
-    same, told_is,
+    EARLIER, IMAGE_NAME, PLIST_NAME, THREADS, World, bundle_is, earlier_world, file_is,
+    first_world, run, same, told_is,
 };
 use ds_base::NoMemory;
 use ds_files::OpenGate;
@@ -16,11 +16,7 @@ use std::alloc::Global;
 use std::process::Abort;
 use std::thread::Threads;
 
-const LINES: [&str; 3] = [
-    "-j 1 -o bundle a.out",
-    "-j 2 -o bundle a.out",
-    "-j 8 -o bundle a.out",
-];
+const LINK: &str = "-o bundle a.out";
 
 /// What is wanted where a call fails: the status, what is told, and whether Info.plist and the image are new.
 type Ending = (Status, &'static str, bool, bool);
@@ -66,28 +62,38 @@ fn files_are(rt: &impl Abort, world: &World, plist: bool, image: bool, line: &st
 /// The link of the first program by this line, where this call fails; and the same once more.
 ///
 /// A link makes four calls, so a fifth is the first one of the second link; another that fails is over then.
-fn fails_first<R: Threads + Abort + Sync>(rt: &R, alloc: Global, line: &str, call: u64) {
+fn fails_first<R: Threads + Abort + Sync>(rt: &R, alloc: Global, threads: &str, call: u64) {
     let (status, text, plist, image) = first_ending(call);
     let mut world = first_world(alloc, call, 0).expect(rt, "memory");
     let gate = OpenGate::new();
-    same(rt, run(rt, alloc, line, &mut world, &gate), status, line);
-    told_is(rt, &world, text, line);
-    files_are(rt, &world, plist, image, line);
+    same(
+        rt,
+        run(rt, alloc, threads, LINK, &mut world, &gate),
+        status,
+        threads,
+    );
+    told_is(rt, &world, text, threads);
+    files_are(rt, &world, plist, image, threads);
     let again = if call == 5 {
         Status::ReadFault { file: 0 }
     } else {
         Status::Done
     };
-    same(rt, run(rt, alloc, line, &mut world, &gate), again, line);
-    files_are(rt, &world, true, true, line);
+    same(
+        rt,
+        run(rt, alloc, threads, LINK, &mut world, &gate),
+        again,
+        threads,
+    );
+    files_are(rt, &world, true, true, threads);
 }
 
 #[test]
 fn each_call_of_the_files_that_fails_is_told_of_its_file(rt: HostRuntime) {
     let alloc = rt.alloc();
     for call in 1..=5 {
-        for line in LINES {
-            fails_first(&rt, alloc, line, call);
+        for threads in THREADS {
+            fails_first(&rt, alloc, threads, call);
         }
     }
 }
@@ -162,19 +168,36 @@ fn store(alloc: Global, made: &Generated, call: u64, first: bool) -> Result<Worl
     Ok(world)
 }
 
-/// The link of two objects by this line, where this call fails.
-fn fails_second<R: Threads + Abort + Sync>(rt: &R, alloc: Global, line: &str, call: u64) {
+/// The link of two objects by so many threads, where this call fails.
+fn fails_second<R: Threads + Abort + Sync>(rt: &R, alloc: Global, threads: &str, call: u64) {
     let (status, text, plist, image) = second_ending(call);
     let mut world = two_objects(rt, alloc, call, false);
+    let gate = OpenGate::new();
+    let line = "--keep-going -o bundle a.out";
     same(
         rt,
-        run(rt, alloc, line, &mut world, &OpenGate::new()),
+        run(rt, alloc, threads, line, &mut world, &gate),
         status,
-        line,
+        threads,
     );
-    told_is(rt, &world, text, line);
-    same(rt, is_new(rt, &world, PLIST_NAME), plist, line);
-    same(rt, is_new(rt, &world, IMAGE_NAME), image, line);
+    told_is(rt, &world, text, threads);
+    same(rt, is_new(rt, &world, PLIST_NAME), plist, threads);
+    same(rt, is_new(rt, &world, IMAGE_NAME), image, threads);
+}
+
+/// The link of two objects by so many threads, where the first one's file isn't there and isn't let go.
+fn misses_first<R: Threads + Abort + Sync>(rt: &R, alloc: Global, threads: &str) {
+    let mut world = two_objects(rt, alloc, 0, false);
+    let gate = OpenGate::new();
+    let status = Status::Missing { file: 1 };
+    same(
+        rt,
+        run(rt, alloc, threads, LINK, &mut world, &gate),
+        status,
+        threads,
+    );
+    told_is(rt, &world, "dsymlink: missing: gen/1.o\n", threads);
+    bundle_is(rt, &world, false, None, threads);
 }
 
 /// Whether a file of the bundle isn't as before.
@@ -185,9 +208,11 @@ fn is_new(rt: &impl Abort, world: &World, name: &str) -> bool {
 #[test]
 fn what_fails_behind_a_file_that_was_let_go_is_told_behind_it(rt: HostRuntime) {
     let alloc = rt.alloc();
-    for call in 1..=6 {
-        fails_second(&rt, alloc, "-j 1 --keep-going -o bundle a.out", call);
-        fails_second(&rt, alloc, "-j 8 --keep-going -o bundle a.out", call);
+    for threads in THREADS {
+        for call in 1..=6 {
+            fails_second(&rt, alloc, threads, call);
+        }
+        misses_first(&rt, alloc, threads);
     }
 }
 
@@ -202,7 +227,7 @@ fn is_untold<R: Threads + Abort + Sync>(
     let mut world = first_world(alloc, 0, 1).expect(rt, "memory");
     same(
         rt,
-        run(rt, alloc, line, &mut world, &OpenGate::new()),
+        run(rt, alloc, "", line, &mut world, &OpenGate::new()),
         status,
         line,
     );
@@ -227,13 +252,13 @@ fn a_message_that_is_not_put_out_takes_the_place_of_the_status(rt: HostRuntime) 
     }
 }
 
-/// Two threads meet in each phase of what the line asks, so that so many came in all.
+/// Two threads meet in each phase of what a line asks, so that so many came in all.
 fn share<R: Threads + Abort + Sync>(rt: &R, alloc: Global, line: &str, count: u32) {
     let mut world = two_objects(rt, alloc, 0, true);
     let gate = Meeting::new();
     same(
         rt,
-        run(rt, alloc, line, &mut world, &gate),
+        run(rt, alloc, "-j 2", line, &mut world, &gate),
         Status::Done,
         line,
     );
@@ -244,8 +269,8 @@ fn share<R: Threads + Abort + Sync>(rt: &R, alloc: Global, line: &str, count: u3
 #[test]
 fn two_threads_share_each_phase_under_the_gate_that_was_given(rt: HostRuntime) {
     let alloc = rt.alloc();
-    share(&rt, alloc, "-j 2 --generate 2 a.out", 8);
-    share(&rt, alloc, "-j 2 -o bundle a.out", 8);
-    share(&rt, alloc, "-j 2 --no-odr --generate 2 a.out", 6);
-    share(&rt, alloc, "-j 2 --no-odr -o bundle a.out", 6);
+    share(&rt, alloc, "--generate 2 a.out", 8);
+    share(&rt, alloc, LINK, 8);
+    share(&rt, alloc, "--no-odr --generate 2 a.out", 6);
+    share(&rt, alloc, "--no-odr -o bundle a.out", 6);
 }

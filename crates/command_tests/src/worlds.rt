@@ -56,24 +56,30 @@ pub(crate) fn first_world(alloc: Global, call: u64, put: u64) -> Result<World, N
     Ok(world)
 }
 
-/// The words that stand between spaces.
-fn words_of(alloc: Global, line: &str) -> Result<Vec<String>, NoMemory> {
+/// The words of how many threads there are to be, and those of a line, which stand between spaces.
+fn words_of(alloc: Global, threads: &str, line: &str) -> Result<Vec<String>, NoMemory> {
     let mut words = Vec::new(alloc);
-    for word in line.split_whitespace() {
-        words.push(String::from_str(alloc, word)?)?;
+    for part in [threads, line] {
+        for word in part.split_whitespace() {
+            words.push(String::from_str(alloc, word)?)?;
+        }
     }
     Ok(words)
 }
 
-/// How the command of a line ends.
+/// One thread, two, and more than there are objects.
+pub(crate) const THREADS: [&str; 3] = ["-j 1", "-j 2", "-j 8"];
+
+/// How the command of a line ends, by so many threads.
 pub(crate) fn run<R: Threads + Abort + Sync, G: Gate + Sync>(
     rt: &R,
     alloc: Global,
+    threads: &str,
     line: &str,
     world: &mut World,
     gate: &G,
 ) -> Status {
-    let words = words_of(alloc, line).expect(rt, "memory");
+    let words = words_of(alloc, threads, line).expect(rt, "memory");
     link_main(
         rt,
         alloc,
