@@ -17,7 +17,7 @@ use Rattle.layout.specs.Laid.{Laid, Measures}
 use Rattle.layout.specs.Pass.{in_five, in_others}
 use Rattle.layout.proofs.Limits.{lists_short}
 use Rattle.layout.proofs.OfDrafts.{From, from_graph}
-use Rattle.emit_info.proofs.UnitByUnit.{without_numbers}
+use Rattle.section_write.proofs.UnitByUnit.{without_numbers}
 use Rattle.section_write.specs.Copied.{part_in}
 use Rattle.section_write.specs.declared.parts.DraftPart.TheVariants as kinds
 

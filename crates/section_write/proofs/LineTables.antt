@@ -8,7 +8,7 @@ use Rattle.unit_draft.specs.declared.unit.Draft.{Draft}
 use Rattle.layout.specs.Laid.{Laid, Measures}
 use Rattle.layout.specs.Pass.{line_len, nothing}
 use Rattle.layout.proofs.LineLengths.{same_lines}
-use Rattle.emit_info.proofs.UnitByUnit.{without_numbers}
+use Rattle.section_write.proofs.UnitByUnit.{without_numbers}
 use Rattle.section_write.specs.Tables.{table_in}
 
 pub tables_over : (graph : Graph) → over_units graph (λ u unit. table_in graph unit) ≡ line_section graph

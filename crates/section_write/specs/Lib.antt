@@ -1,3 +1,4 @@
 pub mod Copied
+pub mod Emitting
 pub mod Runs
 pub mod Tables

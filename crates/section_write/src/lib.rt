@@ -3,8 +3,9 @@
 //! Layer: writers. [`emit_sections`] fills a room with the bytes of all sections that `encode` gives the graph
 //! (`dwarf_types/specs/Encode.antt`). Each byte is copied once, from the draft of its unit or from what the layout
 //! keeps, and what stands outside of a unit is filled in where its entries and its line table then stand. Lists of
-//! version 5 stand behind the header of their section. It takes no memory. [`emit_sections_by`] does the same by several
-//! threads.
+//! version 5 stand behind the header of their section. [`emit_unit`] writes the entries of one unit by themselves (DWARF 4
+//! and 5, section 7.5), so that units can be written apart from each other. [`emit_sections_by`] does the same as
+//! [`emit_sections`] by several threads. None takes memory.
 #![tactic(auto)]
 
 mod lines;
@@ -12,6 +13,9 @@ mod lists;
 mod parts;
 mod sections;
 mod shared;
+mod unit;
+mod units;
 
 pub use sections::emit_sections;
 pub use shared::emit_sections_by;
+pub use unit::emit_unit;

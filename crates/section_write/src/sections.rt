@@ -11,8 +11,8 @@ ghost use Rattle.section_write.specs.Runs.{back_bytes, behind_bytes, lists_bytes
 use crate::lines::emit_tables;
 use crate::lists::emit_lists;
 use crate::parts::{DraftPart, emit_parts};
+use crate::units::emit_units;
 use ds_base::{Part, emit_bytes};
-use emit_info::emit_units;
 use layout::{Layout, aranges, drafts, frames, line_texts, section_size, texts};
 
 /// Writes the sections of a graph that was measured, one behind the other in the order of the output, into a room of

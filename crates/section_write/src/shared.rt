@@ -10,8 +10,8 @@ ghost use Rattle.section_write.specs.Runs.{behind_bytes, entries_bytes, others_b
 
 use crate::parts::{DraftPart, emit_parts};
 use crate::sections::{emit_behind, emit_sections};
+use crate::units::emit_units_by;
 use ds_base::{Part, emit_bytes};
-use emit_info::emit_units_by;
 use layout::{Layout, drafts, section_size, texts};
 use std::thread::{Threads, join_mut};
 

@@ -1,6 +1,6 @@
 use Rattle.std.proofs.Common.{◌+◌, ◌∙◌, ap, sym}
-use Rattle.emit_info.proofs.Drafts.{some_draft}
-use Rattle.emit_info.proofs.SubRooms.{part_adds}
+use Rattle.section_write.proofs.Drafts.{some_draft}
+use Rattle.section_write.proofs.SubRooms.{part_adds}
 use Rattle.section_write.specs.Tables.{table_in}
 use Rattle.section_write.proofs.LineTables.{table_size}
 use Rattle.section_write.proofs.lines.add_table.Goals as goal

@@ -2,8 +2,8 @@ use Rattle.std.proofs.Common.{◌≡◌, ◌∙◌, Some, ap, get_or, length, re
 use Rattle.std.proofs.lemmas.Option.{slice_get_read}
 use Rattle.unit_draft.specs.Drafted.{IsDraft}
 use Rattle.layout.specs.Pass.{nothing}
-use Rattle.emit_info.proofs.Drafts.{its_draft}
-use Rattle.emit_info.proofs.UnitByUnit.{unit_of}
+use Rattle.section_write.proofs.Drafts.{its_draft}
+use Rattle.section_write.proofs.UnitByUnit.{unit_of}
 use Rattle.section_write.proofs.lines.emit_table.Goals as goal
 
 pub emit_lines-requires-clause-settled : goal.emit_lines-requires-clause-settled

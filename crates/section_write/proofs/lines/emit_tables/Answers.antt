@@ -4,8 +4,8 @@ use Rattle.ds_base.proofs.Adding.{adds_same}
 use Rattle.dwarf_types.specs.declared.graph.OutUnit.{OutUnit}
 use Rattle.dwarf_types.specs.Encode.{over_units}
 use Rattle.layout.specs.Pass.{line_len, nothing}
-use Rattle.emit_info.proofs.Drafts.{within_graph}
-use Rattle.emit_info.proofs.UnitByUnit.{all_adds, next_fits, unit_adds, unit_is, unit_of, unit_of_is, units_few}
+use Rattle.section_write.proofs.Drafts.{within_graph}
+use Rattle.section_write.proofs.UnitByUnit.{all_adds, next_fits, unit_adds, unit_is, unit_of, unit_of_is, units_few}
 use Rattle.section_write.specs.Tables.{table_in}
 use Rattle.section_write.proofs.LineTables.{table_size, tables_over}
 use Rattle.section_write.proofs.lines.emit_tables.Goals as goal

@@ -5,7 +5,7 @@ ghost use Rattle.std.specs.Thread.{IsSync};
 ghost use Rattle.ds_base.specs.Room.{Adds};
 ghost use Rattle.dwarf_types.specs.declared.graph.Graph.{Graph};
 ghost use Rattle.dwarf_types.specs.Encode.{info_section};
-ghost use Rattle.emit_info.specs.Emitting.{Fills, IsSizeOf};
+ghost use Rattle.section_write.specs.Emitting.{Fills, IsSizeOf};
 ghost use Rattle.layout.specs.Laid.{IsMeasured, Measures};
 
 use crate::unit::add_unit;
@@ -14,7 +14,7 @@ use layout::{Layout, drafts, section_size};
 use std::thread::{Threads, join_mut};
 
 /// Writes all units, one behind the other from `start` on, and answers the place behind them.
-pub fn emit_units(layout: &Layout, room: &mut [u8], start: usize) -> usize
+pub(crate) fn emit_units(layout: &Layout, room: &mut [u8], start: usize) -> usize
     requires measured { IsMeasured layout.now }
     requires fits { (graph : Graph) → Measures graph (Ok layout.now) → start + length (info_section graph) ≤ length room.old }
     ensures { (graph : Graph) → Measures graph (Ok layout.now) → Adds room.old start (info_section graph) room.new result }
@@ -29,7 +29,7 @@ pub fn emit_units(layout: &Layout, room: &mut [u8], start: usize) -> usize
 ///
 /// Each thread writes neighbours, and about as many bytes as any other, as far as whole units allow. What no thread can
 /// be started for is written in the caller's.
-pub fn emit_units_by<R: Threads + Sync>(
+pub(crate) fn emit_units_by<R: Threads + Sync>(
     rt: &R,
     workers: u32,
     layout: &Layout,

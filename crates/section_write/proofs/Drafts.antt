@@ -1,14 +1,14 @@
 -- The draft of a unit of a graph that was measured.
-use Rattle.std.proofs.Common.{◌≡◌, ◌<◌, ℕ, zero, suc, List, [], ◌∷◌, refl, length, slice_get, Some, Ok, sym, ap, ◌∙◌, arith}
+use Rattle.std.proofs.Common.{◌≡◌, ◌<◌, ℕ, zero, suc, List, [], ◌∷◌, refl, length, slice_get, Some, Ok, sym, ◌∙◌, arith}
 use Rattle.dwarf_types.specs.declared.graph.Graph.{Graph}
 use Rattle.dwarf_types.specs.declared.graph.OutUnit.{OutUnit}
 use Rattle.dwarf_types.specs.Layout.{lists_place, places_of, table_place}
 use Rattle.dwarf_types.proofs.Lengths.{length-unit}
 use Rattle.unit_draft.specs.declared.unit.Draft.{Draft}
 use Rattle.unit_draft.specs.Drafted.{IsDraft}
-use Rattle.emit_info.specs.Emitting.{bytes_in}
+use Rattle.section_write.specs.Emitting.{bytes_in}
 use Rattle.layout.specs.Laid.{IsMeasured, Laid, Measures}
-use Rattle.emit_info.proofs.UnitByUnit.{unit_is, unit_of}
+use Rattle.section_write.proofs.UnitByUnit.{unit_is, unit_of}
 
 -- as many units as drafts
 pub within_graph : (graph : Graph) (layout : Laid) (u : ℕ) → Measures graph (Ok layout) → u < length layout.drafts → u < length graph.units

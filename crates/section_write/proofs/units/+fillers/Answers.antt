@@ -1,6 +1,6 @@
 use Rattle.std.proofs.Common.{◌++◌, ◌∙◌, ap₂, length, sym}
-use Rattle.emit_info.proofs.Between.{bytes_cut, size_before, size_behind}
-use Rattle.emit_info.proofs.units.+fillers.Goals as goal
+use Rattle.section_write.proofs.Between.{bytes_cut, size_before, size_behind}
+use Rattle.section_write.proofs.units.+fillers.Goals as goal
 
 pub fill_units-split_at_mut-front-requires : goal.fill_units-split_at_mut-front-requires
 fill_units-split_at_mut-front-requires g t c =

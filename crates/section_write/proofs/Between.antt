@@ -14,10 +14,10 @@ use Rattle.dwarf_types.specs.Encode.{info_section}
 use Rattle.dwarf_types.specs.Layout.{numbered_units}
 use Rattle.layout.specs.Laid.{IsMeasured, Laid, Measures}
 use Rattle.unit_draft.specs.declared.unit.Draft.{Draft}
-use Rattle.emit_info.specs.Emitting.{bytes_between, bytes_in, Fills, IsSizeOf}
-use Rattle.emit_info.proofs.Drafts.{unit_size, within_graph}
-use Rattle.emit_info.proofs.SubRooms.{part_adds}
-use Rattle.emit_info.proofs.UnitByUnit.{part_here, unit_is, unit_of, unit_of_is, within}
+use Rattle.section_write.specs.Emitting.{bytes_between, bytes_in, Fills, IsSizeOf}
+use Rattle.section_write.proofs.Drafts.{unit_size, within_graph}
+use Rattle.section_write.proofs.SubRooms.{part_adds}
+use Rattle.section_write.proofs.UnitByUnit.{part_here, unit_is, unit_of, unit_of_is, within}
 
 -- ---- items of a list from a number up to another
 

@@ -1,9 +1,9 @@
 use Rattle.std.proofs.Common.{◌≡◌, ◌∙◌, Some, ap, get_or, length, refl, slice_get, sym}
 use Rattle.std.proofs.lemmas.Option.{slice_get_read}
 use Rattle.unit_draft.specs.Drafted.{IsDraft}
-use Rattle.emit_info.proofs.Drafts.{its_draft}
-use Rattle.emit_info.proofs.UnitByUnit.{unit_of}
-use Rattle.emit_info.proofs.unit.emit_unit.Goals as goal
+use Rattle.section_write.proofs.Drafts.{its_draft}
+use Rattle.section_write.proofs.UnitByUnit.{unit_of}
+use Rattle.section_write.proofs.unit.emit_unit.Goals as goal
 
 pub emit_draft-requires-clause-settled : goal.emit_draft-requires-clause-settled
 emit_draft-requires-clause-settled c =

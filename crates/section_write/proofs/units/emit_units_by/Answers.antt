@@ -1,6 +1,6 @@
 use Rattle.std.proofs.Common.{arith}
-use Rattle.emit_info.proofs.Between.{all_add, all_fit}
-use Rattle.emit_info.proofs.units.emit_units_by.Goals as goal
+use Rattle.section_write.proofs.Between.{all_add, all_fit}
+use Rattle.section_write.proofs.units.emit_units_by.Goals as goal
 
 pub overflow_add-end : goal.overflow_add-end
 overflow_add-end g c =

@@ -1,6 +1,6 @@
 use Rattle.std.proofs.Common.{◌<◌, ◌+◌, length, arith}
-use Rattle.emit_info.proofs.Between.{read_draft, size_before, size_more}
-use Rattle.emit_info.proofs.units.cut_at.Goals as goal
+use Rattle.section_write.proofs.Between.{read_draft, size_before, size_more}
+use Rattle.section_write.proofs.units.cut_at.Goals as goal
 
 pub overflow_add-bytes : goal.overflow_add-bytes
 overflow_add-bytes c =

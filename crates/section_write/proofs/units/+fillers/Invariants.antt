@@ -1,5 +1,5 @@
 use Rattle.std.proofs.Common.{◌+◌, ◌*◌}
-use Rattle.emit_info.proofs.units.+fillers.Given as goal
+use Rattle.section_write.proofs.units.+fillers.Given as goal
 
 abbrev pub decreases-fill_units : goal.decreases-fill_units
 decreases-fill_units g l = 4 * l.workers + 3

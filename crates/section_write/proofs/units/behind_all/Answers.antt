@@ -1,7 +1,7 @@
 use Rattle.std.proofs.Common.{ap, length, arith}
-use Rattle.emit_info.proofs.Between.{size_all}
-use Rattle.emit_info.proofs.UnitByUnit.{units_few}
-use Rattle.emit_info.proofs.units.behind_all.Goals as goal
+use Rattle.section_write.proofs.Between.{size_all}
+use Rattle.section_write.proofs.UnitByUnit.{units_few}
+use Rattle.section_write.proofs.units.behind_all.Goals as goal
 
 pub overflow_cast-result : goal.overflow_cast-result
 overflow_cast-result c = record { fits = omega (arith, ap length c.drafts.ensures, c.requires.measured.3.count, units_few c.requires.graph c.args.layout.now c.requires.measured) }

@@ -1,10 +1,10 @@
 use Rattle.std.proofs.Common.{◌≡◌, ◌<◌, ◌+◌, length, ap, sym, arith}
 use Rattle.ds_base.proofs.Adding.{adds_more, adds_same, adds_whole}
-use Rattle.emit_info.specs.Emitting.{bytes_between}
-use Rattle.emit_info.proofs.Between.{bytes_more, read_draft, size_added, size_before, size_more}
-use Rattle.emit_info.proofs.Drafts.{within_graph}
-use Rattle.emit_info.proofs.UnitByUnit.{unit_is, unit_of, unit_of_is}
-use Rattle.emit_info.proofs.units.fill_in_turn.Goals as goal
+use Rattle.section_write.specs.Emitting.{bytes_between}
+use Rattle.section_write.proofs.Between.{bytes_more, read_draft, size_added, size_before, size_more}
+use Rattle.section_write.proofs.Drafts.{within_graph}
+use Rattle.section_write.proofs.UnitByUnit.{unit_is, unit_of, unit_of_is}
+use Rattle.section_write.proofs.units.fill_in_turn.Goals as goal
 
 pub add_unit-at-requires-clause-fits : goal.add_unit-at-requires-clause-fits
 add_unit-at-requires-clause-fits c =

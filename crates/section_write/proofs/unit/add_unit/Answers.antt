@@ -1,8 +1,8 @@
 use Rattle.std.proofs.Common.{◌+◌, ◌∙◌, ap, sym}
-use Rattle.emit_info.specs.Emitting.{bytes_in}
-use Rattle.emit_info.proofs.Drafts.{some_draft, unit_size}
-use Rattle.emit_info.proofs.SubRooms.{part_adds}
-use Rattle.emit_info.proofs.unit.add_unit.Goals as goal
+use Rattle.section_write.specs.Emitting.{bytes_in}
+use Rattle.section_write.proofs.Drafts.{some_draft, unit_size}
+use Rattle.section_write.proofs.SubRooms.{part_adds}
+use Rattle.section_write.proofs.unit.add_unit.Goals as goal
 
 pub returns : goal.returns
 returns c = λ graph it measured here.

@@ -4,7 +4,7 @@ ghost use Rattle.std.specs.Prelude.{◌≡◌, ◌+◌, ◌<◌, ◌≤◌, leng
 ghost use Rattle.ds_base.specs.Room.{Adds};
 ghost use Rattle.dwarf_types.specs.declared.graph.Graph.{Graph};
 ghost use Rattle.dwarf_types.specs.declared.graph.OutUnit.{OutUnit};
-ghost use Rattle.emit_info.specs.Emitting.{bytes_in};
+ghost use Rattle.section_write.specs.Emitting.{bytes_in};
 ghost use Rattle.layout.specs.Laid.{IsMeasured, Measures};
 ghost use Rattle.unit_draft.specs.declared.unit.Draft.{Draft as ADraft};
 

@@ -1,4 +1,0 @@
-pub mod Between
-pub mod Drafts
-pub mod SubRooms
-pub mod UnitByUnit
