@@ -5,7 +5,7 @@ use crate::objects::{CIRCLES_LINKED, circular, crowd, deep, endless, overlapping
 use crate::worlds::{THREADS, World, bundle_is, first_world, run, same, told_is};
 use ds_base::{Bytes, Fault, Kind, NoMemory, Part};
 use ds_files::OpenGate;
-use link_core::{LimitKind, Status};
+use link_status::{LimitKind, Status};
 use std::alloc::Global;
 use std::process::Abort;
 use std::thread::Threads;

@@ -10,7 +10,7 @@ use crate::worlds::{
 };
 use ds_base::NoMemory;
 use ds_files::OpenGate;
-use link_core::Status;
+use link_status::Status;
 use sample_objects::{Generated, generated, program_file};
 use std::alloc::Global;
 use std::process::Abort;

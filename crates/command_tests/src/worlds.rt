@@ -4,7 +4,7 @@ use crate::bytes::{OBJECT, PLIST, PROGRAM, SECTIONS_AT};
 use ds_base::{Bytes, List, NoMemory};
 use ds_files::{Files, Gate, MemoryFiles, MemorySink};
 use link_cli::link_main;
-use link_core::Status;
+use link_status::Status;
 use std::alloc::Global;
 use std::process::Abort;
 use std::thread::Threads;

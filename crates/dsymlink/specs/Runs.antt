@@ -1,10 +1,10 @@
 -- What the program answers of the process's arguments.
 use Rattle.std.specs.Prelude.{◌≡◌, ℕ, List}
-use Rattle.link_core.specs.declared.status.Status.{Status}
-use Rattle.link_core.specs.declared.status.Status.TheVariants as statuses
+use Rattle.link_status.specs.declared.status.Status.{Status}
+use Rattle.link_status.specs.declared.status.Status.TheVariants as statuses
 use Rattle.link_cli.specs.Answer.{Links}
 use Rattle.link_cli.specs.Endings.{Said}
-use Rattle.link_cli.specs.Files.{World}
+use Rattle.link_program.specs.Files.{World}
 
 -- memory ran out, and nothing was called
 pub record IsUnasked (before after : World) (silent heard : Said) (status : Status) : Type 0 where

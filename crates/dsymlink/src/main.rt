@@ -11,12 +11,12 @@ ghost use Rattle.std.specs.Vec.Iter.{into_iter_items};
 ghost use Rattle.dsymlink.specs.Runs.{Answers, IsUnasked};
 ghost use Rattle.link_cli.specs.Answer.{Links};
 ghost use Rattle.link_cli.specs.Endings.{said};
-ghost use Rattle.link_cli.specs.Files.{world};
-ghost use Rattle.link_core.specs.Codes.{code_of};
+ghost use Rattle.link_program.specs.Files.{world};
+ghost use Rattle.link_status.specs.Codes.{code_of};
 
 use ds_files::{Files, HostFiles, HostSink, OpenGate, Sink};
 use link_cli::link_main;
-use link_core::{Status, code};
+use link_status::{Status, code};
 use std::alloc::{AllocError, Global};
 use std::io::ErrorKind;
 use std::process::ExitCode;

@@ -6,7 +6,7 @@
 
 use ds_files::{FileError, Files, HostFiles, HostSink, OpenGate, Sink};
 use link_cli::link_main;
-use link_core::Status;
+use link_status::Status;
 use std::alloc::{AllocError, Global};
 use std::thread::Threads;
 

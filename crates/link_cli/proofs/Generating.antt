@@ -1,5 +1,5 @@
 -- A generated program, linked.
-use Rattle.std.proofs.Common.{◌≡◌, ℕ, ◌<◌, ◌≤◌, ◌^◌, List, [], length, map, Option, Some, IfSome, Result, Ok, Err, sym, ap, subst, ◌∙◌, arith}
+use Rattle.std.proofs.Common.{◌≡◌, ℕ, Bool, ◌<◌, ◌≤◌, ◌^◌, List, [], length, map, Option, Some, IfSome, Result, Ok, Err, sym, ap, subst, ◌∙◌, arith}
 use Rattle.std.specs.List.{All, range_with_len}
 use Rattle.std.specs.Result.{IsErrAnd}
 use Rattle.std.proofs.lemmas.List.Elements.{All-map}
@@ -8,12 +8,15 @@ use Rattle.stab_map.specs.declared.object.MapObject.{MapObject}
 use Rattle.sample_objects.specs.declared.program.Generated.{Generated}
 use Rattle.sample_objects.specs.GeneratedProgram.{generated_program, map_object, spec_of}
 use Rattle.sample_objects.specs.ObjectFile.{object_bytes}
+use Rattle.macho_read.specs.declared.image.Image.{Image}
+use Rattle.object_reads.specs.Sources.{Source, sources_of}
+use Rattle.link_status.specs.Names.{last_part}
 use Rattle.link_core.specs.declared.bundle.Linked.{Linked}
-use Rattle.link_core.specs.declared.refusal.Refusal.{Refusal}
-use Rattle.link_core.specs.declared.refusal.Refusal.TheVariants as refusals
-use Rattle.link_core.specs.declared.status.Status.{Status}
+use Rattle.link_status.specs.declared.refusal.Refusal.{Refusal}
+use Rattle.link_status.specs.declared.refusal.Refusal.TheVariants as refusals
+use Rattle.link_status.specs.declared.status.Status.{Status}
 use Rattle.link_core.specs.Linked as bundles
-use Rattle.link_core.specs.Statuses.{refused_status}
+use Rattle.link_status.specs.Statuses.{refused_status}
 use Rattle.link_cli.specs.declared.ending.Ending.{Ending}
 use Rattle.link_cli.specs.Answer.{LinksGenerated, MakesGenerated, made_refused, made_counted, made_untold}
 use Rattle.link_cli.specs.Endings.{Tells, counts_ending, no_memory, refused_ending}
@@ -57,9 +60,15 @@ numbers_within count n numbers many is = subst (λ (ns : List (Option ℕ)). All
 
 -- ---- how it ends
 
-pub made_wants_memory : (plan : Planned) (count : ℕ) (made : Generated) (answer : Result Linked Refusal) → IsErrAnd answer (λ refusal. refusal ≡ refusals.NoMemory) → MakesGenerated plan count made answer
-made_wants_memory plan count made (Ok bundle) h = absurd h
-made_wants_memory plan count made (Err refusal) h = subst (λ (r : Refusal). MakesGenerated plan count made (Err r)) (sym h) bundles.no_memory
+pub bundle_wants_memory : (odr : Bool) (program : Image) (name : List ℕ) (sources : List Source) (answer : Result Linked Refusal) → IsErrAnd answer (λ refusal. refusal ≡ refusals.NoMemory) → bundles.Bundles odr program name sources answer
+bundle_wants_memory odr program name sources (Ok bundle) h = absurd h
+bundle_wants_memory odr program name sources (Err refusal) h = subst (λ (r : Refusal). bundles.Bundles odr program name sources (Err r)) (sym h) bundles.no_memory
+
+-- the objects as they were lent
+pub makes_lent : (plan : Planned) (count : ℕ) (made : Generated) (objects : List MapObject) (answer : Result Linked Refusal) → objects ≡ made.objects
+    → bundles.Bundles plan.odr made.program (last_part plan.exe) (sources_of objects made.files (map number (range_with_len 0 count))) answer → MakesGenerated plan count made answer
+makes_lent plan count made objects answer are made_so =
+    subst (λ (o : List MapObject). bundles.Bundles plan.odr made.program (last_part plan.exe) (sources_of o made.files (map number (range_with_len 0 count))) answer) are made_so
 
 module _ (plan : Planned) (count : ℕ) (wanted : Generated) where
   pub untold_as : (ending : Ending) → ending ≡ no_memory → LinksGenerated plan count wanted ending

@@ -8,8 +8,8 @@ use Rattle.std.proofs.lemmas.List.{map_push, drop_all}
 use Rattle.ds_files.specs.Outside.{Contents, Counts, IsLater, IsOneCall, Told, ReadFails, called}
 use Rattle.ds_files.specs.declared.files.FileError.{FileError}
 use Rattle.stab_map.specs.declared.object.MapObject.{MapObject}
-use Rattle.link_core.specs.declared.status.Status.{Status}
-use Rattle.link_core.specs.declared.status.Status.TheVariants as statuses
+use Rattle.link_status.specs.declared.status.Status.{Status}
+use Rattle.link_status.specs.declared.status.Status.TheVariants as statuses
 use Rattle.link_cli.specs.declared.files.HeldFiles.{HeldFiles}
 use Rattle.link_cli.specs.declared.files.Stopped.{Stopped}
 use Rattle.link_cli.specs.Files.{World, world, Held, HeldFile, IsNew, RunsOut, behind_read, behind_miss, MissesFile, content_in, is_missing, passes_over, with_file, with_warning, ReadsFiles, all_held, is_held, was_passed_over, is_read, is_passed_over, is_unread, ran_out_unasked, ran_out_behind}

@@ -7,7 +7,7 @@ use Rattle.link_core.specs.declared.bundle.Linked.{Linked}
 use Rattle.link_cli.specs.declared.ending.Ending.{Ending}
 use Rattle.link_cli.specs.declared.files.Stopped.{Stopped}
 use Rattle.link_cli.specs.declared.plan.Mode.{Mode}
-use Rattle.link_cli.specs.declared.program.Program.{Program}
+use Rattle.link_cli.specs.declared.program.MappedProgram.{MappedProgram}
 use Rattle.link_cli.specs.Files.{World, Held, RunsOut, behind_read, behind_miss, ReadsFiles, all_held, is_held, was_passed_over, is_read, is_passed_over, is_unread, ran_out_unasked, ran_out_behind}
 use Rattle.link_cli.specs.Plan.{Planned}
 use Rattle.link_cli.specs.Answer.{Writes, not_made, plist_unwritten, image_unwritten, written, LinksSources, refused, untold, bundled, LinksObjects, file_unread, files_untold, files_read, Does, links, tells_map, map_untold, RunsProgram, program_unread, program_untold, program_refused, program_found, Runs, generates, reads_exe, Ends, usage, no_plan, planned}
@@ -55,17 +55,17 @@ module _ {plan : Planned} where
   writes_later before after (image_unwritten middle error first fails) = later_trans before.counts middle.counts after.counts first.later fails.later
   writes_later before after (written middle first second) = later_trans before.counts middle.counts after.counts first.later second.later
 
-  pub sources_later : (before after : World) {program : Program} {held : Held} {ending : Ending} → LinksSources plan program held before after ending → IsLater before.counts after.counts
+  pub sources_later : (before after : World) {program : MappedProgram} {held : Held} {ending : Ending} → LinksSources plan program held before after ending → IsLater before.counts after.counts
   sources_later before after (refused refusal same why) = later_same before after same
   sources_later before after (untold same) = later_same before after same
   sources_later before after (bundled linked ending why writes) = writes_later before after writes
 
-  pub objects_later : (before after : World) {program : Program} {most : ℕ} {ending : Ending} → LinksObjects plan program most before after ending → IsLater before.counts after.counts
+  pub objects_later : (before after : World) {program : MappedProgram} {most : ℕ} {ending : Ending} → LinksObjects plan program most before after ending → IsLater before.counts after.counts
   objects_later before after (file_unread stopped reads) = reads_later reads
   objects_later before after (files_untold stopped reads) = reads_later reads
   objects_later before after (files_read held middle ending reads sources) = later_trans before.counts middle.counts after.counts (reads_later reads) (sources_later middle after sources)
 
-  pub does_later : (before after : World) {program : Program} {most : ℕ} {mode : Mode} {ending : Ending} → Does plan program most before after mode ending → IsLater before.counts after.counts
+  pub does_later : (before after : World) {program : MappedProgram} {most : ℕ} {mode : Mode} {ending : Ending} → Does plan program most before after mode ending → IsLater before.counts after.counts
   does_later before after (links ending objects) = objects_later before after objects
   does_later before after (tells_map same) = later_same before after same
   does_later before after (map_untold same) = later_same before after same

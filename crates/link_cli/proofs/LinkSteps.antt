@@ -6,20 +6,22 @@ use Rattle.std.specs.Result.{IsErrAnd}
 use Rattle.ds_files.specs.Outside.{Contents, Counts, IsLater, IsOneCall, ReplaceFails, called}
 use Rattle.ds_files.specs.declared.files.FileError.{FileError}
 use Rattle.stab_map.specs.declared.object.MapObject.{MapObject}
+use Rattle.macho_read.specs.declared.image.Image.{Image}
 use Rattle.link_core.specs.declared.bundle.Linked.{Linked}
-use Rattle.link_core.specs.declared.refusal.Refusal.{Refusal}
-use Rattle.link_core.specs.declared.refusal.Refusal.TheVariants as refusals
-use Rattle.link_core.specs.Names.{image_name, last_part, plist_name}
-use Rattle.link_core.specs.Statuses.{refused_status}
+use Rattle.link_status.specs.declared.refusal.Refusal.{Refusal}
+use Rattle.link_status.specs.declared.refusal.Refusal.TheVariants as refusals
+use Rattle.link_status.specs.Names.{image_name, plist_name}
+use Rattle.link_status.specs.Statuses.{refused_status}
 use Rattle.link_core.specs.Linked as linked
-use Rattle.link_core.specs.Linked.{Bundles, Source}
-use Rattle.link_core.specs.declared.status.Status.{Status}
-use Rattle.link_core.specs.declared.status.Status.TheVariants as statuses
+use Rattle.link_core.specs.Linked.{Bundles}
+use Rattle.object_reads.specs.Sources.{Source}
+use Rattle.link_status.specs.declared.status.Status.{Status}
+use Rattle.link_status.specs.declared.status.Status.TheVariants as statuses
 use Rattle.link_cli.specs.declared.ending.Ending.{Ending}
 use Rattle.link_cli.specs.declared.files.Stopped.{Stopped}
 use Rattle.link_cli.specs.declared.plan.Mode.{Mode}
 use Rattle.link_cli.specs.declared.plan.Mode.TheVariants as modes
-use Rattle.link_cli.specs.declared.program.Program.{Program}
+use Rattle.link_cli.specs.declared.program.MappedProgram.{MappedProgram}
 use Rattle.link_cli.specs.Endings.{Tells, done_message, map_ending, no_memory, refused_ending, refusal_message, unwritten_ending}
 use Rattle.link_cli.specs.Files.{World, world, most_input, Held, none_held, behind_read, behind_miss, ReadsFile, ReadsFiles, ReadsProgram}
 use Rattle.link_cli.specs.Plan.{Planned}
@@ -79,12 +81,14 @@ module _ {keep_going : Bool} {number : ℕ} {objects : List MapObject} {held : H
   pub read_behind : hinted ≡ before → ReadsFiles keep_going number objects held hinted after answer → ReadsFiles keep_going number objects held before after answer
   read_behind same reads = subst (λ (w : World). ReadsFiles keep_going number objects held w after answer) same reads
 
-module _ (plan : Planned) (program : Program) where
-  pub makes_as : (name : List ℕ) (given sources : List Source) (answer : Result Linked Refusal) → name ≡ last_part plan.exe → given ≡ sources → Bundles plan.odr program.image name given answer
-      → Makes plan program sources answer
-  makes_as name given sources answer is_name is bundles =
-      subst (λ (s : List Source). Makes plan program s answer) is (subst (λ (n : List ℕ). Bundles plan.odr program.image n given answer) is_name bundles)
+-- a link by what equals its own wants and sources
+pub bundles_as : (odr odr' : Bool) (program : Image) (name name' : List ℕ) (given sources : List Source) (answer : Result Linked Refusal) → odr ≡ odr' → name ≡ name' → given ≡ sources
+    → Bundles odr program name given answer → Bundles odr' program name' sources answer
+bundles_as odr odr' program name name' given sources answer is_odr is_name is made =
+    subst (λ (b : Bool). Bundles b program name' sources answer) is_odr
+    (subst (λ (n : List ℕ). Bundles odr program n sources answer) is_name (subst (λ (s : List Source). Bundles odr program name s answer) is made))
 
+module _ (plan : Planned) (program : MappedProgram) where
   pub wants_memory : (sources : List Source) (answer : Result Linked Refusal) → IsErrAnd answer (λ refusal. refusal ≡ refusals.NoMemory) → Makes plan program sources answer
   wants_memory sources (Ok made) h = absurd h
   wants_memory sources (Err refusal) h = subst (λ (r : Refusal). Makes plan program sources (Err r)) (sym h) linked.no_memory
@@ -138,13 +142,13 @@ module _ (plan : Planned) where
     read : ReadsFile plan.exe most_input bytes before middle
     read = subst (λ (n : List ℕ). ReadsFile n most_input bytes before middle) is_exe reads
 
-    was_refused : (refusal : Refusal) → Answers (λ (p : Program). p) (Err refusal) (program_of shown) → RunsProgram plan before middle (refused_ending plan [] [] (refused_status refusal))
+    was_refused : (refusal : Refusal) → Answers (λ (p : MappedProgram). p) (Err refusal) (program_of shown) → RunsProgram plan before middle (refused_ending plan [] [] (refused_status refusal))
     was_refused (refusals.Faulty file fault) why = program_refused bytes (refusals.Faulty file fault) read (ap program_of (sym is_bytes) ∙ why)
     was_refused (refusals.Limit which number) why = program_refused bytes (refusals.Limit which number) read (ap program_of (sym is_bytes) ∙ why)
     was_refused refusals.NoMemory why = program_untold (behind_read bytes read)
 
     pub program_refused_as : (warnings : List ℕ) (objects : List MapObject) (refusal : Refusal) (status : Status) (ending : Ending) → objects ≡ [] → warnings ≡ [] → status ≡ refused_status refusal
-        → Answers (λ (p : Program). p) (Err refusal) (program_of shown) → Tells (refused_ending plan objects warnings status) ending → RunsProgram plan before middle ending
+        → Answers (λ (p : MappedProgram). p) (Err refusal) (program_of shown) → Tells (refused_ending plan objects warnings status) ending → RunsProgram plan before middle ending
     program_refused_as warnings objects refusal status ending no_objects no_warnings is_status why told =
         let none : Tells (refused_ending plan [] [] (refused_status refusal)) ending = subst (λ (s : Status). Tells (refused_ending plan [] [] s) ending) is_status
         (subst (λ (w : List ℕ). Tells (refused_ending plan [] w status) ending) no_warnings
@@ -152,18 +156,18 @@ module _ (plan : Planned) where
         told_or (λ (e : Ending). RunsProgram plan before middle e) (refused_ending plan [] [] (refused_status refusal)) ending none (was_refused refusal why)
         (program_untold (behind_read bytes read))
 
-    module _ (program : Program) (is_program : program_of shown ≡ Ok program) (mode : Mode) (is_mode : plan.mode ≡ mode) where
+    module _ (program : MappedProgram) (is_program : program_of shown ≡ Ok program) (mode : Mode) (is_mode : plan.mode ≡ mode) where
       does : (most : ℕ) (after : World) (ending : Ending) → most ≡ 2 ^ 29 - length bytes → Does plan program most middle after mode ending → RunsProgram plan before after ending
       does most after ending is_most done =
           program_found bytes middle program ending read (ap program_of (sym is_bytes) ∙ is_program)
           (subst (λ (m : Mode). Does plan program (most_input - length bytes) middle after m ending) (sym is_mode)
           (subst (λ (n : ℕ). Does plan program n middle after mode ending) is_most done))
 
-    pub program_linked : (program : Program) (most : ℕ) (after : World) (ending : Ending) → program_of shown ≡ Ok program → plan.mode ≡ modes.Link → most ≡ 2 ^ 29 - length bytes
+    pub program_linked : (program : MappedProgram) (most : ℕ) (after : World) (ending : Ending) → program_of shown ≡ Ok program → plan.mode ≡ modes.Link → most ≡ 2 ^ 29 - length bytes
         → LinksObjects plan program most middle after ending → RunsProgram plan before after ending
     program_linked program most after ending is_program is_mode is_most objects = does program is_program modes.Link is_mode most after ending is_most (links ending objects)
 
-    pub program_told : (program : Program) (ending : Ending) → program_of shown ≡ Ok program → plan.mode ≡ modes.Map → Tells (map_ending program) ending → RunsProgram plan before middle ending
+    pub program_told : (program : MappedProgram) (ending : Ending) → program_of shown ≡ Ok program → plan.mode ≡ modes.Map → Tells (map_ending program) ending → RunsProgram plan before middle ending
     program_told program ending is_program is_mode told =
         does program is_program modes.Map is_mode (most_input - length bytes) middle ending refl
         (told_or (λ (e : Ending). Does plan program (most_input - length bytes) middle middle modes.Map e) (map_ending program) ending told (tells_map refl) (map_untold refl))

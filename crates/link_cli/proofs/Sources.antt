@@ -8,7 +8,7 @@ use Rattle.std.specs.Option.{option_map}
 use Rattle.std.specs.Str.{bytes_eq}
 use Rattle.std.proofs.lemmas.List.Elements.{All-cons, All-map, All-nil, All-push}
 use Rattle.stab_map.specs.declared.object.MapObject.{MapObject}
-use Rattle.link_core.specs.Linked.{Source, sources_of}
+use Rattle.object_reads.specs.Sources.{Source, sources_of}
 use Rattle.link_cli.specs.declared.files.Stopped.{Stopped}
 use Rattle.link_cli.specs.Answer.{sources_in}
 use Rattle.link_cli.specs.Files.{World, Held, HeldFile, none_held, content_in, ReadsFiles, all_held, is_held, was_passed_over, is_read, is_passed_over, is_unread, ran_out_unasked, ran_out_behind}

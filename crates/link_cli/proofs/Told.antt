@@ -8,17 +8,18 @@ use Rattle.ds_files.specs.declared.files.FileError.TheVariants as errors
 use Rattle.sample_objects.specs.declared.program.Generated.{Generated}
 use Rattle.sample_objects.specs.GeneratedProgram.{generated_program}
 use Rattle.link_core.specs.declared.bundle.Linked.{Linked}
-use Rattle.link_core.specs.Statuses.{refused_status}
-use Rattle.link_core.specs.Linked.{HasNoRefusal, Source}
-use Rattle.link_core.specs.Names.{image_name, plist_name}
+use Rattle.link_status.specs.Statuses.{refused_status}
+use Rattle.link_core.specs.Linked.{HasNoRefusal}
+use Rattle.object_reads.specs.Sources.{Source}
+use Rattle.link_status.specs.Names.{image_name, plist_name}
 use Rattle.link_core.proofs.Refusing.{ok_is_no_err, ok_is_one, refused_for_memory, some_is_not_none}
-use Rattle.link_core.specs.declared.status.Status.{Status}
-use Rattle.link_core.specs.declared.status.Status.TheVariants as statuses
+use Rattle.link_status.specs.declared.status.Status.{Status}
+use Rattle.link_status.specs.declared.status.Status.TheVariants as statuses
 use Rattle.link_cli.specs.declared.ending.Ending.{Ending}
 use Rattle.link_cli.specs.declared.files.Stopped.{Stopped}
 use Rattle.link_cli.specs.declared.plan.Mode.{Mode}
 use Rattle.link_cli.specs.declared.plan.Mode.TheVariants as modes
-use Rattle.link_cli.specs.declared.program.Program.{Program}
+use Rattle.link_cli.specs.declared.program.MappedProgram.{MappedProgram}
 use Rattle.link_cli.specs.Files.{World, Held, ReadsFile, passes_over, most_input}
 use Rattle.link_cli.specs.Answer.{Writes, not_made, plist_unwritten, image_unwritten, written, NotReplaced, Makes, LinksSources, LinksObjects, Does, RunsProgram, Runs, Ends, Links, LinksGenerated, sources_in, sources_made, unwritten}
 use Rattle.link_cli.specs.Answer as answer
@@ -43,7 +44,7 @@ unreplaced files name number errors.TooLong message before after fails told quie
 unreplaced files name number errors.NoMemory message before after fails told quiet = (fails.cause.0 ∙ told, refl)
 
 module _ (plan : Planned) (files : Contents) where
-  module _ (program : Program) (most : ℕ) (read : unread_of plan program most files ≡ None) where
+  module _ (program : MappedProgram) (most : ℕ) (read : unread_of plan program most files ≡ None) where
     writes_told : (made : Linked) (before after : World) {ending : Ending} → Makes plan program (sources_at files program.objects) (Ok made)
         → Writes plan program.objects (warnings_of plan program most files) made before after ending
         → before.files ≡ Some files → NoFault before.counts after.counts → Tells after (AnswersObjects plan program most files ending)
@@ -72,7 +73,7 @@ module _ (plan : Planned) (files : Contents) where
         writes_told made before after (subst (λ (s : List Source). Makes plan program s (Ok made)) are why)
         (subst (λ (w : List ℕ). Writes plan program.objects w made before after ending) warn writes) told quiet
 
-  module _ (program : Program) (most : ℕ) where
+  module _ (program : MappedProgram) (most : ℕ) where
     stopped_told : (stopped : Stopped) → ((unread_of plan program most files ≡ Some stopped.status) × (stopped.warnings ≡ [] ++ warnings_of plan program most files)) ⊎ (stopped.status ≡ statuses.NoMemory)
         → AnswersObjects plan program most files (refused_ending plan program.objects stopped.warnings stopped.status) files
     stopped_told stopped (inl why) =
@@ -162,7 +163,7 @@ count_in modes.Map = 0
 abbrev IsDone : Status → Type 0
 IsDone status = (status ≡ statuses.Done) ⊎ (status ≡ statuses.NoMemory)
 
-objects_done : (plan : Planned) (program : Program) (most : ℕ) (files now : Contents) (ending : Ending) → AnswersObjects plan program most files ending now → AreLinkable plan program most files
+objects_done : (plan : Planned) (program : MappedProgram) (most : ℕ) (files now : Contents) (ending : Ending) → AnswersObjects plan program most files ending now → AreLinkable plan program most files
     → IsDone ending.status
 objects_done plan program most files now ending (unread s why) can =
     let read : unread_of plan program most files ≡ None = all_read plan.keep_going files 1 [] most program.objects can.there can.few in
@@ -172,7 +173,7 @@ objects_done plan program most files now ending (done made r makes) can = inl re
 objects_done plan program most files now ending no_memory_before can = inr refl
 objects_done plan program most files now ending (no_memory_between made r makes) can = inr refl
 
-mode_done : (plan : Planned) (program : Program) (most : ℕ) (files now : Contents) (mode : Mode) (ending : Ending) → AnswersMode plan program most files mode ending now
+mode_done : (plan : Planned) (program : MappedProgram) (most : ℕ) (files now : Contents) (mode : Mode) (ending : Ending) → AnswersMode plan program most files mode ending now
     → (mode ≡ modes.Link → AreLinkable plan program most files) → IsDone ending.status
 mode_done plan program most files now mode ending (linked e n objects) can = objects_done plan program most files now ending objects (can refl)
 mode_done plan program most files now mode ending map_told can = inl refl
@@ -190,7 +191,7 @@ module _ (plan : Planned) (files : Contents) where
       let same : has.bytes ≡ bytes = some_is_one has.bytes bytes (sym has.held ∙ is) in
       let one : has.program ≡ program = ok_is_one has.program program (sym has.reads ∙ (ap program_of same ∙ why)) in
       mode_done plan program (most_input - length bytes) files now plan.mode ending mode
-      (subst (λ (p : Program). plan.mode ≡ modes.Link → AreLinkable plan p (most_input - length bytes) files) one
+      (subst (λ (p : MappedProgram). plan.mode ≡ modes.Link → AreLinkable plan p (most_input - length bytes) files) one
       (subst (λ (b : List ℕ). plan.mode ≡ modes.Link → AreLinkable plan has.program (most_input - length b) files) same has.linkable))
   program_done has now ending program_no_memory = inr refl
 

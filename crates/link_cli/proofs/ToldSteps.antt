@@ -11,9 +11,9 @@ use Rattle.ds_files.specs.Outside.{Contents, Counts, IsLater, IsLong, IsQuiet, T
 use Rattle.ds_files.specs.declared.files.FileError.{FileError}
 use Rattle.ds_files.specs.declared.files.FileError.TheVariants as errors
 use Rattle.stab_map.specs.declared.object.MapObject.{MapObject}
-use Rattle.link_core.specs.Linked.{Source}
-use Rattle.link_core.specs.declared.status.Status.{Status}
-use Rattle.link_core.specs.declared.status.Status.TheVariants as statuses
+use Rattle.object_reads.specs.Sources.{Source}
+use Rattle.link_status.specs.declared.status.Status.{Status}
+use Rattle.link_status.specs.declared.status.Status.TheVariants as statuses
 use Rattle.link_cli.specs.declared.files.Stopped.{Stopped}
 use Rattle.link_cli.specs.Files.{World, Held, HeldFile, IsNew, MissesFile, ReadsFiles, all_held, is_held, was_passed_over, is_read, is_passed_over, is_unread, ran_out_unasked, ran_out_behind, content_in, is_missing, passes_over, none_held, unread_status, with_file, with_missing, with_warning}
 use Rattle.link_cli.specs.Answer.{sources_in}

@@ -7,19 +7,20 @@ use Rattle.ds_files.specs.Outside.{IsLater, IsOneCall, ReplaceFails, called}
 use Rattle.ds_files.specs.declared.files.FileError.{FileError}
 use Rattle.stab_map.specs.declared.object.MapObject.{MapObject}
 use Rattle.link_core.specs.declared.bundle.Linked.{Linked}
-use Rattle.link_core.specs.declared.status.Status.{Status}
-use Rattle.link_core.specs.declared.status.Status.TheVariants as statuses
-use Rattle.link_core.specs.declared.refusal.Refusal.{Refusal}
-use Rattle.link_core.specs.Linked.{Bundles, Source, sources_of}
-use Rattle.link_core.specs.Names.{image_name, last_part, plist_name}
-use Rattle.link_core.specs.Statuses.{refused_status}
+use Rattle.link_status.specs.declared.status.Status.{Status}
+use Rattle.link_status.specs.declared.status.Status.TheVariants as statuses
+use Rattle.link_status.specs.declared.refusal.Refusal.{Refusal}
+use Rattle.link_core.specs.Linked.{Bundles}
+use Rattle.object_reads.specs.Sources.{Source, sources_of}
+use Rattle.link_status.specs.Names.{image_name, last_part, plist_name}
+use Rattle.link_status.specs.Statuses.{refused_status}
 use Rattle.sample_objects.specs.declared.program.Generated.{Generated}
 use Rattle.sample_objects.specs.GeneratedProgram.{generated_program}
 use Rattle.link_cli.specs.declared.ending.Ending.{Ending}
 use Rattle.link_cli.specs.declared.files.Stopped.{Stopped}
 use Rattle.link_cli.specs.declared.plan.Mode.{Mode}
 use Rattle.link_cli.specs.declared.plan.Mode.TheVariants as modes
-use Rattle.link_cli.specs.declared.program.Program.{Program}
+use Rattle.link_cli.specs.declared.program.MappedProgram.{MappedProgram}
 use Rattle.link_cli.specs.Endings.{Puts, Said, counts_ending, done_ending, map_ending, no_memory, refusal_message, refused_ending, unwritten_ending, usage_ending}
 use Rattle.link_cli.specs.Files.{World, RunsOut, most_input, ReadsFile, MissesFile, unread_status, Held, HeldFile, none_held, ReadsFiles, content_in}
 use Rattle.link_cli.specs.Plan.{Planned, is_generated, plan_of}
@@ -59,11 +60,11 @@ abbrev pub sources_in : List HeldFile → List MapObject → List Source
 sources_in held objects = map (λ object. record { object = object; file = content_in held object.file }) objects
 
 -- what linking a program of a plan with its objects answers
-abbrev pub Makes : Planned → Program → List Source → Result Linked Refusal → Type 0
+abbrev pub Makes : Planned → MappedProgram → List Source → Result Linked Refusal → Type 0
 Makes plan program sources answer = Bundles plan.odr program.image (last_part plan.exe) sources answer
 
 -- The objects of a program are linked from the files that are held, and the bundle is written.
-pub data LinksSources (plan : Planned) (program : Program) (held : Held) (before after : World) : Ending → Type 0 where
+pub data LinksSources (plan : Planned) (program : MappedProgram) (held : Held) (before after : World) : Ending → Type 0 where
   refused : (refusal : Refusal) → after ≡ before → Makes plan program (sources_in held.files program.objects) (Err refusal)
       → LinksSources plan program held before after (refused_ending plan program.objects held.warnings (refused_status refusal))
   untold : after ≡ before → LinksSources plan program held before after no_memory
@@ -71,7 +72,7 @@ pub data LinksSources (plan : Planned) (program : Program) (held : Held) (before
       → LinksSources plan program held before after ending
 
 -- The files of a program's objects, which have at most so many bytes together, are read, and the objects are linked.
-pub data LinksObjects (plan : Planned) (program : Program) (most : ℕ) (before after : World) : Ending → Type 0 where
+pub data LinksObjects (plan : Planned) (program : MappedProgram) (most : ℕ) (before after : World) : Ending → Type 0 where
   file_unread : (stopped : Stopped) → ReadsFiles plan.keep_going 1 program.objects (none_held most) before after (Err stopped)
       → LinksObjects plan program most before after (refused_ending plan program.objects stopped.warnings stopped.status)
   files_untold : (stopped : Stopped) → ReadsFiles plan.keep_going 1 program.objects (none_held most) before after (Err stopped)
@@ -98,7 +99,7 @@ pub data LinksGenerated (plan : Planned) (count : ℕ) (made : Generated) : Endi
 -- ---- the modes
 
 -- What is done with a program that was read. Its debug map is told without a look at the files.
-pub data Does (plan : Planned) (program : Program) (most : ℕ) (before after : World) : Mode → Ending → Type 0 where
+pub data Does (plan : Planned) (program : MappedProgram) (most : ℕ) (before after : World) : Mode → Ending → Type 0 where
   links : (ending : Ending) → LinksObjects plan program most before after ending → Does plan program most before after modes.Link ending
   tells_map : after ≡ before → Does plan program most before after modes.Map (map_ending program)
   map_untold : after ≡ before → Does plan program most before after modes.Map no_memory
@@ -109,7 +110,7 @@ pub data RunsProgram (plan : Planned) (before after : World) : Ending → Type 0
   program_untold : RunsOut plan.exe most_input before after → RunsProgram plan before after no_memory
   program_refused : (bytes : List ℕ) (refusal : Refusal) → ReadsFile plan.exe most_input bytes before after → program_of bytes ≡ Err refusal
       → RunsProgram plan before after (refused_ending plan [] [] (refused_status refusal))
-  program_found : (bytes : List ℕ) (middle : World) (program : Program) (ending : Ending) → ReadsFile plan.exe most_input bytes before middle → program_of bytes ≡ Ok program
+  program_found : (bytes : List ℕ) (middle : World) (program : MappedProgram) (ending : Ending) → ReadsFile plan.exe most_input bytes before middle → program_of bytes ≡ Ok program
       → Does plan program (most_input - length bytes) middle after plan.mode ending → RunsProgram plan before after ending
 
 -- A plan is done. Where its program is to be generated, no file is read or written; else the program is read.

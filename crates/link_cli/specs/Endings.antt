@@ -6,11 +6,11 @@ use Rattle.ds_files.specs.declared.files.FileError.{FileError}
 use Rattle.ds_files.specs.declared.files.FileError.TheVariants as errors
 use Rattle.stab_map.specs.declared.object.MapObject.{MapObject}
 use Rattle.link_core.specs.declared.bundle.Counts.{Counts}
-use Rattle.link_core.specs.declared.status.Status.{Status}
-use Rattle.link_core.specs.declared.status.Status.TheVariants as statuses
-use Rattle.link_core.specs.StatusText.{status_line}
+use Rattle.link_status.specs.declared.status.Status.{Status}
+use Rattle.link_status.specs.declared.status.Status.TheVariants as statuses
+use Rattle.link_status.specs.StatusText.{status_line}
 use Rattle.link_cli.specs.declared.ending.Ending.{Ending}
-use Rattle.link_cli.specs.declared.program.Program.{Program}
+use Rattle.link_cli.specs.declared.program.MappedProgram.{MappedProgram}
 use Rattle.link_cli.specs.Plan.{Planned}
 use Rattle.link_cli.specs.Texts.{map_text, summary}
 
@@ -48,7 +48,7 @@ unwritten_ending file errors.NoMemory message = no_memory
 unwritten_ending file _ message = record { status = statuses.WriteFault file; message = message }
 
 -- a debug map is told
-abbrev pub map_ending : Program → Ending
+abbrev pub map_ending : MappedProgram → Ending
 map_ending program = record { status = statuses.Done; message = map_text program }
 
 -- what was counted is told

@@ -8,9 +8,9 @@ use Rattle.ds_files.specs.Outside.{Contents, Counts, IsLater, IsOneCall, Told, R
 use Rattle.ds_files.specs.declared.files.FileError.{FileError}
 use Rattle.ds_files.specs.declared.files.FileError.TheVariants as errors
 use Rattle.stab_map.specs.declared.object.MapObject.{MapObject}
-use Rattle.link_core.specs.declared.status.Status.{Status}
-use Rattle.link_core.specs.declared.status.Status.TheVariants as statuses
-use Rattle.link_core.specs.declared.refusal.LimitKind.TheVariants as limits
+use Rattle.link_status.specs.declared.status.Status.{Status}
+use Rattle.link_status.specs.declared.status.Status.TheVariants as statuses
+use Rattle.link_status.specs.declared.refusal.LimitKind.TheVariants as limits
 use Rattle.link_cli.specs.declared.files.Stopped.{Stopped}
 use Rattle.link_cli.specs.Texts.{warning}
 

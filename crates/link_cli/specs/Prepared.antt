@@ -3,8 +3,8 @@ use Rattle.std.specs.Prelude.{◌≡◌, ℕ, List}
 use Rattle.std.specs.String.{string_bytes}
 use Rattle.stab_map.specs.declared.object.MapObject.{MapObject}
 use Rattle.link_core.specs.declared.bundle.Counts.{Counts}
-use Rattle.link_core.specs.declared.status.Status.TheVariants as statuses
-use Rattle.link_core.specs.Names.{image_name, plist_name}
+use Rattle.link_status.specs.declared.status.Status.TheVariants as statuses
+use Rattle.link_status.specs.Names.{image_name, plist_name}
 use Rattle.link_cli.specs.declared.output.Prepared.{Prepared}
 use Rattle.link_cli.specs.Endings.{done_message, refusal_message}
 use Rattle.link_cli.specs.Plan.{Planned}

@@ -10,10 +10,10 @@ use Rattle.stab_map.specs.declared.object.MapObject.{MapObject}
 use Rattle.stab_map.specs.declared.object.MapError.{MapError}
 use Rattle.stab_map.specs.declared.object.MapError.TheVariants as map_errors
 use Rattle.stab_map.specs.DebugMap.{map_of, max_objects}
-use Rattle.link_core.specs.declared.refusal.Refusal.{Refusal}
-use Rattle.link_core.specs.declared.refusal.Refusal.TheVariants as refusals
-use Rattle.link_core.specs.declared.refusal.LimitKind.TheVariants as limits
-use Rattle.link_cli.specs.declared.program.Program.{Program}
+use Rattle.link_status.specs.declared.refusal.Refusal.{Refusal}
+use Rattle.link_status.specs.declared.refusal.Refusal.TheVariants as refusals
+use Rattle.link_status.specs.declared.refusal.LimitKind.TheVariants as limits
+use Rattle.link_cli.specs.declared.program.MappedProgram.{MappedProgram}
 
 -- What a call answered, seen by view, is what is wanted or why it is refused, unless memory ran out.
 abbrev pub Answers : {X Y : Type 0} → (X → Y) → Result X Refusal → Result Y Refusal → Type 0
@@ -36,14 +36,14 @@ map_refusal (map_errors.Faulty fault) = refusals.Faulty 0 fault
 map_refusal map_errors.Objects = refusals.Limit limits.Objects max_objects
 map_refusal map_errors.NoMemory = refusals.NoMemory
 
-abbrev pub with_map : Image → Result (List MapObject) MapError → Result Program Refusal
+abbrev pub with_map : Image → Result (List MapObject) MapError → Result MappedProgram Refusal
 with_map image (Ok objects) = Ok (record { image = image; objects = objects })
 with_map image (Err error) = Err (map_refusal error)
 
-abbrev pub with_image : Result Image Fault → Result Program Refusal
+abbrev pub with_image : Result Image Fault → Result MappedProgram Refusal
 with_image (Ok image) = with_map image (map_of image)
 with_image (Err fault) = Err (refusals.Faulty 0 fault)
 
 -- the program in a file's bytes: its image and its debug map
-unfoldable pub program_of : List ℕ → Result Program Refusal
+unfoldable pub program_of : List ℕ → Result MappedProgram Refusal
 program_of bytes = with_image (program_image bytes)

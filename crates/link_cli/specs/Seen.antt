@@ -1,11 +1,15 @@
 -- What is held in memory, without where its texts lie.
-use Rattle.std.specs.Prelude.{◌≡◌, ℕ, ◌<◌, ◌^◌, List, length, map, Option, true}
+use Rattle.std.specs.Prelude.{◌≡◌, ℕ, ◌<◌, ◌^◌, List, length, map, Option, Ok, true}
 use Rattle.std.specs.List.{All}
 use Rattle.std.specs.HashMap.{HashMap}
 use Rattle.std.specs.Str.{bytes_eq, is_utf8}
 use denote.Ref.{Bor}
 use Rattle.indexmap.specs.IndexMap.{index_of_by}
 use Rattle.stab_map.specs.declared.object.MapObject.{MapObject}
+use Rattle.macho_read.specs.declared.kind.Role.TheVariants as roles
+use Rattle.macho_read.specs.Kind.{kind_of}
+use Rattle.macho_read.specs.Sound.{IsSound}
+use Rattle.link_cli.specs.declared.program.MappedProgram.{MappedProgram}
 use Rattle.link_cli.specs.Files.{HeldFile}
 
 -- the files in a table by their names
@@ -19,6 +23,13 @@ missing_seen missing = map (λ e. e.0.now) missing.entries
 -- the names of the objects' files are text
 abbrev pub HaveNames : List MapObject → Type 0
 HaveNames objects = All (λ o. is_utf8 o.file ≡ true) objects
+
+-- what a program needs, so that it can be linked: it is one by its kind, and its objects can be numbered
+pub record IsLinkable (program : MappedProgram) : Type 0 where
+  pub sound : IsSound program.image
+  pub kind : kind_of program.image roles.Program ≡ Ok tt
+  pub few : length program.objects < 2 ^ 16
+  pub names : HaveNames program.objects
 
 -- the number of the file of a name in such a table, in the order of reading
 abbrev pub number_in : {S : Type 0} → HashMap (Bor (List ℕ)) (List ℕ) S → List ℕ → Option ℕ

@@ -5,8 +5,8 @@ use Rattle.uuid.specs.Text.{hyphenated_text, lower}
 use Rattle.stab_map.specs.declared.object.MapEntry.{MapEntry}
 use Rattle.stab_map.specs.declared.object.MapObject.{MapObject}
 use Rattle.link_core.specs.declared.bundle.Counts.{Counts}
-use Rattle.link_core.specs.StatusText.{line}
-use Rattle.link_cli.specs.declared.program.Program.{Program}
+use Rattle.link_status.specs.StatusText.{line}
+use Rattle.link_cli.specs.declared.program.MappedProgram.{MappedProgram}
 
 -- the line of an object whose file was let go
 abbrev pub warning : MapObject → List ℕ
@@ -62,5 +62,5 @@ uuid_text None = codes "none"
 uuid_text (Some uuid) = hyphenated_text lower uuid
 
 -- the debug map of a program
-abbrev pub map_text : Program → List ℕ
+abbrev pub map_text : MappedProgram → List ℕ
 map_text program = codes "uuid " ++ (uuid_text program.image.uuid ++ (0x0a ∷ objects_text 1 program.objects))

@@ -7,17 +7,18 @@ use Rattle.ds_files.specs.Outside.{Contents, Counts, Rose}
 use Rattle.stab_map.specs.declared.object.MapObject.{MapObject}
 use Rattle.sample_objects.specs.GeneratedProgram.{generated_program}
 use Rattle.link_core.specs.declared.bundle.Linked.{Linked}
-use Rattle.link_core.specs.declared.refusal.LimitKind.TheVariants as limits
-use Rattle.link_core.specs.declared.refusal.Refusal.{Refusal}
-use Rattle.link_core.specs.Linked.{HasNoRefusal, Source}
-use Rattle.link_core.specs.Names.{image_name, plist_name}
-use Rattle.link_core.specs.declared.status.Status.{Status}
-use Rattle.link_core.specs.declared.status.Status.TheVariants as statuses
-use Rattle.link_core.specs.Statuses.{refused_status}
+use Rattle.link_status.specs.declared.refusal.LimitKind.TheVariants as limits
+use Rattle.link_status.specs.declared.refusal.Refusal.{Refusal}
+use Rattle.link_core.specs.Linked.{HasNoRefusal}
+use Rattle.object_reads.specs.Sources.{Source}
+use Rattle.link_status.specs.Names.{image_name, plist_name}
+use Rattle.link_status.specs.declared.status.Status.{Status}
+use Rattle.link_status.specs.declared.status.Status.TheVariants as statuses
+use Rattle.link_status.specs.Statuses.{refused_status}
 use Rattle.link_cli.specs.declared.ending.Ending.{Ending}
 use Rattle.link_cli.specs.declared.plan.Mode.{Mode}
 use Rattle.link_cli.specs.declared.plan.Mode.TheVariants as modes
-use Rattle.link_cli.specs.declared.program.Program.{Program}
+use Rattle.link_cli.specs.declared.program.MappedProgram.{MappedProgram}
 use Rattle.link_cli.specs.Answer.{LinksGenerated, Makes, sources_made}
 use Rattle.link_cli.specs.Endings.{Puts, Said, done_ending, map_ending, no_memory, refused_ending, usage_ending}
 use Rattle.link_cli.specs.Files.{most_input}
@@ -91,14 +92,14 @@ abbrev pub with_bundle : Planned → Linked → Contents → Contents
 with_bundle plan linked files = fin.insert (with_plist plan linked files) (image_name plan.out plan.exe) linked.image
 
 -- why the files of a program's objects can't all be read, and the warnings of their reading
-abbrev pub unread_of : Planned → Program → ℕ → Contents → Option Status
+abbrev pub unread_of : Planned → MappedProgram → ℕ → Contents → Option Status
 unread_of plan program most files = first_unread plan.keep_going files 1 [] most program.objects
 
-abbrev pub warnings_of : Planned → Program → ℕ → Contents → List ℕ
+abbrev pub warnings_of : Planned → MappedProgram → ℕ → Contents → List ℕ
 warnings_of plan program most files = warned plan.keep_going files 1 [] most program.objects
 
 -- The objects of a program are linked, whose files have at most so many bytes together.
-pub data AnswersObjects (plan : Planned) (program : Program) (most : ℕ) (files : Contents) : Ending → Contents → Type 0 where
+pub data AnswersObjects (plan : Planned) (program : MappedProgram) (most : ℕ) (files : Contents) : Ending → Contents → Type 0 where
   unread : (status : Status) → unread_of plan program most files ≡ Some status
       → AnswersObjects plan program most files (refused_ending plan program.objects (warnings_of plan program most files) status) files
   refused : (refusal : Refusal) → unread_of plan program most files ≡ None → Makes plan program (sources_at files program.objects) (Err refusal)
@@ -110,7 +111,7 @@ pub data AnswersObjects (plan : Planned) (program : Program) (most : ℕ) (files
       → AnswersObjects plan program most files no_memory (with_plist plan linked files)
 
 -- What is done with a program that was read.
-pub data AnswersMode (plan : Planned) (program : Program) (most : ℕ) (files : Contents) : Mode → Ending → Contents → Type 0 where
+pub data AnswersMode (plan : Planned) (program : MappedProgram) (most : ℕ) (files : Contents) : Mode → Ending → Contents → Type 0 where
   linked : (ending : Ending) (now : Contents) → AnswersObjects plan program most files ending now → AnswersMode plan program most files modes.Link ending now
   map_told : AnswersMode plan program most files modes.Map (map_ending program) files
   map_no_memory : AnswersMode plan program most files modes.Map no_memory files
@@ -120,7 +121,7 @@ pub data AnswersProgram (plan : Planned) (files : Contents) : Ending → Content
   program_unread : (status : Status) → file_refusal false 0 most_input (fin.get files plan.exe) ≡ Some status → AnswersProgram plan files (refused_ending plan [] [] status) files
   program_refused : (bytes : List ℕ) (refusal : Refusal) → fin.get files plan.exe ≡ Some bytes → file_refusal false 0 most_input (Some bytes) ≡ None → program_of bytes ≡ Err refusal
       → AnswersProgram plan files (refused_ending plan [] [] (refused_status refusal)) files
-  program_found : (bytes : List ℕ) (program : Program) (ending : Ending) (now : Contents) → fin.get files plan.exe ≡ Some bytes → file_refusal false 0 most_input (Some bytes) ≡ None
+  program_found : (bytes : List ℕ) (program : MappedProgram) (ending : Ending) (now : Contents) → fin.get files plan.exe ≡ Some bytes → file_refusal false 0 most_input (Some bytes) ≡ None
       → program_of bytes ≡ Ok program → AnswersMode plan program (most_input - length bytes) files plan.mode ending now → AnswersProgram plan files ending now
   program_no_memory : AnswersProgram plan files no_memory files
 
@@ -144,7 +145,7 @@ pub record Answers (words : List (List ℕ)) (files now : Contents) (silent hear
 -- ---- what can be linked
 
 -- Where nothing refuses the link of the objects whose files are there or let go, which have at most so many bytes together.
-pub record AreLinkable (plan : Planned) (program : Program) (most : ℕ) (files : Contents) : Type 0 where
+pub record AreLinkable (plan : Planned) (program : MappedProgram) (most : ℕ) (files : Contents) : Type 0 where
   pub there : (plan.keep_going ≡ true) ⊎ All (λ o. IsSome (fin.get files o.file)) program.objects
   pub few : input_size files [] program.objects ≤ most
   pub clean : HasNoRefusal plan.odr program.image (sources_at files program.objects)
@@ -152,7 +153,7 @@ pub record AreLinkable (plan : Planned) (program : Program) (most : ℕ) (files 
 -- The program of a plan is there, has at most 2 ^ 29 bytes and no fault. Where it is to be linked, all files that its map names are there or let go, they have at most 2 ^ 29 bytes together with it, its objects have no fault, and no limit is reached.
 pub record HasProgram (plan : Planned) (files : Contents) : Type 0 where
   pub bytes : List ℕ
-  pub program : Program
+  pub program : MappedProgram
   pub held : fin.get files plan.exe ≡ Some bytes
   pub few : length bytes ≤ most_input
   pub reads : program_of bytes ≡ Ok program

@@ -7,7 +7,7 @@ ghost use Rattle.link_cli.specs.Plans.{plan_seen};
 use crate::plan::Plan;
 use ds_base::{Bytes, NoMemory};
 use ds_files::Sink;
-use link_core::{Status, status_text};
+use link_status::{Status, status_text};
 use stab_map::MapObject;
 use std::alloc::Global;
 

@@ -12,7 +12,7 @@ use ds_base::limits::INPUT_BYTES;
 use ds_base::{Bytes, List, NoMemory};
 use ds_files::{Ahead, FileError, Files};
 use indexmap::IndexMap;
-use link_core::{LimitKind, Status};
+use link_status::{LimitKind, Status};
 use stab_map::MapObject;
 use std::alloc::Global;
 

@@ -6,49 +6,54 @@ ghost use Rattle.macho_read.specs.declared.kind.Role.TheVariants as roles;
 ghost use Rattle.macho_read.specs.Kind.{kind_of};
 ghost use Rattle.macho_read.specs.Sound.{IsSound as IsSoundImage};
 ghost use Rattle.sample_objects.specs.GeneratedProgram.{generated_program};
-ghost use Rattle.link_cli.specs.Answer.{LinksGenerated, MakesGenerated};
+ghost use Rattle.link_core.specs.Linked.{Bundles};
+ghost use Rattle.link_status.specs.Names.{last_part};
+ghost use Rattle.object_reads.specs.Sources.{sources_of};
+ghost use Rattle.link_cli.specs.Answer.{LinksGenerated};
 ghost use Rattle.link_cli.specs.Endings.{Tells, counts_ending};
-ghost use Rattle.link_cli.specs.Plan.{HasWorkers};
 ghost use Rattle.link_cli.specs.Plans.{plan_seen};
 
 use crate::ending::Ending;
+use crate::link::wanted;
 use crate::making::shared_program;
 use crate::plan::Plan;
 use crate::texts::summary;
 use ds_base::{Bytes, List, NoMemory};
 use ds_files::Gate;
-use link_core::{Counts, Linked, Options, Refusal, Status, last_part, link_objects};
+use link_core::{Counts, Linked, Program, link_objects};
+use link_status::{Refusal, Status};
+use macho_read::Image;
+use object_reads::Sources;
 use sample_objects::Generated;
+use stab_map::MapObject;
 use std::alloc::Global;
 use std::thread::Threads;
+use work_share::Work;
 
 /// Links the generated program of so many objects, and tells what was counted.
 pub(crate) fn link_generated<R: Threads + Sync, G: Gate + Sync>(
-    rt: &R,
-    alloc: Global,
+    work: &Work<R, G>,
     plan: &Plan,
     count: u32,
-    gate: &G,
 ) -> Ending
     requires some { 1 ≤ count }
     requires few { count ≤ 1000 }
-    requires workers { HasWorkers plan.now.workers }
     ensures { LinksGenerated (plan_seen plan.now) count (generated_program count) result }
 {
-    let Ok(made) = shared_program(rt, alloc, plan.workers, count) else {
+    let alloc = work.workers.alloc;
+    let Ok(made) = shared_program(work.workers, count) else {
         return Ending::no_memory(alloc);
     };
-    match bundle(rt, alloc, plan, count, &made, gate) {
+    let Generated {
+        program,
+        objects,
+        files,
+    } = made;
+    match bundle(work, plan, count, &program, objects.as_slice(), files) {
         Ok(linked) => tell_counts(alloc, &linked.counts),
         Err(refusal) => {
             let status = Status::from(refusal);
-            Ending::refused(
-                alloc,
-                plan,
-                made.objects.as_slice(),
-                Bytes::new(alloc),
-                status,
-            )
+            Ending::refused(alloc, plan, objects.as_slice(), Bytes::new(alloc), status)
         }
     }
 }
@@ -66,38 +71,31 @@ fn tell_counts(alloc: Global, counts: &Counts) -> Ending
     }
 }
 
-/// The bundle of the generated program of so many objects.
+/// The bundle of a program with so many objects, each of a file of its own.
 fn bundle<R: Threads + Sync, G: Gate + Sync>(
-    rt: &R,
-    alloc: Global,
+    work: &Work<R, G>,
     plan: &Plan,
     count: u32,
-    made: &Generated,
-    gate: &G,
+    program: &Image,
+    objects: &[MapObject],
+    files: List<Bytes>,
 ) -> Result<Linked, Refusal>
     requires few { count ≤ 1000 }
-    requires exact { made.now ≡ generated_program count }
-    requires sound { IsSoundImage made.now.program }
-    requires kind { kind_of made.now.program roles.Program ≡ Ok tt }
-    requires small { All (λ file. length file < 2 ^ 32) made.now.files }
-    requires workers { HasWorkers plan.now.workers }
-    ensures { MakesGenerated (plan_seen plan.now) count made.now result }
+    requires objects { length objects.now ≡ count }
+    requires files { length files ≡ count }
+    requires sound { IsSoundImage program.now }
+    requires kind { kind_of program.now roles.Program ≡ Ok tt }
+    requires small { All (λ file. length file < 2 ^ 32) files }
+    ensures { Bundles plan.now.odr program.now (last_part (plan_seen plan.now).exe) (sources_of objects.now files (map (λ k. Some k) (range_with_len 0 count))) result }
 {
-    let source = numbers_below(alloc, count)?;
-    link_objects(
-        rt,
-        alloc,
-        &made.program,
-        last_part(plan.exe.as_str()),
-        made.objects.as_slice(),
-        made.files.as_slice(),
-        source.as_slice(),
-        &Options {
-            odr: plan.odr,
-            workers: plan.workers,
-        },
-        gate,
-    )
+    let numbers = numbers_below(work.workers.alloc, count)?;
+    let sources = Sources {
+        objects,
+        files,
+        numbers: numbers.as_slice(),
+    };
+    let program = Program { image: program };
+    link_objects(work, &program, &wanted(plan), sources)
 }
 
 /// The numbers below this one.

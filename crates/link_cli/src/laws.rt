@@ -2,8 +2,8 @@
 
 ghost use Rattle.std.specs.Prelude.{◌≡◌, ◌⊎◌, ℕ, List as Listed, Some};
 ghost use Rattle.ds_files.specs.Outside.{Contents, Rose};
-ghost use Rattle.link_core.specs.declared.status.Status.{Status as Ended};
-ghost use Rattle.link_core.specs.declared.status.Status.TheVariants as statuses;
+ghost use Rattle.link_status.specs.declared.status.Status.{Status as Ended};
+ghost use Rattle.link_status.specs.declared.status.Status.TheVariants as statuses;
 ghost use Rattle.link_cli.specs.Answer.{Links};
 ghost use Rattle.link_cli.specs.Endings.{Said};
 ghost use Rattle.link_cli.specs.Files.{World};

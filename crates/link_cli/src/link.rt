@@ -3,31 +3,32 @@
 ghost use Rattle.std.specs.Prelude.{◌≡◌, ◌<◌, ◌≤◌, ◌^◌, false, Ok, length, map};
 ghost use Rattle.std.specs.String.{string_bytes};
 ghost use Rattle.ds_files.specs.Outside.{IsLater};
-ghost use Rattle.macho_read.specs.declared.kind.Role.TheVariants as roles;
-ghost use Rattle.macho_read.specs.Kind.{kind_of};
-ghost use Rattle.macho_read.specs.Sound.{IsSound as IsSoundImage};
+ghost use Rattle.link_status.specs.Names.{last_part};
 ghost use Rattle.link_cli.specs.Answer.{Ends, Links, LinksObjects, LinksSources, Makes, Runs, RunsProgram, sources_in};
 ghost use Rattle.link_cli.specs.Endings.{Tells, map_ending, said};
 ghost use Rattle.link_cli.specs.Files.{ReadsProgram, world};
 ghost use Rattle.link_cli.specs.Holding.{held_of};
 ghost use Rattle.link_cli.specs.Plan.{HasCount, HasWorkers, is_generated};
 ghost use Rattle.link_cli.specs.Plans.{plan_seen};
-ghost use Rattle.link_cli.specs.Seen.{AreSmall, HaveNames, held_seen};
+ghost use Rattle.link_cli.specs.Seen.{AreSmall, IsLinkable, held_seen};
 
 use crate::ending::Ending;
 use crate::files::{HeldFiles, contents_of, expect_files, numbers_of, read_files, unread};
 use crate::generate::link_generated;
 use crate::output::write_bundle;
 use crate::plan::{Mode, Plan, PlanError, plan_of_words};
-use crate::program::{Program, read_program};
+use crate::program::{MappedProgram, read_program};
 use crate::texts::map_text;
 use ds_base::limits::INPUT_BYTES;
 use ds_base::{Bytes, NoMemory};
 use ds_files::{Ahead, Files, Gate, Sink};
 use indexmap::IndexMap;
-use link_core::{Linked, Options, Refusal, Status, last_part, link_files};
+use link_core::{Linked, Program, Wanted, link_objects};
+use link_status::{Refusal, Status, last_part};
+use object_reads::Sources;
 use std::alloc::Global;
 use std::thread::Threads;
+use work_share::{Work, Workers};
 
 /// Does what the command's words ask: links a program with its objects and writes the program's bundle, Info.plist and
 /// the image; or tells its debug map; or links a generated program, whatever the files are, and tells what was counted.
@@ -81,32 +82,43 @@ fn run_plan<R: Threads + Sync, F: Files + Sync, G: Gate + Sync>(
     requires count { HasCount plan.now.mode }
     ensures { Runs (plan_seen plan.now) (world (F.files files.old) (F.counts files.old)) (world (F.files files.new) (F.counts files.new)) result }
 {
+    let workers = Workers {
+        rt,
+        alloc,
+        count: plan.workers,
+    };
+    let work = Work {
+        workers: &workers,
+        gate,
+    };
     match plan.mode {
-        Mode::Link => run_program(rt, alloc, plan, files, gate),
-        Mode::Map => run_program(rt, alloc, plan, files, gate),
-        Mode::Generate(count) => link_generated(rt, alloc, plan, count, gate),
+        Mode::Link => run_program(&work, plan, files),
+        Mode::Map => run_program(&work, plan, files),
+        Mode::Generate(count) => link_generated(&work, plan, count),
     }
 }
 
 /// Reads the program of a plan, and does what is to be done with it.
 fn run_program<R: Threads + Sync, F: Files + Sync, G: Gate + Sync>(
-    rt: &R,
-    alloc: Global,
+    work: &Work<R, G>,
     plan: &Plan,
     files: &mut F,
-    gate: &G,
 ) -> Ending
-    requires workers { HasWorkers plan.now.workers }
-    requires there { is_generated plan.now.mode ≡ false }
+    requires { is_generated plan.now.mode ≡ false }
     ensures { RunsProgram (plan_seen plan.now) (world (F.files files.old) (F.counts files.old)) (world (F.files files.new) (F.counts files.new)) result }
 {
+    let alloc = work.workers.alloc;
     let bytes = match read_exe(alloc, plan.exe.as_str(), files) {
         Ok(bytes) => bytes,
         Err(status) => return Ending::refused(alloc, plan, &[], Bytes::new(alloc), status),
     };
     let most = INPUT_BYTES - bytes.len() as u64;
-    let workers = workers_ahead(plan);
-    let (read, ahead) = read_program(rt, alloc, bytes.as_slice(), workers, most, files);
+    let ahead = Workers {
+        rt: work.workers.rt,
+        alloc,
+        count: workers_ahead(plan, work.workers.count),
+    };
+    let (read, ahead) = read_program(&ahead, bytes.as_slice(), most, files);
     drop(bytes);
     let program = match read {
         Ok(program) => program,
@@ -116,16 +128,20 @@ fn run_program<R: Threads + Sync, F: Files + Sync, G: Gate + Sync>(
         }
     };
     match plan.mode {
-        Mode::Link => link_program(rt, alloc, plan, &program, most, ahead, files, gate),
+        Mode::Link => link_program(work, plan, &program, most, ahead, files),
         Mode::Map => tell_map(alloc, &program),
         Mode::Generate(_) => unreachable!(),
     }
 }
 
-/// By how many workers the files of a program's objects may be read ahead: by one, which is none, where they aren't read.
-fn workers_ahead(plan: &Plan) -> u32 {
+/// By how many of these workers the files of a program's objects may be read ahead: by one, which is none, where they aren't
+/// read.
+fn workers_ahead(plan: &Plan, workers: u32) -> u32
+    requires { (1 ≤ workers) × (workers ≤ 64) }
+    ensures { (1 ≤ result) × (result ≤ 64) }
+{
     match plan.mode {
-        Mode::Link => plan.workers,
+        Mode::Link => workers,
         Mode::Map | Mode::Generate(_) => 1,
     }
 }
@@ -141,7 +157,7 @@ fn read_exe<F: Files>(alloc: Global, exe: &str, files: &mut F) -> Result<Bytes, 
 }
 
 /// Tells the debug map of a program.
-fn tell_map(alloc: Global, program: &Program) -> Ending
+fn tell_map(alloc: Global, program: &MappedProgram) -> Ending
     requires { length program.now.objects < 2 ^ 16 }
     ensures { Tells (map_ending program.now) result }
 {
@@ -157,51 +173,42 @@ fn tell_map(alloc: Global, program: &Program) -> Ending
 /// Reads the files of a program's objects, which have at most `most` bytes together, some of them ahead, links them and writes
 /// the bundle.
 fn link_program<R: Threads + Sync, F: Files + Sync, G: Gate + Sync>(
-    rt: &R,
-    alloc: Global,
+    work: &Work<R, G>,
     plan: &Plan,
-    program: &Program,
+    program: &MappedProgram,
     most: u64,
     ahead: Ahead,
     files: &mut F,
-    gate: &G,
 ) -> Ending
-    requires sound { IsSoundImage program.now.image }
-    requires kind { kind_of program.now.image roles.Program ≡ Ok tt }
-    requires few { length program.now.objects < 2 ^ 16 }
-    requires names { HaveNames program.now.objects }
+    requires linkable { IsLinkable program.now }
     requires most { most ≤ 2 ^ 29 }
-    requires workers { HasWorkers plan.now.workers }
     ensures { LinksObjects (plan_seen plan.now) program.now most (world (F.files files.old) (F.counts files.old)) (world (F.files files.new) (F.counts files.new)) result }
 {
+    let alloc = work.workers.alloc;
     let objects = program.objects.as_slice();
     expect_files(ahead, files);
     match read_files(alloc, objects, plan.keep_going, most, files) {
-        Ok(held) => link_held(rt, alloc, plan, program, held, files, gate),
+        Ok(held) => link_held(work, plan, program, held, files),
         Err(stopped) => { Ending::refused(alloc, plan, objects, stopped.warnings, stopped.status) }
     }
 }
 
 /// Links a program with its objects, whose files are held, and writes the bundle.
 fn link_held<R: Threads + Sync, F: Files, G: Gate + Sync>(
-    rt: &R,
-    alloc: Global,
+    work: &Work<R, G>,
     plan: &Plan,
-    program: &Program,
+    program: &MappedProgram,
     held: HeldFiles,
     files: &mut F,
-    gate: &G,
 ) -> Ending
-    requires sound { IsSoundImage program.now.image }
-    requires kind { kind_of program.now.image roles.Program ≡ Ok tt }
-    requires few { length program.now.objects < 2 ^ 16 }
+    requires linkable { IsLinkable program.now }
     requires held { length (held_seen held.files) < 2 ^ 16 }
     requires small { AreSmall (held_seen held.files) }
-    requires workers { HasWorkers plan.now.workers }
     ensures { LinksSources (plan_seen plan.now) program.now (held_of held.entry) (world (F.files files.old) (F.counts files.old)) (world (F.files files.new) (F.counts files.new)) result }
 {
+    let alloc = work.workers.alloc;
     let objects = program.objects.as_slice();
-    match bundle(rt, alloc, plan, program, held.files, gate) {
+    match bundle(work, plan, program, held.files) {
         Ok(linked) => write_bundle(alloc, plan, objects, held.warnings, &linked, files),
         Err(refusal) => {
             let status = Status::from(refusal);
@@ -212,36 +219,38 @@ fn link_held<R: Threads + Sync, F: Files, G: Gate + Sync>(
 
 /// The bundle of a program with its objects, whose files are held.
 fn bundle<R: Threads + Sync, G: Gate + Sync>(
-    rt: &R,
-    alloc: Global,
+    work: &Work<R, G>,
     plan: &Plan,
-    program: &Program,
+    program: &MappedProgram,
     held: IndexMap<&[u8], Bytes>,
-    gate: &G,
 ) -> Result<Linked, Refusal>
-    requires sound { IsSoundImage program.now.image }
-    requires kind { kind_of program.now.image roles.Program ≡ Ok tt }
-    requires few { length program.now.objects < 2 ^ 16 }
+    requires linkable { IsLinkable program.now }
     requires held { length (held_seen held) < 2 ^ 16 }
     requires small { AreSmall (held_seen held) }
-    requires workers { HasWorkers plan.now.workers }
     ensures { Makes (plan_seen plan.now) program.now (sources_in (held_seen held.entry) program.now.objects) result }
 {
+    let alloc = work.workers.alloc;
     let objects = program.objects.as_slice();
-    let source = numbers_of(alloc, objects, &held)?;
-    let contents = contents_of(alloc, held)?;
-    link_files(
-        rt,
-        alloc,
-        &program.image,
-        last_part(plan.exe.as_str()),
+    let numbers = numbers_of(alloc, objects, &held)?;
+    let files = contents_of(alloc, held)?;
+    let sources = Sources {
         objects,
-        contents,
-        source.as_slice(),
-        &Options {
-            odr: plan.odr,
-            workers: plan.workers,
-        },
-        gate,
-    )
+        files,
+        numbers: numbers.as_slice(),
+    };
+    let program = Program {
+        image: &program.image,
+    };
+    link_objects(work, &program, &wanted(plan), sources)
+}
+
+/// What a plan wants of a link.
+pub(crate) fn wanted(plan: &Plan) -> Wanted
+    ensures odr { result.odr ≡ plan.now.odr }
+    ensures name { result.name.now ≡ last_part (plan_seen plan.now).exe }
+{
+    Wanted {
+        odr: plan.odr,
+        name: last_part(plan.exe.as_str()),
+    }
 }

@@ -13,7 +13,7 @@ use ds_files::OpenGate;
 use sample_objects::{Generated, generated_file, generated_with};
 use std::alloc::Global;
 use std::thread::Threads;
-use work_share::{Job, each};
+use work_share::{Job, Workers, each};
 
 /// The number of the phase in which the files of objects are made. Its gate is open.
 const MAKE: u32 = 0;
@@ -36,16 +36,13 @@ impl Job for Making {
     }
 }
 
-/// The generated program of so many objects, whose files are made by at most `workers` threads.
+/// The generated program of so many objects, whose files are made by several threads.
 ///
 /// It is that of [`sample_objects::generated`]. A worker for which no thread can be started does its work in the caller's.
 pub(crate) fn shared_program<R: Threads + Sync>(
-    rt: &R,
-    alloc: Global,
-    workers: u32,
+    workers: &Workers<R>,
     count: u32,
 ) -> Result<Generated, NoMemory>
-    requires workers { (1 ≤ workers) × (workers ≤ 64) }
     requires some { 1 ≤ count }
     requires few { count ≤ 1000 }
     ensures exact { IfOk result (λ made. made ≡ generated_program count) }
@@ -53,9 +50,10 @@ pub(crate) fn shared_program<R: Threads + Sync>(
     ensures kind { IfOk result (λ made. kind_of made.program roles.Program ≡ Ok tt) }
     ensures small { IfOk result (λ made. All (λ file. length file < 2 ^ 32) made.files) }
 {
+    let alloc = workers.alloc;
     let job = Making { alloc };
     let gate = OpenGate::new();
-    let outs = each(rt, alloc, workers, count, MAKE, &gate, &job)?;
+    let outs = each(workers, count, MAKE, &gate, &job)?;
     let files = all_made(alloc, outs)?;
     generated_with(alloc, count, files)
 }

@@ -12,7 +12,8 @@ use crate::plan::Plan;
 use crate::texts::summary;
 use ds_base::{Bytes, NoMemory};
 use ds_files::{FileError, Files};
-use link_core::{Counts, Linked, Status, image_name, plist_name};
+use link_core::{Counts, Linked};
+use link_status::{Status, image_name, plist_name};
 use stab_map::MapObject;
 use std::alloc::Global;
 

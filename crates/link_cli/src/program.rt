@@ -8,23 +8,24 @@ ghost use Rattle.macho_read.specs.declared.kind.Role.TheVariants as roles;
 ghost use Rattle.macho_read.specs.Kind.{kind_of};
 ghost use Rattle.macho_read.specs.Sound.{IsSound as IsSoundImage};
 ghost use Rattle.stab_map.specs.DebugMap.{Answers as MapAnswers, map_of};
-ghost use Rattle.link_cli.specs.declared.program.Program.{Program as AProgram};
+ghost use Rattle.link_cli.specs.declared.program.MappedProgram.{MappedProgram as AProgram};
 ghost use Rattle.link_cli.specs.Refusals as spec;
-ghost use Rattle.link_cli.specs.Seen.{HaveNames};
+ghost use Rattle.link_cli.specs.Seen.{HaveNames, IsLinkable};
 
 use ds_base::limits::OBJECTS;
 use ds_base::{List, NoMemory, ReadError};
 use ds_files::{Ahead, Files, fetch_ahead};
 use indexmap::IndexSet;
-use link_core::{LimitKind, Refusal};
+use link_status::{LimitKind, Refusal};
 use macho_read::{Image, Role, check_kind, read_image};
 use stab_map::{MapError, MapObject, debug_map, opened_file};
 use std::alloc::Global;
 use std::thread::{Threads, join};
+use work_share::Workers;
 
 /// A program, and the objects that it was linked from.
 #[derive(Drop)]
-pub(crate) struct Program {
+pub(crate) struct MappedProgram {
     pub image: Image,
     pub objects: List<MapObject>,
 }
@@ -34,26 +35,21 @@ pub(crate) struct Program {
 /// Of several workers one makes the debug map, and the others read files ahead meanwhile.
 #[tactic(auto, unfolding(crate::specs::Refusals::program_of))]
 pub(crate) fn read_program<R: Threads + Sync, F: Files + Sync>(
-    rt: &R,
-    alloc: Global,
+    workers: &Workers<R>,
     bytes: &[u8],
-    workers: u32,
     most: u64,
     files: &F,
-) -> (Result<Program, Refusal>, Ahead)
+) -> (Result<MappedProgram, Refusal>, Ahead)
     ensures read { spec.Answers (λ program. program) result.0 (spec.program_of bytes.now) }
-    ensures sound { IfOk result.0 (λ program. IsSoundImage program.image) }
-    ensures kind { IfOk result.0 (λ program. kind_of program.image roles.Program ≡ Ok tt) }
-    ensures few { IfOk result.0 (λ program. length program.objects < 2 ^ 16) }
-    ensures names { IfOk result.0 (λ program. HaveNames program.objects) }
+    ensures linkable { IfOk result.0 IsLinkable }
 {
-    let image = match program_image(alloc, bytes) {
+    let image = match program_image(workers.alloc, bytes) {
         Ok(image) => image,
         Err(error) => return (Err(image_refusal(error)), Ahead::new()),
     };
-    let (map, ahead) = read_map(rt, alloc, workers, most, files, &image);
+    let (map, ahead) = read_map(workers, most, files, &image);
     match map {
-        Ok(objects) => (Ok(Program { image, objects }), ahead),
+        Ok(objects) => (Ok(MappedProgram { image, objects }), ahead),
         Err(error) => (Err(map_refusal(error)), ahead),
     }
 }
@@ -72,9 +68,7 @@ fn program_image(alloc: Global, bytes: &[u8]) -> Result<Image, ReadError>
 
 /// The debug map of an image, and what was read ahead of the files that it names.
 fn read_map<R: Threads + Sync, F: Files + Sync>(
-    rt: &R,
-    alloc: Global,
-    workers: u32,
+    workers: &Workers<R>,
     most: u64,
     files: &F,
     image: &Image,
@@ -83,10 +77,12 @@ fn read_map<R: Threads + Sync, F: Files + Sync>(
     ensures map { MapAnswers result.0 (map_of image.now) }
     ensures names { IfOk result.0 HaveNames }
 {
-    if workers < 2 {
+    let rt = workers.rt;
+    let alloc = workers.alloc;
+    if workers.count < 2 {
         return (debug_map(alloc, image), Ahead::new());
     }
-    let others = workers - 1;
+    let others = workers.count - 1;
     join(
         rt,
         || -> Result<List<MapObject>, MapError>

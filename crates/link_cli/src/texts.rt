@@ -5,9 +5,10 @@ ghost use Rattle.std.specs.List.{flat_map};
 ghost use Rattle.uuid.specs.Text.{hyphenated_text, lower};
 ghost use Rattle.link_cli.specs.Texts as spec;
 
-use crate::program::Program;
+use crate::program::MappedProgram;
 use ds_base::{Bytes, NoMemory};
-use link_core::{Counts, line};
+use link_core::Counts;
+use link_status::line;
 use stab_map::{MapEntry, MapObject};
 use std::alloc::Global;
 use uuid::Uuid;
@@ -55,7 +56,7 @@ fn push_number(alloc: Global, text: &mut Bytes, n: u64) -> Result<(), NoMemory>
 }
 
 /// The debug map of a program.
-pub(crate) fn map_text(alloc: Global, program: &Program) -> Result<Bytes, NoMemory>
+pub(crate) fn map_text(alloc: Global, program: &MappedProgram) -> Result<Bytes, NoMemory>
     requires { length program.now.objects < 2 ^ 16 }
     ensures { IfOk result (λ text. text ≡ spec.map_text program.now) }
 {

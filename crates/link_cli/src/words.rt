@@ -3,7 +3,7 @@
 ghost use Rattle.std.specs.Prelude.{◌≡◌};
 ghost use Rattle.link_cli.specs.Words as spec;
 
-use link_core::last_part;
+use link_status::last_part;
 
 /// Whether a path names a file: its last part is not empty and not that of a folder.
 pub(crate) fn names_file(path: &str) -> bool

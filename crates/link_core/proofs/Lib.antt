@@ -1,16 +1,3 @@
-pub mod Analysing
-pub mod Counting
-pub mod LastPart
-pub mod Leaving
-pub mod Batching
-pub mod MadeNames
-pub mod Marking
-pub mod Members
-pub mod Graphs
-pub mod Holding
-pub mod ShapesMade
-pub mod Turns
-pub mod ObjectsRead
 pub mod Refusing
 pub mod Bundling
 pub mod Unmerging

@@ -3,9 +3,11 @@ use Rattle.std.proofs.Common.{◌≡◌, ℕ, Bool, List, Some, None, Result, Ok
 use Rattle.std.specs.Prelude.{is_ok}
 use Rattle.dwarf_types.specs.declared.analysis.Analysis.{Analysis}
 use Rattle.macho_read.specs.declared.image.Image.{Image}
-use Rattle.link_core.specs.declared.refusal.Refusal.{Refusal}
-use Rattle.link_core.specs.declared.refusal.Refusal.TheVariants as refusals
-use Rattle.link_core.specs.Linked.{Bundles, HasNoRefusal, MarkLive, Source, fault, limit, limit_of, no_memory}
+use Rattle.link_status.specs.declared.refusal.Refusal.{Refusal}
+use Rattle.link_status.specs.declared.refusal.Refusal.TheVariants as refusals
+use Rattle.link_core.specs.Linked.{Bundles, HasNoRefusal, fault, limit, limit_of, no_memory}
+use Rattle.object_reads.specs.Marks.{MarkLive}
+use Rattle.object_reads.specs.Sources.{Source}
 
 abbrev the_result : (A E : Type 0) → Result A E → Result A E
 the_result A E r = r

@@ -33,22 +33,26 @@ use Rattle.link_graph.proofs.Joined.{shape_is}
 use Rattle.macho_read.specs.declared.image.Image.{Image}
 use Rattle.unit_draft.specs.declared.unit.Draft.{Draft}
 use Rattle.type_names.specs.Names.{Named}
-use Rattle.type_pool.specs.declared.closed.ClosedPool.{ClosedPool}
-use Rattle.link_core.specs.declared.bundle.Counted.{Counted}
-use Rattle.link_core.specs.declared.drafting.Drafts.{Drafts}
-use Rattle.link_core.specs.declared.reading.ReadBatch.{ReadBatch}
-use Rattle.link_core.specs.declared.refusal.LimitKind.TheVariants as limits
-use Rattle.link_core.specs.declared.refusal.Refusal.{Refusal}
-use Rattle.link_core.specs.declared.refusal.Refusal.TheVariants as refusals
+use Rattle.link_core.specs.declared.bundle.Drafted.{Drafted}
+use Rattle.unit_drafts.specs.declared.drafting.Drafts.{Drafts}
+use Rattle.object_reads.specs.declared.reading.ReadBatch.{ReadBatch}
+use Rattle.link_status.specs.declared.refusal.LimitKind.TheVariants as limits
+use Rattle.link_status.specs.declared.refusal.Refusal.{Refusal}
+use Rattle.link_status.specs.declared.refusal.Refusal.TheVariants as refusals
 use Rattle.link_core.specs.declared.unmerged.Unmerged.{Unmerged}
-use Rattle.link_core.specs.declared.objects.ReadObject.{ReadObject}
-use Rattle.link_core.specs.Linked.{IsClosed, Source, graph_of, limit_of}
-use Rattle.link_core.specs.Passes.{AreDrafting, AreLeft, DraftsUnit, DraftsUnits, IsDrafted, Links, MayDraftAll, Reads, ReadsAt, ReadsBatch, first_needed}
+use Rattle.object_reads.specs.declared.objects.ReadObject.{ReadObject}
+use Rattle.object_reads.specs.Sources.{Source}
+use Rattle.unit_drafts.specs.Graphs.{IsClosed, graph_of}
+use Rattle.link_core.specs.Passes.{IsDrafted, Links}
+use Rattle.object_reads.specs.Reading.{Reads, ReadsAt, ReadsBatch}
+use Rattle.unit_drafts.specs.Drafting.{AreDrafting, AreLeft, DraftsUnit, DraftsUnits, MayDraftAll, first_needed}
+use Rattle.unit_drafts.specs.Limits.{drafts_limit}
+use Rattle.link_core.proofs.Bundling.{drafts_limited}
 use Rattle.link_core.specs.Unmerged.{AreLinked, HasUnits, IsUnmerged, IsWhole, MayAdd, MayAddBatch, SoFar}
-use Rattle.link_core.proofs.Counting.{entries_few, filter_few, live_few}
-use Rattle.link_core.proofs.Graphs.{frames_same, given_whole, limit_is, pool_none, shape_few, shape_long}
-use Rattle.link_core.proofs.ObjectsRead.{going_more, going_none, going_stops}
-use Rattle.link_core.proofs.Turns.{given_as, slice_get_behind, slice_get_front, there_is}
+use Rattle.unit_drafts.proofs.Counting.{entries_few, filter_few, live_few}
+use Rattle.unit_drafts.proofs.Graphs.{frames_same, given_whole, limit_is, pool_none, shape_few, shape_long}
+use Rattle.object_reads.proofs.ObjectsRead.{going_more, going_none, going_stops}
+use Rattle.work_share.proofs.Turns.{given_as, slice_get_behind, slice_get_front, there_is}
 
 pub shape_is_of : (seen : List Analysis) (marks : List (List Bool)) → All IsSound seen → AreMarked seen marks → IsShape seen (shape_of false seen marks)
 shape_is_of seen marks sound marked = shape_is false seen marks (shape_of false seen marks) sound marked.each refl
@@ -189,8 +193,8 @@ module _ (seen : List Analysis) (marks : List (List Bool)) (sound : All IsSound 
   pub few_named : length (linked_names false seen marks) < 2 ^ 25
   few_named = omega (arith, none_named)
 
-  pub many_limit : 2 ^ 32 - 1 ≤ length (shape_of false seen marks).units → (program : Image) → limit_of false program seen marks ≡ Some (refusals.Limit limits.Section (2 ^ 32 - 1))
-  many_limit le program = shape_long false seen marks (linked_names false seen marks) (shape_of false seen marks) refl refl (shape_is_of seen marks sound marked) few_named le program
+  pub many_limit : 2 ^ 32 - 1 ≤ length (shape_of false seen marks).units → drafts_limit false seen marks ≡ Some (refusals.Limit limits.Section (2 ^ 32 - 1))
+  many_limit le = shape_long false seen marks (linked_names false seen marks) (shape_of false seen marks) refl refl (shape_is_of seen marks sound marked) few_named le
 
   pub may_draft_all : (shape : Shape) → shape ≡ shape_of false seen marks → length shape.units < 2 ^ 32 - 1 → MayDraftAll seen shape
   may_draft_all shape is few = record { is_shape = subst (IsShape seen) (sym is) (shape_is_of seen marks sound marked); sound = sound; few = few }
@@ -254,7 +258,7 @@ module _ (seen : List Analysis) (marks : List (List Bool)) (it : Unmerged) (are 
 
 module _ (program : Image) (name : List ℕ) (seen : List Analysis) (marks : List (List Bool)) (it : Unmerged) (whole : IsWhole seen marks it) where
   pub links_many : it.many ≡ true → Links false program name seen marks (Err (refusals.Limit limits.Section (2 ^ 32 - 1)))
-  links_many many = many_limit seen marks whole.are.sound whole.are.marked (units_many seen marks it.shape it.many many whole.are.linked.units) program
+  links_many many = drafts_limited false program seen marks (refusals.Limit limits.Section (2 ^ 32 - 1)) (many_limit seen marks whole.are.sound whole.are.marked (units_many seen marks it.shape it.many many whole.are.linked.units))
 
   module _ (few : it.many ≡ false) where
     units : (it.shape ≡ shape_of false seen marks) × (length it.shape.units < 2 ^ 32 - 1)
@@ -274,9 +278,9 @@ module _ (program : Image) (name : List ℕ) (seen : List Analysis) (marks : Lis
     pub few_units : length (graph_of false seen marks).units < 2 ^ 32 - 1
     few_units = subst (λ (g : Graph). length g.units < 2 ^ 32 - 1) graph_is (shape_few seen it.shape is_shape units.1)
 
-    pub drafted_all : (drafts : List Draft) (frames : List OutFrame) (counted : Counted) (closed : ClosedPool) → DraftsUnits (graph_of false seen marks) (Ok drafts) → frames ≡ it.frames → counted.objects ≡ length it.drafts.left → counted.entries ≡ it.entries → counted.live ≡ it.live → counted.pooled ≡ 0 → counted.names ≡ 0
-        → IsClosed [] closed → IsDrafted false seen marks drafts frames counted closed
-    drafted_all drafts frames counted closed are framed o e l p n it_closed = record {
+    pub drafted_all : (made : Drafted) → DraftsUnits (graph_of false seen marks) (Ok made.drafts) → made.frames ≡ it.frames → made.counted.objects ≡ length it.drafts.left → made.counted.entries ≡ it.entries → made.counted.live ≡ it.live → made.counted.pooled ≡ 0
+        → made.counted.names ≡ 0 → IsClosed [] made.closed → IsDrafted false seen marks made
+    drafted_all made are framed o e l p n it_closed = record {
       few_names = few_named seen marks whole.are.sound whole.are.marked;
       few = few_units;
       drafts_are = are;
@@ -288,12 +292,12 @@ module _ (program : Image) (name : List ℕ) (seen : List Analysis) (marks : Lis
         pooled = p ∙ sym (ap length (names_none seen marks));
         names = n ∙ sym (pool_none (linked_names false seen marks) (ap length (names_none seen marks)));
       };
-      closed_is = subst (λ (ns : List Named). IsClosed ns closed) (sym (names_none seen marks)) it_closed;
+      closed_is = subst (λ (ns : List Named). IsClosed ns made.closed) (sym (names_none seen marks)) it_closed;
     }
 
     pub refused_unit : (r : Refusal) → DraftsUnits (graph_of false seen marks) (Err r) → Links false program name seen marks (Err r)
     refused_unit (refusals.Faulty file why) d = absurd d
-    refused_unit (refusals.Limit which n) d = limit_is false seen marks (few_named seen marks whole.are.sound whole.are.marked) program ∙ d program
+    refused_unit (refusals.Limit which n) d = drafts_limited false program seen marks (refusals.Limit which n) (limit_is false seen marks (few_named seen marks whole.are.sound whole.are.marked) ∙ d)
     refused_unit refusals.NoMemory d = tt
 
 -- ---- the beginning

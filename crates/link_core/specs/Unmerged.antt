@@ -8,11 +8,12 @@ use Rattle.dwarf_types.specs.Sound.{IsSound}
 use Rattle.link_graph.specs.Merged.{shape_of}
 use Rattle.link_graph.specs.OwnShapes.{StandsBehind}
 use Rattle.work_share.specs.Results.{GivesAll}
-use Rattle.link_core.specs.declared.objects.ReadObject.{ReadObject}
-use Rattle.link_core.specs.declared.refusal.Refusal.{Refusal}
+use Rattle.object_reads.specs.declared.objects.ReadObject.{ReadObject}
+use Rattle.link_status.specs.declared.refusal.Refusal.{Refusal}
 use Rattle.link_core.specs.declared.unmerged.Unmerged.{Unmerged}
-use Rattle.link_core.specs.Linked.{Source}
-use Rattle.link_core.specs.Passes.{AreDrafting, Going, Reads, ReadsAt}
+use Rattle.object_reads.specs.Sources.{Source}
+use Rattle.object_reads.specs.Reading.{Going, Reads, ReadsAt}
+use Rattle.unit_drafts.specs.Drafting.{AreDrafting}
 
 -- the shape of objects with the marks of their live entries, whose units can be numbered; or that there are too many of them
 abbrev pub HasUnits : List Analysis → List (List Bool) → Shape → Bool → Type 0

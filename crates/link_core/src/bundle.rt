@@ -1,16 +1,10 @@
-//! A bundle, and what a link counts.
+//! A bundle, what a link counts, and what is drafted of it.
 
-use ds_base::Bytes;
+use ds_base::{Bytes, List};
+use dwarf_types::OutFrames;
 use type_pool::ClosedPool;
-
-/// How a link is to be made.
-#[derive(Clone, Copy, Debug)]
-pub struct Options {
-    /// Whether types of one name are merged, in C++ and Objective-C++.
-    pub odr: bool,
-    /// How many threads work, from 1 to 64.
-    pub workers: u32,
-}
+use unit_draft::Draft;
+use work_share::Rooming;
 
 /// What a link counted.
 #[derive(Clone, Copy, Debug)]
@@ -31,6 +25,18 @@ pub struct Counts {
     pub bytes: u64,
 }
 
+/// The two files of a bundle.
+#[derive(Drop)]
+pub struct Linked {
+    /// The dSYM image.
+    pub image: Bytes,
+    /// The text of Info.plist.
+    pub plist: Bytes,
+    pub counts: Counts,
+    /// The closed table in which names that are merged were bid for.
+    pub closed: ClosedPool,
+}
+
 /// What is counted of the objects of a link.
 #[derive(Clone, Copy)]
 pub(crate) struct Counted {
@@ -41,14 +47,15 @@ pub(crate) struct Counted {
     pub names: u64,
 }
 
-/// The two files of a bundle.
+/// All that is drafted of a link.
 #[derive(Drop)]
-pub struct Linked {
-    /// The dSYM image.
-    pub image: Bytes,
-    /// The text of Info.plist.
-    pub plist: Bytes,
-    pub counts: Counts,
-    /// The closed table in which names that are merged were bid for.
+pub(crate) struct Drafted {
+    /// A draft of each unit, in the order of the units.
+    pub drafts: List<Draft>,
+    /// Memory for their string section, which a thread takes.
+    pub texts: Rooming,
+    /// The frames of all objects.
+    pub frames: OutFrames,
+    pub counted: Counted,
     pub closed: ClosedPool,
 }

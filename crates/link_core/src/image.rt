@@ -1,53 +1,49 @@
 //! The bundle of a program, from the drafts of its units.
 
-ghost use Rattle.std.specs.Prelude.{◌≡◌, ◌<◌, ◌≤◌, ◌^◌, ◌-◌, Bool, List as Listed, length, Ok};
+ghost use Rattle.std.specs.Prelude.{◌≡◌, ◌<◌, ◌-◌, ◌^◌, Bool, List as Listed, length, Ok};
 ghost use Rattle.dwarf_types.specs.declared.analysis.Analysis.{Analysis as Seen};
 ghost use Rattle.dwarf_types.specs.declared.graph.Graph.{Graph as AGraph};
 ghost use Rattle.layout.specs.Laid.{IsMeasured, Measures};
 ghost use Rattle.link_core.specs.Passes.{AreOfGraph, Images, IsDrafted, Lays, Links};
-ghost use Rattle.macho_read.specs.declared.kind.Role.TheVariants as roles;
-ghost use Rattle.macho_read.specs.Kind.{kind_of};
-ghost use Rattle.macho_read.specs.Sound.{IsSound};
 ghost use Rattle.unit_draft.specs.Drafted.{AreDrafts};
 
-use crate::bundle::{Counted, Counts, Linked};
-use crate::counts::count_nodes;
-use crate::refusal::{LimitKind, Refusal};
-use crate::room::{Rooming, let_go, start_room, started_room};
+use crate::bundle::{Counts, Drafted, Linked};
+use crate::program::{Program, Wanted};
 use ds_base::limits::{IMAGE_BYTES, SECTION_BYTES};
 use ds_base::{Bytes, List};
 use dsym_write::{WriteError, image_in, plist_text};
 use dwarf_types::OutFrames;
 use layout::{Layout, LayoutError, place_drafts_by};
-use macho_read::Image;
-use std::alloc::Global;
+use link_status::{LimitKind, Refusal};
 use std::thread::Threads;
-use type_pool::ClosedPool;
 use unit_draft::Draft;
+use unit_drafts::{count_nodes, size_of_their_texts};
+use work_share::{Rooming, Workers, let_go, start_room, started_room};
 
-/// The bundle of a program of this name and of the graph of these drafts and frames, or the first limit that is reached.
-/// The image is filled by at most `workers` threads. Its string section takes the memory that a thread took.
+/// Bytes of a symbol of a program in its image, about: a third is kept, each with its name.
+const SYMBOL_BYTES: usize = 32;
+
+/// The bundle of a program and of the graph that is drafted, or the first limit that is reached. Its string section takes the
+/// memory that a thread took.
 pub(crate) fn bundle_of<R: Threads + Sync>(
-    rt: &R,
-    alloc: Global,
-    workers: u32,
-    program: &Image,
-    name: &str,
-    drafts: List<Draft>,
-    texts: Rooming,
-    frames: &OutFrames,
-    counted: Counted,
-    closed: ClosedPool,
+    workers: &Workers<R>,
+    program: &Program,
+    wanted: &Wanted,
+    drafted: Drafted,
 ) -> Result<Linked, Refusal>
-    requires workers { (1 ≤ workers) × (workers ≤ 64) }
-    requires sound { IsSound program.now }
-    requires kind { kind_of program.now roles.Program ≡ Ok tt }
-    requires drafted { (odr : Bool) × (seen : Listed Seen) × (marks : Listed (Listed Bool)) × IsDrafted odr seen marks drafts frames.now counted closed }
-    ensures { (odr : Bool) (seen : Listed Seen) (marks : Listed (Listed Bool)) → IsDrafted odr seen marks drafts frames.now counted closed → Links odr program.now name.now seen marks result }
+    requires drafted { (odr : Bool) × (seen : Listed Seen) × (marks : Listed (Listed Bool)) × IsDrafted odr seen marks drafted }
+    ensures { (odr : Bool) (seen : Listed Seen) (marks : Listed (Listed Bool)) → IsDrafted odr seen marks drafted → Links odr program.now.image.now wanted.now.name.now seen marks result }
 {
+    let Drafted {
+        drafts,
+        texts,
+        frames,
+        counted,
+        closed,
+    } = drafted;
     let nodes = count_nodes(drafts.as_slice());
-    let image = image_of(rt, alloc, workers, program, drafts, texts, frames)?;
-    let plist = plist_text(alloc, name)?;
+    let image = image_of(workers, program, drafts, texts, &frames)?;
+    let plist = plist_text(workers.alloc, wanted.name)?;
     let counts = Counts {
         objects: counted.objects,
         entries: counted.entries,
@@ -68,47 +64,73 @@ pub(crate) fn bundle_of<R: Threads + Sync>(
 /// The image of a program and of the graph of these drafts and frames, or the first limit that is reached. Where several
 /// threads work, one of them takes memory for the image while the others place the drafts, and one lets these go.
 fn image_of<R: Threads + Sync>(
-    rt: &R,
-    alloc: Global,
-    workers: u32,
-    program: &Image,
+    workers: &Workers<R>,
+    program: &Program,
     drafts: List<Draft>,
     texts: Rooming,
     frames: &OutFrames,
 ) -> Result<Bytes, Refusal>
-    requires workers { (1 ≤ workers) × (workers ≤ 64) }
-    requires sound { IsSound program.now }
-    requires kind { kind_of program.now roles.Program ≡ Ok tt }
     requires few { length drafts < 2 ^ 32 - 1 }
     requires drafted { AreOfGraph drafts frames.now }
-    ensures { (graph : AGraph) → AreDrafts graph drafts → graph.frames ≡ frames.now → Images program.now graph result }
+    ensures { (graph : AGraph) → AreDrafts graph drafts → graph.frames ≡ frames.now → Images program.now.image.now graph result }
 {
-    let texts = started_room(rt, alloc, texts);
-    let rooming = start_room(rt, alloc, workers, program, drafts.as_slice(), texts.len());
-    let placed = layout_of(rt, alloc, texts, workers, drafts, frames);
-    let room = started_room(rt, alloc, rooming);
+    let texts = started_room(workers, texts);
+    let size = size_of_image(program, drafts.as_slice(), texts.len());
+    let rooming = start_room(workers, size);
+    let placed = layout_of(workers, texts, drafts, frames);
+    let room = started_room(workers, rooming);
     let layout = placed?;
-    let image = write_image(rt, room, workers, program, &layout)?;
-    let_go(rt, workers, layout);
+    let image = write_image(workers, room, program, &layout)?;
+    let_go(workers, layout);
     Ok(image)
 }
 
+/// About the bytes of the image of a program and these drafts. `texts` is about the size of its string section, or 0 where that
+/// was not guessed.
+fn size_of_image(program: &Program, drafts: &[Draft], texts: usize) -> usize {
+    let mut size = program.image.symbols.len().saturating_mul(SYMBOL_BYTES);
+    for draft in drafts {
+        size = size.saturating_add(size_of(draft));
+    }
+    let texts = if texts == 0 {
+        size_of_their_texts(drafts)
+    } else {
+        texts
+    };
+    size.saturating_add(texts)
+}
+
+/// The bytes of a draft but for its texts.
+fn size_of(draft: &Draft) -> usize {
+    draft
+        .info
+        .len()
+        .saturating_add(draft.locations.len())
+        .saturating_add(draft.ranges.len())
+        .saturating_add(draft.lines.len())
+        .saturating_add(draft.table.len())
+}
+
 /// The layout of the graph of these drafts and frames, or the first limit that it reaches. No unit is too long, since each
-/// has a draft. At most `workers` threads look the texts up, which take the place of a room.
+/// has a draft. The texts take the place of a room.
 fn layout_of<R: Threads + Sync>(
-    rt: &R,
-    alloc: Global,
+    workers: &Workers<R>,
     room: Vec<u8>,
-    workers: u32,
     drafts: List<Draft>,
     frames: &OutFrames,
 ) -> Result<Layout, Refusal>
-    requires workers { 1 ≤ workers }
     requires few { length drafts < 2 ^ 32 - 1 }
     requires drafted { AreOfGraph drafts frames.now }
     ensures { (graph : AGraph) → AreDrafts graph drafts → graph.frames ≡ frames.now → Lays graph result }
 {
-    match place_drafts_by(rt, alloc, room, workers, drafts, frames) {
+    match place_drafts_by(
+        workers.rt,
+        workers.alloc,
+        room,
+        workers.count,
+        drafts,
+        frames,
+    ) {
         Ok(layout) => Ok(layout),
         Err(LayoutError::Unit { .. }) => unreachable!(),
         Err(LayoutError::Section { .. }) => Err(Refusal::Limit {
@@ -121,19 +143,15 @@ fn layout_of<R: Threads + Sync>(
 
 /// The image of a program and of a layout, in the place of a room.
 fn write_image<R: Threads + Sync>(
-    rt: &R,
+    workers: &Workers<R>,
     room: Vec<u8>,
-    workers: u32,
-    program: &Image,
+    program: &Program,
     layout: &Layout,
 ) -> Result<Bytes, Refusal>
-    requires workers { (1 ≤ workers) × (workers ≤ 64) }
-    requires sound { IsSound program.now }
-    requires kind { kind_of program.now roles.Program ≡ Ok tt }
     requires measured { IsMeasured layout.now }
-    ensures { (graph : AGraph) → Measures graph (Ok layout.now) → length graph.units < 2 ^ 32 - 1 → Images program.now graph result }
+    ensures { (graph : AGraph) → Measures graph (Ok layout.now) → Images program.now.image.now graph result }
 {
-    match image_in(rt, room, workers, program, layout) {
+    match image_in(workers.rt, room, workers.count, program.image, layout) {
         Ok(image) => Ok(image),
         Err(WriteError::File { .. }) => Err(Refusal::Limit {
             which: LimitKind::File,

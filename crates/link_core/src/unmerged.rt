@@ -1,38 +1,32 @@
 //! A link in which nothing is merged: the units of each object are drafted once it is read, and its analysis goes.
 
-ghost use Rattle.std.specs.Prelude.{◌≡◌, ◌<◌, ◌≤◌, ◌+◌, ◌^◌, ℕ, Bool, List as Listed, [], ◌∷◌, ◌++◌, false, length, Ok, IfOk, IfSome, OnOk};
-ghost use Rattle.std.specs.List.{All};
+ghost use Rattle.std.specs.Prelude.{◌≡◌, ◌<◌, ◌≤◌, ◌+◌, ◌^◌, ℕ, Bool, List as Listed, [], ◌∷◌, ◌++◌, false, length, Ok, IfOk, OnOk};
 ghost use Rattle.dwarf_types.specs.declared.analysis.Analysis.{Analysis as Seen};
-ghost use Rattle.macho_read.specs.declared.kind.Role.TheVariants as roles;
-ghost use Rattle.macho_read.specs.Kind.{kind_of};
 ghost use Rattle.dwarf_types.specs.Sound.{IsSound};
-ghost use Rattle.macho_read.specs.Sound.{IsSound as IsSoundImage};
 ghost use Rattle.link_graph.specs.Merged.{shape_of};
 ghost use Rattle.link_graph.specs.OwnShapes.{IsOwnShape, StandsBehind};
 ghost use Rattle.link_graph.specs.Passes.{marked};
-ghost use Rattle.link_core.specs.Linked.{Bundles, IsClosed, Source, sources_of};
+ghost use Rattle.object_reads.specs.Sources.{Source, listed};
+ghost use Rattle.unit_drafts.specs.Graphs.{IsClosed};
+ghost use Rattle.link_core.specs.Linked.{Bundles};
 ghost use Rattle.link_core.specs.Passes.{Links};
 ghost use Rattle.link_core.specs.Unmerged.{AddsUpTo, AreLinked, HasUnits, IsUnmerged, IsWhole, MayAdd, MayAddBatch};
 
-use crate::bundle::{Counted, Linked};
-use crate::counts::count_marks;
-use crate::drafting::{Drafts, all_drafted};
-use crate::files::all_files;
-use crate::graph::{no_names, too_many_units};
+use crate::bundle::{Counted, Drafted, Linked};
 use crate::image::bundle_of;
-use crate::objects::ReadObject;
-use crate::reading::{ReadBatch, read_next};
-use crate::refusal::Refusal;
+use crate::program::{Program, Wanted};
 use ds_base::limits::SECTION_BYTES;
-use ds_base::{BitRow, Bytes, List, NoMemory};
+use ds_base::{BitRow, List, NoMemory};
 use ds_files::Gate;
 use dwarf_types::{Analysis, OutFrames, Shape};
 use link_graph::{ObjectShape, ShapeError, add_object, empty_shape, kept_shape};
-use macho_read::Image;
-use stab_map::MapObject;
+use link_status::Refusal;
+use object_reads::{FilesLeft, ReadBatch, ReadObject, Sources, read_next};
 use std::alloc::Global;
 use std::thread::Threads;
 use type_pool::ClosedPool;
+use unit_drafts::{Drafts, all_drafted, count_marks, no_names, too_many_units};
+use work_share::{Work, Workers};
 
 /// What is linked of the first objects.
 #[derive(Drop)]
@@ -54,47 +48,31 @@ pub(crate) struct Unmerged {
 /// files of which no later object is. Archives are walked once for each batch, of which there are few. A limit is told once
 /// no object has a fault.
 pub(crate) fn link_unmerged<R: Threads + Sync, G: Gate + Sync>(
-    rt: &R,
-    alloc: Global,
-    workers: u32,
-    gate: &G,
-    program: &Image,
-    name: &str,
-    objects: &[MapObject],
-    files: List<Bytes>,
-    source: &[Option<u32>],
+    work: &Work<R, G>,
+    program: &Program,
+    wanted: &Wanted,
+    sources: Sources,
 ) -> Result<Linked, Refusal>
-    requires sound { IsSoundImage program.now }
-    requires kind { kind_of program.now roles.Program ≡ Ok tt }
-    requires few { length objects.now < 2 ^ 16 }
-    requires each { length source.now ≡ length objects.now }
-    requires held { All (λ k. IfSome k (λ n. n < length files)) source.now }
-    requires small { All (λ file. length file < 2 ^ 32) files }
-    requires workers { (1 ≤ workers) × (workers ≤ 64) }
-    ensures { Bundles false program.now name.now (sources_of objects.now files source.now) result }
+    ensures { Bundles false program.now.image.now wanted.now.name.now (listed sources.entry) result }
 {
-    let closed = no_names(rt, alloc, workers, gate)?;
-    let mut files = all_files(alloc, files, source, workers)?;
+    let alloc = work.workers.alloc;
+    let closed = no_names(work)?;
+    let Sources {
+        objects,
+        files,
+        numbers,
+    } = sources;
+    let mut files = FilesLeft::new(alloc, files, numbers, work.workers.count)?;
     let mut linked = Unmerged::new(alloc);
     let mut first = 0;
     while (first as usize) < objects.len() {
-        let batch = read_next(
-            rt,
-            alloc,
-            workers,
-            gate,
-            program.cpu,
-            objects,
-            source,
-            &mut files,
-            first,
-        )?;
+        let batch = read_next(work, program.image.cpu, objects, numbers, &mut files, first)?;
         let ReadBatch { end, outs } = batch;
         linked.add_batch(alloc, outs)?;
-        linked.draft_others(rt, alloc, workers, gate)?;
+        linked.draft_others(work)?;
         first = end;
     }
-    linked.bundle(rt, alloc, workers, program, name, closed)
+    linked.bundle(work.workers, program, wanted, closed)
 }
 
 impl Unmerged {
@@ -149,40 +127,30 @@ impl Unmerged {
     /// Drafts the units that are not drafted yet, unless there are too many, and lets the analyses go.
     fn draft_others<R: Threads + Sync, G: Gate + Sync>(
         &mut self,
-        rt: &R,
-        alloc: Global,
-        workers: u32,
-        gate: &G,
+        work: &Work<R, G>,
     ) -> Result<(), NoMemory>
-        requires workers { (1 ≤ workers) × (workers ≤ 64) }
         requires drawn { (seen : Listed Seen) × (marks : Listed (Listed Bool)) × AreLinked seen marks self.old }
         ensures { (seen : Listed Seen) (marks : Listed (Listed Bool)) → AreLinked seen marks self.old → OnOk result (IsWhole seen marks self.new) }
     {
         if self.many {
             return Ok(());
         }
-        self.drafts
-            .draft_others(rt, alloc, workers, gate, &self.shape)?;
-        self.drafts.let_go(alloc);
+        self.drafts.draft_others(work, &self.shape)?;
+        self.drafts.let_go(work.workers.alloc);
         Ok(())
     }
 
-    /// The bundle of a program of this name with all objects, or the first limit that is reached.
+    /// The bundle of a program with all objects, or the first limit that is reached.
     fn bundle<R: Threads + Sync>(
         self,
-        rt: &R,
-        alloc: Global,
-        workers: u32,
-        program: &Image,
-        name: &str,
+        workers: &Workers<R>,
+        program: &Program,
+        wanted: &Wanted,
         closed: ClosedPool,
     ) -> Result<Linked, Refusal>
-        requires workers { (1 ≤ workers) × (workers ≤ 64) }
-        requires sound { IsSoundImage program.now }
-        requires kind { kind_of program.now roles.Program ≡ Ok tt }
         requires whole { (seen : Listed Seen) × (marks : Listed (Listed Bool)) × IsWhole seen marks self }
         requires closed { IsClosed [] closed }
-        ensures { (seen : Listed Seen) (marks : Listed (Listed Bool)) → IsWhole seen marks self → Links false program.now name.now seen marks result }
+        ensures { (seen : Listed Seen) (marks : Listed (Listed Bool)) → IsWhole seen marks self → Links false program.now.image.now wanted.now.name.now seen marks result }
     {
         let Unmerged {
             shape,
@@ -206,10 +174,15 @@ impl Unmerged {
             pooled: 0,
             names: 0,
         };
-        let drafts = all_drafted(alloc, outs)?;
-        bundle_of(
-            rt, alloc, workers, program, name, drafts, None, &frames, counted, closed,
-        )
+        let drafts = all_drafted(workers.alloc, outs)?;
+        let drafted = Drafted {
+            drafts,
+            texts: None,
+            frames,
+            counted,
+            closed,
+        };
+        bundle_of(workers, program, wanted, drafted)
     }
 }
 

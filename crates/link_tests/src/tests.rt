@@ -9,12 +9,14 @@ ghost use Rattle.macho_read.specs.Sound.{IsSound};
 use crate::meeting::{Meeting, met};
 use ds_base::{List, NoMemory};
 use ds_files::{Gate, OpenGate};
-use link_core::{Linked, Options, link_files};
+use link_core::{Linked, Program, Wanted, link_objects};
+use object_reads::Sources;
 use sample_objects::{Generated, generated};
 use std::alloc::Global;
 use std::process::Abort;
 use std::thread::Threads;
 use type_pool::ClosedPool;
+use work_share::{Work, Workers};
 
 /// A generated program has so many objects, each with its file.
 fn has_objects(rt: &impl Abort, made: &Generated, count: usize)
@@ -78,17 +80,22 @@ fn link_all<R: Threads + Abort + Sync, G: Gate + Sync>(
         objects,
         files,
     } = made;
-    let linked = link_files(
+    let workers = Workers {
         rt,
         alloc,
-        &program,
-        "a.out",
-        objects.as_slice(),
-        files,
-        source,
-        &Options { odr, workers: 2 },
+        count: 2,
+    };
+    let work = Work {
+        workers: &workers,
         gate,
-    );
+    };
+    let wanted = Wanted { odr, name: "a.out" };
+    let sources = Sources {
+        objects: objects.as_slice(),
+        files,
+        numbers: source,
+    };
+    let linked = link_objects(&work, &Program { image: &program }, &wanted, sources);
     drop(objects);
     drop(program);
     linked.ok()

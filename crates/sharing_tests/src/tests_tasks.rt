@@ -11,7 +11,7 @@ use std::process::Abort;
 use std::sync::atomic::AtomicBool;
 use std::sync::atomic::Ordering::SeqCst;
 use std::thread::Threads;
-use work_share::{Job, each, each_in_order};
+use work_share::{Job, Workers, each, each_in_order};
 
 /// The number that stands at an item's place.
 #[derive(Drop)]
@@ -68,15 +68,15 @@ fn are_given(rt: &impl Abort, outs: Result<List<u32>, NoMemory>, numbers: &[u32]
 fn gives_all<R: Threads + Abort + Sync, G: Gate + Sync>(
     rt: &R,
     alloc: Global,
-    workers: u32,
+    count: u32,
     numbers: &[u32],
     gate: &G,
 )
-    requires { (1 ≤ workers) × (workers ≤ 64) × (length numbers.now < 100) }
+    requires { (1 ≤ count) × (count ≤ 64) × (length numbers.now < 100) }
 {
     let job = NumberAt { numbers };
-    let count = numbers.len() as u32;
-    let outs = each(rt, alloc, workers, count, 0, gate, &job);
+    let workers = Workers { rt, alloc, count };
+    let outs = each(&workers, numbers.len() as u32, 0, gate, &job);
     are_given(rt, outs, numbers);
 }
 
@@ -91,8 +91,12 @@ fn gives_all_in_order<R: Threads + Abort + Sync>(
 {
     let job = NumberAt { numbers };
     let gate = OpenGate::new();
-    let count = numbers.len() as u32;
-    let outs = each_in_order(rt, alloc, 3, count, order, 0, &gate, &job);
+    let workers = Workers {
+        rt,
+        alloc,
+        count: 3,
+    };
+    let outs = each_in_order(&workers, numbers.len() as u32, order, 0, &gate, &job);
     are_given(rt, outs, numbers);
 }
 

@@ -3,3 +3,4 @@ pub mod Rules
 pub mod Places
 pub mod Ordering
 pub mod Working
+pub mod Turns

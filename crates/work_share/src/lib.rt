@@ -9,8 +9,13 @@
 //! are begun, which is a hint.
 //!
 //! Which thread draws which number, and when, is not said.
+//!
+//! [`Workers`] says how many threads may work, and [`Work`] which gate they pass beside that: what a link is done with is
+//! handed down as one of these. Memory is taken and given back beside other work by [`start_room`] and [`let_go`].
 #![tactic(auto)]
 
+mod beside;
+mod context;
 mod counter;
 mod done;
 mod job;
@@ -21,6 +26,8 @@ mod steps;
 mod view;
 mod workers;
 
+pub use beside::{Rooming, let_go, start_room, started_room};
+pub use context::{Work, Workers};
 pub use counter::{TaskSeat, Tasks};
 pub use job::Job;
 pub use opening::tasks;

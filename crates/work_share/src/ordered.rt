@@ -4,6 +4,7 @@ ghost use Rattle.std.specs.List.{All};
 ghost use Rattle.work_share.specs.Ordered.{IsGiven};
 ghost use Rattle.work_share.specs.Results.{GivesAll};
 
+use crate::context::Workers;
 use crate::done::Done;
 use crate::job::Job;
 use crate::order::in_places;
@@ -40,26 +41,23 @@ impl<'a, J: Job> Job for Turns<'a, J> {
 /// it names and is not below `count` is passed over, and what it does not name is done last, by the caller. The gate is
 /// passed by the numbers of turns.
 pub fn each_in_order<R: Threads + Sync, J: Job + Sync, G: Gate + Sync>(
-    rt: &R,
-    alloc: Global,
-    workers: u32,
+    workers: &Workers<R>,
     count: u32,
     order: &[u32],
     phase: u32,
     gate: &G,
     job: &J,
 ) -> Result<List<J::Out>, NoMemory>
-    requires workers { (1 ≤ workers) × (workers ≤ 64) }
     requires takes { (i : ℕ) → i < count → J.takes job.now i }
     ensures { IfOk result (λ outs. GivesAll (J.gives job.now) count outs) }
 {
-    let order = below(alloc, order, count)?;
+    let order = below(workers.alloc, order, count)?;
     let turns = Turns {
         job,
         order: order.as_slice(),
     };
-    let done = each(rt, alloc, workers, order.len() as u32, phase, gate, &turns)?;
-    by_items(alloc, count, done, job)
+    let done = each(workers, order.len() as u32, phase, gate, &turns)?;
+    by_items(workers.alloc, count, done, job)
 }
 
 /// The first of these items that are below `count`, at most as many.

@@ -5,6 +5,7 @@ ghost use Rattle.work_share.specs.Results.{GivesAll};
 ghost use Rattle.work_share.specs.Seats.{known};
 ghost use Rattle.work_share.specs.Shares.{MayShare, Finished};
 
+use crate::context::Workers;
 use crate::counter::{TaskSeat, Tasks};
 use crate::done::Done;
 use crate::job::Job;
@@ -15,27 +16,33 @@ use ds_files::Gate;
 use std::alloc::Global;
 use std::thread::{Threads, join};
 
-/// A result for each item below `count`, in the order of the items, by at most `workers` threads.
+/// A result for each item below `count`, in the order of the items, by so many threads at most.
 ///
 /// Each worker claims one item after the other, passes the gate once for it, and runs the job. A worker for which no
 /// thread can be started does its work in the caller's.
 pub fn each<R: Threads + Sync, J: Job + Sync, G: Gate + Sync>(
-    rt: &R,
-    alloc: Global,
-    workers: u32,
+    workers: &Workers<R>,
     count: u32,
     phase: u32,
     gate: &G,
     job: &J,
 ) -> Result<List<J::Out>, NoMemory>
-    requires workers { (1 ≤ workers) × (workers ≤ 64) }
     requires takes { (i : ℕ) → i < count → J.takes job.now i }
     ensures { IfOk result (λ outs. GivesAll (J.gives job.now) count outs) }
 {
-    let (tasks, seat) = tasks(alloc, count)?;
-    let workers = workers.min(count.max(1));
-    let (_seat, done) = shared_out(rt, alloc, &tasks, seat, workers, phase, gate, job)?;
-    in_order(alloc, count, done)
+    let (tasks, seat) = tasks(workers.alloc, count)?;
+    let many = workers.count.min(count.max(1));
+    let (_seat, done) = shared_out(
+        workers.rt,
+        workers.alloc,
+        &tasks,
+        seat,
+        many,
+        phase,
+        gate,
+        job,
+    )?;
+    in_order(workers.alloc, count, done)
 }
 
 // What so many workers do, some of them beside the others.

@@ -1,19 +1,20 @@
-use Rattle.std.proofs.Common.{length, ap, ◌∙◌}
-use Rattle.link_cli.specs.Plans.{plan_seen}
-use Rattle.link_cli.proofs.Generating.{few_objects, files_many, made_wants_memory, numbers_each, numbers_within, objects_many}
+use Rattle.std.proofs.Common.{ap, ◌∙◌}
+use Rattle.object_reads.specs.Sources.{sources_of}
+use Rattle.link_cli.proofs.Generating.{bundle_wants_memory, few_objects, numbers_each, numbers_within}
+use Rattle.link_cli.proofs.LinkSteps.{bundles_as}
 use Rattle.link_cli.proofs.generate.bundle.Goals as goal
 
-pub returns-in_err-source : goal.returns-in_err-source
-returns-in_err-source g c = made_wants_memory (plan_seen c.args.plan.now) c.args.count c.args.made.now _ c.from_residual.ensures.1
+pub returns-in_err-numbers : goal.returns-in_err-numbers
+returns-in_err-numbers g c = bundle_wants_memory _ _ _ _ _ c.from_residual.ensures.1
 
-pub link_objects-requires-clause-few : goal.link_objects-requires-clause-few
-link_objects-requires-clause-few g c κs within =
-    few_objects c.args.count _ (ap length c.as_slice.ensures ∙ objects_many c.args.count c.args.made.now c.requires.exact) c.requires.few
+pub invariant_of-sources : goal.invariant_of-sources
+invariant_of-sources g c = record {
+  few = few_objects c.args.count _ c.requires.objects c.requires.few;
+  each = numbers_each c.args.count _ _ c.requires.objects (c.as_slice.ensures ∙ c.in_ok-numbers.ensures);
+  held = numbers_within c.args.count _ _ c.requires.files (c.as_slice.ensures ∙ c.in_ok-numbers.ensures);
+  small = c.requires.small;
+}
 
-pub link_objects-requires-clause-each : goal.link_objects-requires-clause-each
-link_objects-requires-clause-each g c κs within =
-    numbers_each c.args.count _ _ (ap length c.as_slice.ensures ∙ objects_many c.args.count c.args.made.now c.requires.exact) (c.as_slice-3.ensures ∙ c.in_ok-source.ensures)
-
-pub link_objects-requires-clause-held : goal.link_objects-requires-clause-held
-link_objects-requires-clause-held g c κs within =
-    numbers_within c.args.count _ _ (ap length c.as_slice-2.ensures ∙ files_many c.args.count c.args.made.now c.requires.exact) (c.as_slice-3.ensures ∙ c.in_ok-source.ensures)
+pub returns : goal.returns
+returns g c =
+    bundles_as _ _ _ _ _ _ _ _ c.wanted.ensures.odr c.wanted.ensures.name (ap (sources_of c.args.objects.now c.args.files) (c.as_slice.ensures ∙ c.in_ok-numbers.ensures)) c.link_objects.ensures

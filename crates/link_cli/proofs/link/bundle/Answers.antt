@@ -1,24 +1,26 @@
-use Rattle.std.proofs.Common.{ap, ◌∙◌}
-use Rattle.link_core.specs.Names.{last_part}
+use Rattle.std.proofs.Common.{ap, length, ◌∙◌}
 use Rattle.link_cli.specs.Plans.{plan_seen}
-use Rattle.link_cli.proofs.LinkSteps.{makes_as, wants_memory}
-use Rattle.link_cli.proofs.Sources.{contents_small, numbers_held, sources_held}
+use Rattle.link_cli.proofs.LinkSteps.{bundles_as, wants_memory}
+use Rattle.link_cli.proofs.Sources.{contents_small, numbers_held, numbers_many, sources_held}
 use Rattle.link_cli.proofs.link.bundle.Goals as goal
 
-pub returns-in_err-source : goal.returns-in_err-source
-returns-in_err-source g c = wants_memory (plan_seen c.args.plan.now) c.args.program.now _ _ c.from_residual.ensures.1
+pub returns-in_err-numbers : goal.returns-in_err-numbers
+returns-in_err-numbers g c = wants_memory (plan_seen c.args.plan.now) c.args.program.now _ _ c.from_residual.ensures.1
 
-pub returns-in_err-contents : goal.returns-in_err-contents
-returns-in_err-contents g c = wants_memory (plan_seen c.args.plan.now) c.args.program.now _ _ c.from_residual-in_err-contents.ensures.1
+pub returns-in_err-files : goal.returns-in_err-files
+returns-in_err-files g c = wants_memory (plan_seen c.args.plan.now) c.args.program.now _ _ c.from_residual-in_err-files.ensures.1
 
-pub link_files-requires-clause-held : goal.link_files-requires-clause-held
-link_files-requires-clause-held g c κs within =
-    numbers_held c.args.held _ _ _ c.in_ok-contents.ensures (c.as_slice.ensures ∙ c.in_ok-source.ensures)
-
-pub link_files-requires-clause-small : goal.link_files-requires-clause-small
-link_files-requires-clause-small g c κs within = contents_small c.args.held _ c.in_ok-contents.ensures c.requires.small
+pub invariant_of-sources : goal.invariant_of-sources
+invariant_of-sources g c =
+    let numbered = c.as_slice.ensures ∙ c.in_ok-numbers.ensures in
+    record {
+      few = rw c.as_slice-objects.ensures c.requires.linkable.few;
+      each = ap length numbered ∙ numbers_many c.args.held c.as_slice-objects.result.now;
+      held = numbers_held c.args.held _ _ _ c.in_ok-files.ensures numbered;
+      small = contents_small c.args.held _ c.in_ok-files.ensures c.requires.small;
+    }
 
 pub returns : goal.returns
 returns g c =
-    makes_as (plan_seen c.args.plan.now) c.args.program.now _ _ _ c.link_files.result (c.last_part.ensures ∙ ap last_part c.as_str.ensures.value)
-    (sources_held c.args.held _ _ _ c.in_ok-contents.ensures (c.as_slice.ensures ∙ c.in_ok-source.ensures) _ c.as_slice-objects.ensures) c.link_files.ensures
+    bundles_as _ _ _ _ _ _ _ _ c.wanted.ensures.odr c.wanted.ensures.name
+    (sources_held c.args.held _ _ _ c.in_ok-files.ensures (c.as_slice.ensures ∙ c.in_ok-numbers.ensures) _ c.as_slice-objects.ensures) c.link_objects.ensures

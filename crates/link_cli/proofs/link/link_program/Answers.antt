@@ -5,7 +5,7 @@ use Rattle.link_cli.proofs.Sources.{few_files, held_small, none_small}
 use Rattle.link_cli.proofs.link.link_program.Goals as goal
 
 pub link_held-requires-clause-held : goal.link_held-requires-clause-held
-link_held-requires-clause-held g c κs within = few_files c.in-Ok.ensures (rw c.as_slice-objects.ensures c.requires.few)
+link_held-requires-clause-held g c κs within = few_files c.in-Ok.ensures (rw c.as_slice-objects.ensures c.requires.linkable.few)
 
 pub link_held-requires-clause-small : goal.link_held-requires-clause-small
 link_held-requires-clause-small g c κs within = held_small c.in-Ok.ensures c.requires.most none_small

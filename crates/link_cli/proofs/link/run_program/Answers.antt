@@ -1,14 +1,14 @@
 use Rattle.std.proofs.Common.{◌≡◌, ℕ, ◌-◌, ◌^◌, Result, ap, refl, subst}
-use Rattle.link_core.specs.declared.refusal.Refusal.{Refusal}
-use Rattle.link_cli.specs.declared.program.Program.{Program}
+use Rattle.link_status.specs.declared.refusal.Refusal.{Refusal}
+use Rattle.link_cli.specs.declared.program.MappedProgram.{MappedProgram}
 use Rattle.link_cli.specs.Plans.{plan_seen}
 use Rattle.link_cli.specs.Refusals.{Answers}
 use Rattle.link_cli.proofs.LinkSteps.{program_linked, program_missed, program_refused_as, program_told}
 use Rattle.link_cli.proofs.link.run_program.Goals as goal
 
 -- what was read answers what the program is
-read_by : (program read answer : Result Program Refusal) → read ≡ answer → Answers (λ (p : Program). p) read program → Answers (λ (p : Program). p) answer program
-read_by program read answer is h = subst (λ (r : Result Program Refusal). Answers (λ (p : Program). p) r program) is h
+read_by : (program read answer : Result MappedProgram Refusal) → read ≡ answer → Answers (λ (p : MappedProgram). p) read program → Answers (λ (p : MappedProgram). p) answer program
+read_by program read answer is h = subst (λ (r : Result MappedProgram Refusal). Answers (λ (p : MappedProgram). p) r program) is h
 
 pub returns-in-Err : goal.returns-in-Err
 returns-in-Err g c = program_missed (plan_seen c.args.plan.now) _ _ _ _ _ c.in-Err.status _ c.as_str.ensures.value refl c.new.ensures c.in-Err.ensures c.refused.ensures

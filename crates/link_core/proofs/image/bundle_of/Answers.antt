@@ -2,15 +2,15 @@ use Rattle.std.proofs.Common.{length, ap, ◌∙◌, arith}
 use Rattle.std.specs.List.{sum_by}
 use Rattle.std.proofs.lemmas.Result.{err_from_is_err_and}
 use Rattle.unit_draft.specs.declared.unit.Draft.{Draft}
-use Rattle.link_core.specs.Linked.{graph_of}
+use Rattle.unit_drafts.specs.Graphs.{graph_of}
+use Rattle.unit_drafts.proofs.Counting.{nodes_drafted, nodes_few}
 use Rattle.link_core.proofs.Bundling.{image_refused, links_made}
-use Rattle.link_core.proofs.Counting.{nodes_drafted, nodes_few}
 use Rattle.link_core.proofs.image.bundle_of.Goals as goal
 
 pub count_nodes-nodes-requires : goal.count_nodes-nodes-requires
 count_nodes-nodes-requires g c =
     let it = c.requires.drafted.3 in
-    rw c.as_slice.ensures (record { few = nodes_few _ c.args.drafts it.drafts_are (omega (arith, it.few)) })
+    rw c.as_slice.ensures (record { few = nodes_few _ c.args.drafted.drafts it.drafts_are (omega (arith, it.few)) })
 
 pub image_of-requires-clause-few : goal.image_of-requires-clause-few
 image_of-requires-clause-few g c κs within = let it = c.requires.drafted.3 in omega (arith, it.few, it.drafts_are.count)
@@ -21,10 +21,11 @@ image_of-requires-clause-drafted g c κs within = let it = c.requires.drafted.3 
 pub returns-in_err-image : goal.returns-in_err-image
 returns-in_err-image g c =
     let p = err_from_is_err_and c.from_residual.result c.from_residual.ensures.1 in
-    λ odr seen marks it. rw (p.1, p.2) (image_refused odr c.args.program.now c.args.name.now seen marks it.few_names c.in_err-image.field-0.0 (c.in_err-image.ensures (graph_of odr seen marks) it.drafts_are it.frames_are))
+    λ odr seen marks it. rw (p.1, p.2) (image_refused odr c.args.program.now.image.now c.args.wanted.now.name.now seen marks c.args.drafted it c.in_err-image.field-0.0 (c.in_err-image.ensures (graph_of odr seen marks) it.drafts_are it.frames_are))
 
 pub returns : goal.returns
 returns g c =
     λ odr seen marks it.
-    let nodes = c.count_nodes-nodes.ensures ∙ ap (sum_by (λ (draft : Draft). length draft.places)) c.as_slice.ensures ∙ nodes_drafted (graph_of odr seen marks) c.args.drafts it.drafts_are in
-    links_made odr c.args.program.now c.args.name.now seen marks it.few_names c.in_ok-image.image c.in_ok-plist.plist c.args.closed c.args.counted _ _ (c.in_ok-image.ensures (graph_of odr seen marks) it.drafts_are it.frames_are) c.in_ok-plist.ensures it.counted_are nodes c.len.ensures it.closed_is
+    let drafts = c.args.drafted.drafts in
+    let nodes = c.count_nodes-nodes.ensures ∙ ap (sum_by (λ (draft : Draft). length draft.places)) c.as_slice.ensures ∙ nodes_drafted (graph_of odr seen marks) drafts it.drafts_are in
+    links_made odr c.args.program.now.image.now c.args.wanted.now.name.now seen marks c.args.drafted it c.in_ok-image.image c.in_ok-plist.plist _ _ (c.in_ok-image.ensures (graph_of odr seen marks) it.drafts_are it.frames_are) c.in_ok-plist.ensures nodes c.len.ensures

@@ -1,11 +1,7 @@
-use Rattle.std.proofs.Common.{arith}
-use Rattle.link_core.specs.Linked.{sources_of}
-use Rattle.link_core.proofs.Analysing.{sources_long}
 use Rattle.link_core.proofs.link.link_objects.Goals as goal
 
-pub link_read-requires-clause-read : goal.link_read-requires-clause-read
-link_read-requires-clause-read g c κs within = (
-  sources_of c.args.objects.now c.args.files.now c.args.source.now,
-  omega (arith, c.requires.few, sources_long c.args.objects.now c.args.files.now c.args.source.now c.requires.each),
-  c.read_objects-read.ensures,
-)
+pub returns-then-wanted : goal.returns-then-wanted
+returns-then-wanted g c = rw c.if-wanted.true c.link_merged.ensures
+
+pub returns-else-wanted : goal.returns-else-wanted
+returns-else-wanted g c = rw c.if-wanted.false c.link_unmerged.ensures

@@ -1,10 +1,10 @@
 use Rattle.std.proofs.Common.{◌≡◌, ◌+◌, ◌<◌, ℕ, ◌∷◌, [], Result, Ok, Err, length, ap, sym, subst, ◌∙◌, arith, rules, length-append}
 use Rattle.std.proofs.lemmas.Result.{err_from_is_err_and}
-use Rattle.link_core.specs.declared.objects.ReadObject.{ReadObject}
-use Rattle.link_core.specs.declared.refusal.Refusal.{Refusal}
-use Rattle.link_core.specs.Passes.{ReadsAt}
+use Rattle.object_reads.specs.declared.objects.ReadObject.{ReadObject}
+use Rattle.link_status.specs.declared.refusal.Refusal.{Refusal}
+use Rattle.object_reads.specs.Reading.{ReadsAt}
 use Rattle.link_core.specs.Unmerged.{MayAddBatch, SoFar}
-use Rattle.link_core.proofs.Turns.{all_taken, given_here, goes_on, inside_here}
+use Rattle.work_share.proofs.Turns.{all_taken, given_here, goes_on, inside_here}
 use Rattle.link_core.proofs.Unmerging.{added_one, may_add, stops}
 use Rattle.link_core.proofs.unmerged.Unmerged.add_batch.Goals as goal
 

@@ -1,5 +1,5 @@
 use Rattle.std.proofs.Common.{◌≡◌, ◌+◌, ◌++◌, ℕ, List, length}
-use Rattle.link_core.specs.Linked.{Source}
+use Rattle.object_reads.specs.Sources.{Source}
 use Rattle.link_core.specs.Unmerged.{MayAddBatch, SoFar}
 use Rattle.link_core.proofs.unmerged.Unmerged.add_batch.Given as goal
 

@@ -1,7 +1,0 @@
-use Rattle.std.proofs.Common.{List}
-use Rattle.dwarf_types.specs.declared.analysis.Analysis.{Analysis}
-use Rattle.link_core.specs.Passes.{AreLeft}
-use Rattle.link_core.proofs.batches.drop_analyses.Given as goal
-
-abbrev pub invariant-loop-i : goal.invariant-loop-i
-invariant-loop-i l = (all : List Analysis) → AreLeft l.dropped all l.fn.left → AreLeft l.i all l.left

@@ -1,9 +1,0 @@
-use Rattle.std.proofs.Common.{ℕ, List, set, sym, subst}
-use Rattle.link_core.specs.Passes.{AreHeld}
-use Rattle.link_core.proofs.Holding.{held_without}
-use Rattle.link_core.proofs.files.drop_file.Goals as goal
-
-pub returns-then-last-n-clause-held : goal.returns-then-last-n-clause-held
-returns-then-last-n-clause-held c = λ source files lasts are.
-    subst (λ (empty : List ℕ). AreHeld c.args.end source files (set c.args.left.now c.in-Some.n empty)) (sym c.new.ensures)
-    (held_without source files c.args.left.now c.args.last.now c.in-Some.n c.args.end _ lasts c.if-n-last.true c.if-last-n.true are)

@@ -1,6 +1,0 @@
-use Rattle.std.proofs.Common.{sym, arith}
-use Rattle.link_core.proofs.Graphs.{pool_none}
-use Rattle.link_core.proofs.graph.merged_nodes.Goals as goal
-
-pub returns-then-pooled-eq0 : goal.returns-then-pooled-eq0
-returns-then-pooled-eq0 c = λ names e h. sym (pool_none names (omega (arith, e, c.if-pooled-eq0.true)))

@@ -1,0 +1,4 @@
+pub mod Sources
+pub mod Marks
+pub mod Reading
+pub mod MadeNames
