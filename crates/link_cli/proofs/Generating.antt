@@ -1,19 +1,16 @@
 -- A generated program, linked.
-use Rattle.std.proofs.Common.{◌≡◌, ℕ, Bool, ◌<◌, ◌≤◌, ◌^◌, List, [], length, map, Option, Some, IfSome, Result, Ok, Err, sym, ap, subst, ◌∙◌, arith}
+use Rattle.std.proofs.Common.{◌≡◌, ℕ, ◌<◌, ◌≤◌, ◌^◌, List, [], length, map, Option, Some, IfSome, Result, Ok, Err, sym, ap, subst, ◌∙◌, arith}
 use Rattle.std.specs.List.{All, range_with_len}
-use Rattle.std.specs.Result.{IsErrAnd}
 use Rattle.std.proofs.lemmas.List.Elements.{All-map}
 use Rattle.std.proofs.lemmas.List.FromFn.{get_or-range_with_len, length-map-range_with_len, length-range_with_len}
 use Rattle.stab_map.specs.declared.object.MapObject.{MapObject}
 use Rattle.sample_objects.specs.declared.program.Generated.{Generated}
 use Rattle.sample_objects.specs.GeneratedProgram.{generated_program, map_object, spec_of}
 use Rattle.sample_objects.specs.ObjectFile.{object_bytes}
-use Rattle.macho_read.specs.declared.image.Image.{Image}
-use Rattle.object_reads.specs.Sources.{Source, sources_of}
+use Rattle.object_reads.specs.Sources.{sources_of}
 use Rattle.link_status.specs.Names.{last_part}
 use Rattle.link_core.specs.declared.bundle.Linked.{Linked}
 use Rattle.link_status.specs.declared.refusal.Refusal.{Refusal}
-use Rattle.link_status.specs.declared.refusal.Refusal.TheVariants as refusals
 use Rattle.link_status.specs.declared.status.Status.{Status}
 use Rattle.link_core.specs.Linked as bundles
 use Rattle.link_status.specs.Statuses.{refused_status}
@@ -59,10 +56,6 @@ pub numbers_within : (count n : ℕ) (numbers : List (Option ℕ)) → n ≡ cou
 numbers_within count n numbers many is = subst (λ (ns : List (Option ℕ)). All (λ k. IfSome k (λ m. m < n)) ns) (sym is) (within count n many)
 
 -- ---- how it ends
-
-pub bundle_wants_memory : (odr : Bool) (program : Image) (name : List ℕ) (sources : List Source) (answer : Result Linked Refusal) → IsErrAnd answer (λ refusal. refusal ≡ refusals.NoMemory) → bundles.Bundles odr program name sources answer
-bundle_wants_memory odr program name sources (Ok bundle) h = absurd h
-bundle_wants_memory odr program name sources (Err refusal) h = subst (λ (r : Refusal). bundles.Bundles odr program name sources (Err r)) (sym h) bundles.no_memory
 
 -- the objects as they were lent
 pub makes_lent : (plan : Planned) (count : ℕ) (made : Generated) (objects : List MapObject) (answer : Result Linked Refusal) → objects ≡ made.objects

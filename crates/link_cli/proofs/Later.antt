@@ -5,10 +5,10 @@ use Rattle.ds_files.proofs.Later.{later_trans}
 use Rattle.stab_map.specs.declared.object.MapObject.{MapObject}
 use Rattle.link_core.specs.declared.bundle.Linked.{Linked}
 use Rattle.link_cli.specs.declared.ending.Ending.{Ending}
-use Rattle.link_cli.specs.declared.files.Stopped.{Stopped}
+use Rattle.link_program.specs.declared.files.Stopped.{Stopped}
 use Rattle.link_cli.specs.declared.plan.Mode.{Mode}
-use Rattle.link_cli.specs.declared.program.MappedProgram.{MappedProgram}
-use Rattle.link_cli.specs.Files.{World, Held, RunsOut, behind_read, behind_miss, ReadsFiles, all_held, is_held, was_passed_over, is_read, is_passed_over, is_unread, ran_out_unasked, ran_out_behind}
+use Rattle.link_program.specs.declared.program.MappedProgram.{MappedProgram}
+use Rattle.link_program.specs.Files.{World, Held, RunsOut, behind_read, behind_miss, ReadsFiles, all_held, is_held, was_passed_over, is_read, is_passed_over, is_unread, ran_out_unasked, ran_out_behind}
 use Rattle.link_cli.specs.Plan.{Planned}
 use Rattle.link_cli.specs.Answer.{Writes, not_made, plist_unwritten, image_unwritten, written, LinksSources, refused, untold, bundled, LinksObjects, file_unread, files_untold, files_read, Does, links, tells_map, map_untold, RunsProgram, program_unread, program_untold, program_refused, program_found, Runs, generates, reads_exe, Ends, usage, no_plan, planned}
 

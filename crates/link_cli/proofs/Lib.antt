@@ -1,11 +1,9 @@
 pub mod FilesMade
 pub mod Generating
-pub mod Holding
 pub mod Later
 pub mod LinkSteps
 pub mod Numbers
 pub mod Plans
-pub mod Sources
 pub mod Telling
 pub mod Told
 pub mod ToldSteps

@@ -2,31 +2,27 @@
 use Rattle.std.proofs.Common.{◌≡◌, ℕ, Bool, inl, inr, ◌-◌, ◌^◌, List, [], length, Option, Result, Ok, Err, refl, sym, ap, subst, ◌∙◌}
 use Rattle.std.specs.Option.{option_map}
 use Rattle.std.specs.FinMap as map
-use Rattle.std.specs.Result.{IsErrAnd}
 use Rattle.ds_files.specs.Outside.{Contents, Counts, IsLater, IsOneCall, ReplaceFails, called}
 use Rattle.ds_files.specs.declared.files.FileError.{FileError}
 use Rattle.stab_map.specs.declared.object.MapObject.{MapObject}
-use Rattle.macho_read.specs.declared.image.Image.{Image}
 use Rattle.link_core.specs.declared.bundle.Linked.{Linked}
 use Rattle.link_status.specs.declared.refusal.Refusal.{Refusal}
 use Rattle.link_status.specs.declared.refusal.Refusal.TheVariants as refusals
 use Rattle.link_status.specs.Names.{image_name, plist_name}
 use Rattle.link_status.specs.Statuses.{refused_status}
-use Rattle.link_core.specs.Linked as linked
-use Rattle.link_core.specs.Linked.{Bundles}
-use Rattle.object_reads.specs.Sources.{Source}
 use Rattle.link_status.specs.declared.status.Status.{Status}
 use Rattle.link_status.specs.declared.status.Status.TheVariants as statuses
 use Rattle.link_cli.specs.declared.ending.Ending.{Ending}
-use Rattle.link_cli.specs.declared.files.Stopped.{Stopped}
+use Rattle.link_program.specs.declared.files.Stopped.{Stopped}
 use Rattle.link_cli.specs.declared.plan.Mode.{Mode}
 use Rattle.link_cli.specs.declared.plan.Mode.TheVariants as modes
-use Rattle.link_cli.specs.declared.program.MappedProgram.{MappedProgram}
+use Rattle.link_program.specs.declared.program.MappedProgram.{MappedProgram}
 use Rattle.link_cli.specs.Endings.{Tells, done_message, map_ending, no_memory, refused_ending, refusal_message, unwritten_ending}
-use Rattle.link_cli.specs.Files.{World, world, most_input, Held, none_held, behind_read, behind_miss, ReadsFile, ReadsFiles, ReadsProgram}
+use Rattle.link_program.specs.Files.{World, world, most_input, Held, none_held, behind_read, behind_miss, ReadsFile, ReadsFiles, ReadsProgram}
 use Rattle.link_cli.specs.Plan.{Planned}
-use Rattle.link_cli.specs.Refusals.{Answers, program_of}
-use Rattle.link_cli.specs.Answer.{Replaces, NotReplaced, Writes, plist_unwritten, image_unwritten, written, sources_in, Makes, LinksSources, refused, untold, bundled, LinksObjects, file_unread, files_untold, files_read, Does, links, tells_map, map_untold, RunsProgram, program_unread, program_untold, program_refused, program_found}
+use Rattle.link_program.specs.Refusals.{Answers, program_of}
+use Rattle.link_program.specs.Making.{sources_in}
+use Rattle.link_cli.specs.Answer.{Replaces, NotReplaced, Writes, plist_unwritten, image_unwritten, written, Makes, LinksSources, refused, untold, bundled, LinksObjects, file_unread, files_untold, files_read, Does, links, tells_map, map_untold, RunsProgram, program_unread, program_untold, program_refused, program_found}
 
 -- this is told, or memory ran out
 pub told_or : (P : Ending → Type 0) (wanted ending : Ending) → Tells wanted ending → P wanted → P no_memory → P ending
@@ -81,18 +77,7 @@ module _ {keep_going : Bool} {number : ℕ} {objects : List MapObject} {held : H
   pub read_behind : hinted ≡ before → ReadsFiles keep_going number objects held hinted after answer → ReadsFiles keep_going number objects held before after answer
   read_behind same reads = subst (λ (w : World). ReadsFiles keep_going number objects held w after answer) same reads
 
--- a link by what equals its own wants and sources
-pub bundles_as : (odr odr' : Bool) (program : Image) (name name' : List ℕ) (given sources : List Source) (answer : Result Linked Refusal) → odr ≡ odr' → name ≡ name' → given ≡ sources
-    → Bundles odr program name given answer → Bundles odr' program name' sources answer
-bundles_as odr odr' program name name' given sources answer is_odr is_name is made =
-    subst (λ (b : Bool). Bundles b program name' sources answer) is_odr
-    (subst (λ (n : List ℕ). Bundles odr program n sources answer) is_name (subst (λ (s : List Source). Bundles odr program name s answer) is made))
-
 module _ (plan : Planned) (program : MappedProgram) where
-  pub wants_memory : (sources : List Source) (answer : Result Linked Refusal) → IsErrAnd answer (λ refusal. refusal ≡ refusals.NoMemory) → Makes plan program sources answer
-  wants_memory sources (Ok made) h = absurd h
-  wants_memory sources (Err refusal) h = subst (λ (r : Refusal). Makes plan program sources (Err r)) (sym h) linked.no_memory
-
   module _ (objects : List MapObject) (is_objects : objects ≡ program.objects) where
     refused_so : (warnings : List ℕ) (status wanted : Status) (ending : Ending) → status ≡ wanted → Tells (refused_ending plan objects warnings status) ending
         → Tells (refused_ending plan program.objects warnings wanted) ending

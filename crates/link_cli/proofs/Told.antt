@@ -16,17 +16,18 @@ use Rattle.link_core.proofs.Refusing.{ok_is_no_err, ok_is_one, refused_for_memor
 use Rattle.link_status.specs.declared.status.Status.{Status}
 use Rattle.link_status.specs.declared.status.Status.TheVariants as statuses
 use Rattle.link_cli.specs.declared.ending.Ending.{Ending}
-use Rattle.link_cli.specs.declared.files.Stopped.{Stopped}
+use Rattle.link_program.specs.declared.files.Stopped.{Stopped}
 use Rattle.link_cli.specs.declared.plan.Mode.{Mode}
 use Rattle.link_cli.specs.declared.plan.Mode.TheVariants as modes
-use Rattle.link_cli.specs.declared.program.MappedProgram.{MappedProgram}
-use Rattle.link_cli.specs.Files.{World, Held, ReadsFile, passes_over, most_input}
-use Rattle.link_cli.specs.Answer.{Writes, not_made, plist_unwritten, image_unwritten, written, NotReplaced, Makes, LinksSources, LinksObjects, Does, RunsProgram, Runs, Ends, Links, LinksGenerated, sources_in, sources_made, unwritten}
+use Rattle.link_program.specs.declared.program.MappedProgram.{MappedProgram}
+use Rattle.link_program.specs.Files.{World, Held, ReadsFile, passes_over, most_input}
+use Rattle.link_program.specs.Making.{sources_in}
+use Rattle.link_cli.specs.Answer.{Writes, not_made, plist_unwritten, image_unwritten, written, NotReplaced, Makes, LinksSources, LinksObjects, Does, RunsProgram, Runs, Ends, Links, LinksGenerated, sources_made, unwritten}
 use Rattle.link_cli.specs.Answer as answer
 use Rattle.link_cli.specs.Endings.{Puts, Said, no_memory, refused_ending}
 use Rattle.link_cli.specs.Endings as endings
 use Rattle.link_cli.specs.Plan.{Planned, is_generated}
-use Rattle.link_cli.specs.Refusals.{program_of}
+use Rattle.link_program.specs.Refusals.{program_of}
 use Rattle.link_cli.specs.Told.{NoFault, file_refusal, unread_of, warnings_of, sources_at, with_plist, AnswersObjects, unread, refused, done, no_memory_before, no_memory_between, AnswersMode, linked, map_told, map_no_memory, AnswersProgram, program_unread, program_refused, program_found, program_no_memory, AnswersPlan, of_generated, of_program, AnswersWords, usage, words_no_memory, planned, Answers, AreLinkable, HasProgram, CanBeDone, clean_made, clean_program, IsAnswerable}
 use Rattle.link_cli.proofs.Later.{out_same, reads_later, reads_same, sources_later}
 use Rattle.link_cli.proofs.ToldSteps.{all_read, misses_told, none_so, quiet_before, quiet_behind, reads_told, told_some}

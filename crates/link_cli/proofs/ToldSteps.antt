@@ -14,9 +14,9 @@ use Rattle.stab_map.specs.declared.object.MapObject.{MapObject}
 use Rattle.object_reads.specs.Sources.{Source}
 use Rattle.link_status.specs.declared.status.Status.{Status}
 use Rattle.link_status.specs.declared.status.Status.TheVariants as statuses
-use Rattle.link_cli.specs.declared.files.Stopped.{Stopped}
-use Rattle.link_cli.specs.Files.{World, Held, HeldFile, IsNew, MissesFile, ReadsFiles, all_held, is_held, was_passed_over, is_read, is_passed_over, is_unread, ran_out_unasked, ran_out_behind, content_in, is_missing, passes_over, none_held, unread_status, with_file, with_missing, with_warning}
-use Rattle.link_cli.specs.Answer.{sources_in}
+use Rattle.link_program.specs.declared.files.Stopped.{Stopped}
+use Rattle.link_program.specs.Files.{World, Held, HeldFile, IsNew, MissesFile, ReadsFiles, all_held, is_held, was_passed_over, is_read, is_passed_over, is_unread, ran_out_unasked, ran_out_behind, content_in, is_missing, passes_over, none_held, unread_status, with_file, with_missing, with_warning}
+use Rattle.link_program.specs.Making.{sources_in}
 use Rattle.link_cli.specs.Told.{NoFault, file_refusal, first_unread, input_size, is_known, size_of, sources_at, warned, warning_at}
 use Rattle.link_cli.proofs.Later.{out_same}
 

@@ -17,14 +17,15 @@ use Rattle.link_status.specs.Statuses.{refused_status}
 use Rattle.sample_objects.specs.declared.program.Generated.{Generated}
 use Rattle.sample_objects.specs.GeneratedProgram.{generated_program}
 use Rattle.link_cli.specs.declared.ending.Ending.{Ending}
-use Rattle.link_cli.specs.declared.files.Stopped.{Stopped}
+use Rattle.link_program.specs.declared.files.Stopped.{Stopped}
 use Rattle.link_cli.specs.declared.plan.Mode.{Mode}
 use Rattle.link_cli.specs.declared.plan.Mode.TheVariants as modes
-use Rattle.link_cli.specs.declared.program.MappedProgram.{MappedProgram}
+use Rattle.link_program.specs.declared.program.MappedProgram.{MappedProgram}
 use Rattle.link_cli.specs.Endings.{Puts, Said, counts_ending, done_ending, map_ending, no_memory, refusal_message, refused_ending, unwritten_ending, usage_ending}
-use Rattle.link_cli.specs.Files.{World, RunsOut, most_input, ReadsFile, MissesFile, unread_status, Held, HeldFile, none_held, ReadsFiles, content_in}
+use Rattle.link_program.specs.Files.{World, RunsOut, most_input, ReadsFile, MissesFile, unread_status, Held, none_held, ReadsFiles}
+use Rattle.link_program.specs.Making.{sources_in}
 use Rattle.link_cli.specs.Plan.{Planned, is_generated, plan_of}
-use Rattle.link_cli.specs.Refusals.{program_of}
+use Rattle.link_program.specs.Refusals.{program_of}
 
 -- ---- the bundle
 
@@ -54,10 +55,6 @@ pub data Writes (plan : Planned) (objects : List MapObject) (warnings : List ℕ
       → Writes plan objects warnings linked before after (done_ending plan warnings linked.counts)
 
 -- ---- the link
-
--- the objects of a debug map with the bytes of their files, as far as those are held
-abbrev pub sources_in : List HeldFile → List MapObject → List Source
-sources_in held objects = map (λ object. record { object = object; file = content_in held object.file }) objects
 
 -- what linking a program of a plan with its objects answers
 abbrev pub Makes : Planned → MappedProgram → List Source → Result Linked Refusal → Type 0

@@ -10,7 +10,7 @@ use Rattle.link_status.specs.declared.status.Status.{Status}
 use Rattle.link_status.specs.declared.status.Status.TheVariants as statuses
 use Rattle.link_status.specs.StatusText.{status_line}
 use Rattle.link_cli.specs.declared.ending.Ending.{Ending}
-use Rattle.link_cli.specs.declared.program.MappedProgram.{MappedProgram}
+use Rattle.link_program.specs.declared.program.MappedProgram.{MappedProgram}
 use Rattle.link_cli.specs.Plan.{Planned}
 use Rattle.link_cli.specs.Texts.{map_text, summary}
 

@@ -1,13 +1,9 @@
 pub mod Answer
 pub mod Endings
-pub mod Files
-pub mod Holding
 pub mod Making
 pub mod Plan
 pub mod Plans
 pub mod Prepared
-pub mod Refusals
-pub mod Seen
 pub mod Texts
 pub mod Told
 pub mod Words

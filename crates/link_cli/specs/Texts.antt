@@ -1,16 +1,11 @@
--- The texts that the command tells: warnings, what was counted, and a debug map.
+-- The texts that the command tells: what was counted, and a debug map.
 use Rattle.std.specs.Prelude.{ℕ, zero, suc, ◌+◌, ◌/◌, ◌%◌, List, [], ◌∷◌, ◌++◌, Option, Some, None, codes, decimal, nat_lt, if◌then◌else◌}
 use Rattle.std.specs.List.{flat_map}
 use Rattle.uuid.specs.Text.{hyphenated_text, lower}
 use Rattle.stab_map.specs.declared.object.MapEntry.{MapEntry}
 use Rattle.stab_map.specs.declared.object.MapObject.{MapObject}
 use Rattle.link_core.specs.declared.bundle.Counts.{Counts}
-use Rattle.link_status.specs.StatusText.{line}
-use Rattle.link_cli.specs.declared.program.MappedProgram.{MappedProgram}
-
--- the line of an object whose file was let go
-abbrev pub warning : MapObject → List ℕ
-warning object = line (codes "warning: missing: " ++ object.path)
+use Rattle.link_program.specs.declared.program.MappedProgram.{MappedProgram}
 
 -- ---- what was counted
 

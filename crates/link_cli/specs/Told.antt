@@ -18,13 +18,13 @@ use Rattle.link_status.specs.Statuses.{refused_status}
 use Rattle.link_cli.specs.declared.ending.Ending.{Ending}
 use Rattle.link_cli.specs.declared.plan.Mode.{Mode}
 use Rattle.link_cli.specs.declared.plan.Mode.TheVariants as modes
-use Rattle.link_cli.specs.declared.program.MappedProgram.{MappedProgram}
+use Rattle.link_program.specs.declared.program.MappedProgram.{MappedProgram}
 use Rattle.link_cli.specs.Answer.{LinksGenerated, Makes, sources_made}
 use Rattle.link_cli.specs.Endings.{Puts, Said, done_ending, map_ending, no_memory, refused_ending, usage_ending}
-use Rattle.link_cli.specs.Files.{most_input}
+use Rattle.link_program.specs.Files.{most_input}
 use Rattle.link_cli.specs.Plan.{Planned, is_generated, plan_of}
-use Rattle.link_cli.specs.Refusals.{program_of}
-use Rattle.link_cli.specs.Texts.{warning}
+use Rattle.link_program.specs.Refusals.{program_of}
+use Rattle.link_program.specs.Warnings.{warning}
 
 -- no call failed; a count that stands at its last value counts as risen
 abbrev pub NoFault : Counts → Counts → Type 0

@@ -6,7 +6,7 @@ ghost use Rattle.link_status.specs.declared.status.Status.{Status as Ended};
 ghost use Rattle.link_status.specs.declared.status.Status.TheVariants as statuses;
 ghost use Rattle.link_cli.specs.Answer.{Links};
 ghost use Rattle.link_cli.specs.Endings.{Said};
-ghost use Rattle.link_cli.specs.Files.{World};
+ghost use Rattle.link_program.specs.Files.{World};
 ghost use Rattle.link_cli.specs.Told.{Answers, IsAnswerable, NoFault};
 
 /// Where the files tell their contents, and their count of faults doesn't rise in the call, `link_main` ends as the words

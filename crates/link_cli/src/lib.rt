@@ -1,11 +1,10 @@
 //! The command: from its words to the two files of the bundle, and what it tells.
 //!
 //! Layer: top. [`plan_of_words`] reads the words by `clap`, as `specs/Plan.antt` says. [`link_main`] does what they ask: it
-//! reads a program, its debug map and the files that the map names, links the objects by `link_core`, and writes
-//! Info.plist and the image; or it tells the debug map, or what was counted of the link of a generated program
-//! (`sample_objects`). Its contract is `specs/Answer.antt`: for each list of words and each content of the files, the
+//! has a program, its debug map and the files that the map names read and linked by `link_program`, and writes Info.plist
+//! and the image; or it tells the debug map, or what was counted of the link of a generated program (`sample_objects`). Its contract is `specs/Answer.antt`: for each list of words and each content of the files, the
 //! status with its cause, what stands in the files then, and the message (`specs/Endings.antt`, `specs/Texts.antt`). What
-//! the program's file refuses is `specs/Refusals.antt`; what the objects refuse, and the bytes of the bundle, is
+//! the program's file refuses is `link_program/specs/Refusals.antt`; what the objects refuse, and the bytes of the bundle, is
 //! `link_core/specs/Linked.antt`.
 //!
 //! The program and each file that its map names are read, and each file of the bundle is replaced, by one call. Both
@@ -14,14 +13,12 @@
 #![tactic(auto)]
 
 mod ending;
-mod files;
 mod generate;
 mod laws;
 mod link;
 mod making;
 mod output;
 mod plan;
-mod program;
 mod texts;
 mod words;
 

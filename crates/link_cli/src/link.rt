@@ -4,28 +4,27 @@ ghost use Rattle.std.specs.Prelude.{◌≡◌, ◌<◌, ◌≤◌, ◌^◌, fals
 ghost use Rattle.std.specs.String.{string_bytes};
 ghost use Rattle.ds_files.specs.Outside.{IsLater};
 ghost use Rattle.link_status.specs.Names.{last_part};
-ghost use Rattle.link_cli.specs.Answer.{Ends, Links, LinksObjects, LinksSources, Makes, Runs, RunsProgram, sources_in};
+ghost use Rattle.link_cli.specs.Answer.{Ends, Links, LinksObjects, LinksSources, Runs, RunsProgram};
 ghost use Rattle.link_cli.specs.Endings.{Tells, map_ending, said};
-ghost use Rattle.link_cli.specs.Files.{ReadsProgram, world};
-ghost use Rattle.link_cli.specs.Holding.{held_of};
+ghost use Rattle.link_program.specs.Files.{ReadsProgram, world};
+ghost use Rattle.link_program.specs.Holding.{held_of};
 ghost use Rattle.link_cli.specs.Plan.{HasCount, HasWorkers, is_generated};
 ghost use Rattle.link_cli.specs.Plans.{plan_seen};
-ghost use Rattle.link_cli.specs.Seen.{AreSmall, IsLinkable, held_seen};
+ghost use Rattle.link_program.specs.Seen.{AreSmall, IsLinkable, held_seen};
 
 use crate::ending::Ending;
-use crate::files::{HeldFiles, contents_of, expect_files, numbers_of, read_files, unread};
 use crate::generate::link_generated;
 use crate::output::write_bundle;
 use crate::plan::{Mode, Plan, PlanError, plan_of_words};
-use crate::program::{MappedProgram, read_program};
 use crate::texts::map_text;
 use ds_base::limits::INPUT_BYTES;
 use ds_base::{Bytes, NoMemory};
 use ds_files::{Ahead, Files, Gate, Sink};
-use indexmap::IndexMap;
-use link_core::{Linked, Program, Wanted, link_objects};
-use link_status::{Refusal, Status, last_part};
-use object_reads::Sources;
+use link_core::Wanted;
+use link_program::{
+    HeldFiles, MappedProgram, expect_files, link_held, read_files, read_program, unread,
+};
+use link_status::{Status, last_part};
 use std::alloc::Global;
 use std::thread::Threads;
 use work_share::{Work, Workers};
@@ -128,7 +127,7 @@ fn run_program<R: Threads + Sync, F: Files + Sync, G: Gate + Sync>(
         }
     };
     match plan.mode {
-        Mode::Link => link_program(work, plan, &program, most, ahead, files),
+        Mode::Link => link_with_files(work, plan, &program, most, ahead, files),
         Mode::Map => tell_map(alloc, &program),
         Mode::Generate(_) => unreachable!(),
     }
@@ -172,7 +171,7 @@ fn tell_map(alloc: Global, program: &MappedProgram) -> Ending
 
 /// Reads the files of a program's objects, which have at most `most` bytes together, some of them ahead, links them and writes
 /// the bundle.
-fn link_program<R: Threads + Sync, F: Files + Sync, G: Gate + Sync>(
+fn link_with_files<R: Threads + Sync, F: Files + Sync, G: Gate + Sync>(
     work: &Work<R, G>,
     plan: &Plan,
     program: &MappedProgram,
@@ -188,13 +187,13 @@ fn link_program<R: Threads + Sync, F: Files + Sync, G: Gate + Sync>(
     let objects = program.objects.as_slice();
     expect_files(ahead, files);
     match read_files(alloc, objects, plan.keep_going, most, files) {
-        Ok(held) => link_held(work, plan, program, held, files),
+        Ok(held) => write_linked(work, plan, program, held, files),
         Err(stopped) => { Ending::refused(alloc, plan, objects, stopped.warnings, stopped.status) }
     }
 }
 
 /// Links a program with its objects, whose files are held, and writes the bundle.
-fn link_held<R: Threads + Sync, F: Files, G: Gate + Sync>(
+fn write_linked<R: Threads + Sync, F: Files, G: Gate + Sync>(
     work: &Work<R, G>,
     plan: &Plan,
     program: &MappedProgram,
@@ -208,40 +207,13 @@ fn link_held<R: Threads + Sync, F: Files, G: Gate + Sync>(
 {
     let alloc = work.workers.alloc;
     let objects = program.objects.as_slice();
-    match bundle(work, plan, program, held.files) {
+    match link_held(work, program, &wanted(plan), held.files) {
         Ok(linked) => write_bundle(alloc, plan, objects, held.warnings, &linked, files),
         Err(refusal) => {
             let status = Status::from(refusal);
             Ending::refused(alloc, plan, objects, held.warnings, status)
         }
     }
-}
-
-/// The bundle of a program with its objects, whose files are held.
-fn bundle<R: Threads + Sync, G: Gate + Sync>(
-    work: &Work<R, G>,
-    plan: &Plan,
-    program: &MappedProgram,
-    held: IndexMap<&[u8], Bytes>,
-) -> Result<Linked, Refusal>
-    requires linkable { IsLinkable program.now }
-    requires held { length (held_seen held) < 2 ^ 16 }
-    requires small { AreSmall (held_seen held) }
-    ensures { Makes (plan_seen plan.now) program.now (sources_in (held_seen held.entry) program.now.objects) result }
-{
-    let alloc = work.workers.alloc;
-    let objects = program.objects.as_slice();
-    let numbers = numbers_of(alloc, objects, &held)?;
-    let files = contents_of(alloc, held)?;
-    let sources = Sources {
-        objects,
-        files,
-        numbers: numbers.as_slice(),
-    };
-    let program = Program {
-        image: &program.image,
-    };
-    link_objects(work, &program, &wanted(plan), sources)
 }
 
 /// What a plan wants of a link.

@@ -3,7 +3,7 @@
 ghost use Rattle.std.specs.Prelude.{◌≡◌, IfOk};
 ghost use Rattle.link_cli.specs.Answer.{Writes};
 ghost use Rattle.link_cli.specs.Endings.{done_message as told_when_done, unwritten_ending};
-ghost use Rattle.link_cli.specs.Files.{world};
+ghost use Rattle.link_program.specs.Files.{world};
 ghost use Rattle.link_cli.specs.Plans.{plan_seen};
 ghost use Rattle.link_cli.specs.Prepared.{IsPrepared};
 

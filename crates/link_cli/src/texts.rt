@@ -1,24 +1,16 @@
-//! The texts that the command tells: warnings, what was counted, and a debug map.
+//! The texts that the command tells: what was counted, and a debug map.
 
 ghost use Rattle.std.specs.Prelude.{◌≡◌, ◌++◌, ◌<◌, ◌^◌, decimal, length, IfOk, OnOk};
 ghost use Rattle.std.specs.List.{flat_map};
 ghost use Rattle.uuid.specs.Text.{hyphenated_text, lower};
 ghost use Rattle.link_cli.specs.Texts as spec;
 
-use crate::program::MappedProgram;
 use ds_base::{Bytes, NoMemory};
 use link_core::Counts;
-use link_status::line;
+use link_program::MappedProgram;
 use stab_map::{MapEntry, MapObject};
 use std::alloc::Global;
 use uuid::Uuid;
-
-/// The line of an object whose file was let go.
-pub(crate) fn warning(alloc: Global, object: &MapObject) -> Result<Bytes, NoMemory>
-    ensures { IfOk result (λ text. text ≡ spec.warning object.now) }
-{
-    line(alloc, "warning: missing: ", object.path.as_slice())
-}
 
 /// What was counted, a line a number.
 pub(crate) fn summary(alloc: Global, counts: &Counts) -> Result<Bytes, NoMemory>

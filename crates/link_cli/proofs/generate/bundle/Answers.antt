@@ -1,7 +1,7 @@
 use Rattle.std.proofs.Common.{ap, ◌∙◌}
 use Rattle.object_reads.specs.Sources.{sources_of}
-use Rattle.link_cli.proofs.Generating.{bundle_wants_memory, few_objects, numbers_each, numbers_within}
-use Rattle.link_cli.proofs.LinkSteps.{bundles_as}
+use Rattle.link_program.proofs.Bundles.{bundle_wants_memory, bundles_as}
+use Rattle.link_cli.proofs.Generating.{few_objects, numbers_each, numbers_within}
 use Rattle.link_cli.proofs.generate.bundle.Goals as goal
 
 pub returns-in_err-numbers : goal.returns-in_err-numbers

@@ -3,7 +3,7 @@ use Rattle.std.specs.String.{string_bytes}
 use Rattle.link_cli.specs.declared.ending.Ending.{Ending}
 use Rattle.link_cli.specs.Answer.{Ends, no_plan, planned, usage}
 use Rattle.link_cli.specs.Endings.{usage_ending}
-use Rattle.link_cli.specs.Files.{world}
+use Rattle.link_program.specs.Files.{world}
 use Rattle.link_cli.specs.Plan.{plan_of}
 use Rattle.link_cli.specs.Plans.{plan_seen}
 use Rattle.link_cli.proofs.LinkSteps.{told_or}

@@ -1,8 +1,8 @@
 use Rattle.std.proofs.Common.{◌≡◌, ℕ, ◌-◌, ◌^◌, Result, ap, refl, subst}
 use Rattle.link_status.specs.declared.refusal.Refusal.{Refusal}
-use Rattle.link_cli.specs.declared.program.MappedProgram.{MappedProgram}
+use Rattle.link_program.specs.declared.program.MappedProgram.{MappedProgram}
 use Rattle.link_cli.specs.Plans.{plan_seen}
-use Rattle.link_cli.specs.Refusals.{Answers}
+use Rattle.link_program.specs.Refusals.{Answers}
 use Rattle.link_cli.proofs.LinkSteps.{program_linked, program_missed, program_refused_as, program_told}
 use Rattle.link_cli.proofs.link.run_program.Goals as goal
 
@@ -21,7 +21,7 @@ returns-in-Err-read g c =
 pub returns-in-Link : goal.returns-in-Link
 returns-in-Link g c =
     program_linked (plan_seen c.args.plan.now) _ _ _ c.in-Ok.bytes _ c.as_str.ensures.value c.as_slice.ensures c.in-Ok.ensures c.in-Ok-read.program _ _ _ (read_by _ _ _ c.in-Ok-read.is c.read_program-read.ensures.read)
-    c.in-Link.is (ap (λ (n : ℕ). 2 ^ 29 - n) c.len.ensures) c.link_program.ensures
+    c.in-Link.is (ap (λ (n : ℕ). 2 ^ 29 - n) c.len.ensures) c.link_with_files.ensures
 
 pub returns-in-Map : goal.returns-in-Map
 returns-in-Map g c =
