@@ -148,8 +148,8 @@ fn has_two(rt: &impl Abort, made: &Generated)
 }
 
 /// The files of a generated program of two objects, without that of the first one or with it.
-fn two_objects(rt: &impl Abort, alloc: Global, call: u64, first: bool) -> World {
-    let made = generated(alloc, 2).expect(rt, "memory");
+fn two_objects<R: Threads + Abort + Sync>(rt: &R, alloc: Global, call: u64, first: bool) -> World {
+    let made = generated(rt, alloc, 2).expect(rt, "memory");
     has_two(rt, &made);
     store(alloc, &made, call, first).expect(rt, "memory")
 }

@@ -9,26 +9,15 @@ use ds_base::Bytes;
 use std::alloc::Global;
 use std::process::Abort;
 use std::thread::Threads;
-use unit_draft::{Draft, Outside, draft_unit, draft_unit_by_two, emit_draft};
+use unit_draft::{Draft, Outside, draft_unit, emit_draft};
 
-/// The draft that one thread makes of the first unit of a graph.
-fn drafted(rt: &impl Abort, alloc: Global) -> Draft
+/// The draft that so many threads make of the first unit of a graph.
+fn drafted<R: Threads + Abort + Sync>(rt: &R, alloc: Global, workers: u32) -> Draft
     ensures settled { result.info.own ≡ [] }
     ensures size { (f : Filling) → length (filled result.info f) ≡ result.len }
 {
     let unit = constants(rt, alloc);
-    let draft = draft_unit(alloc, &unit, 0);
-    drop(unit);
-    draft.expect(rt, "a draft")
-}
-
-/// The draft that two threads make of it.
-fn drafted_by_two<R: Threads + Abort + Sync>(rt: &R, alloc: Global) -> Draft
-    ensures settled { result.info.own ≡ [] }
-    ensures size { (f : Filling) → length (filled result.info f) ≡ result.len }
-{
-    let unit = constants(rt, alloc);
-    let draft = draft_unit_by_two(rt, alloc, &unit, 0);
+    let draft = draft_unit(rt, alloc, workers, &unit, 0);
     drop(unit);
     draft.expect(rt, "a draft")
 }
@@ -94,10 +83,10 @@ fn is_whole(rt: &impl Abort, alloc: Global, draft: Draft)
 
 #[test]
 fn one_thread_drafts_a_long_unit(rt: HostRuntime) {
-    is_whole(&rt, rt.alloc(), drafted(&rt, rt.alloc()));
+    is_whole(&rt, rt.alloc(), drafted(&rt, rt.alloc(), 1));
 }
 
 #[test]
 fn two_threads_draft_a_long_unit(rt: HostRuntime) {
-    is_whole(&rt, rt.alloc(), drafted_by_two(&rt, rt.alloc()));
+    is_whole(&rt, rt.alloc(), drafted(&rt, rt.alloc(), 2));
 }

@@ -6,7 +6,7 @@ use Rattle.ds_base.specs.MachONumbers.{MH_DSYM}
 use Rattle.ds_base.specs.Room.{Adds}
 use Rattle.ds_base.proofs.Adding.{adds_more, adds_same, adds_whole}
 use Rattle.dwarf_types.specs.declared.graph.Written.{Written}
-use Rattle.layout.specs.declared.sizes.Sizes.{Sizes}
+use Rattle.layout.specs.Laid.{Laid}
 use Rattle.macho_read.specs.declared.image.Image.{Image}
 use Rattle.macho_read.specs.ImageSpelling.{command_of, header_fields}
 use Rattle.macho_read.specs.Sound.{IsSound}
@@ -37,7 +37,7 @@ page_behind n = omega arith
 abbrev table_with : ℕ → ℕ → ℕ → List ℕ
 table_with place count size = command_bytes (command_of (symbol_table place count size))
 
-module _ (program : Image) (ws : List Written) (sizes : Sizes) (p : Places) (sound : IsSound program) (places : ArePlaces program sizes p) (told : AreTold ws sizes) where
+module _ (program : Image) (ws : List Written) (sizes : Laid) (p : Places) (sound : IsSound program) (places : ArePlaces program sizes p) (told : AreTold ws sizes) where
   few : p.sections ≡ length ws
   few = places.sections ∙ sym told.count
 

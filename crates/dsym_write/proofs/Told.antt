@@ -1,5 +1,5 @@
 -- The sections of a graph, told by their sizes.
-use Rattle.std.proofs.Common.{◌≡◌, ℕ, ◌+◌, ◌*◌, ◌≤◌, ◌==◌, Bool, true, false, not, List, [], ◌∷◌, ◌++◌, length, map, filter, if◌then◌else◌, arith, refl, sym, ap, ◌∙◌, append-nil, length-append}
+use Rattle.std.proofs.Common.{◌≡◌, ℕ, ◌+◌, ◌*◌, ◌≤◌, ◌==◌, Bool, true, false, not, List, [], ◌∷◌, ◌++◌, length, map, Ok, filter, if◌then◌else◌, arith, refl, sym, ap, ◌∙◌, append-nil, length-append}
 use Rattle.std.specs.List.{flat_map}
 use Rattle.std.proofs.lemmas.Bool.{eqb-true}
 use Rattle.ds_base.specs.declared.fault.Part.{Part}
@@ -7,16 +7,19 @@ use Rattle.ds_base.specs.declared.fault.Part.TheVariants as parts
 use Rattle.ds_base.specs.MachONumbers.{VM_PROT_ALL, VM_PROT_DEFAULT}
 use Rattle.dwarf_types.specs.declared.graph.Graph.{Graph}
 use Rattle.dwarf_types.specs.declared.graph.Written.{Written}
-use Rattle.dwarf_types.specs.Encode.{abbrev_section, aranges_section, encode, frame_section, has_bytes, info_section, line_section, line_str_section, loc_section, loclists_section, ranges_section, rnglists_section, str_section}
-use Rattle.layout.specs.declared.sizes.Sizes.{Sizes}
-use Rattle.layout.specs.Lengths.{sizes_of}
+use Rattle.dwarf_types.specs.Encode.{encode, has_bytes}
+use Rattle.layout.specs.declared.table.Section.{Section}
+use Rattle.layout.specs.declared.table.TheConstants.{SECTIONS}
+use Rattle.layout.specs.Laid.{Laid, Measures}
+use Rattle.layout.specs.Sections.{written_in}
+use Rattle.layout.proofs.SectionLengths.{layout_sizes}
 use Rattle.macho_read.specs.declared.image.Image.{Image}
 use Rattle.macho_read.specs.ImageSpelling.{command_of}
 use Rattle.macho_read.specs.Spelling.{command_bytes, section_bytes}
 use Rattle.macho_write.specs.declared.records.SegmentNumbers.{SegmentNumbers}
 use Rattle.macho_write.proofs.Lengths.{length-section}
 use Rattle.dsym_write.specs.Bundle.{contents, dwarf_command, dwarf_section, dwarf_sections, end_of, name_of_part, page_end}
-use Rattle.dsym_write.specs.Pieces.{count_of, dwarf_with, records_from, sized, total}
+use Rattle.dsym_write.specs.Pieces.{count_of, dwarf_with, records_from, sized, total, with_size}
 
 abbrev pub told : Written → Part × ℕ
 told s = (s.part, length s.bytes)
@@ -52,26 +55,23 @@ records_told (s ∷ ws) addr offset = by (length s.bytes == 0) refl (filter has_
     by false e rest h = ap (λ (more : List ℕ). section_bytes (dwarf_section addr offset s.part (length s.bytes)) ++ more) (h (addr + length s.bytes) (offset + length s.bytes))
 
 -- sections are told by these sizes
-pub record AreTold (ws : List Written) (sizes : Sizes) : Type 0 where
+pub record AreTold (ws : List Written) (sizes : Laid) : Type 0 where
   pub count : length ws ≡ count_of (sized sizes)
   pub size : length (contents ws) ≡ total (sized sizes)
   pub records : (addr offset : ℕ) → flat_map section_bytes (dwarf_sections addr offset ws) ≡ records_from addr offset (sized sizes)
 
-pub graph_told : (graph : Graph) → AreTold (encode graph) (sizes_of graph)
-graph_told graph =
-    let all : List Written =
-    record { part = parts.Abbrev; bytes = abbrev_section graph }
-    ∷ record { part = parts.Info; bytes = info_section graph }
-    ∷ record { part = parts.Str; bytes = str_section graph }
-    ∷ record { part = parts.Line; bytes = line_section graph }
-    ∷ record { part = parts.LineStr; bytes = line_str_section graph }
-    ∷ record { part = parts.Ranges; bytes = ranges_section graph }
-    ∷ record { part = parts.Rnglists; bytes = rnglists_section graph }
-    ∷ record { part = parts.Loc; bytes = loc_section graph }
-    ∷ record { part = parts.Loclists; bytes = loclists_section graph }
-    ∷ record { part = parts.Aranges; bytes = aranges_section graph }
-    ∷ record { part = parts.Frame; bytes = frame_section graph } ∷ [] in
-    record { count = count_told all; size = total_told all; records = records_told all }
+-- those of a layout that was measured
+pub graph_told : (graph : Graph) (layout : Laid) → Measures graph (Ok layout) → AreTold (encode graph) layout
+graph_told graph layout measured =
+    let all : List Written = map (written_in graph) SECTIONS in
+    let same = told_sizes SECTIONS in
+    record { count = count_told all ∙ ap count_of same; size = total_told all ∙ ap total same; records = λ addr offset. records_told all addr offset ∙ ap (records_from addr offset) same }
+  where
+    told_sizes : (sections : List Section) → map told (map (written_in graph) sections) ≡ map (with_size layout) sections
+    told_sizes [] = refl
+    told_sizes (s ∷ sections) =
+        ap (λ (n : ℕ). (s.part, n) ∷ map told (map (written_in graph) sections)) (sym (layout_sizes graph layout measured s.content))
+        ∙ ap (λ (rest : List (Part × ℕ)). with_size layout s ∷ rest) (told_sizes sections)
 
 -- ---- segment `__DWARF`
 

@@ -3,7 +3,9 @@ use Rattle.std.specs.Prelude.{◌≡◌, ℕ, ◌+◌, ◌*◌, ◌<◌, ◌≤�
 use Rattle.std.specs.Option.{option_map_or}
 use Rattle.ds_base.specs.declared.fault.Part.{Part}
 use Rattle.ds_base.specs.MachONumbers.{LC_SEGMENT_64, MACH_HEADER_64_SIZE, MH_DSYM, NLIST_64_SIZE, SECTION_64_SIZE, SEGMENT_COMMAND_64_SIZE, SEG_DWARF, SYMTAB_COMMAND_SIZE, UUID_COMMAND_SIZE, VM_PROT_ALL, VM_PROT_DEFAULT}
-use Rattle.layout.specs.declared.sizes.Sizes.{Sizes}
+use Rattle.layout.specs.Laid.{Laid, sizes_in}
+use Rattle.layout.specs.declared.table.Section.{Section}
+use Rattle.layout.specs.declared.table.TheConstants.{SECTIONS}
 use Rattle.layout.specs.Lengths.{size_in}
 use Rattle.macho_read.specs.declared.image.Image.{Image}
 use Rattle.macho_read.specs.declared.image.Segment.{Segment}
@@ -15,7 +17,6 @@ use Rattle.macho_write.specs.Records.{IsUuidLen, commands_text, header_bytes, se
 use Rattle.macho_write.specs.SymbolTable.{strings_bytes}
 use Rattle.dsym_write.specs.declared.error.WriteError.{WriteError}
 use Rattle.dsym_write.specs.declared.error.WriteError.TheVariants as errors
-use Rattle.dsym_write.specs.declared.dwarf.TheConstants.{WRITTEN_PARTS}
 use Rattle.dsym_write.specs.declared.places.Places.{Places}
 use Rattle.dsym_write.specs.Bundle.{dwarf_section, end_of, kept_symbols, page_end}
 
@@ -30,8 +31,8 @@ abbrev pub records_from : ℕ → ℕ → List (Part × ℕ) → List ℕ
 records_from addr offset [] = []
 records_from addr offset (p ∷ parts) = sized_bytes addr offset p.0 p.1 ++ records_from (addr + p.1) (offset + p.1) parts
 
-abbrev pub with_size : Sizes → Part → Part × ℕ
-with_size sizes part = (part, size_in sizes part)
+abbrev pub with_size : Laid → Section → Part × ℕ
+with_size sizes section = (section.part, size_in (sizes_in sizes) section.content)
 
 -- the size of all
 abbrev pub total : List (Part × ℕ) → ℕ
@@ -43,8 +44,8 @@ abbrev pub count_of : List (Part × ℕ) → ℕ
 count_of [] = 0
 count_of (p ∷ parts) = if p.1 == 0 then count_of parts else 1 + count_of parts
 
-abbrev pub sized : Sizes → List (Part × ℕ)
-sized sizes = map (with_size sizes) WRITTEN_PARTS
+abbrev pub sized : Laid → List (Part × ℕ)
+sized sizes = map (with_size sizes) SECTIONS
 
 -- ---- places
 
@@ -57,7 +58,7 @@ commands_size program sections =
 abbrev pub HasRoomAbove : Segment → Type 0
 HasRoomAbove s = s.vmaddr + s.vmsize ≤ last_end
 
-pub record ArePlaces (program : Image) (sizes : Sizes) (p : Places) : Type 0 where
+pub record ArePlaces (program : Image) (sizes : Laid) (p : Places) : Type 0 where
   pub sections : p.sections ≡ count_of (sized sizes)
   pub contents : p.contents ≡ total (sized sizes)
   pub commands : p.commands ≡ commands_size program p.sections
@@ -100,11 +101,11 @@ dwarf_numbers p =
 abbrev pub dwarf_with : SegmentNumbers → List ℕ → List ℕ
 dwarf_with n records = command_bytes (record { cmd = LC_SEGMENT_64; body = (padded SEG_DWARF ++ spelled (segment_fields n.fileoff n.filesize (segment_with SEG_DWARF n))) ++ records })
 
-abbrev pub dwarf_text : Places → Sizes → List ℕ
+abbrev pub dwarf_text : Places → Laid → List ℕ
 dwarf_text p sizes = dwarf_with (dwarf_numbers p) (records_from p.vmaddr p.offset (sized sizes))
 
 -- the header and the commands
-abbrev pub commands_front : Image → Places → Sizes → List ℕ
+abbrev pub commands_front : Image → Places → Laid → List ℕ
 commands_front program p sizes =
     header_bytes program.cpu program.sub MH_DSYM (commands_count program) p.commands
     ++ (commands_text (uuid_command program.uuid)

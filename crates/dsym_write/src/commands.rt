@@ -4,12 +4,12 @@ ghost use Rattle.std.specs.Prelude.{◌≡◌, ◌+◌, ◌<◌, ◌^◌, ◌++�
 ghost use Rattle.dsym_write.specs.Pieces;
 ghost use Rattle.dsym_write.specs.Pieces.{ArePlaces, commands_count, commands_front, dwarf_text};
 
-use crate::dwarf::{WRITTEN_PARTS, append_parts};
+use crate::dwarf::append_parts;
 use crate::page::page_end;
 use crate::places::Places;
 use ds_base::macho::{LC_SEGMENT_64, MH_DSYM, SEG_DWARF, VM_PROT_ALL, VM_PROT_DEFAULT};
 use ds_base::{Bytes, NoMemory};
-use layout::Layout;
+use layout::{Layout, SECTIONS};
 use macho_read::Image;
 use macho_write::{
     SegmentNumbers, append_command, append_header, append_segment, append_segments, append_symtab,
@@ -24,9 +24,9 @@ pub(crate) fn commands_of(
     layout: &Layout,
     places: Places,
 ) -> Result<Bytes, NoMemory>
-    requires places { ArePlaces program.now layout.now.sizes places }
+    requires places { ArePlaces program.now layout.now places }
     requires small { places.size < 2 ^ 32 }
-    ensures { IfOk result (λ bytes. bytes ≡ commands_front program.now places layout.now.sizes) }
+    ensures { IfOk result (λ bytes. bytes ≡ commands_front program.now places layout.now) }
 {
     let mut out = Bytes::new(alloc);
     let count = count_commands(program);
@@ -65,20 +65,14 @@ fn append_dwarf(
     layout: &Layout,
     places: Places,
 ) -> Result<(), NoMemory>
-    requires contents { places.contents ≡ Pieces.total (Pieces.sized layout.now.sizes) }
+    requires contents { places.contents ≡ Pieces.total (Pieces.sized layout.now) }
     requires above { places.vmaddr + places.contents < 2 ^ 64 }
     requires small { places.offset + places.contents < 2 ^ 32 }
-    ensures { OnOk result (out.new ≡ out.old ++ dwarf_text places layout.now.sizes) }
+    ensures { OnOk result (out.new ≡ out.old ++ dwarf_text places layout.now) }
 {
     let mut body = Bytes::new(alloc);
     append_segment(&mut body, &SEG_DWARF, dwarf_numbers(places))?;
-    append_parts(
-        &mut body,
-        &WRITTEN_PARTS,
-        layout,
-        places.vmaddr,
-        places.offset,
-    )?;
+    append_parts(&mut body, &SECTIONS, layout, places.vmaddr, places.offset)?;
     append_command(out, LC_SEGMENT_64, body.as_slice())?;
     Ok(())
 }

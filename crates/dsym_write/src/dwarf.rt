@@ -11,41 +11,26 @@ use ds_base::macho::{
     SECT_DEBUG_RNGLISTS, SECT_DEBUG_STR, SEG_DWARF,
 };
 use ds_base::{Bytes, NoMemory, Part};
-use layout::{Layout, section_size};
+use layout::{Layout, Section, section_size};
 use macho_write::{SectionNumbers, append_section};
-
-/// The parts that have a section, in the order of the output.
-pub const WRITTEN_PARTS: [Part; 11] = [
-    Part::Abbrev,
-    Part::Info,
-    Part::Str,
-    Part::Line,
-    Part::LineStr,
-    Part::Ranges,
-    Part::Rnglists,
-    Part::Loc,
-    Part::Loclists,
-    Part::Aranges,
-    Part::Frame,
-];
 
 /// Puts the records of the sections that have bytes last, the first at an address and at an offset of the file.
 pub(crate) fn append_parts(
     out: &mut Bytes,
-    parts: &[Part],
+    sections: &[Section],
     layout: &Layout,
     addr: u64,
     offset: u128,
 ) -> Result<(), NoMemory>
-    requires above { addr + total (map (with_size layout.now.sizes) parts.now) < 2 ^ 64 }
-    requires small { offset + total (map (with_size layout.now.sizes) parts.now) < 2 ^ 32 }
-    ensures { OnOk result (out.new ≡ out.old ++ records_from addr offset (map (with_size layout.now.sizes) parts.now)) }
+    requires above { addr + total (map (with_size layout.now) sections.now) < 2 ^ 64 }
+    requires small { offset + total (map (with_size layout.now) sections.now) < 2 ^ 32 }
+    ensures { OnOk result (out.new ≡ out.old ++ records_from addr offset (map (with_size layout.now) sections.now)) }
 {
     let mut addr = addr;
     let mut offset = offset;
-    for part in parts {
-        let size = section_size(layout, *part);
-        append_sized(out, *part, size, addr, offset)?;
+    for section in sections {
+        let size = section_size(layout, section.content);
+        append_sized(out, section.part, size, addr, offset)?;
         addr += size;
         offset += u128::from(size);
     }

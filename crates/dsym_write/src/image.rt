@@ -19,7 +19,7 @@ use ds_base::{Bytes, NoMemory, emit_bytes};
 use layout::Layout;
 use macho_read::{Image, Symbols};
 use macho_write::{emit_strings, emit_symbols};
-use section_write::emit_sections_by;
+use section_write::emit_sections;
 use std::thread::Threads;
 
 /// The dSYM image of a program: the commands and the symbols of the program, and the sections of a graph that was
@@ -92,9 +92,9 @@ fn write_image<R: Threads + Sync>(
     requires workers { (1 ≤ workers) × (workers ≤ 64) }
     requires sound { IsSound program.now }
     requires measured { IsMeasured layout.now }
-    requires places { ArePlaces program.now layout.now.sizes places }
+    requires places { ArePlaces program.now layout.now places }
     requires small { places.size < 2 ^ 32 }
-    requires commands { commands.now ≡ commands_front program.now places layout.now.sizes }
+    requires commands { commands.now ≡ commands_front program.now places layout.now }
     requires size { length room.old ≡ places.size }
     ensures { (graph : Graph) → Measures graph (Ok layout.now) → room.new ≡ image_file program.now graph }
 {
@@ -145,6 +145,6 @@ fn add_sections<R: Threads + Sync>(
     ensures { (graph : Graph) → Measures graph (Ok layout.now) → Adds room.old at (contents (encode graph)) room.new result }
 {
     let end = room.len();
-    emit_sections_by(rt, workers, layout, &mut room[at..end]);
+    emit_sections(rt, workers, layout, &mut room[at..end]);
     end
 }

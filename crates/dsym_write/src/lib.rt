@@ -14,7 +14,7 @@ mod page;
 mod places;
 mod plist;
 
-pub use dwarf::{WRITTEN_PARTS, append_part};
+pub use dwarf::append_part;
 pub use error::WriteError;
 pub use image::image_in;
 pub use plist::plist_text;

@@ -13,14 +13,12 @@ ghost use Rattle.dsym_write.specs.Bundle.{end_of};
 ghost use Rattle.macho_write.specs.Records.{IsUuidLen};
 ghost use Rattle.dsym_write.specs.Pieces.{ArePlaces, HasRoomAbove, commands_size, count_of, total, with_size};
 
-use crate::dwarf::WRITTEN_PARTS;
 use crate::page::page_end;
-use ds_base::Part;
 use ds_base::macho::{
     MACH_HEADER_64_SIZE, NLIST_64_SIZE, SECTION_64_SIZE, SEGMENT_COMMAND_64_SIZE,
     SYMTAB_COMMAND_SIZE,
 };
-use layout::{Layout, section_size};
+use layout::{Layout, SECTIONS, Section, section_size};
 use macho_read::{Image, Segment, Symbols, is_stab};
 use macho_write::strings_size;
 
@@ -55,10 +53,10 @@ pub(crate) struct Places {
 pub(crate) fn places_of(program: &Image, layout: &Layout) -> Places
     requires sound { IsSound program.now }
     requires kind { kind_of program.now roles.Program ≡ Ok tt }
-    ensures { ArePlaces program.now layout.now.sizes result }
+    ensures { ArePlaces program.now layout.now result }
 {
-    let sections = count_written(&WRITTEN_PARTS, layout);
-    let contents = written_size(&WRITTEN_PARTS, layout);
+    let sections = count_written(&SECTIONS, layout);
+    let contents = written_size(&SECTIONS, layout);
     let commands = size_of_commands(program, sections);
     let symoff = u128::from(MACH_HEADER_64_SIZE) + commands;
     let nsyms = count_kept(&program.symbols);
@@ -79,28 +77,28 @@ pub(crate) fn places_of(program: &Image, layout: &Layout) -> Places
     }
 }
 
-/// How many parts have bytes.
-fn count_written(parts: &[Part], layout: &Layout) -> u64
-    ensures { result ≡ count_of (map (with_size layout.now.sizes) parts.now) }
+/// How many sections have bytes.
+fn count_written(sections: &[Section], layout: &Layout) -> u64
+    ensures { result ≡ count_of (map (with_size layout.now) sections.now) }
 {
     let mut count = 0;
-    for part in parts {
-        if section_size(layout, *part) != 0 {
+    for section in sections {
+        if section_size(layout, section.content) != 0 {
             count += 1;
         }
     }
     count
 }
 
-/// The size of parts.
-fn written_size(parts: &[Part], layout: &Layout) -> u128
-    requires few { length parts.now < 2 ^ 32 }
-    ensures size { result ≡ total (map (with_size layout.now.sizes) parts.now) }
+/// The size of sections.
+fn written_size(sections: &[Section], layout: &Layout) -> u128
+    requires few { length sections.now < 2 ^ 32 }
+    ensures size { result ≡ total (map (with_size layout.now) sections.now) }
     ensures room { result < 2 ^ 96 }
 {
     let mut size = 0;
-    for part in parts {
-        size += u128::from(section_size(layout, *part));
+    for section in sections {
+        size += u128::from(section_size(layout, section.content));
     }
     size
 }

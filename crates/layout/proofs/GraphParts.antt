@@ -9,7 +9,8 @@ use Rattle.dwarf_types.specs.Entries.{unit_len}
 use Rattle.dwarf_types.specs.Layout.{before_unit, line_text_place, lines_place, numbered_units, unit_locations_len, unit_ranges_len}
 use Rattle.dwarf_types.specs.LineTable.{lines_bytes}
 use Rattle.layout.specs.declared.starts.Starts.{Starts}
-use Rattle.layout.specs.Pass.{behind_unit, starts_of}
+use Rattle.layout.specs.Lengths.{starts_of}
+use Rattle.layout.specs.Pass.{behind_unit}
 use Rattle.layout.proofs.LineLengths.{same_lines}
 use Rattle.layout.proofs.Numbered.{take_numbered}
 

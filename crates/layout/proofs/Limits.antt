@@ -1,38 +1,137 @@
 -- The first section that is too long.
-use Rattle.std.proofs.Common.{◌≡◌, ℕ, ◌+◌, ◌-◌, ◌^◌, ◌<◌, ◌==◌, Bool, true, false, [], ◌∷◌, length, Option, Some, None, nat_le, if◌then◌else◌, refl, sym, ap, ◌∙◌, arith}
+use Rattle.std.proofs.Common.{◌≡◌, ℕ, zero, suc, ◌+◌, ◌-◌, ◌^◌, ◌<◌, ◌==◌, nat_le, Bool, true, false, List, [], ◌∷◌, length, map, Option, Some, None, slice_get, if◌then◌else◌, refl, sym, ap, ◌∙◌, arith}
 use Rattle.std.specs.List.{find}
-use Rattle.std.specs.Option.{option_or}
+use Rattle.std.specs.Option.{option_map}
 use Rattle.std.proofs.lemmas.Bool.{eqb-true, leb-false}
-use Rattle.std.proofs.lemmas.List.Folds.{find-append}
 use Rattle.ds_base.specs.declared.fault.Part.{Part}
 use Rattle.ds_base.specs.declared.fault.Part.TheVariants as parts
 use Rattle.dwarf_types.specs.declared.graph.Graph.{Graph}
-use Rattle.dwarf_types.specs.Encode.{abbrev_section, line_section}
+use Rattle.dwarf_types.specs.declared.graph.Written.{Written}
+use Rattle.dwarf_types.specs.Encode.{abbrev_section, line_section, str_section}
 use Rattle.layout.specs.declared.sizes.Sizes.{Sizes}
-use Rattle.layout.specs.declared.starts.Starts.{Starts}
-use Rattle.layout.specs.Lengths.{long_section, size_in, sizes_of}
-use Rattle.layout.specs.Pass.{AreBelow, is_long, lists_size, long_back, long_front, long_other, sized}
+use Rattle.layout.specs.declared.table.Common.TheVariants as commons
+use Rattle.layout.specs.declared.table.Content.{Content}
+use Rattle.layout.specs.declared.table.Content.TheVariants as contents
+use Rattle.layout.specs.declared.table.Section.{Section}
+use Rattle.layout.specs.declared.table.TheConstants.{SECTIONS}
+use Rattle.layout.specs.Lengths.{lists_size, long_section, size_in}
+use Rattle.layout.specs.Pass.{AreBelow, first_long, is_long, long_in}
+use Rattle.layout.specs.Sections.{content_bytes, written_in}
 
-abbrev long_in : Sizes → Option Part
-long_in sizes =
-    find (λ part. nat_le (2 ^ 32 - 1) (size_in sizes part))
-    (parts.Str ∷ parts.Abbrev ∷ parts.Info ∷ parts.Line ∷ parts.LineStr ∷ parts.Ranges ∷ parts.Rnglists ∷ parts.Loc ∷ parts.Loclists ∷ parts.Aranges ∷ parts.Frame ∷ [])
+-- ---- tests
 
-long_parts : (ends : Starts) (texts line_texts aranges frames : ℕ) → long_in (sized ends texts line_texts aranges frames) ≡ option_or (long_front ends texts) (option_or (long_back ends line_texts) (long_other aranges frames))
-long_parts ends texts line_texts aranges frames =
-    let test : Part → Bool = λ part. nat_le (2 ^ 32 - 1) (size_in (sized ends texts line_texts aranges frames) part) in
-    find-append test (parts.Str ∷ parts.Abbrev ∷ parts.Info ∷ parts.Line ∷ [])
-    (parts.LineStr ∷ parts.Ranges ∷ parts.Rnglists ∷ parts.Loc ∷ parts.Loclists ∷ parts.Aranges ∷ parts.Frame ∷ [])
-    ∙ ap (option_or (long_front ends texts)) (find-append test (parts.LineStr ∷ parts.Ranges ∷ parts.Rnglists ∷ parts.Loc ∷ parts.Loclists ∷ []) (parts.Aranges ∷ parts.Frame ∷ []))
+-- the same sections are long
+module _ (a b : Content → Bool) (same : (c : Content) → a c ≡ b c) where
+  same_in : (sections : List Section) → long_in a sections ≡ long_in b sections
+  same_in [] = refl
+  same_in (s ∷ sections) = ap (λ (t : Bool). if t then Some s.part else long_in a sections) (same s.content) ∙ ap (λ (o : Option Part). if b s.content then Some s.part else o) (same_in sections)
 
--- those up to the line tables first, then those behind them, and then the two others
-pub long_is : (graph : Graph) (ends : Starts) (texts line_texts aranges frames : ℕ) → sized ends texts line_texts aranges frames ≡ sizes_of graph
-    → long_section graph ≡ option_or (long_front ends texts) (option_or (long_back ends line_texts) (long_other aranges frames))
-long_is graph ends texts line_texts aranges frames same = sym (ap long_in same) ∙ long_parts ends texts line_texts aranges frames
+  pub same_long : first_long a ≡ first_long b
+  same_long =
+      ap (λ (t : Bool). if t then Some parts.Str else long_in a SECTIONS) (same (contents.Common commons.Texts))
+      ∙ ap (λ (o : Option Part). if b (contents.Common commons.Texts) then Some parts.Str else o) (same_in SECTIONS)
 
-quiet : (b : Bool) (part : Part) (rest : Option Part) → (if b then Some part else rest) ≡ None → (b ≡ false) × (rest ≡ None)
-quiet true part rest e = absurd cc
-quiet false part rest e = (refl, e)
+passed : (b : Bool) (part : Part) (rest : Option Part) → (if b then Some part else rest) ≡ None → (b ≡ false) × (rest ≡ None)
+passed true part rest e = absurd cc
+passed false part rest e = (refl, e)
+
+-- none of them is long
+none_in : (t : Content → Bool) (sections : List Section) (i : ℕ) (s : Section) → slice_get sections i ≡ Some s → long_in t sections ≡ None → t s.content ≡ false
+none_in t [] i s at e = absurd cc
+none_in t (x ∷ sections) zero s at e =
+    let same : x ≡ s = cc in
+    sym (ap (λ (y : Section). t y.content) same) ∙ (passed (t x.content) x.part (long_in t sections) e).0
+none_in t (x ∷ sections) (suc i) s at e = none_in t sections i s at (passed (t x.content) x.part (long_in t sections) e).1
+
+pub none_at : (t : Content → Bool) (i : ℕ) (s : Section) → slice_get SECTIONS i ≡ Some s → first_long t ≡ None → t s.content ≡ false
+none_at t i s at e = none_in t SECTIONS i s at (passed (t (contents.Common commons.Texts)) parts.Str (long_in t SECTIONS) e).1
+
+-- ---- those that are made late
+
+abbrev pub late : Content → Bool
+late (contents.Common commons.Aranges) = true
+late (contents.Common commons.Frames) = true
+late _ = false
+
+abbrev all_late : List Section → Bool
+all_late [] = true
+all_late (s ∷ sections) = if late s.content then all_late sections else false
+
+-- they stand behind the others
+abbrev stand_last : List Section → Bool
+stand_last [] = true
+stand_last (s ∷ sections) = if late s.content then all_late sections else stand_last sections
+
+-- where nothing is known of these, and all is known of the others, the first long section is known
+module _ (t g : Content → Bool) (known : (c : Content) → late c ≡ false → t c ≡ g c) (silent : (c : Content) → late c ≡ true → t c ≡ false) where
+  none_late : (sections : List Section) → all_late sections ≡ true → long_in t sections ≡ None
+  none_late [] e = refl
+  none_late (s ∷ sections) e = by (late s.content) refl e (none_late sections)
+    where
+      by : (l : Bool) → late s.content ≡ l → (if l then all_late sections else false) ≡ true → (all_late sections ≡ true → long_in t sections ≡ None) → (if t s.content then Some s.part else long_in t sections) ≡ None
+      by true is e more = ap (λ (b : Bool). if b then Some s.part else long_in t sections) (silent s.content is) ∙ more e
+      by false is e more = absurd cc
+
+  -- a late section is not the first
+  never : (part : Part) (s : Section) (sections : List Section) → late s.content ≡ true → all_late sections ≡ true → (if t s.content then Some s.part else long_in t sections) ≡ Some part → ⊥
+  never part s sections is last e =
+      let none : (if t s.content then Some s.part else long_in t sections) ≡ None = ap (λ (b : Bool). if b then Some s.part else long_in t sections) (silent s.content is) ∙ none_late sections last in
+      cc
+
+  early_in : (part : Part) (sections : List Section) → stand_last sections ≡ true → long_in t sections ≡ Some part → long_in g sections ≡ Some part
+  early_in part [] last e = absurd cc
+  early_in part (s ∷ sections) last e = by (late s.content) refl last (early_in part sections)
+    where
+      here : (b : Bool) → (if b then Some s.part else long_in t sections) ≡ Some part → (long_in t sections ≡ Some part → long_in g sections ≡ Some part) → (if b then Some s.part else long_in g sections) ≡ Some part
+      here true e more = e
+      here false e more = more e
+
+      by : (l : Bool) → late s.content ≡ l → (if l then all_late sections else stand_last sections) ≡ true → (stand_last sections ≡ true → long_in t sections ≡ Some part → long_in g sections ≡ Some part)
+          → (if g s.content then Some s.part else long_in g sections) ≡ Some part
+      by true is last more = absurd (never part s sections is last e)
+      by false is last more = ap (λ (b : Bool). if b then Some s.part else long_in g sections) (sym (known s.content is)) ∙ here (t s.content) e (more last)
+
+  pub early : (part : Part) → first_long t ≡ Some part → first_long g ≡ Some part
+  early part e = ap (λ (b : Bool). if b then Some parts.Str else long_in g SECTIONS) (sym (known (contents.Common commons.Texts) refl)) ∙ by (t (contents.Common commons.Texts)) e
+    where
+      by : (b : Bool) → (if b then Some parts.Str else long_in t SECTIONS) ≡ Some part → (if b then Some parts.Str else long_in g SECTIONS) ≡ Some part
+      by true e = e
+      by false e = early_in part SECTIONS refl e
+
+-- ---- a graph
+
+abbrev part_of : Option Written → Option Part
+part_of found = option_map (λ s. s.part) found
+
+module _ (graph : Graph) where
+  found_in : (sections : List Section) → part_of (find (λ s. nat_le (2 ^ 32 - 1) (length s.bytes)) (map (written_in graph) sections)) ≡ long_in (λ content. is_long (length (content_bytes graph content))) sections
+  found_in [] = refl
+  found_in (s ∷ sections) = by (is_long (length (content_bytes graph s.content))) (found_in sections)
+    where
+      by : (b : Bool) → part_of (find (λ w. nat_le (2 ^ 32 - 1) (length w.bytes)) (map (written_in graph) sections)) ≡ long_in (λ content. is_long (length (content_bytes graph content))) sections
+          → part_of (if b then Some (written_in graph s) else find (λ w. nat_le (2 ^ 32 - 1) (length w.bytes)) (map (written_in graph) sections)) ≡ (if b then Some s.part else long_in (λ content. is_long (length (content_bytes graph content))) sections)
+      by true more = refl
+      by false more = more
+
+  -- the table of sections is the order of the output
+  pub long_is : long_section graph ≡ first_long (λ content. is_long (length (content_bytes graph content)))
+  long_is = by (is_long (length (str_section graph)))
+    where
+      by : (b : Bool) → part_of (if b then Some (record { part = parts.Str; bytes = str_section graph }) else find (λ w. nat_le (2 ^ 32 - 1) (length w.bytes)) (map (written_in graph) SECTIONS)) ≡ (if b then Some parts.Str else long_in (λ content. is_long (length (content_bytes graph content))) SECTIONS)
+      by true = refl
+      by false = found_in SECTIONS
+
+  -- where no section is too long, none of them is
+  pub short_at : (i : ℕ) (s : Section) → slice_get SECTIONS i ≡ Some s → long_section graph ≡ None → length (content_bytes graph s.content) < 2 ^ 32 - 1
+  short_at i s at e = leb-false (2 ^ 32 - 1) (length (content_bytes graph s.content)) (none_at (λ content. is_long (length (content_bytes graph content))) i s at (sym long_is ∙ e))
+
+  pub line_short : long_section graph ≡ None → length (line_section graph) < 2 ^ 32 - 1
+  line_short = short_at 3 _ refl
+
+  pub tables_short : long_section graph ≡ None → length (abbrev_section graph) < 2 ^ 32 - 1
+  tables_short = short_at 0 _ refl
+
+-- ---- drafts
 
 -- lists that fit with their header
 with_header : (lists : ℕ) → is_long (lists_size lists) ≡ false → 12 + lists < 2 ^ 32
@@ -44,55 +143,17 @@ with_header lists e = by (lists == 0) refl
         let size : lists_size lists ≡ 12 + lists = ap (λ (b : Bool). if b then 0 else 12 + lists) some in
         omega (arith, leb-false (2 ^ 32 - 1) (lists_size lists) e, size)
 
--- none of those of the drafts is too long
-pub ends_small : (ends : Starts) (texts line_texts : ℕ) → long_front ends texts ≡ None → long_back ends line_texts ≡ None → AreBelow (2 ^ 32) ends
-ends_small ends texts line_texts e f =
-    let a = quiet (is_long texts) parts.Str _ e in
-    let b = quiet (is_long ends.tables) parts.Abbrev _ a.1 in
-    let c = quiet (is_long ends.info) parts.Info _ b.1 in
-    let d = quiet (is_long ends.line) parts.Line None c.1 in
-    let g = quiet (is_long line_texts) parts.LineStr _ f in
-    let h = quiet (is_long ends.ranges) parts.Ranges _ g.1 in
-    let i = quiet (is_long (lists_size ends.rnglists)) parts.Rnglists _ h.1 in
-    let j = quiet (is_long ends.loc) parts.Loc _ i.1 in
-    let k = quiet (is_long (lists_size ends.loclists)) parts.Loclists None j.1 in
+-- no place behind all drafts is too long
+pub ends_small : (sizes : Sizes) → first_long (λ content. is_long (size_in sizes content)) ≡ None → AreBelow (2 ^ 32) sizes.ends
+ends_small sizes e =
+    let t : Content → Bool = λ content. is_long (size_in sizes content) in
+    let below : (n : ℕ) → is_long n ≡ false → n < 2 ^ 32 = λ n short. let lt = leb-false (2 ^ 32 - 1) n short in omega (arith, lt) in
     record {
-      info = omega (arith, leb-false (2 ^ 32 - 1) ends.info c.0);
-      tables = omega (arith, leb-false (2 ^ 32 - 1) ends.tables b.0);
-      line = omega (arith, leb-false (2 ^ 32 - 1) ends.line d.0);
-      ranges = omega (arith, leb-false (2 ^ 32 - 1) ends.ranges h.0);
-      rnglists = with_header ends.rnglists i.0;
-      loc = omega (arith, leb-false (2 ^ 32 - 1) ends.loc j.0);
-      loclists = with_header ends.loclists k.0;
+      info = below sizes.ends.info (none_at t 1 _ refl e);
+      tables = below sizes.ends.tables (none_at t 0 _ refl e);
+      line = below sizes.ends.line (none_at t 3 _ refl e);
+      ranges = below sizes.ends.ranges (none_at t 5 _ refl e);
+      rnglists = with_header sizes.ends.rnglists (none_at t 6 _ refl e);
+      loc = below sizes.ends.loc (none_at t 7 _ refl e);
+      loclists = with_header sizes.ends.loclists (none_at t 8 _ refl e);
     }
-
--- nor is that of the line tables, where no section is
-pub line_short : (graph : Graph) → long_section graph ≡ None → length (line_section graph) < 2 ^ 32 - 1
-line_short graph e =
-    let a = quiet (is_long (sizes_of graph).texts) parts.Str _ e in
-    let b = quiet (is_long (sizes_of graph).tables) parts.Abbrev _ a.1 in
-    let c = quiet (is_long (sizes_of graph).info) parts.Info _ b.1 in
-    let d = quiet (is_long (sizes_of graph).line) parts.Line _ c.1 in
-    leb-false (2 ^ 32 - 1) (length (line_section graph)) d.0
-
--- nor is that of the abbreviations
-pub tables_short : (graph : Graph) → long_section graph ≡ None → length (abbrev_section graph) < 2 ^ 32 - 1
-tables_short graph e =
-    let a = quiet (is_long (sizes_of graph).texts) parts.Str _ e in
-    let b = quiet (is_long (sizes_of graph).tables) parts.Abbrev _ a.1 in
-    leb-false (2 ^ 32 - 1) (length (abbrev_section graph)) b.0
-
--- nor are those of the sections with a header
-pub lists_short : (graph : Graph) → long_section graph ≡ None → ((sizes_of graph).rnglists < 2 ^ 32 - 1) × ((sizes_of graph).loclists < 2 ^ 32 - 1)
-lists_short graph e =
-    let s = sizes_of graph in
-    let a = quiet (is_long s.texts) parts.Str _ e in
-    let b = quiet (is_long s.tables) parts.Abbrev _ a.1 in
-    let c = quiet (is_long s.info) parts.Info _ b.1 in
-    let d = quiet (is_long s.line) parts.Line _ c.1 in
-    let f = quiet (is_long s.line_texts) parts.LineStr _ d.1 in
-    let g = quiet (is_long s.ranges) parts.Ranges _ f.1 in
-    let h = quiet (is_long s.rnglists) parts.Rnglists _ g.1 in
-    let i = quiet (is_long s.loc) parts.Loc _ h.1 in
-    let j = quiet (is_long s.loclists) parts.Loclists _ i.1 in
-    (leb-false (2 ^ 32 - 1) s.rnglists h.0, leb-false (2 ^ 32 - 1) s.loclists j.0)

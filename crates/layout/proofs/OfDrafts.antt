@@ -21,8 +21,8 @@ use Rattle.layout.specs.declared.placing.PartPlaces.{PartPlaces}
 use Rattle.layout.specs.declared.placing.Placing.{Placing}
 use Rattle.layout.specs.declared.starts.Starts.{Starts}
 use Rattle.layout.specs.Laid.{part_places}
-use Rattle.layout.specs.Lengths.{long_unit}
-use Rattle.layout.specs.Pass.{behind_draft, behind_unit, in_five, in_others, no_starts, none_placed, nothing, parts_of, starts_of, with_draft}
+use Rattle.layout.specs.Lengths.{long_unit, starts_of}
+use Rattle.layout.specs.Pass.{behind_draft, behind_unit, in_five, in_others, no_starts, none_placed, nothing, parts_of, with_draft}
 use Rattle.layout.proofs.GraphParts.{by_all, starts_more}
 use Rattle.layout.proofs.SectionLengths.{unit_locations_size, unit_ranges_size}
 

@@ -12,7 +12,6 @@ use Rattle.unit_draft.specs.Drafted.{AreDrafts, IsDraft}
 use Rattle.unit_draft.specs.Outside.{IsOutside}
 use Rattle.layout.specs.declared.placing.PartPlaces.{PartPlaces}
 use Rattle.layout.specs.Laid.{Laid, laid, line_text_places, part_places, text_places}
-use Rattle.layout.proofs.SectionLengths.{info_end}
 
 blank : OutUnit
 blank = record { version = 0; nodes = []; lines = None; ranges = [] }
@@ -33,7 +32,7 @@ module _ (graph : Graph) (layout : Laid) (u : ℕ) (unit : OutUnit) (draft : Dra
   pub outside_is : layout ≡ laid graph layout.drafts → AreDrafts graph layout.drafts → slice_get graph.units u ≡ Some unit → slice_get layout.drafts u ≡ Some draft
       → part ≡ get_or layout.parts u d → places ≡ get_or layout.text_places u places → line_places ≡ get_or layout.line_text_places u line_places
       → o.table ≡ part.table → o.lines ≡ part.lines → o.ranges ≡ part.ranges → o.locations ≡ part.locations → o.texts.now ≡ places → o.line_texts.now ≡ line_places
-      → o.starts.now ≡ layout.starts → o.drafts.now ≡ layout.drafts → o.end ≡ layout.sizes.info → IsOutside graph u unit draft.names draft.line_names o
+      → o.starts.now ≡ layout.starts → o.drafts.now ≡ layout.drafts → o.end ≡ layout.ends.info → IsOutside graph u unit draft.names draft.line_names o
   outside_is whole are here there part_is places_is line_places_is table lines ranges locations texts line_texts starts drafts end =
       let within : u < length graph.units = slice_get_within graph.units u unit here in
       let its : get_or graph.units u blank ≡ unit = get_or_from_slice_get graph.units u unit blank here in
@@ -55,5 +54,5 @@ module _ (graph : Graph) (layout : Laid) (u : ℕ) (unit : OutUnit) (draft : Dra
         line_texts = λ i t at. ap (λ (ps : List ℕ). slice_index ps i) line_list ∙ text_told (line_text_place graph) draft.line_names i t at;
         starts = starts ∙ ap (λ (l : Laid). l.starts) whole;
         drafts = subst (AreDrafts graph) (sym drafts) are;
-        end = end ∙ ap (λ (l : Laid). l.sizes.info) whole ∙ sym (info_end graph);
+        end = end ∙ ap (λ (l : Laid). l.ends.info) whole;
       }

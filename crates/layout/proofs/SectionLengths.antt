@@ -1,5 +1,5 @@
 -- How long the sections of a graph are.
-use Rattle.std.proofs.Common.{◌≡◌, ◌==◌, ℕ, ◌+◌, Bool, true, false, List, [], ◌∷◌, ◌++◌, length, if◌then◌else◌, refl, sym, ap, ◌∙◌, arith, length-append}
+use Rattle.std.proofs.Common.{◌≡◌, ◌==◌, ℕ, ◌+◌, Bool, true, false, List, [], ◌∷◌, ◌++◌, length, Ok, if◌then◌else◌, refl, sym, ap, ◌∙◌, arith, length-append}
 use mathlib.Core.Path.{fun_ext}
 use Rattle.std.specs.List.{enumerate_from, flat_map, sum_by}
 use Rattle.std.proofs.lemmas.List.Concat.{length-flat_map}
@@ -11,7 +11,7 @@ use Rattle.dwarf_types.specs.declared.graph.OutUnit.{OutUnit}
 use Rattle.dwarf_types.specs.declared.graph.OutValue.{OutValue}
 use Rattle.dwarf_types.specs.declared.graph.OutValue.TheVariants as values
 use Rattle.dwarf_types.specs.Abbreviations.{table_bytes}
-use Rattle.dwarf_types.specs.Encode.{abbrev_section, all_locations, all_ranges, info_section, line_section, loclists_section, over_units, over_values, rnglists_section, unit_locations, unit_ranges}
+use Rattle.dwarf_types.specs.Encode.{abbrev_section, all_locations, all_ranges, aranges_section, frame_section, info_section, line_section, line_str_section, over_units, over_values, str_section, unit_locations, unit_ranges}
 use Rattle.dwarf_types.specs.Entries.{node_locations_len, node_ranges_len, unit_bytes, unit_len}
 use Rattle.dwarf_types.specs.Layout.{before_unit, line_text_place, lists_place, numbered_units, places_of, stands_in, table_place, unit_locations_len, unit_ranges_len}
 use Rattle.dwarf_types.specs.LineTable.{lines_bytes}
@@ -20,8 +20,14 @@ use Rattle.dwarf_types.specs.Places.{own_node}
 use Rattle.dwarf_types.proofs.Lengths.{length-location_list, length-range_list, length-unit}
 use Rattle.layout.specs.declared.sizes.Sizes.{Sizes}
 use Rattle.layout.specs.declared.starts.Starts.{Starts}
-use Rattle.layout.specs.Lengths.{sizes_of}
-use Rattle.layout.specs.Pass.{lists_size, sized, starts_of}
+use Rattle.layout.specs.declared.table.Common.TheVariants as commons
+use Rattle.layout.specs.declared.table.Content.{Content}
+use Rattle.layout.specs.declared.table.Content.TheVariants as contents
+use Rattle.layout.specs.declared.table.Piece.{Piece}
+use Rattle.layout.specs.declared.table.Piece.TheVariants as pieces
+use Rattle.layout.specs.Laid.{Laid, Measures, sizes_in}
+use Rattle.layout.specs.Lengths.{lists_size, piece_in, size_in, start_in, starts_of}
+use Rattle.layout.specs.Sections.{content_bytes, pieces_bytes}
 use Rattle.layout.proofs.Numbered.{all_numbered}
 
 -- ---- sums
@@ -123,33 +129,27 @@ module _ (graph : Graph) where
       numbered (λ u unit. if stands_in five unit then unit_locations (own_node (places_of graph u unit)) unit else []) (λ u unit. unit_locations_len five unit)
       (λ u unit. chosen (stands_in five unit) (unit_locations (own_node (places_of graph u unit)) unit) _ (unit_locations_size (own_node (places_of graph u unit)) unit))
 
-  rnglists_end : lists_size ends.rnglists ≡ length (rnglists_section graph)
-  rnglists_end = ap lists_size (all_ranges_end true) ∙ behind_size (all_ranges true graph)
+  pieces_end : (piece : Piece) → start_in ends piece ≡ length (pieces_bytes graph piece)
+  pieces_end pieces.Tables = tables_end
+  pieces_end pieces.Ranges = all_ranges_end false
+  pieces_end pieces.Rnglists = all_ranges_end true
+  pieces_end pieces.Loc = all_locations_end false
+  pieces_end pieces.Loclists = all_locations_end true
 
-  loclists_end : lists_size ends.loclists ≡ length (loclists_section graph)
-  loclists_end = ap lists_size (all_locations_end true) ∙ behind_size (all_locations true graph)
+  -- each section has the size that is told of it
+  module _ (sizes : Sizes) (e : sizes.ends ≡ ends) (t : sizes.texts ≡ length (str_section graph)) (l : sizes.line_texts ≡ length (line_str_section graph)) (a : sizes.aranges ≡ length (aranges_section graph)) (f : sizes.frames ≡ length (frame_section graph)) where
+    pub sizes_are : (content : Content) → size_in sizes content ≡ length (content_bytes graph content)
+    sizes_are contents.Entries = ap (λ (s : Starts). s.info) e ∙ info_end
+    sizes_are contents.Lines = ap (λ (s : Starts). s.line) e ∙ line_end
+    sizes_are (contents.Pieces piece) = ap (λ (s : Starts). start_in s piece) e ∙ pieces_end piece
+    sizes_are (contents.Lists lists) = ap (λ (s : Starts). lists_size (start_in s (piece_in lists))) e ∙ ap lists_size (pieces_end (piece_in lists)) ∙ behind_size (pieces_bytes graph (piece_in lists))
+    sizes_are (contents.Common commons.Texts) = t
+    sizes_are (contents.Common commons.LineTexts) = l
+    sizes_are (contents.Common commons.Aranges) = a
+    sizes_are (contents.Common commons.Frames) = f
 
-  abbrev by : ℕ → ℕ → ℕ → ℕ → ℕ → ℕ → ℕ → ℕ → ℕ → ℕ → ℕ → Sizes
-  by tables info texts line line_texts ranges rnglists loc loclists aranges frames = record {
-    tables = tables;
-    info = info;
-    texts = texts;
-    line = line;
-    line_texts = line_texts;
-    ranges = ranges;
-    rnglists = rnglists;
-    loc = loc;
-    loclists = loclists;
-    aranges = aranges;
-    frames = frames;
-  }
-
-  all_same : (a b c d e f g h i j k a' b' c' d' e' f' g' h' i' j' k' : ℕ) → a ≡ a' → b ≡ b' → c ≡ c' → d ≡ d' → e ≡ e' → f ≡ f' → g ≡ g' → h ≡ h' → i ≡ i' → j ≡ j' → k ≡ k'
-      → by a b c d e f g h i j k ≡ by a' b' c' d' e' f' g' h' i' j' k'
-  all_same a b c d e f g h i j k a' b' c' d' e' f' g' h' i' j' k' ea eb ec ed ee ef eg eh ei ej ek = rw (ea, eb, ec, ed, ee, ef, eg, eh, ei, ej, ek) refl
-
-  pub sizes_are : (at : Starts) (texts line_texts aranges frames : ℕ) → at ≡ ends → texts ≡ (sizes_of graph).texts → line_texts ≡ (sizes_of graph).line_texts
-      → aranges ≡ (sizes_of graph).aranges → frames ≡ (sizes_of graph).frames → sized at texts line_texts aranges frames ≡ sizes_of graph
-  sizes_are at texts line_texts aranges frames e t l a f =
-      ap (λ (s : Starts). sized s texts line_texts aranges frames) e
-      ∙ all_same _ _ _ _ _ _ _ _ _ _ _ _ _ _ _ _ _ _ _ _ _ _ tables_end info_end t line_end l (all_ranges_end false) rnglists_end (all_locations_end false) loclists_end a f
+-- those that a layout tells
+pub layout_sizes : (graph : Graph) (layout : Laid) → Measures graph (Ok layout) → (content : Content) → size_in (sizes_in layout) content ≡ length (content_bytes graph content)
+layout_sizes graph layout measured =
+    sizes_are graph (sizes_in layout) (ap (λ (l : Laid). l.ends) measured.0) (ap (λ (l : Laid). length l.texts) measured.0) (ap (λ (l : Laid). length l.line_texts) measured.0)
+    (ap (λ (l : Laid). length l.aranges) measured.0) (ap (λ (l : Laid). length l.frames) measured.0)

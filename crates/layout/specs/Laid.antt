@@ -1,5 +1,5 @@
 -- Where the parts of a graph stand before it is written, each in its section.
-use Rattle.std.specs.Prelude.{◌≡◌, ℕ, List, map, Some, None, Result, Ok, Err}
+use Rattle.std.specs.Prelude.{◌≡◌, ℕ, List, length, map, Some, None, Result, Ok, Err}
 use Rattle.std.specs.List.{flat_map}
 use Rattle.std.specs.Str.{bytes_eq}
 use Rattle.ds_base.specs.FirstUse.{once}
@@ -13,7 +13,10 @@ use Rattle.layout.specs.declared.error.LayoutError.{LayoutError}
 use Rattle.layout.specs.declared.error.LayoutError.TheVariants as errors
 use Rattle.layout.specs.declared.placing.PartPlaces.{PartPlaces}
 use Rattle.layout.specs.declared.sizes.Sizes.{Sizes}
-use Rattle.layout.specs.Lengths.{long_section, long_unit, sizes_of}
+use Rattle.layout.specs.declared.starts.Starts.{Starts}
+use Rattle.layout.specs.declared.table.Common.{Common}
+use Rattle.layout.specs.declared.table.Common.TheVariants as commons
+use Rattle.layout.specs.Lengths.{long_section, long_unit, starts_of}
 
 -- ---- units
 
@@ -50,7 +53,8 @@ pub record Laid : Type 0 where
   -- the two sections that don't come from drafts
   pub aranges : List ℕ
   pub frames : List ℕ
-  pub sizes : Sizes
+  -- where the parts of all units end
+  pub ends : Starts
   pub drafts : List Draft
 
 abbrev pub laid : Graph → List Draft → Laid
@@ -63,9 +67,20 @@ laid graph drafts = record {
   line_text_places = map (λ n. line_text_places graph n.1) (numbered_units graph);
   aranges = aranges_section graph;
   frames = frame_section graph;
-  sizes = sizes_of graph;
+  ends = starts_of graph (length graph.units);
   drafts = drafts;
 }
+
+-- the bytes of what is made of all units together
+abbrev pub common_in : Laid → Common → List ℕ
+common_in layout commons.Texts = layout.texts
+common_in layout commons.LineTexts = layout.line_texts
+common_in layout commons.Aranges = layout.aranges
+common_in layout commons.Frames = layout.frames
+
+-- the sizes of what the sections are made of
+abbrev pub sizes_in : Laid → Sizes
+sizes_in layout = record { ends = layout.ends; texts = length layout.texts; line_texts = length layout.line_texts; aranges = length layout.aranges; frames = length layout.frames }
 
 -- what measuring a graph answers: its layout, where nothing is too long; else the first unit that is, and else the first section. Want of memory says nothing.
 abbrev pub Measures : Graph → Result Laid LayoutError → Type 0

@@ -1,3 +1,4 @@
+pub mod Sections
 pub mod Lengths
 pub mod Laid
 pub mod Pass

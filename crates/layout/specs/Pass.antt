@@ -1,6 +1,6 @@
 -- Stations between the code and the definitions: draft by draft, and text by text.
 use Rattle.std.specs.Prelude.{◌≡◌, ℕ, ◌+◌, ◌^◌, ◌<◌, ◌≤◌, ◌==◌, Bool, true, false, List, [], ◌∷◌, ◌++◌, length, map, fold, if◌then◌else◌, Option, Some, None, Result, Ok, Err, nat_le, ◌-◌}
-use Rattle.std.specs.List.{find, flat_map}
+use Rattle.std.specs.List.{flat_map}
 use Rattle.ds_base.specs.declared.fault.Part.{Part}
 use Rattle.ds_base.specs.declared.fault.Part.TheVariants as parts
 use Rattle.ds_base.specs.Texts.{section_of, with_text}
@@ -9,7 +9,7 @@ use Rattle.dwarf_types.specs.declared.graph.OutUnit.{OutUnit}
 use Rattle.dwarf_types.specs.Abbreviations.{table_bytes}
 use Rattle.dwarf_types.specs.Aranges.{aranges_bytes}
 use Rattle.dwarf_types.specs.Entries.{unit_len}
-use Rattle.dwarf_types.specs.Layout.{lines_place, locations_before, ranges_before, table_place, unit_locations_len, unit_ranges_len, unit_start}
+use Rattle.dwarf_types.specs.Layout.{unit_locations_len, unit_ranges_len}
 use Rattle.dwarf_types.specs.Lists.{lists_header_len}
 use Rattle.patches.specs.Filling.{Filling, filled}
 use Rattle.text_pool.specs.declared.error.TextError.{TextError}
@@ -23,10 +23,15 @@ use Rattle.layout.specs.declared.placing.PartPlaces.{PartPlaces}
 use Rattle.layout.specs.declared.placing.Placing.{Placing}
 use Rattle.layout.specs.declared.sizes.Sizes.{Sizes}
 use Rattle.layout.specs.declared.starts.Starts.{Starts}
+use Rattle.layout.specs.declared.table.Common.TheVariants as commons
+use Rattle.layout.specs.declared.table.Content.{Content}
+use Rattle.layout.specs.declared.table.Content.TheVariants as contents
+use Rattle.layout.specs.declared.table.Section.{Section}
+use Rattle.layout.specs.declared.table.TheConstants.{SECTIONS}
 use Rattle.layout.specs.declared.text.Texts.{Texts}
 use Rattle.layout.specs.declared.text.TextsOf.{TextsOf}
 use Rattle.layout.specs.declared.text.TextsOf.TheVariants as owners
-use Rattle.layout.specs.Lengths.{long_unit, size_in}
+use Rattle.layout.specs.Lengths.{long_unit}
 
 -- ---- places
 
@@ -77,18 +82,6 @@ pub record AreBelow (most : ℕ) (at : Starts) : Type 0 where
   pub loc : at.loc < most
   pub loclists : lists_header_len + at.loclists < most
 
--- where the parts of the unit of a number stand
-abbrev pub starts_of : Graph → ℕ → Starts
-starts_of graph u = record {
-  info = unit_start graph u;
-  tables = table_place graph u;
-  line = lines_place graph u;
-  ranges = ranges_before false graph u;
-  rnglists = ranges_before true graph u;
-  loc = locations_before false graph u;
-  loclists = locations_before true graph u;
-}
-
 -- where those of the next unit stand
 abbrev pub behind_unit : Starts → ℕ → OutUnit → Starts
 behind_unit at u unit = record {
@@ -138,10 +131,16 @@ MakesTexts of drafts (Ok texts) = texts ≡ texts_for of drafts
 MakesTexts of drafts (Err text_errors.Long) = 2 ^ 32 - 1 ≤ length (section_of (texts_by of drafts))
 MakesTexts of drafts (Err text_errors.NoMemory) = Unit {0}
 
--- what is refused where the texts of a section were not joined
-abbrev pub refused : Part → TextError → LayoutError
-refused part text_errors.Long = errors.Section part
-refused part text_errors.NoMemory = errors.NoMemory
+-- texts that were joined are told; none where they are too long
+abbrev pub TellsTexts : Result Texts TextError → Option Texts → Type 0
+TellsTexts (Ok texts) told = told ≡ Some texts
+TellsTexts (Err text_errors.Long) told = told ≡ None
+TellsTexts (Err text_errors.NoMemory) told = ⊥
+
+-- the size of their section, or the limit
+abbrev pub texts_len : Option Texts → ℕ
+texts_len (Some texts) = length texts.section
+texts_len None = 2 ^ 32 - 1
 
 -- ---- drafts that have their places
 
@@ -161,37 +160,25 @@ none_placed = record { starts = []; parts = []; aranges = []; at = no_starts }
 abbrev pub is_long : ℕ → Bool
 is_long size = nat_le (2 ^ 32 - 1) size
 
--- the size of a section of lists of version 5
-abbrev pub lists_size : ℕ → ℕ
-lists_size lists = if lists == 0 then 0 else lists_header_len + lists
-
--- all sizes
+-- the sizes by where the parts of all drafts end, and by what is made of these together
 abbrev pub sized : Starts → ℕ → ℕ → ℕ → ℕ → Sizes
-sized ends texts line_texts aranges frames = record {
-  tables = ends.tables;
-  info = ends.info;
-  texts = texts;
-  line = ends.line;
-  line_texts = line_texts;
-  ranges = ends.ranges;
-  rnglists = lists_size ends.rnglists;
-  loc = ends.loc;
-  loclists = lists_size ends.loclists;
-  aranges = aranges;
-  frames = frames;
-}
+sized ends texts line_texts aranges frames = record { ends = ends; texts = texts; line_texts = line_texts; aranges = aranges; frames = frames }
 
--- of the sections up to that of the line tables, whose parts drafts and their texts have
-abbrev pub long_front : Starts → ℕ → Option Part
-long_front ends texts = find (λ part. is_long (size_in (sized ends texts 0 0 0) part)) (parts.Str ∷ parts.Abbrev ∷ parts.Info ∷ parts.Line ∷ [])
+-- parts made of all units whose lengths have 64 bits
+pub record AreWide (sizes : Sizes) : Type 0 where
+  pub texts : sizes.texts < 2 ^ 64
+  pub line_texts : sizes.line_texts < 2 ^ 64
+  pub aranges : sizes.aranges < 2 ^ 64
+  pub frames : sizes.frames < 2 ^ 64
 
--- of those behind it, whose parts drafts and the texts of line tables have
-abbrev pub long_back : Starts → ℕ → Option Part
-long_back ends line_texts = find (λ part. is_long (size_in (sized ends 0 line_texts 0 0) part)) (parts.LineStr ∷ parts.Ranges ∷ parts.Rnglists ∷ parts.Loc ∷ parts.Loclists ∷ [])
+-- the first section that is long by a test
+abbrev pub long_in : (Content → Bool) → List Section → Option Part
+long_in long [] = None
+long_in long (s ∷ sections) = if long s.content then Some s.part else long_in long sections
 
--- and of the two others
-abbrev pub long_other : ℕ → ℕ → Option Part
-long_other aranges frames = if is_long aranges then Some parts.Aranges else if is_long frames then Some parts.Frame else None
+-- the string section first
+abbrev pub first_long : (Content → Bool) → Option Part
+first_long long = if long (contents.Common commons.Texts) then Some parts.Str else long_in long SECTIONS
 
 -- ---- all units
 

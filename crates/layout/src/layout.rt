@@ -1,23 +1,26 @@
 //! The layout of a graph, and what writers ask of it.
 
-ghost use Rattle.std.specs.Prelude.{◌≡◌, ◌-◌, ◌^◌, ◌<◌, ◌≤◌, fold, length, Some, None, Ok, slice_get};
+ghost use Rattle.std.specs.Prelude.{◌≡◌, ◌-◌, ◌^◌, ◌<◌, ◌≤◌, IfOk, fold, length, Some, None, Ok, slice_get};
 ghost use Rattle.dwarf_types.specs.declared.graph.Graph.{Graph as Program};
 ghost use Rattle.dwarf_types.specs.declared.graph.OutUnit.{OutUnit as Clone};
 ghost use Rattle.layout.specs.Laid.{Measures};
+ghost use Rattle.layout.specs.Laid.{common_in, sizes_in};
 ghost use Rattle.layout.specs.Lengths.{size_in};
 ghost use Rattle.layout.specs.declared.text.TextsOf.TheVariants as owners;
-ghost use Rattle.layout.specs.Pass.{AreBelow, MakesTexts, behind_draft, long_front, no_starts, refused, sized, texts_for};
+ghost use Rattle.layout.specs.Pass.{AreBelow, AreWide, MakesTexts, TellsTexts, behind_draft, first_long, is_long, no_starts, sized, texts_for, texts_len};
 ghost use Rattle.unit_draft.specs.declared.unit.Draft.{Draft as ADraft};
 ghost use Rattle.unit_draft.specs.Drafted.{AreDrafts};
 ghost use Rattle.unit_draft.specs.Outside.{IsOutside};
 
 use crate::drafting::draft_units;
 use crate::error::LayoutError;
-use crate::placing::{PartPlaces, Placing, place_all};
-use crate::sizes::{Sizes, first_long, last_long, next_long, size_of, size_of_lists};
+use crate::placing::{PartPlaces, place_all};
+use crate::sizes::{Sizes, first_limit, size_of};
 use crate::starts::{Starts, ends_of};
-use crate::text::{Texts, TextsOf, texts_in, texts_in_by};
-use ds_base::{Bytes, List, Part};
+use crate::table::{Common, Content};
+use crate::text::{Texts, TextsOf, texts_in};
+use ds_base::limits::SECTION_BYTES;
+use ds_base::{Bytes, List, NoMemory};
 use dwarf_types::{Graph, OutFrames};
 use frame_write::append_frames;
 use std::alloc::Global;
@@ -28,8 +31,7 @@ use unit_draft::{Draft, Outside};
 
 /// The layout of a graph, with the drafts of its units.
 ///
-/// A contract sees where everything stands, the bytes of the two sections of texts, the size of each section, and the
-/// drafts.
+/// A contract sees where everything stands and ends, what is made of all units together, and the drafts.
 #[derive(Drop)]
 pub struct Layout {
     starts: List<u32>,
@@ -38,52 +40,45 @@ pub struct Layout {
     line_texts: Texts,
     aranges: Bytes,
     frames: Bytes,
-    sizes: Sizes,
+    ends: Starts,
     drafts: List<Draft>,
 }
 
 impl Model for Layout {
     ghost use Rattle.std.specs.Prelude.{◌≡◌, ◌<◌, ◌^◌, length};
     ghost use Rattle.layout.specs.Laid.{Laid};
+    ghost use Rattle.layout.specs.Pass.{AreBelow};
 
     ghost Value = { Laid };
 
-    ghost view = { λ a. record { starts = a.starts; parts = a.parts; texts = a.texts.section; text_places = a.texts.places; line_texts = a.line_texts.section; line_text_places = a.line_texts.places; aranges = a.aranges; frames = a.frames; sizes = a.sizes; drafts = a.drafts } };
+    ghost view = { λ a. record { starts = a.starts; parts = a.parts; texts = a.texts.section; text_places = a.texts.places; line_texts = a.line_texts.section; line_text_places = a.line_texts.places; aranges = a.aranges; frames = a.frames; ends = a.ends; drafts = a.drafts } };
 
-    ghost invariant = { λ a. (a.sizes.info < 2 ^ 32) × (length a.parts ≡ length a.drafts) × (length a.texts.places ≡ length a.drafts) × (length a.line_texts.places ≡ length a.drafts) };
+    ghost invariant = { λ a. AreBelow (2 ^ 32) a.ends × (length a.parts ≡ length a.drafts) × (length a.texts.places ≡ length a.drafts) × (length a.line_texts.places ≡ length a.drafts) };
 }
 
-/// Measures a graph: drafts its units, and gives the drafts their places.
+/// Measures a graph: drafts its units, and gives the drafts their places, by at most `workers` threads.
 ///
 /// A unit that is too long is told before a section that is, and the string section before the others. The time is
 /// linear in the graph.
-pub fn measure(alloc: Global, graph: &Graph) -> Result<Layout, LayoutError>
+pub fn measure<R: Threads + Sync>(
+    rt: &R,
+    alloc: Global,
+    workers: u32,
+    graph: &Graph,
+) -> Result<Layout, LayoutError>
+    requires workers { 1 ≤ workers }
     requires few { length graph.now.units < 2 ^ 32 - 1 }
     ensures { Measures graph.now result }
 {
-    let drafts = draft_units(alloc, graph)?;
-    place_drafts(alloc, drafts, &graph.frames)
+    let drafts = draft_units(rt, alloc, workers, graph)?;
+    place_drafts(rt, alloc, Vec::new(alloc), workers, drafts, &graph.frames)
 }
 
-/// The layout of a graph by the drafts of its units, in their order, and by its frames.
+/// The layout of a graph by the drafts of its units, in their order, and by its frames. At most `workers` threads look the
+/// texts up. The string section takes the place of `room`, whatever that holds.
 ///
 /// The string section is told before others that are too long. The time is linear in the drafts.
-pub fn place_drafts(
-    alloc: Global,
-    drafts: List<Draft>,
-    frames: &OutFrames,
-) -> Result<Layout, LayoutError>
-    requires few { length drafts < 2 ^ 32 - 1 }
-    ensures { (graph : Program) → AreDrafts graph drafts → graph.frames ≡ frames.now → Measures graph result }
-{
-    let texts = texts_in(alloc, drafts.as_slice(), TextsOf::Entries);
-    let line_texts = texts_in(alloc, drafts.as_slice(), TextsOf::Lines);
-    place_with(alloc, drafts, frames, texts, line_texts)
-}
-
-/// The layout as [`place_drafts`] gives it, where at most `workers` threads look the texts up. The string section takes the
-/// place of `room`, whatever that holds.
-pub fn place_drafts_by<R: Threads + Sync>(
+pub fn place_drafts<R: Threads + Sync>(
     rt: &R,
     alloc: Global,
     room: Vec<u8>,
@@ -95,7 +90,7 @@ pub fn place_drafts_by<R: Threads + Sync>(
     requires few { length drafts < 2 ^ 32 - 1 }
     ensures { (graph : Program) → AreDrafts graph drafts → graph.frames ≡ frames.now → Measures graph result }
 {
-    let texts = texts_in_by(
+    let texts = texts_in(
         rt,
         alloc,
         room,
@@ -104,7 +99,7 @@ pub fn place_drafts_by<R: Threads + Sync>(
         TextsOf::Entries,
     );
     let none = Vec::new(alloc);
-    let line_texts = texts_in_by(rt, alloc, none, workers, drafts.as_slice(), TextsOf::Lines);
+    let line_texts = texts_in(rt, alloc, none, workers, drafts.as_slice(), TextsOf::Lines);
     place_with(alloc, drafts, frames, texts, line_texts)
 }
 
@@ -121,48 +116,76 @@ fn place_with(
     requires line_texts { MakesTexts owners.Lines drafts line_texts }
     ensures { (graph : Program) → AreDrafts graph drafts → graph.frames ≡ frames.now → Measures graph result }
 {
-    let texts = match texts {
-        Ok(texts) => texts,
-        Err(error) => return Err(refused(Part::Str, error)),
+    let texts = short_texts(texts)?;
+    let line_texts = short_texts(line_texts)?;
+    let sizes = Sizes {
+        ends: ends_of(drafts.as_slice()),
+        texts: size_of_texts(&texts),
+        line_texts: size_of_texts(&line_texts),
+        aranges: 0,
+        frames: 0,
     };
-    let ends = ends_of(drafts.as_slice());
-    if let Some(part) = first_long(&ends, texts.section.len() as u64) {
+    if let Some(part) = first_limit(&sizes) {
         return Err(LayoutError::Section { part });
     }
-    place_behind(alloc, drafts, frames, texts, line_texts, ends)
+    let Some(texts) = texts else { unreachable!() };
+    let Some(line_texts) = line_texts else {
+        unreachable!()
+    };
+    place_behind(alloc, drafts, frames, texts, line_texts, sizes)
 }
 
-/// The layout by drafts whose texts are these and whose parts end there, none of the sections up to that of the line
-/// tables being too long.
+/// Texts that were joined; none where their section would be too long.
+fn short_texts(texts: Result<Texts, TextError>) -> Result<Option<Texts>, NoMemory>
+    ensures { IfOk result (TellsTexts texts) }
+{
+    match texts {
+        Ok(texts) => Ok(Some(texts)),
+        Err(TextError::Long) => Ok(None),
+        Err(TextError::NoMemory) => Err(NoMemory),
+    }
+}
+
+/// The size of the section of texts, or the limit where it would be too long.
+fn size_of_texts(texts: &Option<Texts>) -> u64
+    ensures { result ≡ texts_len texts.now }
+{
+    match texts {
+        Some(texts) => texts.section.len() as u64,
+        None => SECTION_BYTES,
+    }
+}
+
+/// The layout by drafts whose texts are these, no section of what was measured being too long: all but those of addresses and
+/// of frames, which are not made yet.
 fn place_behind(
     alloc: Global,
     drafts: List<Draft>,
     frames: &OutFrames,
     texts: Texts,
-    line_texts: Result<Texts, TextError>,
-    ends: Starts,
+    line_texts: Texts,
+    sizes: Sizes,
 ) -> Result<Layout, LayoutError>
     requires texts { texts ≡ texts_for owners.Entries drafts }
-    requires line_texts { MakesTexts owners.Lines drafts line_texts }
-    requires ends { ends ≡ fold behind_draft no_starts drafts }
-    requires room { AreBelow (2 ^ 127) ends }
-    requires front { long_front ends (length texts.section) ≡ None }
+    requires line_texts { line_texts ≡ texts_for owners.Lines drafts }
+    requires sizes { sizes ≡ sized (fold behind_draft no_starts drafts) (length texts.section) (length line_texts.section) 0 0 }
+    requires room { AreBelow (2 ^ 127) sizes.ends }
+    requires short { first_long (λ content. is_long (size_in sizes content)) ≡ None }
     ensures { (graph : Program) → AreDrafts graph drafts → graph.frames ≡ frames.now → Measures graph result }
 {
-    let line_texts = match line_texts {
-        Ok(texts) => texts,
-        Err(error) => return Err(refused(Part::LineStr, error)),
-    };
-    if let Some(part) = next_long(&ends, line_texts.section.len() as u64) {
-        return Err(LayoutError::Section { part });
-    }
     let placing = place_all(alloc, drafts.as_slice())?;
     let mut described = Bytes::new(alloc);
     append_frames(alloc, &mut described, frames)?;
-    if let Some(part) = last_long(placing.aranges.len(), described.len()) {
+    let all = Sizes {
+        ends: sizes.ends,
+        texts: sizes.texts,
+        line_texts: sizes.line_texts,
+        aranges: placing.aranges.len() as u64,
+        frames: described.len() as u64,
+    };
+    if let Some(part) = first_limit(&all) {
         return Err(LayoutError::Section { part });
     }
-    let sizes = sizes_from(&placing, &texts.section, &line_texts.section, &described);
     Ok(Layout {
         starts: placing.starts,
         parts: placing.parts,
@@ -170,39 +193,9 @@ fn place_behind(
         line_texts,
         aranges: placing.aranges,
         frames: described,
-        sizes,
+        ends: placing.at,
         drafts,
     })
-}
-
-/// The refusal, where the texts of a section were not joined.
-fn refused(part: Part, error: TextError) -> LayoutError
-    ensures { result ≡ refused part error }
-{
-    match error {
-        TextError::Long => LayoutError::Section { part },
-        TextError::NoMemory => LayoutError::NoMemory,
-    }
-}
-
-/// The sizes of the sections, of which none is too long.
-fn sizes_from(placing: &Placing, texts: &Bytes, line_texts: &Bytes, frames: &Bytes) -> Sizes
-    requires small { AreBelow (2 ^ 32) placing.now.at }
-    ensures { result ≡ sized placing.now.at (length texts.now) (length line_texts.now) (length placing.now.aranges) (length frames.now) }
-{
-    Sizes {
-        tables: placing.at.tables as u64,
-        info: placing.at.info as u64,
-        texts: texts.len() as u64,
-        line: placing.at.line as u64,
-        line_texts: line_texts.len() as u64,
-        ranges: placing.at.ranges as u64,
-        rnglists: size_of_lists(placing.at.rnglists) as u64,
-        loc: placing.at.loc as u64,
-        loclists: size_of_lists(placing.at.loclists) as u64,
-        aranges: placing.aranges.len() as u64,
-        frames: frames.len() as u64,
-    }
 }
 
 /// What stands outside of a unit, as its draft asks for it.
@@ -220,7 +213,7 @@ pub fn outside_of(layout: &Layout, unit: u32) -> Outside<'_>
         line_texts: layout.line_texts.places.as_slice()[unit as usize].as_slice(),
         starts: layout.starts.as_slice(),
         drafts: layout.drafts.as_slice(),
-        end: layout.sizes.info as u32,
+        end: layout.ends.info as u32,
     }
 }
 
@@ -231,37 +224,36 @@ pub fn drafts(layout: &Layout) -> &[Draft]
     layout.drafts.as_slice()
 }
 
-/// The bytes of `__debug_str`.
-pub fn texts(layout: &Layout) -> &[u8]
-    ensures { result.now ≡ layout.now.texts }
+/// The bytes of what is made of all units together.
+pub fn common(layout: &Layout, common: Common) -> &[u8]
+    ensures { result.now ≡ common_in layout.now common }
 {
-    layout.texts.section.as_slice()
+    match common {
+        Common::Texts => layout.texts.section.as_slice(),
+        Common::LineTexts => layout.line_texts.section.as_slice(),
+        Common::Aranges => layout.aranges.as_slice(),
+        Common::Frames => layout.frames.as_slice(),
+    }
 }
 
-/// The bytes of `__debug_line_str`.
-pub fn line_texts(layout: &Layout) -> &[u8]
-    ensures { result.now ≡ layout.now.line_texts }
+/// The size of a section in bytes.
+pub fn section_size(layout: &Layout, content: Content) -> u64
+    ensures { result ≡ size_in (sizes_in layout.now) content }
 {
-    layout.line_texts.section.as_slice()
+    size_of(&sizes_of(layout), content) as u64
 }
 
-/// The bytes of `__debug_aranges`.
-pub fn aranges(layout: &Layout) -> &[u8]
-    ensures { result.now ≡ layout.now.aranges }
+/// The sizes of what the sections are made of.
+fn sizes_of(layout: &Layout) -> Sizes
+    ensures is { result ≡ sizes_in layout.now }
+    ensures wide { AreWide result }
+    ensures small { AreBelow (2 ^ 32) result.ends }
 {
-    layout.aranges.as_slice()
-}
-
-/// The bytes of `__debug_frame`.
-pub fn frames(layout: &Layout) -> &[u8]
-    ensures { result.now ≡ layout.now.frames }
-{
-    layout.frames.as_slice()
-}
-
-/// The size of a section in bytes; 0 where a graph has no part there.
-pub fn section_size(layout: &Layout, part: Part) -> u64
-    ensures { result ≡ size_in layout.now.sizes part }
-{
-    size_of(&layout.sizes, part)
+    Sizes {
+        ends: layout.ends,
+        texts: layout.texts.section.len() as u64,
+        line_texts: layout.line_texts.section.len() as u64,
+        aranges: layout.aranges.len() as u64,
+        frames: layout.frames.len() as u64,
+    }
 }

@@ -1,57 +1,59 @@
 //! The sizes of the sections, and the first that is too long.
 
-ghost use Rattle.std.specs.Prelude.{◌≡◌, ◌<◌, ◌^◌};
-ghost use Rattle.layout.specs.Lengths.{size_in};
-ghost use Rattle.layout.specs.Pass.{AreBelow, is_long, lists_size, long_back, long_front, long_other};
+ghost use Rattle.std.specs.Prelude.{◌≡◌, ◌+◌, ◌<◌, ◌^◌};
+ghost use Rattle.layout.specs.Lengths.{common_size, lists_size, size_in, start_in};
+ghost use Rattle.layout.specs.Pass.{AreBelow, first_long, is_long, long_in};
 
 use crate::starts::Starts;
+use crate::table::{Common, Content, Piece, SECTIONS, Section, piece_of};
 use ds_base::Part;
 use ds_base::limits::SECTION_BYTES;
 
 /// How many bytes stand before the lists of a section of version 5 (DWARF 5, sections 7.28 and 7.29).
 pub const LISTS_HEADER_LEN: u32 = 12;
 
-/// The sizes of the sections in bytes.
+/// The sizes in bytes of what the sections are made of.
 #[derive(Clone, Copy)]
 pub(crate) struct Sizes {
-    /// Of `__debug_abbrev`.
-    pub(crate) tables: u64,
-    pub(crate) info: u64,
-    /// Of `__debug_str`.
+    /// Of what units give, each by itself.
+    pub(crate) ends: Starts,
+    /// Of what they give together.
     pub(crate) texts: u64,
-    pub(crate) line: u64,
-    /// Of `__debug_line_str`.
     pub(crate) line_texts: u64,
-    pub(crate) ranges: u64,
-    pub(crate) rnglists: u64,
-    pub(crate) loc: u64,
-    pub(crate) loclists: u64,
     pub(crate) aranges: u64,
     pub(crate) frames: u64,
 }
 
-/// The size of a section in bytes; 0 where a graph has no part there.
-pub(crate) fn size_of(sizes: &Sizes, part: Part) -> u64
-    ensures { result ≡ size_in sizes.now part }
+/// The size of a section in bytes.
+pub(crate) fn size_of(sizes: &Sizes, content: Content) -> u128
+    requires { AreBelow (2 ^ 127) sizes.now.ends }
+    ensures { result ≡ size_in sizes.now content }
 {
-    match part {
-        Part::Abbrev => sizes.tables,
-        Part::Info => sizes.info,
-        Part::Str => sizes.texts,
-        Part::Line => sizes.line,
-        Part::LineStr => sizes.line_texts,
-        Part::Ranges => sizes.ranges,
-        Part::Rnglists => sizes.rnglists,
-        Part::Loc => sizes.loc,
-        Part::Loclists => sizes.loclists,
-        Part::Aranges => sizes.aranges,
-        Part::Frame => sizes.frames,
-        _ => 0,
+    match content {
+        Content::Entries => sizes.ends.info,
+        Content::Lines => sizes.ends.line,
+        Content::Pieces(piece) => start_of(&sizes.ends, piece),
+        Content::Lists(lists) => size_of_lists(start_of(&sizes.ends, piece_of(lists))),
+        Content::Common(common) => u128::from(size_of_common(sizes, common)),
+    }
+}
+
+/// Where the pieces of some kind end.
+fn start_of(starts: &Starts, piece: Piece) -> u128
+    ensures is { result ≡ start_in starts.now piece }
+    ensures room { AreBelow (2 ^ 127) starts.now → result < 2 ^ 127 }
+{
+    match piece {
+        Piece::Tables => starts.tables,
+        Piece::Ranges => starts.ranges,
+        Piece::Rnglists => starts.rnglists,
+        Piece::Loc => starts.loc,
+        Piece::Loclists => starts.loclists,
     }
 }
 
 /// The size of a section of version 5 with so many bytes of lists: they stand behind a header, where there are any.
-pub(crate) fn size_of_lists(lists: u128) -> u128
+fn size_of_lists(lists: u128) -> u128
     requires { lists < 2 ^ 127 }
     ensures { result ≡ lists_size lists }
 {
@@ -62,6 +64,18 @@ pub(crate) fn size_of_lists(lists: u128) -> u128
     }
 }
 
+/// The size of what units give together.
+fn size_of_common(sizes: &Sizes, common: Common) -> u64
+    ensures { result ≡ common_size sizes.now common }
+{
+    match common {
+        Common::Texts => sizes.texts,
+        Common::LineTexts => sizes.line_texts,
+        Common::Aranges => sizes.aranges,
+        Common::Frames => sizes.frames,
+    }
+}
+
 /// Whether a section of a size is too long.
 fn is_too_long(size: u128) -> bool
     ensures { result ≡ is_long size }
@@ -69,59 +83,26 @@ fn is_too_long(size: u128) -> bool
     size >= u128::from(SECTION_BYTES)
 }
 
-/// A section that is too long, of those up to the line tables: the string section, else the first in the order of the
-/// output.
-pub(crate) fn first_long(ends: &Starts, texts: u64) -> Option<Part>
-    ensures { result ≡ long_front ends.now texts }
+/// A section that is too long by these sizes: the string section, else the first in the order of the output.
+pub(crate) fn first_limit(sizes: &Sizes) -> Option<Part>
+    requires { AreBelow (2 ^ 127) sizes.now.ends }
+    ensures { result ≡ first_long (λ content. is_long (size_in sizes.now content)) }
 {
-    if is_too_long(u128::from(texts)) {
+    if is_too_long(u128::from(sizes.texts)) {
         return Some(Part::Str);
     }
-    if is_too_long(ends.tables) {
-        return Some(Part::Abbrev);
-    }
-    if is_too_long(ends.info) {
-        return Some(Part::Info);
-    }
-    if is_too_long(ends.line) {
-        return Some(Part::Line);
-    }
-    None
+    first_of(&SECTIONS, sizes)
 }
 
-/// The first section that is too long of those behind the line tables that drafts, and the texts of line tables, have
-/// parts of.
-pub(crate) fn next_long(ends: &Starts, line_texts: u64) -> Option<Part>
-    requires room { AreBelow (2 ^ 127) ends.now }
-    ensures { result ≡ long_back ends.now line_texts }
+/// The first of these sections that is too long.
+fn first_of(sections: &[Section], sizes: &Sizes) -> Option<Part>
+    requires { AreBelow (2 ^ 127) sizes.now.ends }
+    ensures { result ≡ long_in (λ content. is_long (size_in sizes.now content)) sections.now }
 {
-    if is_too_long(u128::from(line_texts)) {
-        return Some(Part::LineStr);
-    }
-    if is_too_long(ends.ranges) {
-        return Some(Part::Ranges);
-    }
-    if is_too_long(size_of_lists(ends.rnglists)) {
-        return Some(Part::Rnglists);
-    }
-    if is_too_long(ends.loc) {
-        return Some(Part::Loc);
-    }
-    if is_too_long(size_of_lists(ends.loclists)) {
-        return Some(Part::Loclists);
-    }
-    None
-}
-
-/// Which of the two last sections is too long, the first of them where both are.
-pub(crate) fn last_long(aranges: usize, frames: usize) -> Option<Part>
-    ensures { result ≡ long_other aranges frames }
-{
-    if is_too_long(aranges as u128) {
-        return Some(Part::Aranges);
-    }
-    if is_too_long(frames as u128) {
-        return Some(Part::Frame);
+    for section in sections {
+        if is_too_long(size_of(sizes, section.content)) {
+            return Some(section.part);
+        }
     }
     None
 }

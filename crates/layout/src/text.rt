@@ -8,7 +8,7 @@ ghost use Rattle.text_pool.specs.declared.error.TextError.TheVariants as errors;
 use ds_base::{Bytes, List, NoMemory};
 use std::alloc::Global;
 use std::thread::Threads;
-use text_pool::{Joined, Names, TextError, join_texts, join_texts_by};
+use text_pool::{Joined, Names, TextError, join_texts};
 use unit_draft::Draft;
 
 /// Whose texts they are. Each have a section.
@@ -29,18 +29,9 @@ pub(crate) struct Texts {
     pub(crate) places: List<List<u32>>,
 }
 
-/// The texts of drafts, and where they stand.
-pub(crate) fn texts_in(alloc: Global, drafts: &[Draft], of: TextsOf) -> Result<Texts, TextError>
-    ensures ok { IfOk result (λ texts. texts ≡ texts_for of drafts.now) }
-    ensures long { result ≡ Err errors.Long → 2 ^ 32 - 1 ≤ length (section_of (texts_by of drafts.now)) }
-{
-    let names = all_names(alloc, drafts, of)?;
-    let Joined { section, places } = join_texts(alloc, names.as_slice())?;
-    Ok(Texts { section, places })
-}
-
-/// The same, where at most `workers` threads look the texts up. The section takes the place of a room.
-pub(crate) fn texts_in_by<R: Threads + Sync>(
+/// The texts of drafts, and where they stand. At most `workers` threads look the texts up. The section takes the place of a
+/// room.
+pub(crate) fn texts_in<R: Threads + Sync>(
     rt: &R,
     alloc: Global,
     room: Vec<u8>,
@@ -53,7 +44,7 @@ pub(crate) fn texts_in_by<R: Threads + Sync>(
     ensures long { result ≡ Err errors.Long → 2 ^ 32 - 1 ≤ length (section_of (texts_by of drafts.now)) }
 {
     let names = all_names(alloc, drafts, of)?;
-    let Joined { section, places } = join_texts_by(rt, alloc, room, workers, names.as_slice())?;
+    let Joined { section, places } = join_texts(rt, alloc, room, workers, names.as_slice())?;
     Ok(Texts { section, places })
 }
 

@@ -2,6 +2,7 @@
 
 ghost use Rattle.std.specs.Prelude.{◌≡◌, ◌<◌, ◌≤◌, ◌^◌, Ok, length, map, IfOk};
 ghost use Rattle.std.specs.List.{All};
+ghost use Rattle.std.specs.Thread.{IsSync};
 ghost use Rattle.macho_read.specs.declared.kind.Role.TheVariants as roles;
 ghost use Rattle.macho_read.specs.Kind.{kind_of};
 ghost use Rattle.macho_read.specs.Sound.{IsSound};
@@ -20,19 +21,20 @@ const MAKE: u32 = 0;
 
 /// The file of each object is made.
 #[derive(Drop)]
-struct Making {
+struct Making<'a, R> {
+    rt: &'a R,
     alloc: Global,
 }
 
-impl Job for Making {
+impl<'a, R: Threads + Sync> Job for Making<'a, R> {
     type Out = Result<Bytes, NoMemory>;
 
-    ghost takes = { λ job item. item < 1000 };
+    ghost takes = { λ job item. IsSync R.row × (item < 1000) };
 
     ghost gives = { λ job item out. GivesFile item out };
 
     fn run(&self, item: u32) -> Result<Bytes, NoMemory> {
-        generated_file(self.alloc, item + 1)
+        generated_file(self.rt, self.alloc, item + 1)
     }
 }
 
@@ -51,7 +53,10 @@ pub(crate) fn shared_program<R: Threads + Sync>(
     ensures small { IfOk result (λ made. All (λ file. length file < 2 ^ 32) made.files) }
 {
     let alloc = workers.alloc;
-    let job = Making { alloc };
+    let job = Making {
+        rt: workers.rt,
+        alloc,
+    };
     let gate = OpenGate::new();
     let outs = each(workers, count, MAKE, &gate, &job)?;
     let files = all_made(alloc, outs)?;

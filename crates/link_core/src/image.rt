@@ -13,7 +13,7 @@ use ds_base::limits::{IMAGE_BYTES, SECTION_BYTES};
 use ds_base::{Bytes, List};
 use dsym_write::{WriteError, image_in, plist_text};
 use dwarf_types::OutFrames;
-use layout::{Layout, LayoutError, place_drafts_by};
+use layout::{Layout, LayoutError, place_drafts};
 use link_status::{LimitKind, Refusal};
 use std::thread::Threads;
 use unit_draft::Draft;
@@ -123,7 +123,7 @@ fn layout_of<R: Threads + Sync>(
     requires drafted { AreOfGraph drafts frames.now }
     ensures { (graph : AGraph) → AreDrafts graph drafts → graph.frames ≡ frames.now → Lays graph result }
 {
-    match place_drafts_by(
+    match place_drafts(
         workers.rt,
         workers.alloc,
         room,

@@ -32,7 +32,7 @@ fn link_two<R: Threads + Abort + Sync>(
     odr: bool,
     gate: &Meeting,
 ) -> Option<Linked> {
-    let made = generated(alloc, 2).expect(rt, "memory");
+    let made = generated(rt, alloc, 2).expect(rt, "memory");
     has_objects(rt, &made, 2);
     link_all(rt, alloc, made, &[Some(0), Some(1)], odr, gate)
 }
@@ -50,7 +50,7 @@ fn numbers_below(alloc: Global, count: u32) -> Result<List<Option<u32>>, NoMemor
 
 /// What two threads link of a generated program of forty objects, with types merged.
 fn link_forty<R: Threads + Abort + Sync>(rt: &R, alloc: Global) -> Option<Linked> {
-    let made = generated(alloc, 40).expect(rt, "memory");
+    let made = generated(rt, alloc, 40).expect(rt, "memory");
     has_objects(rt, &made, 40);
     let source = numbers_below(alloc, 40).expect(rt, "memory");
     let gate = OpenGate::new();

@@ -39,7 +39,14 @@ table_len version lines =
 pub below_limit : (n m : ℕ) → n ≡ m → m < 2 ^ 32 - 1 → n < 2 ^ 32
 below_limit n m is few = omega (arith, is, few)
 
--- the one table of a graph of one unit
+-- where the one table of a graph of one unit ends
+pub line_end : (unit : OutUnit) → 0 + length (lines_bytes (line_text_place (graph_of unit)) unit) ≡ length (line_section (graph_of unit))
+line_end unit =
+    let bytes = lines_bytes (line_text_place (graph_of unit)) unit in
+    let none : 0 + length bytes ≡ length bytes = omega arith in
+    none ∙ sym (ap length (append-nil bytes))
+
+-- and its size
 pub one_table : (unit : OutUnit) → length (line_section (graph_of unit)) ≡ lines_len unit
 one_table unit = ap length (append-nil (lines_bytes (line_text_place (graph_of unit)) unit)) ∙ same_lines (line_text_place (graph_of unit)) (λ text. 0) unit
 

@@ -1,10 +1,9 @@
 -- A unit of small nodes reaches no limit.
-use Rattle.std.proofs.Common.{◌+◌, ◌≡◌, ◌==◌, ◌≤◌, ◌^◌, ◌-◌, ℕ, Bool, true, false, List, [], ◌∷◌, ◌++◌, length, filter, map, Option, Some, None, nat_le, if◌then◌else◌, arith, refl, ap, ◌∙◌, append-nil}
-use Rattle.std.specs.List.{flat_map}
+use Rattle.std.proofs.Common.{◌+◌, ◌≡◌, ◌==◌, ◌≤◌, ◌^◌, ◌-◌, ◌*◌, ℕ, Bool, true, false, List, [], ◌∷◌, ◌++◌, length, filter, map, Option, Some, None, nat_le, if◌then◌else◌, arith, refl, ap, ◌∙◌, append-nil, length-append}
+use Rattle.std.specs.List.{AllByRecursion, find, flat_map}
 use Rattle.std.specs.Option.{option_map, option_map_or}
 use Rattle.std.specs.Str.{bytes_eq}
 use Rattle.std.proofs.lemmas.Bool.{lt-leb}
-use Rattle.ds_base.specs.declared.fault.Part.{Part}
 use Rattle.ds_base.specs.declared.fault.Part.TheVariants as parts
 use Rattle.ds_base.specs.FirstUse.{once}
 use Rattle.ds_base.specs.Texts.{section_of}
@@ -20,8 +19,9 @@ use Rattle.dwarf_types.specs.Layout.{line_texts_of_unit, lists_place, places_of,
 use Rattle.dwarf_types.specs.Lists.{behind_header}
 use Rattle.dwarf_types.specs.Places.{own_node}
 use Rattle.dwarf_types.proofs.Lengths.{length-unit}
+use Rattle.layout.specs.declared.table.TheConstants.{SECTIONS}
 use Rattle.layout.specs.Lengths.{long_section, long_unit}
-use Rattle.section_write.proofs.InTurn.{back_len, front_len, lists_len, sections_len}
+use Rattle.layout.specs.Sections.{written_in}
 use Rattle.sample_objects.specs.ObjectFile.{graph_of}
 use Rattle.sample_objects.proofs.Modest.{AreModest, no_locations, no_ranges, strings_few, table_few, unit_few}
 
@@ -39,22 +39,21 @@ pub record AreShort (graph : Graph) : Type 0 where
   pub aranges : length (aranges_section graph) ≤ 2 ^ 24
   pub frames : length (frame_section graph) ≤ 2 ^ 24
 
-passed : (n : ℕ) (part : Part) (rest : Option Part) → n ≤ 2 ^ 24 → rest ≡ None → (if nat_le (2 ^ 32 - 1) n then Some part else rest) ≡ None
-passed n part rest few e = rw (lt-leb (2 ^ 32 - 1) n (omega (arith, few))) e
+-- of each section written
+abbrev AreFew : List Written → Type 0
+AreFew ws = AllByRecursion (λ s. length s.bytes ≤ 2 ^ 24) ws
+
+are_few : (graph : Graph) → AreShort graph → AreFew (map (written_in graph) SECTIONS)
+are_few graph h = (h.tables, (h.info, (h.texts, (h.line, (h.line_texts, (h.ranges, (h.rnglists, (h.loc, (h.loclists, (h.aranges, (h.frames, tt)))))))))))
+
+none_found : (ws : List Written) → AreFew ws → find (λ s. nat_le (2 ^ 32 - 1) (length s.bytes)) ws ≡ None
+none_found [] few = refl
+none_found (s ∷ ws) few = rw (lt-leb (2 ^ 32 - 1) (length s.bytes) (omega (arith, few.0))) (none_found ws few.1)
 
 pub none_long : (graph : Graph) → AreShort graph → long_section graph ≡ None
 none_long graph h =
-    passed (length (str_section graph)) parts.Str _ h.texts
-    (passed (length (abbrev_section graph)) parts.Abbrev _ h.tables
-    (passed (length (info_section graph)) parts.Info _ h.info
-    (passed (length (line_section graph)) parts.Line _ h.line
-    (passed (length (line_str_section graph)) parts.LineStr _ h.line_texts
-    (passed (length (ranges_section graph)) parts.Ranges _ h.ranges
-    (passed (length (rnglists_section graph)) parts.Rnglists _ h.rnglists
-    (passed (length (loc_section graph)) parts.Loc _ h.loc
-    (passed (length (loclists_section graph)) parts.Loclists _ h.loclists
-    (passed (length (aranges_section graph)) parts.Aranges _ h.aranges
-    (passed (length (frame_section graph)) parts.Frame None h.frames refl))))))))))
+    let texts : Written = record { part = parts.Str; bytes = str_section graph } in
+    ap (λ (found : Option Written). option_map (λ s. s.part) found) (none_found (texts ∷ map (written_in graph) SECTIONS) (h.texts, are_few graph h))
 
 fewer : (ws : List Written) → length (filter has_bytes ws) ≤ length ws
 fewer [] = omega arith
@@ -65,29 +64,20 @@ fewer (s ∷ ws) = by (has_bytes s) (fewer ws)
     by false h = omega (arith, h)
 
 pub sections_few : (graph : Graph) → length (encode graph) ≤ 11
-sections_few graph =
-    let all : List Written =
-    record { part = parts.Abbrev; bytes = abbrev_section graph }
-    ∷ record { part = parts.Info; bytes = info_section graph }
-    ∷ record { part = parts.Str; bytes = str_section graph }
-    ∷ record { part = parts.Line; bytes = line_section graph }
-    ∷ record { part = parts.LineStr; bytes = line_str_section graph }
-    ∷ record { part = parts.Ranges; bytes = ranges_section graph }
-    ∷ record { part = parts.Rnglists; bytes = rnglists_section graph }
-    ∷ record { part = parts.Loc; bytes = loc_section graph }
-    ∷ record { part = parts.Loclists; bytes = loclists_section graph }
-    ∷ record { part = parts.Aranges; bytes = aranges_section graph }
-    ∷ record { part = parts.Frame; bytes = frame_section graph } ∷ [] in
-    fewer all
+sections_few graph = fewer (map (written_in graph) SECTIONS)
 
-eleven_few : (all front lists back a b c d e f g h i j k : ℕ) → all ≡ front + (lists + back) → front ≡ a + (b + (c + (d + e))) → lists ≡ f + (g + (h + i)) → back ≡ j + k
-    → a ≤ 2 ^ 24 → b ≤ 2 ^ 24 → c ≤ 2 ^ 24 → d ≤ 2 ^ 24 → e ≤ 2 ^ 24 → f ≤ 2 ^ 24 → g ≤ 2 ^ 24 → h ≤ 2 ^ 24 → i ≤ 2 ^ 24 → j ≤ 2 ^ 24 → k ≤ 2 ^ 24 → all ≤ 2 ^ 28
-eleven_few all front lists back a b c d e f g h i j k whole first second third la lb lc ld le lf lg lh li lj lk = omega (arith, whole, first, second, third, la, lb, lc, ld, le, lf, lg, lh, li, lj, lk)
+kept_few : (ws : List Written) → AreFew ws → length (contents (filter has_bytes ws)) ≤ length ws * 2 ^ 24
+kept_few [] few = omega arith
+kept_few (s ∷ ws) few = by (has_bytes s) few.0 (kept_few ws few.1)
+  where
+    by : (b : Bool) → length s.bytes ≤ 2 ^ 24 → length (contents (filter has_bytes ws)) ≤ length ws * 2 ^ 24 → length (contents (if b then s ∷ filter has_bytes ws else filter has_bytes ws)) ≤ length (s ∷ ws) * 2 ^ 24
+    by true one h = omega (arith, one, h, length-append s.bytes (contents (filter has_bytes ws)))
+    by false one h = omega (arith, h)
 
 pub contents_few : (graph : Graph) → AreShort graph → length (contents (encode graph)) ≤ 2 ^ 28
 contents_few graph h =
-    eleven_few _ _ _ _ _ _ _ _ _ _ _ _ _ _ _ (sections_len graph) (front_len graph) (lists_len graph) (back_len graph) h.tables h.info h.texts h.line h.line_texts h.ranges h.rnglists h.loc h.loclists h.aranges
-    h.frames
+    let few : length (contents (encode graph)) ≤ 11 * 2 ^ 24 = kept_few (map (written_in graph) SECTIONS) (are_few graph h) in
+    omega (arith, few)
 
 short : (n m most : ℕ) → n ≡ m → m ≤ most → most ≤ 2 ^ 24 → n ≤ 2 ^ 24
 short n m most is few within = omega (arith, is, few, within)

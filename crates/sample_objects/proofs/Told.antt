@@ -1,18 +1,22 @@
 -- Sections told by their sizes, and what can't be.
-use Rattle.std.proofs.Common.{◌≡◌, ◌≤◌, ◌<◌, ◌-◌, ◌*◌, ◌^◌, ℕ, Bool, true, false, List, [], ◌∷◌, length, filter, map, Option, Some, None, if◌then◌else◌, nat_le, cond, arith, refl, sym, ap, ◌∙◌, length-append}
+use Rattle.std.proofs.Common.{◌≡◌, ◌≤◌, ◌<◌, ◌-◌, ◌*◌, ◌^◌, ℕ, Bool, true, false, List, [], ◌∷◌, length, filter, map, Option, Some, None, Ok, if◌then◌else◌, nat_le, cond, arith, refl, sym, ap, ◌∙◌, length-append}
 use Rattle.std.specs.List.{AllByRecursion, find, sum_by}
+use Rattle.std.specs.Option.{option_map}
 use Rattle.std.proofs.lemmas.Bool.{leb-false}
 use Rattle.std.proofs.lemmas.List.Sums.{sum_by-cons}
 use Rattle.ds_base.specs.declared.fault.Part.{Part}
 use Rattle.ds_base.specs.declared.fault.Part.TheVariants as parts
 use Rattle.dsym_write.specs.Bundle.{contents}
+use Rattle.dsym_write.specs.Pieces.{with_size}
 use Rattle.dwarf_types.specs.declared.graph.Graph.{Graph}
 use Rattle.dwarf_types.specs.declared.graph.Written.{Written}
-use Rattle.dwarf_types.specs.Encode.{abbrev_section, aranges_section, encode, frame_section, has_bytes, info_section, line_section, line_str_section, loc_section, loclists_section, ranges_section, rnglists_section, str_section}
-use Rattle.layout.specs.declared.sizes.Sizes.{Sizes}
-use Rattle.layout.specs.Lengths.{long_section, size_in, sizes_of}
-use Rattle.dsym_write.specs.declared.dwarf.TheConstants.{WRITTEN_PARTS}
-use Rattle.dsym_write.specs.Pieces.{with_size}
+use Rattle.dwarf_types.specs.Encode.{encode, has_bytes, str_section}
+use Rattle.layout.specs.declared.table.Section.{Section}
+use Rattle.layout.specs.declared.table.TheConstants.{SECTIONS}
+use Rattle.layout.specs.Laid.{Laid, Measures}
+use Rattle.layout.specs.Lengths.{long_section}
+use Rattle.layout.specs.Sections.{content_bytes, written_in}
+use Rattle.layout.proofs.SectionLengths.{layout_sizes}
 use Rattle.sample_objects.specs.ObjectFile.{sized_of}
 use Rattle.sample_objects.specs.Sized.{has_size}
 
@@ -34,23 +38,16 @@ kept_told (s ∷ ws) = by (has_bytes s) (filter has_size (sized_of ws)) (filter 
     by true some rest e = ap (λ (more : List (Part × ℕ)). (s.part, length s.bytes) ∷ more) e
     by false some rest e = e
 
--- the parts that have bytes, by the sizes of a graph's sections
-pub parts_told : (graph : Graph) (sizes : Sizes) → sizes ≡ sizes_of graph → filter has_size (map (with_size sizes) WRITTEN_PARTS) ≡ sized_of (encode graph)
-parts_told graph sizes told =
-    let all : List Written =
-    record { part = parts.Abbrev; bytes = abbrev_section graph }
-    ∷ record { part = parts.Info; bytes = info_section graph }
-    ∷ record { part = parts.Str; bytes = str_section graph }
-    ∷ record { part = parts.Line; bytes = line_section graph }
-    ∷ record { part = parts.LineStr; bytes = line_str_section graph }
-    ∷ record { part = parts.Ranges; bytes = ranges_section graph }
-    ∷ record { part = parts.Rnglists; bytes = rnglists_section graph }
-    ∷ record { part = parts.Loc; bytes = loc_section graph }
-    ∷ record { part = parts.Loclists; bytes = loclists_section graph }
-    ∷ record { part = parts.Aranges; bytes = aranges_section graph }
-    ∷ record { part = parts.Frame; bytes = frame_section graph } ∷ [] in
-    let same : map (with_size (sizes_of graph)) WRITTEN_PARTS ≡ sized_of all = refl in
-    ap (λ (it : Sizes). filter has_size (map (with_size it) WRITTEN_PARTS)) told ∙ ap (filter has_size) same ∙ kept_told all
+module _ (graph : Graph) (layout : Laid) (measured : Measures graph (Ok layout)) where
+  all_told : (sections : List Section) → map (with_size layout) sections ≡ sized_of (map (written_in graph) sections)
+  all_told [] = refl
+  all_told (s ∷ sections) =
+      ap (λ (n : ℕ). (s.part, n) ∷ map (with_size layout) sections) (layout_sizes graph layout measured s.content)
+      ∙ ap (λ (rest : List (Part × ℕ)). (s.part, length (content_bytes graph s.content)) ∷ rest) (all_told sections)
+
+  -- the sections that have bytes, by the sizes that a layout tells
+  pub parts_told : filter has_size (map (with_size layout) SECTIONS) ≡ sized_of (encode graph)
+  parts_told = ap (filter has_size) (all_told SECTIONS) ∙ kept_told (map (written_in graph) SECTIONS)
 
 -- ---- sections that are not too long
 
@@ -65,34 +62,20 @@ none_passes {X = X} test (x ∷ xs) none = by (test x) (find test xs) none (none
 abbrev AreShort : List (Part × ℕ) → Type 0
 AreShort sized = AllByRecursion (λ s. s.1 < 2 ^ 32) sized
 
-all_short : (graph : Graph) → long_section graph ≡ None → AreShort (map (with_size (sizes_of graph)) WRITTEN_PARTS)
+none_found : (found : Option Written) → option_map (λ s. s.part) found ≡ None → found ≡ None
+none_found None none = refl
+none_found (Some s) none = absurd cc
+
+shorts : (ws : List Written) → AllByRecursion (λ s. nat_le (2 ^ 32 - 1) (length s.bytes) ≡ false) ws → AreShort (sized_of ws)
+shorts [] h = tt
+shorts (s ∷ ws) h = let few = leb-false (2 ^ 32 - 1) (length s.bytes) h.0 in (omega (arith, few), shorts ws h.1)
+
+all_short : (graph : Graph) → long_section graph ≡ None → AreShort (sized_of (map (written_in graph) SECTIONS))
 all_short graph none =
-    let test : Part → Bool = λ part. nat_le (2 ^ 32 - 1) (size_in (sizes_of graph) part) in
-    let short : (part : Part) → test part ≡ false → size_in (sizes_of graph) part < 2 ^ 32 = λ part e. let few = leb-false (2 ^ 32 - 1) (size_in (sizes_of graph) part) e in omega (arith, few) in
-    let q =
-    none_passes test (parts.Str ∷ parts.Abbrev ∷ parts.Info ∷ parts.Line ∷ parts.LineStr ∷ parts.Ranges ∷ parts.Rnglists ∷ parts.Loc ∷ parts.Loclists ∷ parts.Aranges ∷ parts.Frame ∷ []) none in
-    let behind = q.1.1.1.1 in (
-      short parts.Abbrev q.1.0,
-      (
-        short parts.Info q.1.1.0,
-        (
-          short parts.Str q.0,
-          (
-            short parts.Line q.1.1.1.0,
-            (
-              short parts.LineStr behind.0,
-              (
-                short parts.Ranges behind.1.0,
-                (
-                  short parts.Rnglists behind.1.1.0,
-                  (short parts.Loc behind.1.1.1.0, (short parts.Loclists behind.1.1.1.1.0, (short parts.Aranges behind.1.1.1.1.1.0, (short parts.Frame behind.1.1.1.1.1.1.0, tt)))),
-                ),
-              ),
-            ),
-          ),
-        ),
-      ),
-    )
+    let all : List Written = map (written_in graph) SECTIONS in
+    let test : Written → Bool = λ s. nat_le (2 ^ 32 - 1) (length s.bytes) in
+    let texts : Written = record { part = parts.Str; bytes = str_section graph } in
+    shorts all (none_passes test (texts ∷ all) (none_found (find test (texts ∷ all)) none)).1
 
 kept_few : (sized : List (Part × ℕ)) → AreShort sized → sum_by (λ s. s.1) (filter has_size sized) ≤ length sized * 2 ^ 32
 kept_few [] short = omega arith
@@ -105,8 +88,9 @@ kept_few (s ∷ sized) short = by (has_size s) short.0 (kept_few sized short.1)
 
 pub sizes_small : (graph : Graph) (sized : List (Part × ℕ)) → sized ≡ sized_of (encode graph) → long_section graph ≡ None → sum_by (λ s. s.1) sized < 2 ^ 64
 sizes_small graph sized is none =
-    let kept : sized ≡ filter has_size (map (with_size (sizes_of graph)) WRITTEN_PARTS) = is ∙ sym (parts_told graph (sizes_of graph) refl) in
-    let few : sum_by (λ s. s.1) (filter has_size (map (with_size (sizes_of graph)) WRITTEN_PARTS)) ≤ 11 * 2 ^ 32 = kept_few (map (with_size (sizes_of graph)) WRITTEN_PARTS) (all_short graph none) in
+    let all : List Written = map (written_in graph) SECTIONS in
+    let kept : sized ≡ filter has_size (sized_of all) = is ∙ sym (kept_told all) in
+    let few : sum_by (λ s. s.1) (filter has_size (sized_of all)) ≤ 11 * 2 ^ 32 = kept_few (sized_of all) (all_short graph none) in
     omega (arith, ap (sum_by (λ (s : Part × ℕ). s.1)) kept, few)
 
 -- ---- answers that differ

@@ -16,10 +16,11 @@ use crate::spec::ObjectSpec;
 use crate::symbols::symbols_of;
 use ds_base::macho::MH_OBJECT;
 use ds_base::{Bytes, NoMemory, Part};
-use layout::section_size;
+use layout::{Content, section_size};
 use macho_write::{append_header, append_symtab};
 use reloc_table::Reloc;
 use std::alloc::Global;
+use std::thread::Threads;
 
 /// How many bytes the section of the code has.
 pub const TEXT_SIZE: u32 = 0x1_0000;
@@ -32,16 +33,21 @@ pub const TEXT_SECTION: u8 = 1;
 /// Its one segment has the section `__text`, whose bytes are not in the file, and the debug sections of the unit that
 /// are not empty. `__debug_info` has the relocations of the specification, and `__debug_line` one for the address of each
 /// sequence, which counts from `__text`. Offsets and sizes have 32 bits; in a file that is longer they keep the lowest.
-pub fn object(alloc: Global, spec: &ObjectSpec) -> Result<Bytes, NoMemory>
+pub fn object<R: Threads + Sync>(
+    rt: &R,
+    alloc: Global,
+    spec: &ObjectSpec,
+) -> Result<Bytes, NoMemory>
     requires unit { long_unit (graph_of spec.now.unit) ≡ None }
     requires sections { long_section (graph_of spec.now.unit) ≡ None }
     requires symbols { All (λ r. r.symbol < 2 ^ 24) spec.now.relocs }
     ensures { IfOk result (λ bytes. bytes ≡ object_bytes spec.now) }
 {
-    let layout = layout_of(alloc, &spec.unit)?;
+    let layout = layout_of(rt, alloc, &spec.unit)?;
     let sized = sized_sections(alloc, &layout)?;
-    let contents = contents_of(alloc, &layout, sized.as_slice())?;
-    let moved = line_relocs(alloc, &spec.unit, section_size(&layout, Part::Line))?;
+    let contents = contents_of(rt, alloc, &layout, sized.as_slice())?;
+    let lines = section_size(&layout, Content::Lines);
+    let moved = line_relocs(alloc, &spec.unit, lines)?;
     object_of(
         alloc,
         spec,

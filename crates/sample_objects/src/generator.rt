@@ -18,12 +18,17 @@ use ds_base::{Bytes, List, NoMemory};
 use macho_read::{Image, Section, Segment, Symbols};
 use stab_map::MapObject;
 use std::alloc::Global;
+use std::thread::Threads;
 
 /// The generated program of so many objects.
 ///
 /// Each object has a C++ unit with a base type, a namespace of 100 structures, a pointer to each, and 100 functions with
 /// local variables of them. The names of structures recur among the objects, and three of four functions are linked.
-pub fn generated(alloc: Global, count: u32) -> Result<Generated, NoMemory>
+pub fn generated<R: Threads + Sync>(
+    rt: &R,
+    alloc: Global,
+    count: u32,
+) -> Result<Generated, NoMemory>
     requires some { 1 ≤ count }
     requires few { count ≤ 1000 }
     ensures exact { IfOk result (λ made. made ≡ generated_program count) }
@@ -31,7 +36,7 @@ pub fn generated(alloc: Global, count: u32) -> Result<Generated, NoMemory>
     ensures kind { IfOk result (λ made. kind_of made.program roles.Program ≡ Ok tt) }
     ensures small { IfOk result (λ made. All (λ file. length file < 2 ^ 32) made.files) }
 {
-    let files = files_of(alloc, count)?;
+    let files = files_of(rt, alloc, count)?;
     generated_with(alloc, count, files)
 }
 
@@ -138,24 +143,28 @@ fn objects_of(alloc: Global, count: u32) -> Result<List<MapObject>, NoMemory>
 }
 
 /// The files of so many objects.
-fn files_of(alloc: Global, count: u32) -> Result<List<Bytes>, NoMemory>
+fn files_of<R: Threads + Sync>(rt: &R, alloc: Global, count: u32) -> Result<List<Bytes>, NoMemory>
     requires { count ≤ 1000 }
     ensures { IfOk result (λ files. files ≡ map (λ i. object_bytes (spec_of i)) (range_with_len 1 count)) }
 {
     let mut files = List::new(alloc);
     for k in 0..count {
-        let file = generated_file(alloc, k + 1)?;
+        let file = generated_file(rt, alloc, k + 1)?;
         files.push(file)?;
     }
     Ok(files)
 }
 
 /// The file of the object of a number, which is counted from 1, of a generated program.
-pub fn generated_file(alloc: Global, number: u32) -> Result<Bytes, NoMemory>
+pub fn generated_file<R: Threads + Sync>(
+    rt: &R,
+    alloc: Global,
+    number: u32,
+) -> Result<Bytes, NoMemory>
     requires { number ≤ 1000 }
     ensures { IfOk result (λ bytes. bytes ≡ object_bytes (spec_of number)) }
 {
-    let spec = spec_for(alloc, number)?;
-    let bytes = object(alloc, &spec)?;
+    let spec = spec_for(rt, alloc, number)?;
+    let bytes = object(rt, alloc, &spec)?;
     Ok(bytes)
 }

@@ -18,19 +18,24 @@ use dwarf_types::OutUnit;
 use macho_read::Symbols;
 use reloc_table::Reloc;
 use std::alloc::Global;
+use std::thread::Threads;
 use unit_draft::{Draft, DraftError, draft_unit};
 
 /// How many bytes the low_pc of a function and what follows it in its entry have: an address, and the high_pc in 4 bytes.
 const LOW_PC_AND_BEHIND: u32 = 8 + 4;
 
 /// What the file of an object is made of.
-pub(crate) fn spec_for(alloc: Global, i: u32) -> Result<ObjectSpec, NoMemory>
+pub(crate) fn spec_for<R: Threads + Sync>(
+    rt: &R,
+    alloc: Global,
+    i: u32,
+) -> Result<ObjectSpec, NoMemory>
     requires { i ≤ 1000 }
     ensures { IfOk result (λ spec. spec ≡ spec_of i) }
 {
     let unit = unit_of(alloc, i)?;
     let symbols = symbols_for(alloc, i)?;
-    let relocs = relocs_for(alloc, &unit, i)?;
+    let relocs = relocs_for(rt, alloc, &unit, i)?;
     Ok(ObjectSpec {
         cpu: CPU_TYPE_ARM64,
         unit,
@@ -72,12 +77,17 @@ pub(crate) fn symbol_name(alloc: Global, i: u32, j: u32) -> Result<Bytes, NoMemo
 }
 
 /// A relocation for the low_pc of each function.
-fn relocs_for(alloc: Global, unit: &OutUnit, i: u32) -> Result<List<Reloc>, NoMemory>
+fn relocs_for<R: Threads + Sync>(
+    rt: &R,
+    alloc: Global,
+    unit: &OutUnit,
+    i: u32,
+) -> Result<List<Reloc>, NoMemory>
     requires object { i ≤ 1000 }
     requires unit { unit.now ≡ GeneratedUnit.unit_of i }
     ensures { IfOk result (λ relocs. relocs ≡ map (reloc_of i) all_numbers) }
 {
-    let draft = draft_of(alloc, unit, i)?;
+    let draft = draft_of(rt, alloc, unit, i)?;
     let mut relocs = List::new(alloc);
     for j in 0..STRUCTURES {
         let reloc = reloc_for(&draft, i, j);
@@ -87,12 +97,17 @@ fn relocs_for(alloc: Global, unit: &OutUnit, i: u32) -> Result<List<Reloc>, NoMe
 }
 
 /// The draft of the unit, which tells where its entries stand.
-fn draft_of(alloc: Global, unit: &OutUnit, i: u32) -> Result<Draft, NoMemory>
+fn draft_of<R: Threads + Sync>(
+    rt: &R,
+    alloc: Global,
+    unit: &OutUnit,
+    i: u32,
+) -> Result<Draft, NoMemory>
     requires object { i ≤ 1000 }
     requires unit { unit.now ≡ GeneratedUnit.unit_of i }
     ensures { IfOk result (IsDraft 0 (GeneratedUnit.unit_of i)) }
 {
-    match draft_unit(alloc, unit, 0) {
+    match draft_unit(rt, alloc, 1, unit, 0) {
         Ok(draft) => Ok(draft),
         Err(DraftError::NoMemory) => Err(NoMemory),
         Err(DraftError::Unit) => unreachable!(),

@@ -12,20 +12,24 @@ ghost use Rattle.sample_objects.specs.Sized.{has_size};
 ghost use Rattle.unit_draft.specs.Drafted.{AreDrafts, IsDraft};
 
 use ds_base::{Bytes, List, NoMemory, Part};
-use dsym_write::WRITTEN_PARTS;
 use dwarf_types::{OutFrames, OutUnit};
-use layout::{Layout, LayoutError, place_drafts, section_size};
+use layout::{Layout, LayoutError, SECTIONS, Section, place_drafts, section_size};
 use section_write::emit_sections;
 use std::alloc::Global;
+use std::thread::Threads;
 use unit_draft::{Draft, DraftError, draft_unit};
 
 /// Whether a unit and its sections are short enough for a file.
 ///
 /// The unit has less than 2^28 bytes, and each section less than 2^32 - 1.
-pub fn is_within_limits(alloc: Global, unit: &OutUnit) -> Result<bool, NoMemory>
+pub fn is_within_limits<R: Threads + Sync>(
+    rt: &R,
+    alloc: Global,
+    unit: &OutUnit,
+) -> Result<bool, NoMemory>
     ensures { IfOk result (λ within. (within ≡ true) ↔ ((long_unit (graph_of unit.now) ≡ None) × (long_section (graph_of unit.now) ≡ None))) }
 {
-    match measure_unit(alloc, unit) {
+    match measure_unit(rt, alloc, unit) {
         Ok(_) => Ok(true),
         Err(LayoutError::NoMemory) => Err(NoMemory),
         Err(LayoutError::Unit { .. }) => Ok(false),
@@ -34,12 +38,16 @@ pub fn is_within_limits(alloc: Global, unit: &OutUnit) -> Result<bool, NoMemory>
 }
 
 /// The layout of the graph of one unit, which is within the limits.
-pub(crate) fn layout_of(alloc: Global, unit: &OutUnit) -> Result<Layout, NoMemory>
+pub(crate) fn layout_of<R: Threads + Sync>(
+    rt: &R,
+    alloc: Global,
+    unit: &OutUnit,
+) -> Result<Layout, NoMemory>
     requires unit { long_unit (graph_of unit.now) ≡ None }
     requires sections { long_section (graph_of unit.now) ≡ None }
     ensures { IfOk result (λ layout. Measures (graph_of unit.now) (Ok layout)) }
 {
-    match measure_unit(alloc, unit) {
+    match measure_unit(rt, alloc, unit) {
         Ok(layout) => Ok(layout),
         Err(LayoutError::NoMemory) => Err(NoMemory),
         Err(LayoutError::Unit { .. }) => unreachable!(),
@@ -48,17 +56,21 @@ pub(crate) fn layout_of(alloc: Global, unit: &OutUnit) -> Result<Layout, NoMemor
 }
 
 /// The layout of the graph of one unit, or the limit that it reaches.
-fn measure_unit(alloc: Global, unit: &OutUnit) -> Result<Layout, LayoutError>
+fn measure_unit<R: Threads + Sync>(
+    rt: &R,
+    alloc: Global,
+    unit: &OutUnit,
+) -> Result<Layout, LayoutError>
     ensures { Measures (graph_of unit.now) result }
 {
-    let draft = match draft_unit(alloc, unit, 0) {
+    let draft = match draft_unit(rt, alloc, 1, unit, 0) {
         Ok(draft) => draft,
         Err(DraftError::NoMemory) => return Err(LayoutError::NoMemory),
         Err(DraftError::Unit) => return Err(LayoutError::Unit { unit: 0 }),
     };
     let drafts = drafts_of(alloc, unit, draft)?;
     let frames = OutFrames::new(alloc);
-    place_drafts(alloc, drafts, &frames)
+    place_drafts(rt, alloc, Vec::new(alloc), 1, drafts, &frames)
 }
 
 /// The list of the draft of the one unit.
@@ -77,20 +89,24 @@ pub(crate) fn sized_sections(alloc: Global, layout: &Layout) -> Result<List<(Par
     ensures sized { IfOk result (λ sized. (graph : Graph) → Measures graph (Ok layout.now) → sized ≡ sized_of (sections_in graph)) }
     ensures few { IfOk result (λ sized. length sized < 2 ^ 32) }
 {
-    let sized = with_bytes(alloc, layout, &WRITTEN_PARTS)?;
+    let sized = with_bytes(alloc, layout, &SECTIONS)?;
     Ok(sized)
 }
 
-/// Those of some parts that have bytes, each with its size.
-fn with_bytes(alloc: Global, layout: &Layout, parts: &[Part]) -> Result<List<(Part, u64)>, NoMemory>
-    ensures sized { IfOk result (λ sized. sized ≡ filter has_size (map (with_size layout.now.sizes) parts.now)) }
-    ensures few { IfOk result (λ sized. length sized ≤ length parts.now) }
+/// Those of some sections that have bytes, each with its size.
+fn with_bytes(
+    alloc: Global,
+    layout: &Layout,
+    sections: &[Section],
+) -> Result<List<(Part, u64)>, NoMemory>
+    ensures sized { IfOk result (λ sized. sized ≡ filter has_size (map (with_size layout.now) sections.now)) }
+    ensures few { IfOk result (λ sized. length sized ≤ length sections.now) }
 {
     let mut sized = List::new(alloc);
-    for part in parts {
-        let size = section_size(layout, *part);
+    for section in sections {
+        let size = section_size(layout, section.content);
         if size != 0 {
-            sized.push((*part, size))?;
+            sized.push((section.part, size))?;
         }
     }
     Ok(sized)
@@ -98,7 +114,8 @@ fn with_bytes(alloc: Global, layout: &Layout, parts: &[Part]) -> Result<List<(Pa
 
 /// The bytes of the sections, one behind the other.
 #[tactic(auto, unfolding(crate::specs::ObjectFile::sections_in))]
-pub(crate) fn contents_of(
+pub(crate) fn contents_of<R: Threads + Sync>(
+    rt: &R,
     alloc: Global,
     layout: &Layout,
     sized: &[(Part, u64)],
@@ -109,7 +126,7 @@ pub(crate) fn contents_of(
 {
     let size = total_size(sized);
     let mut bytes = Bytes::zeros(alloc, size as usize)?;
-    emit_sections(layout, bytes.as_mut_slice());
+    emit_sections(rt, 1, layout, bytes.as_mut_slice());
     Ok(bytes)
 }
 

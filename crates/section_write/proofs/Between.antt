@@ -1,22 +1,21 @@
 -- The units from a number up to another, one behind the other.
-use Rattle.std.proofs.Common.{◌≡◌, ◌<◌, ◌≤◌, ◌+◌, ◌-◌, ℕ, zero, suc, List, [], ◌∷◌, ◌++◌, length, get_or, slice_get, slice_index_or, take, drop, Some, Ok, refl, sym, ap, ◌∙◌, arith, length-append, append-nil}
+use Rattle.std.proofs.Common.{◌≡◌, ◌<◌, ◌≤◌, ◌+◌, ℕ, zero, suc, List, [], ◌∷◌, ◌++◌, length, get_or, slice_get, slice_index_or, take, drop, Some, Ok, refl, sym, ap, ◌∙◌, arith, length-append, append-nil}
 use Rattle.std.specs.List.{flat_map}
 use Rattle.std.proofs.lemmas.List.{drop_all, length-take, length-take-le, take_all, take_more}
 use Rattle.std.proofs.lemmas.List.Concat.{flat_map-append}
 use Rattle.std.proofs.lemmas.List.FromFn.{length-enumerate_from}
 use Rattle.std.proofs.lemmas.Option.{slice_get-get_or}
 use Rattle.std.proofs.Math.Seq.{drop-append_seam, drop-nil, take-nil}
-use borrow.Rule.Slice.PartMut.{put_mid}
 use Rattle.ds_base.specs.Room.{Adds}
 use Rattle.dwarf_types.specs.declared.graph.Graph.{Graph}
 use Rattle.dwarf_types.specs.declared.graph.OutUnit.{OutUnit}
 use Rattle.dwarf_types.specs.Encode.{info_section}
 use Rattle.dwarf_types.specs.Layout.{numbered_units}
 use Rattle.layout.specs.Laid.{IsMeasured, Laid, Measures}
+use Rattle.layout.proofs.SectionLengths.{info_end}
 use Rattle.unit_draft.specs.declared.unit.Draft.{Draft}
-use Rattle.section_write.specs.Emitting.{bytes_between, bytes_in, Fills, IsSizeOf}
+use Rattle.section_write.specs.Emitting.{bytes_between, bytes_in, IsSizeOf}
 use Rattle.section_write.proofs.Drafts.{unit_size, within_graph}
-use Rattle.section_write.proofs.SubRooms.{part_adds}
 use Rattle.section_write.proofs.UnitByUnit.{part_here, unit_is, unit_of, unit_of_is, within}
 
 -- ---- items of a list from a number up to another
@@ -65,12 +64,12 @@ module _ (graph : Graph) where
 
 -- ---- how many bytes they have
 
-pub size_all : (layout : Laid) → IsMeasured layout → IsSizeOf layout 0 (length layout.drafts) layout.sizes.info
+pub size_all : (layout : Laid) → IsMeasured layout → IsSizeOf layout 0 (length layout.drafts) layout.ends.info
 size_all layout m = record {
   measured = m;
   ordered = omega arith;
   within = omega arith;
-  bytes = λ graph measured. ap (λ (l : Laid). l.sizes.info) measured.0 ∙ sym (ap length (bytes_all graph (length layout.drafts) (omega (arith, measured.3.count))));
+  bytes = λ graph measured. ap (λ (l : Laid). l.ends.info) measured.0 ∙ info_end graph ∙ sym (ap length (bytes_all graph (length layout.drafts) (omega (arith, measured.3.count))));
 }
 
 pub size_more : (layout : Laid) (first u size : ℕ) (draft : Draft) → IsSizeOf layout first u size → u < length layout.drafts → slice_get layout.drafts u ≡ Some draft → IsSizeOf layout first (u + 1) (size + draft.len)
@@ -117,20 +116,3 @@ module _ (layout : Laid) (first middle end size front : ℕ) (all : IsSizeOf lay
 -- the draft of a number, as it is read
 pub read_draft : (layout : Laid) (drafts : List Draft) (u : ℕ) (d : Draft) → drafts ≡ layout.drafts → u < length layout.drafts → slice_get layout.drafts u ≡ Some (slice_index_or drafts u d)
 read_draft layout drafts u d same lt = slice_get-get_or layout.drafts u d lt ∙ ap (λ (ds : List Draft). Some (slice_index_or ds u d)) (sym same)
-
--- ---- all units in a part of a room
-
-module _ (layout : Laid) (count size : ℕ) (all : IsSizeOf layout 0 count size) (is : count ≡ length layout.drafts) (room : List ℕ) (start : ℕ) (fits : (graph : Graph) → Measures graph (Ok layout) → start + length (info_section graph) ≤ length room) where
-  all_are : (graph : Graph) → Measures graph (Ok layout) → bytes_between graph 0 count ≡ info_section graph
-  all_are graph measured = bytes_all graph count (omega (arith, is, measured.3.count))
-
-  pub all_fit : start + size ≤ length room
-  all_fit =
-      let m = all.measured in
-      omega (arith, fits m.graph m.measured, all.bytes m.graph m.measured, ap length (all_are m.graph m.measured))
-
-  pub all_add : (part : List ℕ) → Fills layout 0 count part → (graph : Graph) → Measures graph (Ok layout) → Adds room start (info_section graph) (put_mid start (start + size - start) room part) (start + size)
-  all_add part filled graph measured =
-      part_adds room part (info_section graph) start (start + size) all_fit
-      (ap (λ (n : ℕ). start + n) (all.bytes graph measured ∙ ap length (all_are graph measured)))
-      (filled graph measured ∙ all_are graph measured)

@@ -6,20 +6,28 @@ use Rattle.std.specs.Option.{option_map_or}
 use Rattle.dwarf_types.specs.declared.graph.Graph.{Graph}
 use Rattle.dwarf_types.specs.declared.graph.OutUnit.{OutUnit}
 use Rattle.dwarf_types.specs.Abbreviations.{same_flag, table_bytes}
-use Rattle.dwarf_types.specs.Encode.{abbrev_section, aranges_section, frame_section, line_str_section, loc_section, loclists_section, ranges_section, rnglists_section, str_section, unit_locations, unit_ranges}
+use Rattle.dwarf_types.specs.Encode.{all_ranges, unit_locations, unit_ranges}
 use Rattle.dwarf_types.specs.Entries.{node_place}
 use Rattle.dwarf_types.specs.Layout.{numbered_units, places_of, stands_in}
-use Rattle.dwarf_types.specs.Lists.{behind_header}
 use Rattle.dwarf_types.specs.Places.{own_node}
 use Rattle.unit_draft.specs.declared.unit.Draft.{Draft}
 use Rattle.unit_draft.specs.Drafted.{AreDrafts, IsDraft}
-use Rattle.layout.specs.Laid.{Laid, Measures}
+use Rattle.layout.specs.Laid.{Laid, Measures, common_in}
 use Rattle.layout.specs.Pass.{in_five, in_others}
-use Rattle.layout.proofs.Limits.{lists_short}
 use Rattle.layout.proofs.OfDrafts.{From, from_graph}
 use Rattle.section_write.proofs.UnitByUnit.{without_numbers}
 use Rattle.section_write.specs.Copied.{part_in}
-use Rattle.section_write.specs.declared.parts.DraftPart.TheVariants as kinds
+use Rattle.layout.specs.declared.table.Common.{Common}
+use Rattle.layout.specs.declared.table.Common.TheVariants as commons
+use Rattle.layout.specs.declared.table.Piece.{Piece}
+use Rattle.layout.specs.declared.table.Piece.TheVariants as pieces
+use Rattle.layout.specs.declared.table.Content.TheVariants as contents
+use Rattle.layout.specs.declared.table.Listed.{Listed}
+use Rattle.layout.specs.declared.table.Listed.TheVariants as listed
+use Rattle.layout.specs.Lengths.{lists_size, piece_in, start_in}
+use Rattle.layout.proofs.Limits.{short_at}
+use Rattle.layout.proofs.SectionLengths.{layout_sizes}
+use Rattle.layout.specs.Sections.{common_bytes, pieces_bytes}
 
 slice_get_seam : (xs : List OutUnit) (y : OutUnit) (ys : List OutUnit) → slice_get (xs ++ y ∷ ys) (length xs) ≡ Some y
 slice_get_seam [] y ys = refl
@@ -56,20 +64,13 @@ module _ (version : ℕ) (unit : OutUnit) (lists all : List ℕ) (versions : ver
   five_are = ap (λ (v : ℕ). in_five v [] lists) versions ∙ ap (in_five unit.version []) same ∙ five_kept (unit.version == 5) all
 
 module _ (graph : Graph) (layout : Laid) (measured : Measures graph (Ok layout)) where
-  pub tables_are : flat_map (part_in kinds.Table) layout.drafts ≡ abbrev_section graph
-  tables_are = each_part graph (part_in kinds.Table) table_bytes (λ u unit d here is. is.table) layout.drafts measured.3
-
-  pub ranges_are : flat_map (part_in kinds.Ranges) layout.drafts ≡ ranges_section graph
-  ranges_are =
-      each_part graph (part_in kinds.Ranges) (λ u unit. if stands_in false unit then unit_ranges unit else []) (λ u unit d here is. others_are d.version unit d.ranges (unit_ranges unit) is.version is.ranges) layout.drafts measured.3
-      ∙ without_numbers (λ unit. if stands_in false unit then unit_ranges unit else []) 0 graph.units
-
-  pub rnglists_are : behind_header (flat_map (part_in kinds.Rnglists) layout.drafts) ≡ rnglists_section graph
-  rnglists_are =
-      ap behind_header (
-      each_part graph (part_in kinds.Rnglists) (λ u unit. if stands_in true unit then unit_ranges unit else []) (λ u unit d here is. five_are d.version unit d.ranges (unit_ranges unit) is.version is.ranges) layout.drafts measured.3
+  ranges_are : (five : Bool) → flat_map (λ d. if five then in_five d.version [] d.ranges else in_others d.version [] d.ranges) layout.drafts ≡ all_ranges five graph
+  ranges_are true =
+      each_part graph (part_in pieces.Rnglists) (λ u unit. if stands_in true unit then unit_ranges unit else []) (λ u unit d here is. five_are d.version unit d.ranges (unit_ranges unit) is.version is.ranges) layout.drafts measured.3
       ∙ without_numbers (λ unit. if stands_in true unit then unit_ranges unit else []) 0 graph.units
-      )
+  ranges_are false =
+      each_part graph (part_in pieces.Ranges) (λ u unit. if stands_in false unit then unit_ranges unit else []) (λ u unit d here is. others_are d.version unit d.ranges (unit_ranges unit) is.version is.ranges) layout.drafts measured.3
+      ∙ without_numbers (λ unit. if stands_in false unit then unit_ranges unit else []) 0 graph.units
 
   -- the nodes that location lists name are the unit's own
   own : (n : ℕ) (u : OutUnit) → slice_get graph.units n ≡ Some u → node_place n u ≡ own_node (places_of graph n u)
@@ -78,39 +79,26 @@ module _ (graph : Graph) (layout : Laid) (measured : Measures graph (Ok layout))
   its_locations : (n : ℕ) (u : OutUnit) (d : Draft) → slice_get graph.units n ≡ Some u → IsDraft n u d → d.locations ≡ unit_locations (own_node (places_of graph n u)) u
   its_locations n u d at is = is.locations ∙ ap (λ (place : ℕ → ℕ). unit_locations place u) (own n u at)
 
-  pub loc_are : flat_map (part_in kinds.Loc) layout.drafts ≡ loc_section graph
-  loc_are =
-      each_part graph (part_in kinds.Loc) (λ u unit. if stands_in false unit then unit_locations (own_node (places_of graph u unit)) unit else [])
+  -- piece by piece
+  pub pieces_are : (piece : Piece) → flat_map (part_in piece) layout.drafts ≡ pieces_bytes graph piece
+  pieces_are pieces.Tables = each_part graph (part_in pieces.Tables) table_bytes (λ u unit d here is. is.table) layout.drafts measured.3
+  pieces_are pieces.Ranges = ranges_are false
+  pieces_are pieces.Rnglists = ranges_are true
+  pieces_are pieces.Loc =
+      each_part graph (part_in pieces.Loc) (λ u unit. if stands_in false unit then unit_locations (own_node (places_of graph u unit)) unit else [])
       (λ u unit d here is. others_are d.version unit d.locations (unit_locations (own_node (places_of graph u unit)) unit) is.version (its_locations u unit d here is)) layout.drafts measured.3
-
-  pub loclists_are : behind_header (flat_map (part_in kinds.Loclists) layout.drafts) ≡ loclists_section graph
-  loclists_are =
-      ap behind_header (
-      each_part graph (part_in kinds.Loclists) (λ u unit. if stands_in true unit then unit_locations (own_node (places_of graph u unit)) unit else [])
+  pieces_are pieces.Loclists =
+      each_part graph (part_in pieces.Loclists) (λ u unit. if stands_in true unit then unit_locations (own_node (places_of graph u unit)) unit else [])
       (λ u unit d here is. five_are d.version unit d.locations (unit_locations (own_node (places_of graph u unit)) unit) is.version (its_locations u unit d here is)) layout.drafts measured.3
-      )
 
-  pub aranges_are : layout.aranges ≡ aranges_section graph
-  aranges_are = ap (λ (l : Laid). l.aranges) measured.0
+  -- and what they have together
+  pub common_are : (which : Common) → common_in layout which ≡ common_bytes graph which
+  common_are commons.Texts = ap (λ (l : Laid). l.texts) measured.0
+  common_are commons.LineTexts = ap (λ (l : Laid). l.line_texts) measured.0
+  common_are commons.Aranges = ap (λ (l : Laid). l.aranges) measured.0
+  common_are commons.Frames = ap (λ (l : Laid). l.frames) measured.0
 
-  pub frames_are : layout.frames ≡ frame_section graph
-  frames_are = ap (λ (l : Laid). l.frames) measured.0
-
-  pub texts_are : layout.texts ≡ str_section graph
-  texts_are = ap (λ (l : Laid). l.texts) measured.0
-
-  pub line_texts_are : layout.line_texts ≡ line_str_section graph
-  line_texts_are = ap (λ (l : Laid). l.line_texts) measured.0
-
-  -- the sizes that are told of the sections with a header
-  pub rnglists_size : layout.sizes.rnglists ≡ length (behind_header (flat_map (part_in kinds.Rnglists) layout.drafts))
-  rnglists_size = ap (λ (l : Laid). l.sizes.rnglists) measured.0 ∙ ap length (sym rnglists_are)
-
-  pub loclists_size : layout.sizes.loclists ≡ length (behind_header (flat_map (part_in kinds.Loclists) layout.drafts))
-  loclists_size = ap (λ (l : Laid). l.sizes.loclists) measured.0 ∙ ap length (sym loclists_are)
-
-  pub rnglists_small : layout.sizes.rnglists < 2 ^ 32
-  rnglists_small = omega (arith, ap (λ (l : Laid). l.sizes.rnglists) measured.0, (lists_short graph measured.2).0)
-
-  pub loclists_small : layout.sizes.loclists < 2 ^ 32
-  loclists_small = omega (arith, ap (λ (l : Laid). l.sizes.loclists) measured.0, (lists_short graph measured.2).1)
+  -- lists with their header have places of four bytes
+  pub lists_small : (lists : Listed) → lists_size (start_in layout.ends (piece_in lists)) < 2 ^ 32
+  lists_small listed.Ranges = let short = short_at graph 6 _ refl measured.2 in omega (arith, short, layout_sizes graph layout measured (contents.Lists listed.Ranges))
+  lists_small listed.Locations = let short = short_at graph 8 _ refl measured.2 in omega (arith, short, layout_sizes graph layout measured (contents.Lists listed.Locations))

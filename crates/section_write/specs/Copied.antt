@@ -2,12 +2,12 @@
 use Rattle.std.specs.Prelude.{ℕ, List, []}
 use Rattle.unit_draft.specs.declared.unit.Draft.{Draft}
 use Rattle.layout.specs.Pass.{in_five, in_others}
-use Rattle.section_write.specs.declared.parts.DraftPart.{DraftPart}
-use Rattle.section_write.specs.declared.parts.DraftPart.TheVariants as kinds
+use Rattle.layout.specs.declared.table.Piece.{Piece}
+use Rattle.layout.specs.declared.table.Piece.TheVariants as pieces
 
-abbrev pub part_in : DraftPart → Draft → List ℕ
-part_in kinds.Table draft = draft.table
-part_in kinds.Ranges draft = in_others draft.version [] draft.ranges
-part_in kinds.Rnglists draft = in_five draft.version [] draft.ranges
-part_in kinds.Loc draft = in_others draft.version [] draft.locations
-part_in kinds.Loclists draft = in_five draft.version [] draft.locations
+abbrev pub part_in : Piece → Draft → List ℕ
+part_in pieces.Tables draft = draft.table
+part_in pieces.Ranges draft = in_others draft.version [] draft.ranges
+part_in pieces.Rnglists draft = in_five draft.version [] draft.ranges
+part_in pieces.Loc draft = in_others draft.version [] draft.locations
+part_in pieces.Loclists draft = in_five draft.version [] draft.locations

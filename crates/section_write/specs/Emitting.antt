@@ -24,5 +24,5 @@ pub record IsSizeOf (layout : Laid) (first end size : ℕ) : Type 0 where
   pub bytes : (graph : Graph) → Measures graph (Ok layout) → size ≡ length (bytes_between graph first end)
 
 -- the bytes of a room are theirs
-abbrev pub Fills : Laid → ℕ → ℕ → List ℕ → Type 0
-Fills layout first end room = (graph : Graph) → Measures graph (Ok layout) → room ≡ bytes_between graph first end
+pub record Fills (layout : Laid) (first end : ℕ) (room : List ℕ) : Type 0 where
+  pub bytes : (graph : Graph) → Measures graph (Ok layout) → room ≡ bytes_between graph first end

@@ -1,25 +1,32 @@
--- A station: the sections up to those of lists, the sections of lists, and those behind them; and what several threads write beside each other.
-use Rattle.std.specs.Prelude.{ℕ, List, ◌++◌}
+-- Sections that stand one behind the other, and what several threads write beside each other.
+use Rattle.std.specs.Prelude.{◌≡◌, ℕ, List, Ok, drop, take}
+use Rattle.std.specs.List.{flat_map}
 use Rattle.dwarf_types.specs.declared.graph.Graph.{Graph}
-use Rattle.dwarf_types.specs.Encode.{abbrev_section, aranges_section, frame_section, info_section, line_section, line_str_section, loc_section, loclists_section, ranges_section, rnglists_section, str_section}
+use Rattle.layout.specs.declared.table.Section.{Section}
+use Rattle.layout.specs.declared.table.TheConstants.{SECTIONS}
+use Rattle.layout.specs.Laid.{Laid, Measures}
+use Rattle.layout.specs.Sections.{content_bytes}
 
-abbrev pub front_bytes : Graph → List ℕ
-front_bytes graph = abbrev_section graph ++ (info_section graph ++ (str_section graph ++ (line_section graph ++ line_str_section graph)))
+abbrev pub run_bytes : Graph → List Section → List ℕ
+run_bytes graph sections = flat_map (λ s. content_bytes graph s.content) sections
 
-abbrev pub lists_bytes : Graph → List ℕ
-lists_bytes graph = ranges_section graph ++ (rnglists_section graph ++ (loc_section graph ++ loclists_section graph))
-
-abbrev pub back_bytes : Graph → List ℕ
-back_bytes graph = aranges_section graph ++ frame_section graph
+-- the bytes of a room are theirs
+pub record FillsRun (layout : Laid) (sections : List Section) (room : List ℕ) : Type 0 where
+  pub bytes : (graph : Graph) → Measures graph (Ok layout) → room ≡ run_bytes graph sections
 
 -- ---- beside each other
 
-abbrev pub entries_bytes : Graph → List ℕ
-entries_bytes graph = abbrev_section graph ++ info_section graph
+-- abbreviations and entries
+abbrev pub front_run : List Section
+front_run = take 2 SECTIONS
 
--- those behind the texts of entries
-abbrev pub behind_bytes : Graph → List ℕ
-behind_bytes graph = line_section graph ++ (line_str_section graph ++ (lists_bytes graph ++ back_bytes graph))
+-- the texts of entries
+abbrev pub texts_run : List Section
+texts_run = take 1 (drop 2 SECTIONS)
 
-abbrev pub others_bytes : Graph → List ℕ
-others_bytes graph = str_section graph ++ behind_bytes graph
+-- those behind
+abbrev pub behind_run : List Section
+behind_run = drop 1 (drop 2 SECTIONS)
+
+abbrev pub back_run : List Section
+back_run = drop 2 SECTIONS

@@ -6,10 +6,10 @@ ghost use Rattle.ds_base.specs.Room.{Adds};
 ghost use Rattle.dwarf_types.specs.Lists.{behind_header, lists_header};
 ghost use Rattle.section_write.specs.Copied.{part_in};
 
-use crate::parts::{DraftPart, emit_parts};
+use crate::parts::emit_parts;
 use ds_base::dwarf::{ADDRESS_SIZE, DWARF_5, OFFSET_SIZE};
 use ds_base::{emit_u8, emit_u16, emit_u32};
-use layout::LISTS_HEADER_LEN;
+use layout::{LISTS_HEADER_LEN, Piece};
 use unit_draft::Draft;
 
 /// The bytes of the header behind `unit_length`.
@@ -17,7 +17,7 @@ const BEHIND_LENGTH_LEN: u32 = LISTS_HEADER_LEN - OFFSET_SIZE as u32;
 
 /// Writes the lists of drafts behind their header, where there are any. The section has so many bytes.
 pub(crate) fn emit_lists(
-    part: DraftPart,
+    part: Piece,
     size: u64,
     drafts: &[Draft],
     room: &mut [u8],

@@ -8,25 +8,11 @@ ghost use Rattle.section_write.specs.Copied.{part_in};
 
 use ds_base::dwarf::DWARF_5;
 use ds_base::emit_bytes;
+use layout::Piece;
 use unit_draft::Draft;
 
-/// A part of a draft, which has a section.
-#[derive(Clone, Copy)]
-pub(crate) enum DraftPart {
-    /// Abbreviations: `__debug_abbrev`.
-    Table,
-    /// Range lists: `__debug_ranges`.
-    Ranges,
-    /// Range lists of version 5: `__debug_rnglists`.
-    Rnglists,
-    /// Location lists: `__debug_loc`.
-    Loc,
-    /// Location lists of version 5: `__debug_loclists`.
-    Loclists,
-}
-
 /// Writes a part of each draft, one behind the other from `start` on, and answers the place behind them.
-pub(crate) fn emit_parts(part: DraftPart, drafts: &[Draft], room: &mut [u8], start: usize) -> usize
+pub(crate) fn emit_parts(part: Piece, drafts: &[Draft], room: &mut [u8], start: usize) -> usize
     requires fits { start + length (flat_map (part_in part) drafts.now) ≤ length room.old }
     ensures { Adds room.old start (flat_map (part_in part) drafts.now) room.new result }
 {
@@ -38,15 +24,15 @@ pub(crate) fn emit_parts(part: DraftPart, drafts: &[Draft], room: &mut [u8], sta
 }
 
 /// A part of a draft.
-fn part_of(part: DraftPart, draft: &Draft) -> &[u8]
+fn part_of(part: Piece, draft: &Draft) -> &[u8]
     ensures { result.now ≡ part_in part draft.now }
 {
     match part {
-        DraftPart::Table => draft.table.as_slice(),
-        DraftPart::Ranges => other_lists(draft.version, draft.ranges.as_slice()),
-        DraftPart::Rnglists => five_lists(draft.version, draft.ranges.as_slice()),
-        DraftPart::Loc => other_lists(draft.version, draft.locations.as_slice()),
-        DraftPart::Loclists => five_lists(draft.version, draft.locations.as_slice()),
+        Piece::Tables => draft.table.as_slice(),
+        Piece::Ranges => other_lists(draft.version, draft.ranges.as_slice()),
+        Piece::Rnglists => five_lists(draft.version, draft.ranges.as_slice()),
+        Piece::Loc => other_lists(draft.version, draft.locations.as_slice()),
+        Piece::Loclists => five_lists(draft.version, draft.locations.as_slice()),
     }
 }
 

@@ -1,65 +1,116 @@
-//! All sections, one behind the other.
+//! Sections, each in a room of its size.
 
 ghost use Rattle.std.specs.Prelude.{◌≡◌, ◌+◌, ◌≤◌, Ok, length};
-ghost use Rattle.std.specs.List.{flat_map};
 ghost use Rattle.ds_base.specs.Room.{Adds};
 ghost use Rattle.dwarf_types.specs.declared.graph.Graph.{Graph};
-ghost use Rattle.dwarf_types.specs.Encode.{encode};
-ghost use Rattle.layout.specs.Laid.{IsMeasured, Measures};
-ghost use Rattle.section_write.specs.Runs.{back_bytes, behind_bytes, lists_bytes};
+ghost use Rattle.dwarf_types.specs.Encode.{line_section};
+ghost use Rattle.dwarf_types.specs.Lists.{behind_header};
+ghost use Rattle.layout.specs.Laid.{IsMeasured, Measures, common_in, sizes_in};
+ghost use Rattle.layout.specs.Lengths.{lists_size, piece_in, run_size, size_in, start_in};
+ghost use Rattle.layout.specs.Sections.{common_bytes, content_bytes, pieces_bytes};
+ghost use Rattle.section_write.specs.Runs.{FillsRun};
 
 use crate::lines::emit_tables;
 use crate::lists::emit_lists;
-use crate::parts::{DraftPart, emit_parts};
+use crate::parts::emit_parts;
 use crate::units::emit_units;
-use ds_base::{Part, emit_bytes};
-use layout::{Layout, aranges, drafts, frames, line_texts, section_size, texts};
+use ds_base::emit_bytes;
+use layout::{
+    Common, Content, Layout, Listed, Piece, Section, common, drafts, piece_of, section_size,
+};
+use std::thread::Threads;
 
-/// Writes the sections of a graph that was measured, one behind the other in the order of the output, into a room of
-/// their size.
-pub fn emit_sections(layout: &Layout, room: &mut [u8])
+/// Writes sections of a graph that was measured, one behind the other, into a room of their size. At most `workers` threads
+/// write the entries.
+pub(crate) fn fill_in_turn<R: Threads + Sync>(
+    rt: &R,
+    workers: u32,
+    layout: &Layout,
+    sections: &[Section],
+    room: &mut [u8],
+)
     requires measured { IsMeasured layout.now }
-    requires size { (graph : Graph) → Measures graph (Ok layout.now) → length room.old ≡ length (flat_map (λ s. s.bytes) (encode graph)) }
-    ensures { (graph : Graph) → Measures graph (Ok layout.now) → room.new ≡ flat_map (λ s. s.bytes) (encode graph) }
+    requires size { length room.old ≡ run_size (sizes_in layout.now) sections.now }
+    ensures { FillsRun layout.now sections.now room.new }
 {
-    let at = emit_parts(DraftPart::Table, drafts(layout), room, 0);
-    let at = emit_units(layout, room, at);
-    let at = emit_bytes(room, at, texts(layout));
-    emit_behind(layout, room, at);
+    let mut at = 0;
+    for section in sections {
+        at = add_section(rt, workers, layout, section, room, at);
+    }
 }
 
-/// Writes the sections behind the texts of entries.
-pub(crate) fn emit_behind(layout: &Layout, room: &mut [u8], at: usize) -> usize
+/// Writes a section from `at` on, and answers the place behind it.
+fn add_section<R: Threads + Sync>(
+    rt: &R,
+    workers: u32,
+    layout: &Layout,
+    section: &Section,
+    room: &mut [u8],
+    at: usize,
+) -> usize
     requires measured { IsMeasured layout.now }
-    requires fits { (graph : Graph) → Measures graph (Ok layout.now) → at + length (behind_bytes graph) ≤ length room.old }
-    ensures { (graph : Graph) → Measures graph (Ok layout.now) → Adds room.old at (behind_bytes graph) room.new result }
+    requires fits { at + size_in (sizes_in layout.now) section.now.content ≤ length room.old }
+    ensures { (graph : Graph) → Measures graph (Ok layout.now) → Adds room.old at (content_bytes graph section.now.content) room.new result }
 {
-    let at = emit_tables(layout, room, at);
-    let at = emit_bytes(room, at, line_texts(layout));
-    let at = emit_all_lists(layout, room, at);
-    emit_back(layout, room, at)
+    let end = at + section_size(layout, section.content) as usize;
+    fill_section(rt, workers, layout, section.content, &mut room[at..end]);
+    end
 }
 
-/// Writes the sections of lists.
-fn emit_all_lists(layout: &Layout, room: &mut [u8], at: usize) -> usize
+/// Writes a section of a graph that was measured into a room of its size. At most `workers` threads write entries.
+pub fn fill_section<R: Threads + Sync>(
+    rt: &R,
+    workers: u32,
+    layout: &Layout,
+    content: Content,
+    room: &mut [u8],
+)
     requires measured { IsMeasured layout.now }
-    requires fits { (graph : Graph) → Measures graph (Ok layout.now) → at + length (lists_bytes graph) ≤ length room.old }
-    ensures { (graph : Graph) → Measures graph (Ok layout.now) → Adds room.old at (lists_bytes graph) room.new result }
+    requires size { length room.old ≡ size_in (sizes_in layout.now) content }
+    ensures { (graph : Graph) → Measures graph (Ok layout.now) → room.new ≡ content_bytes graph content }
 {
-    let rnglists = section_size(layout, Part::Rnglists);
-    let loclists = section_size(layout, Part::Loclists);
-    let at = emit_parts(DraftPart::Ranges, drafts(layout), room, at);
-    let at = emit_lists(DraftPart::Rnglists, rnglists, drafts(layout), room, at);
-    let at = emit_parts(DraftPart::Loc, drafts(layout), room, at);
-    emit_lists(DraftPart::Loclists, loclists, drafts(layout), room, at)
+    match content {
+        Content::Entries => emit_units(rt, workers, layout, room),
+        Content::Lines => fill_lines(layout, room),
+        Content::Pieces(piece) => fill_pieces(layout, piece, room),
+        Content::Lists(lists) => fill_lists(layout, lists, room),
+        Content::Common(which) => fill_common(layout, which, room),
+    }
 }
 
-/// Writes the sections behind those of lists.
-fn emit_back(layout: &Layout, room: &mut [u8], at: usize) -> usize
+/// Writes all line tables.
+fn fill_lines(layout: &Layout, room: &mut [u8])
     requires measured { IsMeasured layout.now }
-    requires fits { (graph : Graph) → Measures graph (Ok layout.now) → at + length (back_bytes graph) ≤ length room.old }
-    ensures { (graph : Graph) → Measures graph (Ok layout.now) → Adds room.old at (back_bytes graph) room.new result }
+    requires size { length room.old ≡ layout.now.ends.line }
+    ensures { (graph : Graph) → Measures graph (Ok layout.now) → room.new ≡ line_section graph }
 {
-    let at = emit_bytes(room, at, aranges(layout));
-    emit_bytes(room, at, frames(layout))
+    emit_tables(layout, room, 0);
+}
+
+/// Writes a piece of each unit.
+fn fill_pieces(layout: &Layout, piece: Piece, room: &mut [u8])
+    requires measured { IsMeasured layout.now }
+    requires size { length room.old ≡ start_in layout.now.ends piece }
+    ensures { (graph : Graph) → Measures graph (Ok layout.now) → room.new ≡ pieces_bytes graph piece }
+{
+    emit_parts(piece, drafts(layout), room, 0);
+}
+
+/// Writes lists behind the header of their section.
+fn fill_lists(layout: &Layout, lists: Listed, room: &mut [u8])
+    requires measured { IsMeasured layout.now }
+    requires size { length room.old ≡ lists_size (start_in layout.now.ends (piece_in lists)) }
+    ensures { (graph : Graph) → Measures graph (Ok layout.now) → room.new ≡ behind_header (pieces_bytes graph (piece_in lists)) }
+{
+    let size = section_size(layout, Content::Lists(lists));
+    emit_lists(piece_of(lists), size, drafts(layout), room, 0);
+}
+
+/// Writes what is made of all units together.
+fn fill_common(layout: &Layout, which: Common, room: &mut [u8])
+    requires measured { IsMeasured layout.now }
+    requires size { length room.old ≡ length (common_in layout.now which) }
+    ensures { (graph : Graph) → Measures graph (Ok layout.now) → room.new ≡ common_bytes graph which }
+{
+    emit_bytes(room, 0, common(layout, which));
 }

@@ -2,49 +2,36 @@
 
 ghost use Rattle.std.specs.Prelude.{◌≡◌, ◌+◌, ◌<◌, ◌≤◌, ◌^◌, ℕ, length, Ok};
 ghost use Rattle.std.specs.Thread.{IsSync};
-ghost use Rattle.ds_base.specs.Room.{Adds};
 ghost use Rattle.dwarf_types.specs.declared.graph.Graph.{Graph};
 ghost use Rattle.dwarf_types.specs.Encode.{info_section};
 ghost use Rattle.section_write.specs.Emitting.{Fills, IsSizeOf};
 ghost use Rattle.layout.specs.Laid.{IsMeasured, Measures};
 
 use crate::unit::add_unit;
-use ds_base::Part;
-use layout::{Layout, drafts, section_size};
+use layout::{Layout, drafts};
 use std::thread::{Threads, join_mut};
 
-/// Writes all units, one behind the other from `start` on, and answers the place behind them.
-pub(crate) fn emit_units(layout: &Layout, room: &mut [u8], start: usize) -> usize
-    requires measured { IsMeasured layout.now }
-    requires fits { (graph : Graph) → Measures graph (Ok layout.now) → start + length (info_section graph) ≤ length room.old }
-    ensures { (graph : Graph) → Measures graph (Ok layout.now) → Adds room.old start (info_section graph) room.new result }
-{
-    let all = behind_all(layout);
-    let end = start + all.bytes;
-    fill_in_turn(layout, 0, all.unit, &mut room[start..end]);
-    end
-}
-
-/// Writes all units as [`emit_units`] does, by at most `workers` threads.
+/// Writes all units, one behind the other, into a room of their size, by at most `workers` threads.
 ///
 /// Each thread writes neighbours, and about as many bytes as any other, as far as whole units allow. What no thread can
 /// be started for is written in the caller's.
-pub(crate) fn emit_units_by<R: Threads + Sync>(
-    rt: &R,
-    workers: u32,
-    layout: &Layout,
-    room: &mut [u8],
-    start: usize,
-) -> usize
-    requires workers { (1 ≤ workers) × (workers ≤ 64) }
+pub(crate) fn emit_units<R: Threads + Sync>(rt: &R, workers: u32, layout: &Layout, room: &mut [u8])
     requires measured { IsMeasured layout.now }
-    requires fits { (graph : Graph) → Measures graph (Ok layout.now) → start + length (info_section graph) ≤ length room.old }
-    ensures { (graph : Graph) → Measures graph (Ok layout.now) → Adds room.old start (info_section graph) room.new result }
+    requires size { length room.old ≡ layout.now.ends.info }
+    ensures { (graph : Graph) → Measures graph (Ok layout.now) → room.new ≡ info_section graph }
 {
-    let all = behind_all(layout);
-    let end = start + all.bytes;
-    fill_units(rt, workers, layout, 0, all.unit, &mut room[start..end]);
-    end
+    let count = count_of(layout, room.len());
+    fill_units(rt, workers, layout, 0, count, room);
+}
+
+/// How many units there are. All have so many bytes.
+fn count_of(layout: &Layout, bytes: usize) -> u32
+    requires measured { IsMeasured layout.now }
+    requires bytes { bytes ≡ layout.now.ends.info }
+    ensures all { result ≡ length layout.now.drafts }
+    ensures size { IsSizeOf layout.now 0 result bytes }
+{
+    drafts(layout).len() as u32
 }
 
 /// Writes the units from `first` up to `end` into a room of their size, by at most so many threads.
@@ -123,18 +110,6 @@ struct Cut {
     unit: u32,
     /// The bytes of the units before it.
     bytes: usize,
-}
-
-/// The cut behind all units.
-fn behind_all(layout: &Layout) -> Cut
-    requires { IsMeasured layout.now }
-    ensures all { result.unit ≡ length layout.now.drafts }
-    ensures size { IsSizeOf layout.now 0 result.unit result.bytes }
-{
-    Cut {
-        unit: drafts(layout).len() as u32,
-        bytes: section_size(layout, Part::Info) as usize,
-    }
 }
 
 /// Where the units from `first` up to `end` are cut so that as near to `share` bytes as whole units allow stand before.

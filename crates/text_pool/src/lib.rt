@@ -6,9 +6,9 @@
 //! offset. [`Naming`] numbers the texts of a part of the output that is written before their places are known, and
 //! [`Names`] are these texts by their numbers. [`join_texts`] gives the section of the texts of all parts, and where each
 //! begins: `joined` (`specs/Joins.antt`). No text shares the end of another, and that a text has no zero byte is left to
-//! its user. [`join_texts_by`] does the same where threads look the texts up: they are cut into shards, by some of their
-//! bytes, each thread numbers those of a shard, and one goes through all texts by these numbers. A text is hashed once,
-//! in one piece, and copied where it is kept.
+//! its user. Threads look the texts up: these are cut into shards, by some of their bytes, each thread numbers those of a
+//! shard, and one goes through all texts by these numbers. A text is hashed once, in one piece, and copied where it is
+//! kept.
 #![tactic(auto)]
 
 mod error;
@@ -23,6 +23,4 @@ pub use error::TextError;
 pub use joining::Joined;
 pub use names::{Names, texts_by_first_use_in_each_part_are_those_of_all};
 pub use naming::Naming;
-pub use sharing::{
-    join_texts, join_texts_by, joined_texts_are_each_once, joined_texts_stand_at_their_places,
-};
+pub use sharing::{join_texts, joined_texts_are_each_once, joined_texts_stand_at_their_places};

@@ -1,4 +1,4 @@
-//! Texts joined in the caller's thread alone, or by several.
+//! Texts joined to a section, looked up by several threads.
 
 ghost use Rattle.std.specs.Prelude.{◌≡◌, ℕ, ◌+◌, ◌-◌, ◌^◌, ◌<◌, ◌≤◌, [], Err, IfOk, List, drop, fold, length, map, Ok, Some, slice_get, slice_index_or, take};
 ghost use Rattle.std.specs.List.{Contains};
@@ -16,21 +16,11 @@ use crate::shard::{Shard, shard_in};
 use std::alloc::{AllocError, Global};
 use std::thread::{Threads, map_indices};
 
-/// Joins the texts of parts to one section: each text once, in the order of the first uses.
+/// Joins the texts of parts to one section: each text once, in the order of the first uses. At most `workers` threads look the
+/// texts up. The section takes the place of `room`, whatever that holds.
 ///
 /// The time is linear in the texts.
-pub fn join_texts(alloc: Global, parts: &[&Names]) -> Result<Joined, TextError>
-    ensures ok { IfOk result (λ it. it ≡ joined (map (λ names. names.now) parts.now)) }
-    ensures small { IfOk result (λ it. length it.section < 2 ^ 32 - 1) }
-    ensures long { result ≡ Err errors.Long → 2 ^ 32 - 1 ≤ length (section_of (all_once (map (λ names. names.now) parts.now))) }
-{
-    let one = shard_in(alloc, parts, 0, 1)?;
-    join_shards(alloc, Vec::new(alloc), parts, &mut [one])
-}
-
-/// Joins texts as [`join_texts`] does, where at most `workers` threads look them up. The section takes the place of `room`,
-/// whatever that holds.
-pub fn join_texts_by<R: Threads + Sync>(
+pub fn join_texts<R: Threads + Sync>(
     rt: &R,
     alloc: Global,
     room: Vec<u8>,

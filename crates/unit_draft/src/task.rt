@@ -17,8 +17,27 @@ pub(crate) trait Task {
         ensures { run_gives self.old result self.new };
 }
 
-/// Runs both, each in a thread of its own where one can be started.
+/// Runs both; where there are two workers, each in a thread of its own if one can be started.
 pub(crate) fn run_both<R: Threads + Sync, A: Task + Send, B: Task + Send>(
+    rt: &R,
+    workers: u32,
+    a: &mut A,
+    b: &mut B,
+) -> (A::Out, B::Out)
+    requires a { A.can_run a.old }
+    requires b { B.can_run b.old }
+    ensures a { A.run_gives a.old result.0 a.new }
+    ensures b { B.run_gives b.old result.1 b.new }
+{
+    if workers < 2 {
+        let second = b.run();
+        return (a.run(), second);
+    }
+    run_beside(rt, a, b)
+}
+
+/// Runs both, each in a thread of its own where one can be started.
+fn run_beside<R: Threads + Sync, A: Task + Send, B: Task + Send>(
     rt: &R,
     a: &mut A,
     b: &mut B,

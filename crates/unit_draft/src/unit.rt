@@ -18,7 +18,7 @@ ghost use Rattle.unit_draft.specs.World.{Stands, World};
 use crate::error::DraftError;
 use crate::outside::Outside;
 use crate::parts::{DraftedLines, abbreviations_of, copy_of, lines_of};
-use crate::whole::{Whole, append_unit, append_unit_by_two};
+use crate::whole::{Whole, append_unit};
 use ds_base::limits::UNIT_BYTES;
 use ds_base::{Bytes, List, NoMemory};
 use dwarf_types::Span;
@@ -58,24 +58,12 @@ pub struct Draft {
 /// Drafts the unit of a number in the graph, counted from 0: whether a reference stays in the unit depends on it.
 ///
 /// References inside the unit and the base operands of expressions are final. Each node is asked for once, in order. The
-/// time is linear in the unit.
-pub fn draft_unit<S: UnitSource>(alloc: Global, unit: &S, number: u32) -> Result<Draft, DraftError>
-    ensures { Drafts number (S.unit unit.now) result }
-{
-    // Each node has a byte at least.
-    if unit.len() as u64 >= UNIT_BYTES {
-        return Err(DraftError::Unit);
-    }
-    let whole = append_unit(alloc, unit, number)?;
-    let draft = draft_of(alloc, unit, whole)?;
-    Ok(draft)
-}
-
-/// Drafts the unit of a number as [`draft_unit`] does, in two threads: one asks for nodes, and the other appends those
-/// that were asked for before. Where no thread can be started the caller does both.
-pub fn draft_unit_by_two<R: Threads + Sync, S: UnitSource + Sync>(
+/// time is linear in the unit. Where there are two workers, one thread asks for nodes, and another appends those that were
+/// asked for before; with one worker, or where no thread can be started, the caller does both.
+pub fn draft_unit<R: Threads + Sync, S: UnitSource + Sync>(
     rt: &R,
     alloc: Global,
+    workers: u32,
     unit: &S,
     number: u32,
 ) -> Result<Draft, DraftError>
@@ -85,7 +73,7 @@ pub fn draft_unit_by_two<R: Threads + Sync, S: UnitSource + Sync>(
     if unit.len() as u64 >= UNIT_BYTES {
         return Err(DraftError::Unit);
     }
-    let whole = append_unit_by_two(rt, alloc, unit, number)?;
+    let whole = append_unit(rt, alloc, workers, unit, number)?;
     let draft = draft_of(alloc, unit, whole)?;
     Ok(draft)
 }

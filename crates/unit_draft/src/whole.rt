@@ -15,7 +15,7 @@ use crate::entries::{Appender, end_of};
 use crate::error::DraftError;
 use crate::preparer::{Preparer, preparer_of};
 use crate::stretch::Stretch;
-use crate::turns::{FAR, FIRST, NEAR, append_by_two, append_in_turn};
+use crate::turns::{append_stretches, first_size, last_size};
 use abbrev_write::Declared;
 use ds_base::dwarf::{ADDRESS_SIZE, DW_UT_compile, DWARF_5};
 use ds_base::{List, NoMemory};
@@ -36,27 +36,11 @@ pub(crate) struct Whole<'a> {
     pub(crate) len: u32,
 }
 
-/// Drafts the unit of a number.
-pub(crate) fn append_unit<'a, S: UnitSource>(
-    alloc: Global,
-    unit: &'a S,
-    number: u32,
-) -> Result<Whole<'a>, DraftError>
-    requires few { length (S.unit unit.now).nodes < 2 ^ 28 }
-    ensures whole { IfOk result (IsWhole number (S.unit unit.now)) }
-    ensures long { RefusesLong result (unit_len number (S.unit unit.now)) }
-{
-    let mut preparer = preparer_of(alloc, unit, number, NEAR, NEAR)?;
-    let mut appender = appender_of(alloc, number, unit.version(), unit.len())?;
-    append_in_turn(unit, number, &mut preparer, &mut appender)?;
-    let Preparer { declared, .. } = preparer;
-    whole_of(appender, declared)
-}
-
-/// Drafts the unit of a number as [`append_unit`] does, in two threads.
-pub(crate) fn append_unit_by_two<'a, R: Threads + Sync, S: UnitSource + Sync>(
+/// Drafts the unit of a number, in two threads where there are two workers.
+pub(crate) fn append_unit<'a, R: Threads + Sync, S: UnitSource + Sync>(
     rt: &R,
     alloc: Global,
+    workers: u32,
     unit: &'a S,
     number: u32,
 ) -> Result<Whole<'a>, DraftError>
@@ -64,9 +48,9 @@ pub(crate) fn append_unit_by_two<'a, R: Threads + Sync, S: UnitSource + Sync>(
     ensures whole { IfOk result (IsWhole number (S.unit unit.now)) }
     ensures long { RefusesLong result (unit_len number (S.unit unit.now)) }
 {
-    let mut preparer = preparer_of(alloc, unit, number, FIRST, FAR)?;
+    let mut preparer = preparer_of(alloc, unit, number, first_size(workers), last_size(workers))?;
     let mut appender = appender_of(alloc, number, unit.version(), unit.len())?;
-    append_by_two(rt, unit, number, &mut preparer, &mut appender)?;
+    append_stretches(rt, workers, unit, number, &mut preparer, &mut appender)?;
     let Preparer { declared, .. } = preparer;
     whole_of(appender, declared)
 }

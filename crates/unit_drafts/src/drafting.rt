@@ -23,7 +23,7 @@ use dwarf_types::{Analysis, Shape};
 use link_status::{LimitKind, Refusal};
 use std::alloc::Global;
 use std::thread::{Threads, join};
-use unit_draft::{Draft, DraftError, draft_unit, draft_unit_by_two};
+use unit_draft::{Draft, DraftError, draft_unit};
 use work_share::{Job, Rooming, Work, Workers, each, let_go};
 
 /// The numbers of the phases in which units are cloned and drafted.
@@ -39,7 +39,8 @@ const LARGE_UNIT: u64 = 1 << 16;
 
 /// Each unit of a batch is cloned and drafted.
 #[derive(Drop)]
-struct Drafting<'a, G> {
+struct Drafting<'a, R, G> {
+    rt: &'a R,
     alloc: Global,
     left: &'a [Analysis],
     shape: &'a Shape,
@@ -48,21 +49,24 @@ struct Drafting<'a, G> {
     gate: &'a G,
 }
 
-impl<'a, G: Gate> Job for Drafting<'a, G> {
+impl<'a, R: Threads + Sync, G: Gate> Job for Drafting<'a, R, G> {
     type Out = Result<Draft, Refusal>;
 
-    ghost takes = { λ job item. MayDraft job.left.now job.shape.now (job.first + item) };
+    ghost takes = { λ job item. IsSync R.row × MayDraft job.left.now job.shape.now (job.first + item) };
 
     ghost gives = { λ job item out. DraftsBy job.left.now job.shape.now (job.first + item) out };
 
     fn run(&self, item: u32) -> Result<Draft, Refusal> {
-        draft_of(
-            self.alloc,
-            self.left,
-            self.shape,
-            self.first + item,
-            self.gate,
-        )
+        let alone = Workers {
+            rt: self.rt,
+            alloc: self.alloc,
+            count: 1,
+        };
+        let work = Work {
+            workers: &alone,
+            gate: self.gate,
+        };
+        draft_of(&work, self.left, self.shape, self.first + item)
     }
 }
 
@@ -236,7 +240,18 @@ fn first_by_two<R: Threads + Sync, G: Gate + Sync>(
         || -> Result<Draft, Refusal>
             requires { IsSync R.row × IsSync G.row × MayDraft left.now shape.now first }
             ensures { DraftsBy left.entry.now shape.entry.now first result }
-        { draft_by_two(rt, alloc, left, shape, first, gate) },
+        {
+            let two = Workers {
+                rt,
+                alloc,
+                count: 2,
+            };
+            let work = Work {
+                workers: &two,
+                gate,
+            };
+            draft_of(&work, left, shape, first)
+        },
         || -> (Result<Vec<Result<Draft, Refusal>>, NoMemory>, Rooming)
             requires { IsSync R.row × IsSync G.row × (1 ≤ beside) × (beside ≤ 64) × (second ≤ end) × MayDraftFrom left.now shape.now second end }
             ensures { IfOk result.0 (λ outs. DraftsFrom left.entry.now shape.entry.now second end outs.items) }
@@ -295,6 +310,7 @@ fn each_by_one<R: Threads + Sync, G: Gate + Sync>(
     ensures { IfOk result (λ outs. DraftsBatch batch.now outs.items) }
 {
     let job = Drafting {
+        rt: work.workers.rt,
         alloc: work.workers.alloc,
         left: batch.left,
         shape: batch.shape,
@@ -306,41 +322,24 @@ fn each_by_one<R: Threads + Sync, G: Gate + Sync>(
     Ok(outs.into_vec())
 }
 
-/// The draft of a unit of a shape, or that it is too long.
+/// The draft of a unit of a shape, made by one worker or two, or that it is too long.
 ///
 /// The gate is passed by the number of the unit, which is not that of the item in its batch.
-fn draft_of<G: Gate>(
-    alloc: Global,
+fn draft_of<R: Threads + Sync, G: Gate>(
+    work: &Work<R, G>,
     left: &[Analysis],
     shape: &Shape,
     unit: u32,
-    gate: &G,
 ) -> Result<Draft, Refusal>
     requires { MayDraft left.now shape.now unit }
     ensures { DraftsBy left.now shape.now unit result }
 {
-    gate.pass(CLONE, unit);
+    let rt = work.workers.rt;
+    let alloc = work.workers.alloc;
+    work.gate.pass(CLONE, unit);
     let clone = clone_unit(alloc, left, shape, unit)?;
-    gate.pass(EMIT, unit);
-    drafted(draft_unit(alloc, &clone, unit))
-}
-
-/// The draft of a unit of a shape, made by two threads, or that it is too long.
-fn draft_by_two<R: Threads + Sync, G: Gate>(
-    rt: &R,
-    alloc: Global,
-    left: &[Analysis],
-    shape: &Shape,
-    unit: u32,
-    gate: &G,
-) -> Result<Draft, Refusal>
-    requires { MayDraft left.now shape.now unit }
-    ensures { DraftsBy left.now shape.now unit result }
-{
-    gate.pass(CLONE, unit);
-    let clone = clone_unit(alloc, left, shape, unit)?;
-    gate.pass(EMIT, unit);
-    drafted(draft_unit_by_two(rt, alloc, &clone, unit))
+    work.gate.pass(EMIT, unit);
+    drafted(draft_unit(rt, alloc, work.workers.count, &clone, unit))
 }
 
 /// The draft, or what is told where there is none.

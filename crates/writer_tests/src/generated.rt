@@ -5,6 +5,7 @@ ghost use Rattle.std.specs.Prelude.{◌≤◌};
 use sample_objects::generated_file;
 use std::alloc::Global;
 use std::process::Abort;
+use std::thread::Threads;
 
 // Each byte counts by its place.
 fn checksum(bytes: &[u8]) -> u32 {
@@ -16,10 +17,10 @@ fn checksum(bytes: &[u8]) -> u32 {
 }
 
 // The file of an object, by its number, has this size and this sum.
-fn file_is(rt: &impl Abort, alloc: Global, number: u32, len: usize, sum: u32)
+fn file_is<R: Threads + Abort + Sync>(rt: &R, alloc: Global, number: u32, len: usize, sum: u32)
     requires { number ≤ 1000 }
 {
-    let file = generated_file(alloc, number).expect(rt, "memory for a file");
+    let file = generated_file(rt, alloc, number).expect(rt, "memory for a file");
     let found = (file.len(), checksum(file.as_slice()));
     drop(file);
     assert!(rt; found == (len, sum));

@@ -106,12 +106,12 @@ fn spec(rt: &impl Abort, alloc: Global) -> ObjectSpec
     }
 }
 
-fn object_of(rt: &impl Abort, alloc: Global, spec: &ObjectSpec) -> Bytes
+fn object_of<R: Threads + Abort + Sync>(rt: &R, alloc: Global, spec: &ObjectSpec) -> Bytes
     requires { All (λ r. r.symbol < 2 ^ 24) spec.now.relocs }
 {
-    let within = is_within_limits(alloc, &spec.unit).expect(rt, "memory");
+    let within = is_within_limits(rt, alloc, &spec.unit).expect(rt, "memory");
     assert!(rt; within);
-    object(alloc, spec).expect(rt, "memory for a file")
+    object(rt, alloc, spec).expect(rt, "memory for a file")
 }
 
 // A header, commands and sections of 533 bytes, a relocation, and the strings of no symbol.
@@ -156,7 +156,7 @@ fn program(rt: &impl Abort, alloc: Global) -> Image
 }
 
 // The layout of a graph of the unit.
-fn measured(rt: &impl Abort, alloc: Global) -> Layout
+fn measured<R: Threads + Abort + Sync>(rt: &R, alloc: Global) -> Layout
     ensures { IsMeasured result }
 {
     let mut units = List::new(alloc);
@@ -165,7 +165,7 @@ fn measured(rt: &impl Abort, alloc: Global) -> Layout
         units,
         frames: OutFrames::new(alloc),
     };
-    let layout = measure(alloc, &graph).expect(rt, "a layout");
+    let layout = measure(rt, alloc, 1, &graph).expect(rt, "a layout");
     drop(graph);
     layout
 }

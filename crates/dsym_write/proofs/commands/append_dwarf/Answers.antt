@@ -14,5 +14,5 @@ pub returns : goal.returns
 returns c =
     let p = c.args.places in
     let begun = c.in_ok-append_segment.ensures ∙ ap (λ (n : SegmentNumbers). c.new-body.result ++ front_of n) c.dwarf_numbers.ensures in
-    let body = body_is (front_of (dwarf_numbers p)) (records_from p.vmaddr p.offset (sized c.args.layout.now.sizes)) _ _ _ c.new-body.ensures begun c.in_ok-append_parts.ensures in
+    let body = body_is (front_of (dwarf_numbers p)) (records_from p.vmaddr p.offset (sized c.args.layout.now)) _ _ _ c.new-body.ensures begun c.in_ok-append_parts.ensures in
     c.in_ok-append_command.ensures ∙ ap (λ (bytes : List ℕ). c.args.out.now ++ command_bytes (record { cmd = LC_SEGMENT_64; body = bytes })) (c.as_slice.ensures ∙ body)

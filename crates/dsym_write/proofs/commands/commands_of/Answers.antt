@@ -16,5 +16,5 @@ returns c =
     let header = rw c.count_commands-count.ensures at c.in_ok-append_header.ensures in
     let segments = rw (c.as_slice-2.ensures, c.as_slice.ensures) at c.in_ok-append_segments.ensures in
     five_in_turn _ _ _ _ _ _ (header_bytes program.cpu program.sub MH_DSYM (commands_count program) p.commands) (commands_text (uuid_command program.uuid))
-    (command_bytes (command_of (symbol_table p.symoff p.nsyms p.strsize))) (commands_text (segment_commands false program.segments program.sections)) (dwarf_text p c.args.layout.now.sizes)
+    (command_bytes (command_of (symbol_table p.symoff p.nsyms p.strsize))) (commands_text (segment_commands false program.segments program.sections)) (dwarf_text p c.args.layout.now)
     c.new-out.ensures header c.in_ok-append_uuid.ensures c.in_ok-append_symtab.ensures segments c.in_ok-append_dwarf.ensures

@@ -2,9 +2,9 @@ use Rattle.std.proofs.Common.{◌≡◌, ◌+◌, ◌*◌, ◌^◌, ◌≤◌, d
 use Rattle.dsym_write.specs.Pieces.{total, with_size}
 use Rattle.dsym_write.proofs.places.written_size.Given as goal
 
-abbrev pub invariant-loop-part : goal.invariant-loop-part
-invariant-loop-part l = record {
-  summed : l.size + total (map (with_size l.layout.sizes) (drop l.part-index l.parts)) ≡ total (map (with_size l.layout.sizes) l.parts);
-  room : l.size ≤ l.part-index * 2 ^ 64;
-  within : l.part-index ≤ length l.parts;
+abbrev pub invariant-loop-section : goal.invariant-loop-section
+invariant-loop-section l = record {
+  summed : l.size + total (map (with_size l.layout) (drop l.section-index l.sections)) ≡ total (map (with_size l.layout) l.sections);
+  room : l.size ≤ l.section-index * 2 ^ 64;
+  within : l.section-index ≤ length l.sections;
 }

@@ -14,4 +14,4 @@ returns c = λ graph it draft measured here there.
     (ap (λ ps. get_or ps u none) (c.as_slice.ensures ∙ ap (λ (l : Laid). l.parts) seen))
     (c.index-as_slice-unit.is ∙ ap (λ ts. get_or ts u c.index-as_slice-unit.result) (c.as_slice-2.ensures ∙ ap (λ (l : Laid). l.text_places) seen))
     (c.index-as_slice-unit-2.is ∙ ap (λ ts. get_or ts u c.index-as_slice-unit-2.result) (c.as_slice-4.ensures ∙ ap (λ (l : Laid). l.line_text_places) seen))
-    refl refl refl refl c.as_slice-3.ensures c.as_slice-5.ensures (c.as_slice-6.ensures ∙ ap (λ (l : Laid). l.starts) seen) (c.as_slice-7.ensures ∙ ap (λ (l : Laid). l.drafts) seen) (ap (λ (l : Laid). l.sizes.info) seen)
+    refl refl refl refl c.as_slice-3.ensures c.as_slice-5.ensures (c.as_slice-6.ensures ∙ ap (λ (l : Laid). l.starts) seen) (c.as_slice-7.ensures ∙ ap (λ (l : Laid). l.drafts) seen) (ap (λ (l : Laid). l.ends.info) seen)

@@ -6,11 +6,11 @@ use Rattle.sample_objects.proofs.Told.{not_both}
 use Rattle.sample_objects.proofs.sections.layout_of.Goals as goal
 
 pub unreachable-requires : goal.unreachable-requires
-unreachable-requires c =
+unreachable-requires g c =
     let long = subst (λ e. Measures (graph_of c.args.unit.now) (Err e)) c.in-Err-Unit.field-0-is c.in-Err-Unit.ensures in
     not_both (long_unit (graph_of c.args.unit.now)) _ c.requires.unit long
 
 pub unreachable-requires-in-Err-Section : goal.unreachable-requires-in-Err-Section
-unreachable-requires-in-Err-Section c =
+unreachable-requires-in-Err-Section g c =
     let long = subst (λ e. Measures (graph_of c.args.unit.now) (Err e)) c.in-Err-Section.field-0-is c.in-Err-Section.ensures in
     not_both (long_section (graph_of c.args.unit.now)) _ c.requires.sections long.1

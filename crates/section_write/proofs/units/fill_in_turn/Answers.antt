@@ -24,6 +24,8 @@ loop-unit-preserved c = λ graph measured.
     (adds_more _ _ _ _ _ _ _ _ (c.loop-unit.invariant graph measured) (c.add_unit-at.ensures graph (unit_of graph u) measured (unit_is graph u lt)))
 
 pub returns : goal.returns
-returns c = λ graph measured.
-    let end : c.loop-unit.unit ≡ c.args.end = omega (arith, c.loop-unit-test.false, c.requires.ordered, c.loop-unit.auto.unit-end) in
-    adds_whole _ _ _ _ (c.requires.bytes graph measured) (adds_same _ _ _ _ _ _ (ap (bytes_between graph c.args.first) end) (c.loop-unit.invariant graph measured))
+returns c = record {
+  bytes = λ graph measured.
+      let end : c.loop-unit.unit ≡ c.args.end = omega (arith, c.loop-unit-test.false, c.requires.ordered, c.loop-unit.auto.unit-end) in
+      adds_whole _ _ _ _ (c.requires.bytes graph measured) (adds_same _ _ _ _ _ _ (ap (bytes_between graph c.args.first) end) (c.loop-unit.invariant graph measured));
+}

@@ -4,7 +4,7 @@ use Rattle.ds_base.specs.declared.fault.NoMemory.{NoMemory}
 use Rattle.unit_draft.specs.declared.error.DraftError.{DraftError}
 use Rattle.unit_draft.specs.Stretches.{AppendsStretch, IsStretch, PreparesStretch}
 use Rattle.unit_draft.proofs.Stretching.{turn_appended, turn_ends, turn_long, turn_prepared, turn_with}
-use Rattle.unit_draft.proofs.turns.append_by_two.Goals as goal
+use Rattle.unit_draft.proofs.turns.append_stretches.Goals as goal
 
 pub returns-in_err-appended-clause-long : goal.returns-in_err-appended-clause-long
 returns-in_err-appended-clause-long g c =

@@ -2,7 +2,7 @@ use Rattle.std.proofs.Common.{◌-◌, List}
 use Rattle.dwarf_types.specs.Entries.{OutEntry}
 use Rattle.unit_draft.specs.Stretches.{IsStretch}
 use Rattle.unit_draft.proofs.Stretching.{IsTurn}
-use Rattle.unit_draft.proofs.turns.append_by_two.Given as goal
+use Rattle.unit_draft.proofs.turns.append_stretches.Given as goal
 
 -- one stretch waits to be appended
 abbrev pub invariant-loop-preparer : goal.invariant-loop-preparer
