@@ -1,0 +1,9 @@
+pub mod Rising
+pub mod Sifted
+pub mod Grouped
+pub mod Words
+pub mod Headed
+pub mod Items
+pub mod Hashes
+pub mod Parts
+pub mod Whole
