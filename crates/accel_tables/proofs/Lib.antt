@@ -7,3 +7,5 @@ pub mod Firsts
 pub mod Worked
 pub mod WorkedNames
 pub mod Refused
+pub mod Inside
+pub mod Leading
