@@ -7,3 +7,4 @@ pub mod Items
 pub mod Hashes
 pub mod Parts
 pub mod Whole
+pub mod Graphs
