@@ -11,6 +11,7 @@ use std::alloc::Global;
 use std::collections::BTreeMap;
 
 /// A name of an entry.
+#[derive(Clone, Copy)]
 pub struct Entered<'a> {
     pub name: &'a [u8],
     /// The place of the name in `__debug_str`.
