@@ -1,0 +1,6 @@
+pub mod Answers
+pub mod Lines
+pub mod Listed
+pub mod Message
+pub mod Plan
+pub mod Plans
