@@ -67,34 +67,6 @@ impl<'a> Members<'a> {
     }
 }
 
-/// The content of the first member of this name, as [`Members::find`] of a table gives it.
-///
-/// It takes no memory, and reads the headers up to the member's own.
-#[tactic(auto, unfolding(crate::specs::Archive::member_of))]
-pub fn member<'a>(bytes: &'a [u8], name: &[u8]) -> Result<&'a [u8], Fault>
-    ensures { Finds (λ content. content.now) result (member_of bytes.now name.now) }
-{
-    if !bytes.starts_with(&ARMAG) {
-        return Err(archive_fault(Kind::NotArchive, 0));
-    }
-    find_member(bytes, name)
-}
-
-/// The same, for bytes that begin as an archive.
-fn find_member<'a>(bytes: &'a [u8], name: &[u8]) -> Result<&'a [u8], Fault>
-    ensures { Finds (λ content. content.now) result (found_in name.now (members_of bytes.now)) }
-{
-    let mut place = ARMAG.len();
-    while place < bytes.len() {
-        let member = read_member(bytes_from(bytes, place), place as u64)?;
-        if *member.name == *name {
-            return Ok(member.content);
-        }
-        place = behind(place, member.size);
-    }
-    Err(archive_fault(Kind::NoMember, 0))
-}
-
 /// Puts the members of an archive into a table, behind those that it has. The fault is for all names that it then hasn't.
 #[tactic(auto, unfolding(crate::specs::Archive::member_of))]
 fn put_members<'a>(
