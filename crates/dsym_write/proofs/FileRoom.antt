@@ -1,5 +1,5 @@
 -- Why there is no room for the file of a graph, told of the file.
-use Rattle.std.proofs.Common.{◌≡◌, Ok, Err, length, arith, refl, sym, ◌∙◌}
+use Rattle.std.proofs.Common.{◌≡◌, ℕ, List, Ok, Err, length, arith, refl, sym, ◌∙◌}
 use Rattle.dwarf_types.specs.declared.graph.Graph.{Graph}
 use Rattle.dwarf_types.specs.Encode.{encode}
 use Rattle.layout.specs.Laid.{Laid, Measures}
@@ -17,6 +17,6 @@ module _ (program : Image) (layout : Laid) (p : Places) (sound : IsSound program
   pub size_is : p.size ≡ length (image_file program graph)
   size_is = sym (file_length program (encode graph) layout p sound places (graph_told graph layout measured) (commands_front program p layout) refl)
 
-  pub refused : (error : WriteError) → HasNoRoom p.size error → Writes program graph (Err error)
-  refused (errors.File size) h = (h.0 ∙ size_is, omega (arith, h.0, h.1))
-  refused errors.NoMemory h = omega (arith, h, size_is)
+  pub refused : (front : List ℕ) (error : WriteError) → HasNoRoom p.size error → Writes front program graph (Err error)
+  refused front (errors.File size) h = (h.0 ∙ size_is, omega (arith, h.0, h.1))
+  refused front errors.NoMemory h = omega (arith, h, size_is)

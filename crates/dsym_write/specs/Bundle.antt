@@ -150,8 +150,8 @@ file_bytes program sections =
 abbrev pub image_file : Image → Graph → List ℕ
 image_file program graph = file_bytes program (encode graph)
 
--- what writing it answers: its bytes, or its size, where that is 2^32 bytes or more. Memory may be wanted for a smaller one alone.
-abbrev pub Writes : Image → Graph → Result (List ℕ) WriteError → Type 0
-Writes program graph (Ok bytes) = (bytes ≡ image_file program graph) × (length (image_file program graph) < 2 ^ 32)
-Writes program graph (Err (errors.File size)) = (size ≡ length (image_file program graph)) × (2 ^ 32 ≤ size)
-Writes program graph (Err errors.NoMemory) = length (image_file program graph) < 2 ^ 32
+-- What writing it behind some bytes answers: these and its own, or its size, where that is 2^32 bytes or more. Memory may be wanted for a smaller one alone.
+abbrev pub Writes : List ℕ → Image → Graph → Result (List ℕ) WriteError → Type 0
+Writes front program graph (Ok bytes) = (bytes ≡ front ++ image_file program graph) × (length (image_file program graph) < 2 ^ 32)
+Writes front program graph (Err (errors.File size)) = (size ≡ length (image_file program graph)) × (2 ^ 32 ≤ size)
+Writes front program graph (Err errors.NoMemory) = length (image_file program graph) < 2 ^ 32

@@ -1,6 +1,6 @@
 //! The image file.
 
-ghost use Rattle.std.specs.Prelude.{◌≡◌, ◌+◌, ◌-◌, ◌<◌, ◌≤◌, ◌^◌, IfErr, ◌++◌, IfOk, Ok, false, length, replicate};
+ghost use Rattle.std.specs.Prelude.{◌≡◌, ◌+◌, ◌-◌, ◌<◌, ◌≤◌, ◌^◌, IfErr, ◌++◌, IfOk, Ok, false, length, replicate, take};
 ghost use Rattle.ds_base.specs.Room.{Adds};
 ghost use Rattle.dwarf_types.specs.declared.graph.Graph.{Graph};
 ghost use Rattle.dwarf_types.specs.Encode.{encode};
@@ -26,24 +26,27 @@ use std::thread::Threads;
 /// measured (mach-o/loader.h).
 ///
 /// The program has no debug information yet. The file keeps its UUID, its segments and sections without their bytes,
-/// and the symbols that are not stabs. A file of 2^32 bytes or more is not made, and its size is told. The file takes
-/// the place of `room`, whatever that holds, and memory is asked for once for what `room` has not, and for the
-/// commands. The sections are written by at most `workers` threads.
+/// and the symbols that are not stabs. A file of 2^32 bytes or more is not made, and its size is told. The file stands
+/// behind what `room` holds before place `start`, which is kept, and takes the place of what stands there; its offsets
+/// count from its own first byte. Memory is asked for once for what `room` has not, and for the commands. The sections
+/// are written by at most `workers` threads.
 pub fn image_in<R: Threads + Sync>(
     rt: &R,
     room: Vec<u8>,
+    start: usize,
     workers: u32,
     program: &Image,
     layout: &Layout,
 ) -> Result<Bytes, WriteError>
     requires workers { (1 ≤ workers) × (workers ≤ 64) }
+    requires start { start ≤ length room.items }
     requires sound { IsSound program.now }
     requires kind { kind_of program.now roles.Program ≡ Ok tt }
     requires measured { IsMeasured layout.now }
-    ensures { (graph : Graph) → Measures graph (Ok layout.now) → Writes program.now graph result }
+    ensures { (graph : Graph) → Measures graph (Ok layout.now) → Writes (take start room.items) program.now graph result }
 {
     let places = places_of(program, layout);
-    let mut file = file_room(room, places.size)?;
+    let mut file = file_room(room, start, places.size)?;
     let commands = commands_of(*file.allocator(), program, layout, places)?;
     write_image(
         rt,
@@ -52,30 +55,36 @@ pub fn image_in<R: Threads + Sync>(
         layout,
         places,
         commands.as_slice(),
-        file.as_mut_slice(),
+        &mut file[start..],
     );
     Ok(Bytes::from_vec(file))
 }
 
-/// A room for a file of so many bytes in the place of another one, or the file's size, where it is 2^32 or more.
-fn file_room(room: Vec<u8>, size: u128) -> Result<Vec<u8>, WriteError>
-    ensures len { IfOk result (λ room. length room.items ≡ size) }
+/// A room for a file of so many bytes behind what another one holds before a place, or the file's size, where it is 2^32
+/// or more.
+fn file_room(room: Vec<u8>, start: usize, size: u128) -> Result<Vec<u8>, WriteError>
+    requires start { start ≤ length room.items }
+    ensures len { IfOk result (λ new. length new.items ≡ start + size) }
+    ensures front { IfOk result (λ new. take start new.items ≡ take start room.items) }
     ensures small { IfOk result (λ _. size < 2 ^ 32) }
     ensures refused { IfErr result (HasNoRoom size) }
 {
     if size > u128::from(u32::MAX) {
         return Err(WriteError::File { size });
     }
-    let room = room_of(room, size as usize)?;
+    let room = room_of(room, start, size as usize)?;
     Ok(room)
 }
 
-/// A room of so many bytes in the place of another one.
-fn room_of(room: Vec<u8>, size: usize) -> Result<Vec<u8>, NoMemory>
-    ensures { IfOk result (λ room. length room.items ≡ size) }
+/// A room of so many bytes behind what another one holds before a place.
+fn room_of(room: Vec<u8>, start: usize, size: usize) -> Result<Vec<u8>, NoMemory>
+    requires start { start ≤ length room.items }
+    requires small { size < 2 ^ 32 }
+    ensures len { IfOk result (λ new. length new.items ≡ start + size) }
+    ensures front { IfOk result (λ new. take start new.items ≡ take start room.items) }
 {
     let mut room = room;
-    room.resize(size, 0)?;
+    room.resize(start + size, 0)?;
     Ok(room)
 }
 

@@ -1,9 +1,10 @@
 //! The two files of a bundle: the dSYM image and Info.plist.
 //!
-//! Layer: writers. [`image_in`] measures the parts of the image, takes a room for it once, and fills it from the front:
-//! header, commands, symbols, strings, and the sections of the graph in a page of their own (mach-o/loader.h,
-//! mach-o/nlist.h). What it writes is `image_file` of the program and the graph (`specs/Bundle.antt`); a file of 2^32
-//! bytes or more is refused. [`plist_text`] is the text of Info.plist (`specs/Plist.antt`).
+//! Layer: writers. [`image_in`] measures the parts of the image, takes a room for it once, behind the bytes that stand
+//! there before a place, and fills it from there on: header, commands, symbols, strings, and the sections of the graph
+//! in a page of their own (mach-o/loader.h, mach-o/nlist.h). What it writes is `image_file` of the program and the graph
+//! (`specs/Bundle.antt`); a file of 2^32 bytes or more is refused. [`plist_text`] is the text of Info.plist
+//! (`specs/Plist.antt`).
 #![tactic(auto)]
 
 mod commands;

@@ -173,7 +173,7 @@ fn measured<R: Threads + Abort + Sync>(rt: &R, alloc: Global) -> Layout
 fn image_of<R: Threads + Abort + Sync>(rt: &R, alloc: Global) -> Bytes {
     let layout = measured(rt, alloc);
     let program = program(rt, alloc);
-    let image = image_in(rt, Vec::new(alloc), 2, &program, &layout).expect(rt, "an image");
+    let image = image_in(rt, Vec::new(alloc), 0, 2, &program, &layout).expect(rt, "an image");
     drop(program);
     drop(layout);
     image
