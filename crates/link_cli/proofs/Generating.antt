@@ -9,10 +9,10 @@ use Rattle.sample_objects.specs.GeneratedProgram.{generated_program, map_object,
 use Rattle.sample_objects.specs.ObjectFile.{object_bytes}
 use Rattle.object_reads.specs.Sources.{sources_of}
 use Rattle.link_status.specs.Names.{last_part}
-use Rattle.link_core.specs.declared.bundle.Linked.{Linked}
+use Rattle.link_program.specs.declared.bundle.Bundle.{Bundle}
 use Rattle.link_status.specs.declared.refusal.Refusal.{Refusal}
 use Rattle.link_status.specs.declared.status.Status.{Status}
-use Rattle.link_core.specs.Linked as bundles
+use Rattle.link_program.specs.Making as bundles
 use Rattle.link_status.specs.Statuses.{refused_status}
 use Rattle.link_cli.specs.declared.ending.Ending.{Ending}
 use Rattle.link_cli.specs.Answer.{LinksGenerated, MakesGenerated, made_refused, made_counted, made_untold}
@@ -58,7 +58,7 @@ numbers_within count n numbers many is = subst (λ (ns : List (Option ℕ)). All
 -- ---- how it ends
 
 -- the objects as they were lent
-pub makes_lent : (plan : Planned) (count : ℕ) (made : Generated) (objects : List MapObject) (answer : Result Linked Refusal) → objects ≡ made.objects
+pub makes_lent : (plan : Planned) (count : ℕ) (made : Generated) (objects : List MapObject) (answer : Result Bundle Refusal) → objects ≡ made.objects
     → bundles.Bundles plan.odr made.program (last_part plan.exe) (sources_of objects made.files (map number (range_with_len 0 count))) answer → MakesGenerated plan count made answer
 makes_lent plan count made objects answer are made_so =
     subst (λ (o : List MapObject). bundles.Bundles plan.odr made.program (last_part plan.exe) (sources_of o made.files (map number (range_with_len 0 count))) answer) are made_so
@@ -68,7 +68,7 @@ module _ (plan : Planned) (count : ℕ) (wanted : Generated) where
   untold_as ending is = subst (λ (e : Ending). LinksGenerated plan count wanted e) (sym is) made_untold
 
   module _ (made : Generated) (is : made ≡ wanted) where
-    pub counted_as : (bundle : Linked) (ending : Ending) → MakesGenerated plan count made (Ok bundle) → Tells (counts_ending bundle.counts) ending → LinksGenerated plan count wanted ending
+    pub counted_as : (bundle : Bundle) (ending : Ending) → MakesGenerated plan count made (Ok bundle) → Tells (counts_ending bundle.counts) ending → LinksGenerated plan count wanted ending
     counted_as bundle ending makes told =
         told_or (λ (e : Ending). LinksGenerated plan count wanted e) (counts_ending bundle.counts) ending told
         (made_counted bundle (subst (λ (g : Generated). MakesGenerated plan count g (Ok bundle)) is makes)) made_untold

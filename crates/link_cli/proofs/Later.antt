@@ -3,7 +3,7 @@ use Rattle.std.proofs.Common.{◌≡◌, ℕ, Bool, List, Result, refl, sym, sub
 use Rattle.ds_files.specs.Outside.{IsLater}
 use Rattle.ds_files.proofs.Later.{later_trans}
 use Rattle.stab_map.specs.declared.object.MapObject.{MapObject}
-use Rattle.link_core.specs.declared.bundle.Linked.{Linked}
+use Rattle.link_program.specs.declared.bundle.Bundle.{Bundle}
 use Rattle.link_cli.specs.declared.ending.Ending.{Ending}
 use Rattle.link_program.specs.declared.files.Stopped.{Stopped}
 use Rattle.link_cli.specs.declared.plan.Mode.{Mode}
@@ -48,7 +48,7 @@ reads_same (ran_out_unasked number objects held now warnings) = refl
 reads_same (ran_out_behind number object objects held before after warnings new out) = out_same out
 
 module _ {plan : Planned} where
-  pub writes_later : (before after : World) {objects : List MapObject} {warnings : List ℕ} {linked : Linked} {ending : Ending} → Writes plan objects warnings linked before after ending
+  pub writes_later : (before after : World) {objects : List MapObject} {warnings : List ℕ} {linked : Bundle} {ending : Ending} → Writes plan objects warnings linked before after ending
       → IsLater before.counts after.counts
   writes_later before after (not_made same) = later_same before after same
   writes_later before after (plist_unwritten error fails) = fails.later

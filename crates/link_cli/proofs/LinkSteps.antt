@@ -5,7 +5,7 @@ use Rattle.std.specs.FinMap as map
 use Rattle.ds_files.specs.Outside.{Contents, Counts, IsLater, IsOneCall, ReplaceFails, called}
 use Rattle.ds_files.specs.declared.files.FileError.{FileError}
 use Rattle.stab_map.specs.declared.object.MapObject.{MapObject}
-use Rattle.link_core.specs.declared.bundle.Linked.{Linked}
+use Rattle.link_program.specs.declared.bundle.Bundle.{Bundle}
 use Rattle.link_status.specs.declared.refusal.Refusal.{Refusal}
 use Rattle.link_status.specs.declared.refusal.Refusal.TheVariants as refusals
 use Rattle.link_status.specs.Names.{image_name, plist_name}
@@ -46,7 +46,7 @@ not_replaced_as : (name made : List ℕ) (error : FileError) (old new : Option C
 not_replaced_as name made error old new before now is_name fails once later =
     record { cause = subst (λ (n : List ℕ). ReplaceFails old new n before now error) is_name fails; once = once; later = later }
 
-module _ (plan : Planned) (objects : List MapObject) (warnings : List ℕ) (made_of : Linked) where
+module _ (plan : Planned) (objects : List MapObject) (warnings : List ℕ) (made_of : Bundle) where
   pub plist_unwritten_as : (made message : List ℕ) (old new : Option Contents) (before now : Counts) (error : FileError) (ending : Ending) → made ≡ plist_name plan.out
       → message ≡ refusal_message plan objects warnings (statuses.WriteFault 0) → ending ≡ unwritten_ending 0 error message
       → ReplaceFails old new made before now error → IsOneCall before now → IsLater before now → Writes plan objects warnings made_of (world old before) (world new now) ending
@@ -92,7 +92,7 @@ module _ (plan : Planned) (program : MappedProgram) where
         told_or (λ (e : Ending). LinksSources plan program held now now e) (refused_ending plan program.objects held.warnings (refused_status refusal)) ending
         (refused_so held.warnings status (refused_status refusal) ending is_status told) (refused refusal refl makes) (untold refl)
 
-    pub sources_bundled : (held : Held) (before after : World) (made : Linked) (ending : Ending) → Makes plan program (sources_in held.files program.objects) (Ok made)
+    pub sources_bundled : (held : Held) (before after : World) (made : Bundle) (ending : Ending) → Makes plan program (sources_in held.files program.objects) (Ok made)
         → Writes plan objects held.warnings made before after ending → LinksSources plan program held before after ending
     sources_bundled held before after made ending makes writes =
         bundled made ending makes (subst (λ (o : List MapObject). Writes plan o held.warnings made before after ending) is_objects writes)

@@ -7,12 +7,12 @@ use Rattle.ds_files.specs.declared.files.FileError.{FileError}
 use Rattle.ds_files.specs.declared.files.FileError.TheVariants as errors
 use Rattle.sample_objects.specs.declared.program.Generated.{Generated}
 use Rattle.sample_objects.specs.GeneratedProgram.{generated_program}
-use Rattle.link_core.specs.declared.bundle.Linked.{Linked}
+use Rattle.link_program.specs.declared.bundle.Bundle.{Bundle}
 use Rattle.link_status.specs.Statuses.{refused_status}
-use Rattle.link_core.specs.Linked.{HasNoRefusal}
+use Rattle.link_program.specs.Making.{HasNoRefusal}
 use Rattle.object_reads.specs.Sources.{Source}
 use Rattle.link_status.specs.Names.{image_name, plist_name}
-use Rattle.link_core.proofs.Refusing.{ok_is_no_err, ok_is_one, refused_for_memory, some_is_not_none}
+use Rattle.link_program.proofs.Refusing.{ok_is_no_err, ok_is_one, refused_for_memory, some_is_not_none}
 use Rattle.link_status.specs.declared.status.Status.{Status}
 use Rattle.link_status.specs.declared.status.Status.TheVariants as statuses
 use Rattle.link_cli.specs.declared.ending.Ending.{Ending}
@@ -46,7 +46,7 @@ unreplaced files name number errors.NoMemory message before after fails told qui
 
 module _ (plan : Planned) (files : Contents) where
   module _ (program : MappedProgram) (most : ℕ) (read : unread_of plan program most files ≡ None) where
-    writes_told : (made : Linked) (before after : World) {ending : Ending} → Makes plan program (sources_at files program.objects) (Ok made)
+    writes_told : (made : Bundle) (before after : World) {ending : Ending} → Makes plan program (sources_at files program.objects) (Ok made)
         → Writes plan program.objects (warnings_of plan program most files) made before after ending
         → before.files ≡ Some files → NoFault before.counts after.counts → Tells after (AnswersObjects plan program most files ending)
     writes_told made before after makes (not_made same) told quiet = (files, ap (λ (w : World). w.files) same ∙ told, no_memory_before)

@@ -6,11 +6,11 @@ use Rattle.std.specs.FinMap as fin
 use Rattle.ds_files.specs.Outside.{IsLater, IsOneCall, ReplaceFails, called}
 use Rattle.ds_files.specs.declared.files.FileError.{FileError}
 use Rattle.stab_map.specs.declared.object.MapObject.{MapObject}
-use Rattle.link_core.specs.declared.bundle.Linked.{Linked}
+use Rattle.link_program.specs.declared.bundle.Bundle.{Bundle}
 use Rattle.link_status.specs.declared.status.Status.{Status}
 use Rattle.link_status.specs.declared.status.Status.TheVariants as statuses
 use Rattle.link_status.specs.declared.refusal.Refusal.{Refusal}
-use Rattle.link_core.specs.Linked.{Bundles}
+use Rattle.link_program.specs.Making.{Bundles}
 use Rattle.object_reads.specs.Sources.{Source, sources_of}
 use Rattle.link_status.specs.Names.{image_name, last_part, plist_name}
 use Rattle.link_status.specs.Statuses.{refused_status}
@@ -46,7 +46,7 @@ abbrev pub unwritten : Planned → List MapObject → List ℕ → ℕ → FileE
 unwritten plan objects warnings file error = unwritten_ending file error (refusal_message plan objects warnings (statuses.WriteFault file))
 
 -- The two files of a bundle are written, Info.plist first. Want of memory comes before the first is replaced, or in one of the two replacements.
-pub data Writes (plan : Planned) (objects : List MapObject) (warnings : List ℕ) (linked : Linked) (before after : World) : Ending → Type 0 where
+pub data Writes (plan : Planned) (objects : List MapObject) (warnings : List ℕ) (linked : Bundle) (before after : World) : Ending → Type 0 where
   not_made : after ≡ before → Writes plan objects warnings linked before after no_memory
   plist_unwritten : (error : FileError) → NotReplaced (plist_name plan.out) error before after → Writes plan objects warnings linked before after (unwritten plan objects warnings 0 error)
   image_unwritten : (middle : World) (error : FileError) → Replaces (plist_name plan.out) linked.plist before middle → NotReplaced (image_name plan.out plan.exe) error middle after
@@ -57,7 +57,7 @@ pub data Writes (plan : Planned) (objects : List MapObject) (warnings : List ℕ
 -- ---- the link
 
 -- what linking a program of a plan with its objects answers
-abbrev pub Makes : Planned → MappedProgram → List Source → Result Linked Refusal → Type 0
+abbrev pub Makes : Planned → MappedProgram → List Source → Result Bundle Refusal → Type 0
 Makes plan program sources answer = Bundles plan.odr program.image (last_part plan.exe) sources answer
 
 -- The objects of a program are linked from the files that are held, and the bundle is written.
@@ -65,7 +65,7 @@ pub data LinksSources (plan : Planned) (program : MappedProgram) (held : Held) (
   refused : (refusal : Refusal) → after ≡ before → Makes plan program (sources_in held.files program.objects) (Err refusal)
       → LinksSources plan program held before after (refused_ending plan program.objects held.warnings (refused_status refusal))
   untold : after ≡ before → LinksSources plan program held before after no_memory
-  bundled : (linked : Linked) (ending : Ending) → Makes plan program (sources_in held.files program.objects) (Ok linked) → Writes plan program.objects held.warnings linked before after ending
+  bundled : (linked : Bundle) (ending : Ending) → Makes plan program (sources_in held.files program.objects) (Ok linked) → Writes plan program.objects held.warnings linked before after ending
       → LinksSources plan program held before after ending
 
 -- The files of a program's objects, which have at most so many bytes together, are read, and the objects are linked.
@@ -84,13 +84,13 @@ abbrev pub sources_made : ℕ → Generated → List Source
 sources_made count made = sources_of made.objects made.files (map (λ k. Some k) (range_with_len 0 count))
 
 -- what linking a generated program of so many objects answers, which has the name of the plan's program
-abbrev pub MakesGenerated : Planned → ℕ → Generated → Result Linked Refusal → Type 0
+abbrev pub MakesGenerated : Planned → ℕ → Generated → Result Bundle Refusal → Type 0
 MakesGenerated plan count made answer = Bundles plan.odr made.program (last_part plan.exe) (sources_made count made) answer
 
 -- The generated program of so many objects is linked, and what was counted is told. Files have no part in it.
 pub data LinksGenerated (plan : Planned) (count : ℕ) (made : Generated) : Ending → Type 0 where
   made_refused : (refusal : Refusal) → MakesGenerated plan count made (Err refusal) → LinksGenerated plan count made (refused_ending plan made.objects [] (refused_status refusal))
-  made_counted : (linked : Linked) → MakesGenerated plan count made (Ok linked) → LinksGenerated plan count made (counts_ending linked.counts)
+  made_counted : (linked : Bundle) → MakesGenerated plan count made (Ok linked) → LinksGenerated plan count made (counts_ending linked.counts)
   made_untold : LinksGenerated plan count made no_memory
 
 -- ---- the modes

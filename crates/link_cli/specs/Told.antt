@@ -6,10 +6,10 @@ use Rattle.std.specs.FinMap as fin
 use Rattle.ds_files.specs.Outside.{Contents, Counts, Rose}
 use Rattle.stab_map.specs.declared.object.MapObject.{MapObject}
 use Rattle.sample_objects.specs.GeneratedProgram.{generated_program}
-use Rattle.link_core.specs.declared.bundle.Linked.{Linked}
+use Rattle.link_program.specs.declared.bundle.Bundle.{Bundle}
 use Rattle.link_status.specs.declared.refusal.LimitKind.TheVariants as limits
 use Rattle.link_status.specs.declared.refusal.Refusal.{Refusal}
-use Rattle.link_core.specs.Linked.{HasNoRefusal}
+use Rattle.link_program.specs.Making.{HasNoRefusal}
 use Rattle.object_reads.specs.Sources.{Source}
 use Rattle.link_status.specs.Names.{image_name, plist_name}
 use Rattle.link_status.specs.declared.status.Status.{Status}
@@ -85,10 +85,10 @@ abbrev pub sources_at : Contents → List MapObject → List Source
 sources_at files objects = map (λ object. record { object = object; file = fin.get files object.file }) objects
 
 -- the files with Info.plist of a bundle, and with both files of it
-abbrev pub with_plist : Planned → Linked → Contents → Contents
+abbrev pub with_plist : Planned → Bundle → Contents → Contents
 with_plist plan linked files = fin.insert files (plist_name plan.out) linked.plist
 
-abbrev pub with_bundle : Planned → Linked → Contents → Contents
+abbrev pub with_bundle : Planned → Bundle → Contents → Contents
 with_bundle plan linked files = fin.insert (with_plist plan linked files) (image_name plan.out plan.exe) linked.image
 
 -- why the files of a program's objects can't all be read, and the warnings of their reading
@@ -104,10 +104,10 @@ pub data AnswersObjects (plan : Planned) (program : MappedProgram) (most : ℕ) 
       → AnswersObjects plan program most files (refused_ending plan program.objects (warnings_of plan program most files) status) files
   refused : (refusal : Refusal) → unread_of plan program most files ≡ None → Makes plan program (sources_at files program.objects) (Err refusal)
       → AnswersObjects plan program most files (refused_ending plan program.objects (warnings_of plan program most files) (refused_status refusal)) files
-  done : (linked : Linked) → unread_of plan program most files ≡ None → Makes plan program (sources_at files program.objects) (Ok linked)
+  done : (linked : Bundle) → unread_of plan program most files ≡ None → Makes plan program (sources_at files program.objects) (Ok linked)
       → AnswersObjects plan program most files (done_ending plan (warnings_of plan program most files) linked.counts) (with_bundle plan linked files)
   no_memory_before : AnswersObjects plan program most files no_memory files
-  no_memory_between : (linked : Linked) → unread_of plan program most files ≡ None → Makes plan program (sources_at files program.objects) (Ok linked)
+  no_memory_between : (linked : Bundle) → unread_of plan program most files ≡ None → Makes plan program (sources_at files program.objects) (Ok linked)
       → AnswersObjects plan program most files no_memory (with_plist plan linked files)
 
 -- What is done with a program that was read.

@@ -6,7 +6,7 @@ ghost use Rattle.macho_read.specs.declared.kind.Role.TheVariants as roles;
 ghost use Rattle.macho_read.specs.Kind.{kind_of};
 ghost use Rattle.macho_read.specs.Sound.{IsSound as IsSoundImage};
 ghost use Rattle.sample_objects.specs.GeneratedProgram.{generated_program};
-ghost use Rattle.link_core.specs.Linked.{Bundles};
+ghost use Rattle.link_program.specs.Making.{Bundles};
 ghost use Rattle.link_status.specs.Names.{last_part};
 ghost use Rattle.object_reads.specs.Sources.{sources_of};
 ghost use Rattle.link_cli.specs.Answer.{LinksGenerated};
@@ -20,10 +20,10 @@ use crate::plan::Plan;
 use crate::texts::summary;
 use ds_base::{Bytes, List, NoMemory};
 use ds_files::Gate;
-use link_core::{Counts, Linked, Program, link_objects};
+use link_core::Counts;
+use link_program::{Bundle, link_files};
 use link_status::{Refusal, Status};
 use macho_read::Image;
-use object_reads::Sources;
 use sample_objects::Generated;
 use stab_map::MapObject;
 use std::alloc::Global;
@@ -79,7 +79,7 @@ fn bundle<R: Threads + Sync, G: Gate + Sync>(
     program: &Image,
     objects: &[MapObject],
     files: List<Bytes>,
-) -> Result<Linked, Refusal>
+) -> Result<Bundle, Refusal>
     requires few { count ≤ 1000 }
     requires objects { length objects.now ≡ count }
     requires files { length files ≡ count }
@@ -89,13 +89,14 @@ fn bundle<R: Threads + Sync, G: Gate + Sync>(
     ensures { Bundles plan.now.odr program.now (last_part (plan_seen plan.now).exe) (sources_of objects.now files (map (λ k. Some k) (range_with_len 0 count))) result }
 {
     let numbers = numbers_below(work.workers.alloc, count)?;
-    let sources = Sources {
+    link_files(
+        work,
+        program,
+        &wanted(plan),
         objects,
+        numbers.as_slice(),
         files,
-        numbers: numbers.as_slice(),
-    };
-    let program = Program { image: program };
-    link_objects(work, &program, &wanted(plan), sources)
+    )
 }
 
 /// The numbers below this one.

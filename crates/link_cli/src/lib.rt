@@ -5,7 +5,7 @@
 //! and the image; or it tells the debug map, or what was counted of the link of a generated program (`sample_objects`). Its contract is `specs/Answer.antt`: for each list of words and each content of the files, the
 //! status with its cause, what stands in the files then, and the message (`specs/Endings.antt`, `specs/Texts.antt`). What
 //! the program's file refuses is `link_program/specs/Refusals.antt`; what the objects refuse, and the bytes of the bundle, is
-//! `link_core/specs/Linked.antt`.
+//! `link_program/specs/Making.antt`.
 //!
 //! The program and each file that its map names are read, and each file of the bundle is replaced, by one call. Both
 //! files, their names and all messages are made before the first file is replaced, so that a refusal leaves all files as

@@ -20,9 +20,9 @@ use crate::texts::map_text;
 use ds_base::limits::INPUT_BYTES;
 use ds_base::{Bytes, NoMemory};
 use ds_files::{Ahead, Files, Gate, Sink};
-use link_core::Wanted;
 use link_program::{
-    HeldFiles, MappedProgram, expect_files, link_held, read_files, read_program, unread,
+    Bundle, HeldFiles, MappedProgram, Wanted, expect_files, link_held, read_files, read_program,
+    unread,
 };
 use link_status::{Status, last_part};
 use std::alloc::Global;

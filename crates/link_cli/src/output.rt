@@ -12,7 +12,8 @@ use crate::plan::Plan;
 use crate::texts::summary;
 use ds_base::{Bytes, NoMemory};
 use ds_files::{FileError, Files};
-use link_core::{Counts, Linked};
+use link_core::Counts;
+use link_program::Bundle;
 use link_status::{Status, image_name, plist_name};
 use stab_map::MapObject;
 use std::alloc::Global;
@@ -33,7 +34,7 @@ pub(crate) fn write_bundle<F: Files>(
     plan: &Plan,
     objects: &[MapObject],
     warnings: Bytes,
-    linked: &Linked,
+    linked: &Bundle,
     files: &mut F,
 ) -> Ending
     ensures { Writes (plan_seen plan.now) objects.now warnings linked.now (world (F.files files.old) (F.counts files.old)) (world (F.files files.new) (F.counts files.new)) result }

@@ -1,17 +1,18 @@
 -- What a link answers, by what its passes do.
-use Rattle.std.proofs.Common.{◌≡◌, ◌<◌, ◌-◌, ◌^◌, ℕ, Bool, List, length, Option, Some, None, Result, Ok, Err, refl, sym, ap, subst, ◌∙◌}
+use Rattle.std.proofs.Common.{◌≡◌, ◌++◌, ◌+◌, ◌<◌, ◌-◌, ◌^◌, ℕ, Bool, List, drop, length, Option, Some, None, Result, Ok, Err, refl, sym, ap, subst, ◌∙◌, arith, length-append}
 use Rattle.std.specs.List.{filter, flat_map, sum_by}
 use Rattle.std.specs.Option.{option_or}
 use Rattle.dwarf_types.specs.declared.analysis.Analysis.{Analysis}
 use Rattle.dwarf_types.specs.declared.graph.Graph.{Graph}
 use Rattle.macho_read.specs.declared.image.Image.{Image}
-use Rattle.dsym_write.specs.Plist.{plist_bytes}
+use Rattle.dsym_write.specs.Bundle.{image_file}
 use Rattle.layout.proofs.OfDrafts.{none_long}
 use Rattle.link_graph.specs.Graph.{graph_in}
 use Rattle.link_graph.specs.Merged.{linked_names}
 use Rattle.unit_draft.specs.Drafted.{AreDrafts}
 use Rattle.link_status.specs.declared.refusal.Refusal.{Refusal}
 use Rattle.link_status.specs.declared.refusal.Refusal.TheVariants as refusals
+use Rattle.object_reads.specs.declared.target.Target.{Target}
 use Rattle.object_reads.specs.Marks.{MarkLive}
 use Rattle.object_reads.specs.Reading.{Reads}
 use Rattle.object_reads.specs.Sources.{Source, analyses_from}
@@ -24,7 +25,7 @@ use Rattle.unit_drafts.proofs.Graphs.{frames_are, limit_is, shape_few, units_fit
 use Rattle.link_core.specs.declared.bundle.Counted.{Counted}
 use Rattle.link_core.specs.declared.bundle.Drafted.{Drafted}
 use Rattle.link_core.specs.declared.bundle.Linked.{Linked}
-use Rattle.link_core.specs.Linked.{Bundles, bundle, counts_of, fault, image_limit, limit, limit_of, no_memory}
+use Rattle.link_core.specs.Linked.{ChecksPart, IsLinked, Leaves, LinksPart, Part, analyses_of, counts_of, fault, faulty, image_limit, limit, limit_of, linked, no_memory, target_of, unchecked}
 use Rattle.link_core.specs.Passes.{AreCounted, Images, IsDrafted, Links}
 
 module _ (odr : Bool) (program : Image) (seen : List Analysis) (live : List (List Bool)) where
@@ -39,20 +40,20 @@ module _ (odr : Bool) (program : Image) (seen : List Analysis) (live : List (Lis
   drafted_fits : (it : Drafted) → IsDrafted odr seen live it → limit_of odr program seen live ≡ image_limit program (graph_of odr seen live)
   drafted_fits it are = drafts_unlimited (limit_is odr seen live are.few_names ∙ units_fit (graph_of odr seen live) are.few (none_long (graph_of odr seen live) it.drafts are.drafts_are))
 
-module _ (odr : Bool) (program : Image) (name : List ℕ) (seen : List Analysis) (live : List (List Bool)) where
-  pub shape_refused : (r : Refusal) → Shapes odr seen live (Err r) → Links odr program name seen live (Err r)
+module _ (odr : Bool) (program : Image) (front : List ℕ) (seen : List Analysis) (live : List (List Bool)) where
+  pub shape_refused : (r : Refusal) → Shapes odr seen live (Err r) → Links odr program front seen live (Err r)
   shape_refused (refusals.Faulty file why) h = absurd h
   shape_refused (refusals.Limit which n) h = drafts_limited odr program seen live (refusals.Limit which n) h
   shape_refused refusals.NoMemory h = tt
 
   module _ (shaped : Shaped) (h : IsShaped odr seen live shaped) where
-    pub drafts_refused : (r : Refusal) → DraftsUnits (graph_in seen shaped.shape) (Err r) → Links odr program name seen live (Err r)
+    pub drafts_refused : (r : Refusal) → DraftsUnits (graph_in seen shaped.shape) (Err r) → Links odr program front seen live (Err r)
     drafts_refused (refusals.Faulty file why) d = absurd d
     drafts_refused (refusals.Limit which n) d = drafts_limited odr program seen live (refusals.Limit which n) (limit_is odr seen live h.few_names ∙ ap units_limit (sym h.graph) ∙ d)
     drafts_refused refusals.NoMemory d = tt
 
   module _ (it : Drafted) (drafted : IsDrafted odr seen live it) where
-    pub image_refused : (r : Refusal) → Images program (graph_of odr seen live) (Err r) → Links odr program name seen live (Err r)
+    pub image_refused : (r : Refusal) → Images front program (graph_of odr seen live) (Err r) → Links odr program front seen live (Err r)
     image_refused (refusals.Faulty file why) d = absurd d
     image_refused (refusals.Limit which n) d = drafted_fits odr program seen live it drafted ∙ d
     image_refused refusals.NoMemory d = tt
@@ -61,16 +62,22 @@ module _ (odr : Bool) (program : Image) (name : List ℕ) (seen : List Analysis)
         → record { objects = counted.objects; entries = counted.entries; live = counted.live; pooled = counted.pooled; names = counted.names; nodes = nodes; bytes = bytes } ≡ counts_of seen live (linked_names odr seen live) graph image
     counts_are graph image counted nodes bytes are n b = rw (are.objects, are.entries, are.live, are.pooled, are.names, n, b) refl
 
-    pub links_made : (image plist : List ℕ) (nodes bytes : ℕ) → Images program (graph_of odr seen live) (Ok image) → plist ≡ plist_bytes name
-        → nodes ≡ sum_by (λ unit. length unit.nodes) (graph_of odr seen live).units → bytes ≡ length image
-        → Links odr program name seen live (Ok (record {
-          image = image;
-          plist = plist;
+    pub links_made : (file : List ℕ) (nodes bytes : ℕ) → Images front program (graph_of odr seen live) (Ok file)
+        → nodes ≡ sum_by (λ unit. length unit.nodes) (graph_of odr seen live).units → bytes ≡ length file - length front
+        → Links odr program front seen live (Ok (record {
+          file = file;
           counts = record { objects = it.counted.objects; entries = it.counted.entries; live = it.counted.live; pooled = it.counted.pooled; names = it.counted.names; nodes = nodes; bytes = bytes };
           closed = it.closed;
         }))
-    links_made image plist nodes bytes d text n b =
-        (drafted_fits odr program seen live it drafted ∙ d.0, d.1, text, counts_are (graph_of odr seen live) image it.counted nodes bytes drafted.counted_are n b, drafted.closed_is)
+    links_made file nodes bytes d n b =
+        let image = image_file program (graph_of odr seen live) in
+        let long : bytes ≡ length image = omega (arith, b, ap length d.1, length-append front image) in
+        record {
+          fits = drafted_fits odr program seen live it drafted ∙ d.0;
+          file = d.1;
+          counts = counts_are (graph_of odr seen live) image it.counted nodes bytes drafted.counted_are n long;
+          closed = drafted.closed_is;
+        }
 
 -- the units of a shape are drafted
 pub drafted : (odr : Bool) (seen lent : List Analysis) (live : List (List Bool)) (shaped : Shaped) (h : IsShaped odr seen live shaped) (it : Drafted)
@@ -85,14 +92,41 @@ drafted odr seen lent live shaped h it are same framed o e l p n c = record {
   closed_is = subst (IsClosed (linked_names odr seen live)) (sym c) h.closed;
 }
 
-module _ (odr : Bool) (program : Image) (name : List ℕ) (sources : List Source) where
-  pub bundle_refused : (r : Refusal) → Reads program.cpu sources (Err r) → Bundles odr program name sources (Err r)
-  bundle_refused (refusals.Faulty file why) h = fault file why h
-  bundle_refused (refusals.Limit which n) h = absurd h
-  bundle_refused refusals.NoMemory h = no_memory
+-- ---- a program with its objects
 
-  pub bundle_made : (seen : List Analysis) (marks : List (List Bool)) (r : Result Linked Refusal) → analyses_from program.cpu 1 sources ≡ Ok seen → MarkLive seen marks → Links odr program name seen marks r → Bundles odr program name sources r
-  bundle_made seen marks (Ok linked) e live h = bundle seen marks linked e live h.0 h.1 h.2 h.3 h.4
-  bundle_made seen marks (Err (refusals.Faulty file why)) e live h = absurd h
-  bundle_made seen marks (Err (refusals.Limit which n)) e live h = limit seen marks (refusals.Limit which n) e live h
-  bundle_made seen marks (Err refusals.NoMemory) e live h = no_memory
+-- the analyses of its own objects
+pub own_read : (part : Part) (target : Target) (first : ℕ) (sources : List Source) → target ≡ target_of part.arch part.image → part.number ≡ first + 1 → part.sources ≡ drop first sources → analyses_of part ≡ analyses_from target (first + 1) (drop first sources)
+own_read part target first sources same number own = rw (number, own) (ap (λ (t : Target). analyses_from t (first + 1) (drop first sources)) (sym same))
+
+pub check_refused : (part : Part) (target : Target) (first : ℕ) (sources : List Source) → analyses_of part ≡ analyses_from target (first + 1) (drop first sources) → (r : Refusal) → Reads target first sources (Err r) → ChecksPart part (Err r)
+check_refused part target first sources own (refusals.Faulty file why) h = faulty file why (own ∙ h)
+check_refused part target first sources own (refusals.Limit which n) h = absurd h
+check_refused part target first sources own refusals.NoMemory h = unchecked
+
+module _ (odr : Bool) (part : Part) (front : List ℕ) where
+  pub part_refused : (target : Target) (first : ℕ) (sources : List Source) → analyses_of part ≡ analyses_from target (first + 1) (drop first sources) → (r : Refusal) → Reads target first sources (Err r) → LinksPart odr part front (Err r)
+  part_refused target first sources own (refusals.Faulty file why) h = fault file why (own ∙ h)
+  part_refused target first sources own (refusals.Limit which n) h = absurd h
+  part_refused target first sources own refusals.NoMemory h = no_memory
+
+  pub part_made : (seen : List Analysis) (marks : List (List Bool)) (r : Result Linked Refusal) → analyses_of part ≡ Ok seen → MarkLive seen marks → Links odr part.image front seen marks r → LinksPart odr part front r
+  part_made seen marks (Ok it) e live h = linked seen marks it e live h
+  part_made seen marks (Err (refusals.Faulty file why)) e live h = absurd h
+  part_made seen marks (Err (refusals.Limit which n)) e live h = limit seen marks (refusals.Limit which n) e live h
+  part_made seen marks (Err refusals.NoMemory) e live h = no_memory
+
+-- ---- files that are left
+
+abbrev the_refusal : (X : Type 0) → Refusal → Result X Refusal
+the_refusal X r = Err r
+
+pub left_read : (X : Type 0) (target : Target) (first : ℕ) (sources : List Source) (left : Type 0) (r : Refusal) → Reads target first sources (Err r) → Leaves left (the_refusal X r)
+left_read X target first sources left (refusals.Faulty file why) h = tt
+left_read X target first sources left (refusals.Limit which n) h = absurd h
+left_read X target first sources left refusals.NoMemory h = tt
+
+pub left_all : {X : Type 0} (left : Type 0) (r : Result X Refusal) → left → Leaves left r
+left_all left (Ok it) h = h
+left_all left (Err (refusals.Faulty file why)) h = tt
+left_all left (Err (refusals.Limit which n)) h = h
+left_all left (Err refusals.NoMemory) h = tt

@@ -1,4 +1,3 @@
-pub mod Refusing
 pub mod Bundling
 pub mod Unmerging
 pub mod WithinLimits

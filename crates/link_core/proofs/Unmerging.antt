@@ -41,6 +41,7 @@ use Rattle.link_status.specs.declared.refusal.Refusal.{Refusal}
 use Rattle.link_status.specs.declared.refusal.Refusal.TheVariants as refusals
 use Rattle.link_core.specs.declared.unmerged.Unmerged.{Unmerged}
 use Rattle.object_reads.specs.declared.objects.ReadObject.{ReadObject}
+use Rattle.object_reads.specs.declared.target.Target.{Target}
 use Rattle.object_reads.specs.Sources.{Source}
 use Rattle.unit_drafts.specs.Graphs.{IsClosed, graph_of}
 use Rattle.link_core.specs.Passes.{IsDrafted, Links}
@@ -201,8 +202,8 @@ module _ (seen : List Analysis) (marks : List (List Bool)) (sound : All IsSound 
 
 -- ---- objects as they are read
 
-module _ (cpu : ℕ) (sources : List Source) (i : ℕ) (it : Unmerged) (so_far : SoFar cpu sources i it) (lt : i < length sources) where
-  module _ (few : length sources < 2 ^ 16) (object : ReadObject) (reads : ReadsAt cpu sources i (Ok object)) where
+module _ (target : Target) (start : ℕ) (sources : List Source) (i : ℕ) (it : Unmerged) (so_far : SoFar target start sources i it) (lt : i < length sources) where
+  module _ (few : length sources < start + 2 ^ 16) (object : ReadObject) (reads : ReadsAt target sources i (Ok object)) where
     pub may_add : MayAdd so_far.seen so_far.marks it object
     may_add =
         let there = there_is sources i lt in
@@ -213,16 +214,16 @@ module _ (cpu : ℕ) (sources : List Source) (i : ℕ) (it : Unmerged) (so_far :
           behind = record { sound = so_far.going.sound; marked = so_far.going.live.marked; its_sound = read.sound; its_marks = read.size };
         }
 
-    pub added_one : (it' : Unmerged) → IsUnmerged (so_far.seen ++ object.analysis ∷ []) (so_far.marks ++ object.live ∷ []) it' → SoFar cpu sources (i + 1) it'
+    pub added_one : (it' : Unmerged) → IsUnmerged (so_far.seen ++ object.analysis ∷ []) (so_far.marks ++ object.live ∷ []) it' → SoFar target start sources (i + 1) it'
     added_one it' linked = record {
       seen = so_far.seen ++ object.analysis ∷ [];
       marks = so_far.marks ++ object.live ∷ [];
-      going = going_more cpu sources i so_far.seen so_far.marks so_far.going lt object (so_far.seen ++ object.analysis ∷ []) (so_far.marks ++ object.live ∷ []) reads refl refl;
+      going = going_more target start sources i so_far.seen so_far.marks so_far.going lt object (so_far.seen ++ object.analysis ∷ []) (so_far.marks ++ object.live ∷ []) reads refl refl;
       linked = linked;
     }
 
-  pub stops : (r : Refusal) → ReadsAt cpu sources i (Err r) → Reads cpu sources (Err r)
-  stops r refused = going_stops cpu sources i so_far.seen so_far.marks so_far.going lt r refused
+  pub stops : (r : Refusal) → ReadsAt target sources i (Err r) → Reads target start sources (Err r)
+  stops r refused = going_stops target start sources i so_far.seen so_far.marks so_far.going lt r refused
 
 -- ---- from batch to batch
 
@@ -256,8 +257,8 @@ module _ (seen : List Analysis) (marks : List (List Bool)) (it : Unmerged) (are 
 
 -- ---- the bundle
 
-module _ (program : Image) (name : List ℕ) (seen : List Analysis) (marks : List (List Bool)) (it : Unmerged) (whole : IsWhole seen marks it) where
-  pub links_many : it.many ≡ true → Links false program name seen marks (Err (refusals.Limit limits.Section (2 ^ 32 - 1)))
+module _ (program : Image) (front : List ℕ) (seen : List Analysis) (marks : List (List Bool)) (it : Unmerged) (whole : IsWhole seen marks it) where
+  pub links_many : it.many ≡ true → Links false program front seen marks (Err (refusals.Limit limits.Section (2 ^ 32 - 1)))
   links_many many = drafts_limited false program seen marks (refusals.Limit limits.Section (2 ^ 32 - 1)) (many_limit seen marks whole.are.sound whole.are.marked (units_many seen marks it.shape it.many many whole.are.linked.units))
 
   module _ (few : it.many ≡ false) where
@@ -295,7 +296,7 @@ module _ (program : Image) (name : List ℕ) (seen : List Analysis) (marks : Lis
       closed_is = subst (λ (ns : List Named). IsClosed ns made.closed) (sym (names_none seen marks)) it_closed;
     }
 
-    pub refused_unit : (r : Refusal) → DraftsUnits (graph_of false seen marks) (Err r) → Links false program name seen marks (Err r)
+    pub refused_unit : (r : Refusal) → DraftsUnits (graph_of false seen marks) (Err r) → Links false program front seen marks (Err r)
     refused_unit (refusals.Faulty file why) d = absurd d
     refused_unit (refusals.Limit which n) d = drafts_limited false program seen marks (refusals.Limit which n) (limit_is false seen marks (few_named seen marks whole.are.sound whole.are.marked) ∙ d)
     refused_unit refusals.NoMemory d = tt
@@ -337,21 +338,21 @@ module _ (seen : List Analysis) (marks : List (List Bool)) (it : Unmerged) (obje
 
 -- ---- a batch that is read
 
-module _ (cpu : ℕ) (sources : List Source) (first : ℕ) (batch : ReadBatch) (it : Unmerged) where
-  pub may_add_batch : length sources < 2 ^ 16 → ReadsBatch cpu sources first batch → SoFar cpu sources first it → MayAddBatch cpu sources first (batch.end - first) it batch.outs.items
+module _ (target : Target) (start : ℕ) (sources : List Source) (first : ℕ) (batch : ReadBatch) (it : Unmerged) where
+  pub may_add_batch : length sources < start + 2 ^ 16 → ReadsBatch target sources first batch → SoFar target start sources first it → MayAddBatch target start sources first (batch.end - first) it batch.outs.items
   may_add_batch few reads so_far = record { so_far = so_far; given = reads.given; within = omega (arith, reads.some, reads.within); few = few }
 
-  pub added_batch : ReadsBatch cpu sources first batch → SoFar cpu sources (first + (batch.end - first)) it → SoFar cpu sources batch.end it
-  added_batch reads so_far = subst (λ (n : ℕ). SoFar cpu sources n it) (let same : first + (batch.end - first) ≡ batch.end = omega (arith, reads.some) in same) so_far
+  pub added_batch : ReadsBatch target sources first batch → SoFar target start sources (first + (batch.end - first)) it → SoFar target start sources batch.end it
+  added_batch reads so_far = subst (λ (n : ℕ). SoFar target start sources n it) (let same : first + (batch.end - first) ≡ batch.end = omega (arith, reads.some) in same) so_far
 
-pub linked_so_far : (cpu : ℕ) (sources : List Source) (i : ℕ) (it : Unmerged) (so_far : SoFar cpu sources i it) → AreLinked so_far.seen so_far.marks it
-linked_so_far cpu sources i it so_far = record { linked = so_far.linked; sound = so_far.going.sound; marked = so_far.going.live.marked }
+pub linked_so_far : (target : Target) (start : ℕ) (sources : List Source) (i : ℕ) (it : Unmerged) (so_far : SoFar target start sources i it) → AreLinked so_far.seen so_far.marks it
+linked_so_far target start sources i it so_far = record { linked = so_far.linked; sound = so_far.going.sound; marked = so_far.going.live.marked }
 
-pub so_far_on : (cpu : ℕ) (sources : List Source) (i : ℕ) (it it' : Unmerged) (so_far : SoFar cpu sources i it) → IsWhole so_far.seen so_far.marks it' → SoFar cpu sources i it'
-so_far_on cpu sources i it it' so_far whole = record { seen = so_far.seen; marks = so_far.marks; going = so_far.going; linked = whole.are.linked }
+pub so_far_on : (target : Target) (start : ℕ) (sources : List Source) (i : ℕ) (it it' : Unmerged) (so_far : SoFar target start sources i it) → IsWhole so_far.seen so_far.marks it' → SoFar target start sources i it'
+so_far_on target start sources i it it' so_far whole = record { seen = so_far.seen; marks = so_far.marks; going = so_far.going; linked = whole.are.linked }
 
-pub so_far_none : (cpu : ℕ) (sources : List Source) (it : Unmerged) → IsUnmerged [] [] it → SoFar cpu sources 0 it
-so_far_none cpu sources it linked = record { seen = []; marks = []; going = going_none cpu sources; linked = linked }
+pub so_far_none : (target : Target) (start : ℕ) (sources : List Source) (it : Unmerged) → IsUnmerged [] [] it → SoFar target start sources start it
+so_far_none target start sources it linked = record { seen = []; marks = []; going = going_none target start sources; linked = linked }
 
 pub none_left : (it : Unmerged) → IsUnmerged [] [] it → it.many ≡ false → length it.drafts.outs.items ≡ length it.shape.units
 none_left it linked few =

@@ -1,5 +1,5 @@
 -- What the passes behind the drafts answer, each to the next. Want of memory says nothing.
-use Rattle.std.specs.Prelude.{◌≡◌, ◌<◌, ◌-◌, ℕ, ◌^◌, Bool, List, length, Some, None, Result, Ok, Err}
+use Rattle.std.specs.Prelude.{◌≡◌, ◌++◌, ◌<◌, ◌-◌, ℕ, ◌^◌, Bool, List, length, Some, None, Result, Ok, Err}
 use Rattle.std.specs.List.{filter, sum_by}
 use Rattle.dwarf_types.specs.declared.analysis.Analysis.{Analysis}
 use Rattle.dwarf_types.specs.declared.frames.OutFrame.{OutFrame}
@@ -11,14 +11,13 @@ use Rattle.layout.specs.Laid.{Laid, Measures}
 use Rattle.unit_draft.specs.declared.unit.Draft.{Draft}
 use Rattle.unit_draft.specs.Drafted.{AreDrafts}
 use Rattle.dsym_write.specs.Bundle.{image_file}
-use Rattle.dsym_write.specs.Plist.{plist_bytes}
 use Rattle.link_status.specs.declared.refusal.Refusal.{Refusal}
 use Rattle.link_status.specs.declared.refusal.Refusal.TheVariants as refusals
 use Rattle.unit_drafts.specs.Graphs.{IsClosed, graph_of}
 use Rattle.link_core.specs.declared.bundle.Counted.{Counted}
 use Rattle.link_core.specs.declared.bundle.Drafted.{Drafted}
 use Rattle.link_core.specs.declared.bundle.Linked.{Linked}
-use Rattle.link_core.specs.Linked.{counts_of, image_limit, limit_of}
+use Rattle.link_core.specs.Linked.{IsLinked, image_limit, limit_of}
 
 -- they are of some graph, which has these frames
 pub record AreOfGraph (drafts : List Draft) (frames : List OutFrame) : Type 0 where
@@ -26,7 +25,7 @@ pub record AreOfGraph (drafts : List Draft) (frames : List OutFrame) : Type 0 wh
   pub are : AreDrafts graph drafts
   pub its_frames : graph.frames ≡ frames
 
--- ---- the bundle
+-- ---- the image
 
 -- the layout of a graph, or the first limit that it reaches
 abbrev pub Lays : Graph → Result Laid Refusal → Type 0
@@ -35,12 +34,12 @@ Lays graph (Err (refusals.Faulty file fault)) = ⊥
 Lays graph (Err (refusals.Limit which n)) = (program : Image) → image_limit program graph ≡ Some (refusals.Limit which n)
 Lays graph (Err refusals.NoMemory) = Unit {0}
 
--- the image of a program's graph, or the first limit that is reached
-abbrev pub Images : Image → Graph → Result (List ℕ) Refusal → Type 0
-Images program graph (Ok bytes) = (image_limit program graph ≡ None) × (bytes ≡ image_file program graph)
-Images program graph (Err (refusals.Faulty file fault)) = ⊥
-Images program graph (Err (refusals.Limit which n)) = image_limit program graph ≡ Some (refusals.Limit which n)
-Images program graph (Err refusals.NoMemory) = Unit {0}
+-- the image of a program's graph behind what stood before it, or the first limit that is reached
+abbrev pub Images : List ℕ → Image → Graph → Result (List ℕ) Refusal → Type 0
+Images front program graph (Ok bytes) = (image_limit program graph ≡ None) × (bytes ≡ front ++ image_file program graph)
+Images front program graph (Err (refusals.Faulty file fault)) = ⊥
+Images front program graph (Err (refusals.Limit which n)) = image_limit program graph ≡ Some (refusals.Limit which n)
+Images front program graph (Err refusals.NoMemory) = Unit {0}
 
 -- what is counted of analyses with their live entries, but for what is written
 pub record AreCounted (odr : Bool) (seen : List Analysis) (marks : List (List Bool)) (counted : Counted) : Type 0 where
@@ -59,11 +58,9 @@ pub record IsDrafted (odr : Bool) (seen : List Analysis) (marks : List (List Boo
   pub counted_are : AreCounted odr seen marks it.counted
   pub closed_is : IsClosed (linked_names odr seen marks) it.closed
 
--- the bundle of analyses whose live entries are marked, or the first limit that is reached
+-- what is made of analyses whose live entries are marked, or the first limit that is reached
 abbrev pub Links : Bool → Image → List ℕ → List Analysis → List (List Bool) → Result Linked Refusal → Type 0
-Links odr program name seen marks (Ok linked) =
-    (limit_of odr program seen marks ≡ None) × (linked.image ≡ image_file program (graph_of odr seen marks)) × (linked.plist ≡ plist_bytes name)
-    × (linked.counts ≡ counts_of seen marks (linked_names odr seen marks) (graph_of odr seen marks) linked.image) × IsClosed (linked_names odr seen marks) linked.closed
-Links odr program name seen marks (Err (refusals.Faulty file fault)) = ⊥
-Links odr program name seen marks (Err (refusals.Limit which n)) = limit_of odr program seen marks ≡ Some (refusals.Limit which n)
-Links odr program name seen marks (Err refusals.NoMemory) = Unit {0}
+Links odr program front seen marks (Ok linked) = IsLinked odr program front seen marks linked
+Links odr program front seen marks (Err (refusals.Faulty file fault)) = ⊥
+Links odr program front seen marks (Err (refusals.Limit which n)) = limit_of odr program seen marks ≡ Some (refusals.Limit which n)
+Links odr program front seen marks (Err refusals.NoMemory) = Unit {0}

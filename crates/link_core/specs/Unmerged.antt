@@ -11,6 +11,7 @@ use Rattle.work_share.specs.Results.{GivesAll}
 use Rattle.object_reads.specs.declared.objects.ReadObject.{ReadObject}
 use Rattle.link_status.specs.declared.refusal.Refusal.{Refusal}
 use Rattle.link_core.specs.declared.unmerged.Unmerged.{Unmerged}
+use Rattle.object_reads.specs.declared.target.Target.{Target}
 use Rattle.object_reads.specs.Sources.{Source}
 use Rattle.object_reads.specs.Reading.{Going, Reads, ReadsAt}
 use Rattle.unit_drafts.specs.Drafting.{AreDrafting}
@@ -35,24 +36,24 @@ pub record MayAdd (seen : List Analysis) (marks : List (List Bool)) (it : Unmerg
   pub few : length seen + 1 < 2 ^ 16
   pub behind : StandsBehind seen marks object.analysis object.live
 
--- the objects below one have no fault, and that much is linked
-pub record SoFar (cpu : ℕ) (sources : List Source) (i : ℕ) (it : Unmerged) : Type 0 where
+-- the objects of a program, whose first stands at a place, have no fault below another place, and that much is linked
+pub record SoFar (target : Target) (start : ℕ) (sources : List Source) (i : ℕ) (it : Unmerged) : Type 0 where
   pub seen : List Analysis
   pub marks : List (List Bool)
-  pub going : Going cpu sources i seen marks
+  pub going : Going target start sources i seen marks
   pub linked : IsUnmerged seen marks it
 
 -- what was read of the objects of a batch may be put behind those below
-pub record MayAddBatch (cpu : ℕ) (sources : List Source) (first count : ℕ) (it : Unmerged) (outs : List (Result ReadObject Refusal)) : Type 0 where
-  pub so_far : SoFar cpu sources first it
-  pub given : GivesAll (λ k out. ReadsAt cpu sources (first + k) out) count outs
+pub record MayAddBatch (target : Target) (start : ℕ) (sources : List Source) (first count : ℕ) (it : Unmerged) (outs : List (Result ReadObject Refusal)) : Type 0 where
+  pub so_far : SoFar target start sources first it
+  pub given : GivesAll (λ k out. ReadsAt target sources (first + k) out) count outs
   pub within : first + count ≤ length sources
-  pub few : length sources < 2 ^ 16
+  pub few : length sources < start + 2 ^ 16
 
--- those below one, or the first fault of the first that has one
-abbrev pub AddsUpTo : ℕ → List Source → ℕ → Unmerged → Result (Unit {0}) Refusal → Type 0
-AddsUpTo cpu sources end it (Ok done) = SoFar cpu sources end it
-AddsUpTo cpu sources end it (Err refusal) = Reads cpu sources (Err refusal)
+-- those below a place, or the first fault of the first that has one
+abbrev pub AddsUpTo : Target → ℕ → List Source → ℕ → Unmerged → Result (Unit {0}) Refusal → Type 0
+AddsUpTo target start sources end it (Ok done) = SoFar target start sources end it
+AddsUpTo target start sources end it (Err refusal) = Reads target start sources (Err refusal)
 
 -- what is linked of sound objects with their marks
 pub record AreLinked (seen : List Analysis) (marks : List (List Bool)) (it : Unmerged) : Type 0 where

@@ -1,4 +1,4 @@
-//! A bundle, what a link counts, and what is drafted of it.
+//! What is linked of a program, what is counted of it, and what is drafted.
 
 use ds_base::{Bytes, List};
 use dwarf_types::OutFrames;
@@ -25,13 +25,11 @@ pub struct Counts {
     pub bytes: u64,
 }
 
-/// The two files of a bundle.
+/// What is linked of a program.
 #[derive(Drop)]
 pub struct Linked {
-    /// The dSYM image.
-    pub image: Bytes,
-    /// The text of Info.plist.
-    pub plist: Bytes,
+    /// The file, with the dSYM image behind what stood in it before.
+    pub file: Bytes,
     pub counts: Counts,
     /// The closed table in which names that are merged were bid for.
     pub closed: ClosedPool,

@@ -1,6 +1,6 @@
-//! The bundle of a program, from the drafts of its units.
+//! The image of a program, from the drafts of its units.
 
-ghost use Rattle.std.specs.Prelude.{◌≡◌, ◌<◌, ◌-◌, ◌^◌, Bool, List as Listed, length, Ok};
+ghost use Rattle.std.specs.Prelude.{◌≡◌, ◌<◌, ◌≤◌, ◌-◌, ◌^◌, Bool, List as Listed, length, take, Ok};
 ghost use Rattle.dwarf_types.specs.declared.analysis.Analysis.{Analysis as Seen};
 ghost use Rattle.dwarf_types.specs.declared.graph.Graph.{Graph as AGraph};
 ghost use Rattle.layout.specs.Laid.{IsMeasured, Measures};
@@ -8,10 +8,10 @@ ghost use Rattle.link_core.specs.Passes.{AreOfGraph, Images, IsDrafted, Lays, Li
 ghost use Rattle.unit_draft.specs.Drafted.{AreDrafts};
 
 use crate::bundle::{Counts, Drafted, Linked};
-use crate::program::{Program, Wanted};
+use crate::program::Program;
 use ds_base::limits::{IMAGE_BYTES, SECTION_BYTES};
 use ds_base::{Bytes, List};
-use dsym_write::{WriteError, image_in, plist_text};
+use dsym_write::{WriteError, image_in};
 use dwarf_types::OutFrames;
 use layout::{Layout, LayoutError, place_drafts};
 use link_status::{LimitKind, Refusal};
@@ -23,16 +23,16 @@ use work_share::{Rooming, Workers, let_go, start_room, started_room};
 /// Bytes of a symbol of a program in its image, about: a third is kept, each with its name.
 const SYMBOL_BYTES: usize = 32;
 
-/// The bundle of a program and of the graph that is drafted, or the first limit that is reached. Its string section takes the
-/// memory that a thread took.
-pub(crate) fn bundle_of<R: Threads + Sync>(
+/// A file with the image of a program and of the graph that is drafted behind what stands in it, or the first limit that is
+/// reached. The string section takes the memory that a thread took.
+pub(crate) fn file_of<R: Threads + Sync>(
     workers: &Workers<R>,
     program: &Program,
-    wanted: &Wanted,
     drafted: Drafted,
+    front: Bytes,
 ) -> Result<Linked, Refusal>
     requires drafted { (odr : Bool) × (seen : Listed Seen) × (marks : Listed (Listed Bool)) × IsDrafted odr seen marks drafted }
-    ensures { (odr : Bool) (seen : Listed Seen) (marks : Listed (Listed Bool)) → IsDrafted odr seen marks drafted → Links odr program.now.image.now wanted.now.name.now seen marks result }
+    ensures { (odr : Bool) (seen : Listed Seen) (marks : Listed (Listed Bool)) → IsDrafted odr seen marks drafted → Links odr program.now.image.now front seen marks result }
 {
     let Drafted {
         drafts,
@@ -42,8 +42,8 @@ pub(crate) fn bundle_of<R: Threads + Sync>(
         closed,
     } = drafted;
     let nodes = count_nodes(drafts.as_slice());
-    let image = image_of(workers, program, drafts, texts, &frames)?;
-    let plist = plist_text(workers.alloc, wanted.name)?;
+    let start = front.len();
+    let file = image_of(workers, program, drafts, texts, &frames, front)?;
     let counts = Counts {
         objects: counted.objects,
         entries: counted.entries,
@@ -51,38 +51,57 @@ pub(crate) fn bundle_of<R: Threads + Sync>(
         pooled: counted.pooled,
         names: counted.names,
         nodes,
-        bytes: image.len() as u64,
+        bytes: (file.len() - start) as u64,
     };
     Ok(Linked {
-        image,
-        plist,
+        file,
         counts,
         closed,
     })
 }
 
-/// The image of a program and of the graph of these drafts and frames, or the first limit that is reached. Where several
-/// threads work, one of them takes memory for the image while the others place the drafts, and one lets these go.
+/// The image of a program and of the graph of these drafts and frames behind what stands before it, or the first limit that
+/// is reached. Where several threads work, one of them takes memory for the image while the others place the drafts, and one
+/// lets these go.
 fn image_of<R: Threads + Sync>(
     workers: &Workers<R>,
     program: &Program,
     drafts: List<Draft>,
     texts: Rooming,
     frames: &OutFrames,
+    front: Bytes,
 ) -> Result<Bytes, Refusal>
     requires few { length drafts < 2 ^ 32 - 1 }
     requires drafted { AreOfGraph drafts frames.now }
-    ensures { (graph : AGraph) → AreDrafts graph drafts → graph.frames ≡ frames.now → Images program.now.image.now graph result }
+    ensures { (graph : AGraph) → AreDrafts graph drafts → graph.frames ≡ frames.now → Images front program.now.image.now graph result }
 {
+    let start = front.len();
     let texts = started_room(workers, texts);
     let size = size_of_image(program, drafts.as_slice(), texts.len());
-    let rooming = start_room(workers, size);
+    let rooming = start_room(workers, room_beside(start, size));
     let placed = layout_of(workers, texts, drafts, frames);
-    let room = started_room(workers, rooming);
+    let room = room_behind(front, started_room(workers, rooming));
     let layout = placed?;
-    let image = write_image(workers, room, program, &layout)?;
+    let image = write_image(workers, room, start, program, &layout)?;
     let_go(workers, layout);
     Ok(image)
+}
+
+/// So many bytes of the image's are taken ahead, where nothing stands before it. Else its room grows where it is.
+fn room_beside(start: usize, size: usize) -> usize {
+    if start == 0 { size } else { 0 }
+}
+
+/// The room for the image behind what stands before it: where that is nothing, the one that was taken ahead.
+fn room_behind(front: Bytes, ahead: Vec<u8>) -> Vec<u8>
+    ensures start { length front ≤ length result.items }
+    ensures front { take (length front) result.items ≡ front }
+{
+    if front.is_empty() {
+        ahead
+    } else {
+        front.into_vec()
+    }
 }
 
 /// About the bytes of the image of a program and these drafts. `texts` is about the size of its string section, or 0 where that
@@ -141,17 +160,26 @@ fn layout_of<R: Threads + Sync>(
     }
 }
 
-/// The image of a program and of a layout, in the place of a room.
+/// The image of a program and of a layout, behind what a room holds before a place.
 fn write_image<R: Threads + Sync>(
     workers: &Workers<R>,
     room: Vec<u8>,
+    start: usize,
     program: &Program,
     layout: &Layout,
 ) -> Result<Bytes, Refusal>
+    requires start { start ≤ length room.items }
     requires measured { IsMeasured layout.now }
-    ensures { (graph : AGraph) → Measures graph (Ok layout.now) → Images program.now.image.now graph result }
+    ensures { (graph : AGraph) → Measures graph (Ok layout.now) → Images (take start room.items) program.now.image.now graph result }
 {
-    match image_in(workers.rt, room, workers.count, program.image, layout) {
+    match image_in(
+        workers.rt,
+        room,
+        start,
+        workers.count,
+        program.image,
+        layout,
+    ) {
         Ok(image) => Ok(image),
         Err(WriteError::File { .. }) => Err(Refusal::Limit {
             which: LimitKind::File,

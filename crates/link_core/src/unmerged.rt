@@ -1,22 +1,26 @@
 //! A link in which nothing is merged: the units of each object are drafted once it is read, and its analysis goes.
 
-ghost use Rattle.std.specs.Prelude.{◌≡◌, ◌<◌, ◌≤◌, ◌+◌, ◌^◌, ℕ, Bool, List as Listed, [], ◌∷◌, ◌++◌, false, length, Ok, IfOk, OnOk};
+ghost use Rattle.std.specs.Prelude.{◌≡◌, ◌<◌, ◌≤◌, ◌+◌, ◌^◌, ℕ, Bool, List as Listed, [], ◌∷◌, ◌++◌, false, length, Ok, IfOk, IfSome, OnOk};
+ghost use Rattle.std.specs.List.{All};
 ghost use Rattle.dwarf_types.specs.declared.analysis.Analysis.{Analysis as Seen};
 ghost use Rattle.dwarf_types.specs.Sound.{IsSound};
 ghost use Rattle.link_graph.specs.Merged.{shape_of};
 ghost use Rattle.link_graph.specs.OwnShapes.{IsOwnShape, StandsBehind};
 ghost use Rattle.link_graph.specs.Passes.{marked};
-ghost use Rattle.object_reads.specs.Sources.{Source, listed};
+ghost use Rattle.object_reads.specs.declared.target.Target.{Target};
+ghost use Rattle.object_reads.specs.Reading.{HoldsFrom};
+ghost use Rattle.object_reads.specs.Sources.{Source};
 ghost use Rattle.unit_drafts.specs.Graphs.{IsClosed};
-ghost use Rattle.link_core.specs.Linked.{Bundles};
+ghost use Rattle.link_core.specs.Linked.{Leaves, LinksPart, part_of};
 ghost use Rattle.link_core.specs.Passes.{Links};
 ghost use Rattle.link_core.specs.Unmerged.{AddsUpTo, AreLinked, HasUnits, IsUnmerged, IsWhole, MayAdd, MayAddBatch};
 
 use crate::bundle::{Counted, Drafted, Linked};
-use crate::image::bundle_of;
-use crate::program::{Program, Wanted};
+use crate::image::file_of;
+use crate::program::Program;
+use crate::target::target_of;
 use ds_base::limits::SECTION_BYTES;
-use ds_base::{BitRow, List, NoMemory};
+use ds_base::{BitRow, Bytes, List, NoMemory};
 use ds_files::Gate;
 use dwarf_types::{Analysis, OutFrames, Shape};
 use link_graph::{ObjectShape, ShapeError, add_object, empty_shape, kept_shape};
@@ -42,7 +46,7 @@ pub(crate) struct Unmerged {
     pub many: bool,
 }
 
-/// Links the objects of a program to its bundle, where nothing is merged.
+/// Links a program with its objects, where nothing is merged.
 ///
 /// Objects are read in batches, behind each of which the units of its objects are drafted, and their analyses go and the
 /// files of which no later object is. Archives are walked once for each batch, of which there are few. A limit is told once
@@ -50,29 +54,28 @@ pub(crate) struct Unmerged {
 pub(crate) fn link_unmerged<R: Threads + Sync, G: Gate + Sync>(
     work: &Work<R, G>,
     program: &Program,
-    wanted: &Wanted,
-    sources: Sources,
+    sources: &Sources,
+    files: &mut FilesLeft,
+    front: Bytes,
 ) -> Result<Linked, Refusal>
-    ensures { Bundles false program.now.image.now wanted.now.name.now (listed sources.entry) result }
+    requires held { All (λ k. IfSome k (λ n. n < length files.old.left)) sources.now.numbers.now }
+    requires files { (all : Listed (Listed ℕ)) × HoldsFrom sources.now.first sources.now.numbers.now all files.old }
+    ensures links { (all : Listed (Listed ℕ)) → HoldsFrom sources.now.first sources.now.numbers.now all files.old → LinksPart false (part_of program.now sources.now all) front result }
+    ensures left { (all : Listed (Listed ℕ)) → HoldsFrom sources.now.first sources.now.numbers.now all files.old → Leaves (HoldsFrom sources.now.end sources.now.numbers.now all files.new) result }
 {
     let alloc = work.workers.alloc;
+    let target = target_of(program);
     let closed = no_names(work)?;
-    let Sources {
-        objects,
-        files,
-        numbers,
-    } = sources;
-    let mut files = FilesLeft::new(alloc, files, numbers, work.workers.count)?;
     let mut linked = Unmerged::new(alloc);
-    let mut first = 0;
-    while (first as usize) < objects.len() {
-        let batch = read_next(work, program.image.cpu, objects, numbers, &mut files, first)?;
+    let mut first = sources.first;
+    while first < sources.end {
+        let batch = read_next(work, target, sources, files, first)?;
         let ReadBatch { end, outs } = batch;
         linked.add_batch(alloc, outs)?;
         linked.draft_others(work)?;
         first = end;
     }
-    linked.bundle(work.workers, program, wanted, closed)
+    linked.file(work.workers, program, closed, front)
 }
 
 impl Unmerged {
@@ -97,8 +100,9 @@ impl Unmerged {
         alloc: Global,
         outs: Vec<Result<ReadObject, Refusal>>,
     ) -> Result<(), Refusal>
-        requires { (cpu first count : ℕ) × (sources : Listed Source) × MayAddBatch cpu sources first count self.old outs.items }
-        ensures { (cpu first count : ℕ) (sources : Listed Source) → MayAddBatch cpu sources first count self.old outs.items → AddsUpTo cpu sources (first + count) self.new result }
+        requires { (target : Target) × (start first count : ℕ) × (sources : Listed Source) × MayAddBatch target start sources first count self.old outs.items }
+        ensures { (target : Target) (start first count : ℕ) (sources : Listed Source) → MayAddBatch target start sources first count self.old outs.items
+            → AddsUpTo target start sources (first + count) self.new result }
     {
         for out in outs {
             let object = out?;
@@ -140,17 +144,17 @@ impl Unmerged {
         Ok(())
     }
 
-    /// The bundle of a program with all objects, or the first limit that is reached.
-    fn bundle<R: Threads + Sync>(
+    /// A file with the image of a program with all objects behind what stands in it, or the first limit that is reached.
+    fn file<R: Threads + Sync>(
         self,
         workers: &Workers<R>,
         program: &Program,
-        wanted: &Wanted,
         closed: ClosedPool,
+        front: Bytes,
     ) -> Result<Linked, Refusal>
         requires whole { (seen : Listed Seen) × (marks : Listed (Listed Bool)) × IsWhole seen marks self }
         requires closed { IsClosed [] closed }
-        ensures { (seen : Listed Seen) (marks : Listed (Listed Bool)) → IsWhole seen marks self → Links false program.now.image.now wanted.now.name.now seen marks result }
+        ensures { (seen : Listed Seen) (marks : Listed (Listed Bool)) → IsWhole seen marks self → Links false program.now.image.now front seen marks result }
     {
         let Unmerged {
             shape,
@@ -182,7 +186,7 @@ impl Unmerged {
             counted,
             closed,
         };
-        bundle_of(workers, program, wanted, drafted)
+        file_of(workers, program, drafted, front)
     }
 }
 

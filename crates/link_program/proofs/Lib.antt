@@ -1,3 +1,4 @@
 pub mod Holding
 pub mod Sources
 pub mod Bundles
+pub mod Refusing

@@ -1,21 +1,24 @@
 //! Links of generated programs by two threads.
 
-ghost use Rattle.std.specs.Prelude.{◌≡◌, ◌<◌, ◌^◌, length, IfOk, IfSome, Ok};
+ghost use Rattle.std.specs.Prelude.{◌≡◌, ◌<◌, ◌^◌, ℕ, List as Listed, length, IfOk, IfSome, Ok};
+ghost use Rattle.object_reads.specs.Reading.{HoldsFrom};
 ghost use Rattle.std.specs.List.{All};
 ghost use Rattle.macho_read.specs.declared.kind.Role.TheVariants as roles;
 ghost use Rattle.macho_read.specs.Kind.{kind_of};
 ghost use Rattle.macho_read.specs.Sound.{IsSound};
 
 use crate::meeting::{Meeting, met};
-use ds_base::{List, NoMemory};
+use ds_base::{Bytes, List, NoMemory};
 use ds_files::{Gate, OpenGate};
-use link_core::{Linked, Program, Wanted, link_objects};
-use object_reads::Sources;
+use link_core::{Linked, Program, link_objects};
+use macho_read::Image;
+use object_reads::{FilesLeft, Sources};
 use sample_objects::{Generated, generated};
 use std::alloc::Global;
 use std::process::Abort;
 use std::thread::Threads;
 use type_pool::ClosedPool;
+use universal::Arch;
 use work_share::{Work, Workers};
 
 /// A generated program has so many objects, each with its file.
@@ -89,16 +92,45 @@ fn link_all<R: Threads + Abort + Sync, G: Gate + Sync>(
         workers: &workers,
         gate,
     };
-    let wanted = Wanted { odr, name: "a.out" };
     let sources = Sources {
         objects: objects.as_slice(),
-        files,
         numbers: source,
+        first: 0,
+        end: objects.len() as u32,
     };
-    let linked = link_objects(&work, &Program { image: &program }, &wanted, sources);
+    let left = FilesLeft::new(alloc, files, source, 2);
+    let linked = link_left(&work, odr, &program, &sources, left);
     drop(objects);
     drop(program);
-    linked.ok()
+    linked
+}
+
+/// The same, of files that are held.
+fn link_left<R: Threads + Sync, G: Gate + Sync>(
+    work: &Work<R, G>,
+    odr: bool,
+    program: &Image,
+    sources: &Sources,
+    files: Result<FilesLeft, NoMemory>,
+) -> Option<Linked>
+    requires sound { IsSound program.now }
+    requires kind { kind_of program.now roles.Program ≡ Ok tt }
+    requires held { IfOk files (λ it. All (λ k. IfSome k (λ n. n < length it.left)) sources.now.numbers.now) }
+    requires files { IfOk files (λ it. (all : Listed (Listed ℕ)) × HoldsFrom sources.now.first sources.now.numbers.now all it) }
+{
+    let Ok(mut files) = files else {
+        return None;
+    };
+    let arch = Arch {
+        cpu: program.cpu,
+        sub: program.sub,
+    };
+    let program = Program {
+        arch,
+        image: program,
+    };
+    let front = Bytes::new(work.workers.alloc);
+    link_objects(work, odr, &program, sources, &mut files, front).ok()
 }
 
 /// How many cells of a closed table hold a name.

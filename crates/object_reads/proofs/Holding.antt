@@ -1,12 +1,15 @@
 -- Which files are held while objects are read in their order.
-use Rattle.std.proofs.Common.{◌≡◌, ◌<◌, ◌≤◌, ◌+◌, ◌-◌, ℕ, zero, suc, List, [], ◌∷◌, ◌++◌, length, take, drop, append-nil, get_or, set, slice_get, Option, Some, None, Result, refl, ap, subst, ◌∙◌, arith, get_or-set_other}
+use Rattle.std.proofs.Common.{◌≡◌, ◌<◌, ◌≤◌, ◌+◌, ◌-◌, ℕ, zero, suc, Bool, List, [], ◌∷◌, ◌++◌, length, take, drop, append-nil, get_or, set, slice_get, Option, Some, None, Result, refl, ap, subst, ◌∙◌, arith, get_or-set_other}
 use Rattle.std.proofs.lemmas.List.{drop_all, get_or_default, take_all}
 use Rattle.stab_map.specs.declared.object.MapObject.{MapObject}
 use Rattle.work_share.specs.Results.{GivesAll}
 use Rattle.object_reads.specs.declared.objects.ReadObject.{ReadObject}
 use Rattle.link_status.specs.declared.refusal.Refusal.{Refusal}
 use Rattle.object_reads.specs.Sources.{sources_of}
+use Rattle.object_reads.specs.declared.target.Target.{Target}
+use Rattle.object_reads.specs.MadeNames.{ReadsNamed}
 use Rattle.object_reads.specs.Reading.{AreHeld, AreLast, ReadsAt}
+use Rattle.object_reads.proofs.Analysing.{taken_at}
 use Rattle.work_share.proofs.Turns.{given_as}
 
 pub held_all : (source : List (Option ℕ)) (files : List (List ℕ)) → AreHeld 0 source files files
@@ -32,15 +35,16 @@ module _ (files held : List (List ℕ)) where
   same_at (o ∷ objects) (Some n ∷ source) zero same = ap (λ (file : List ℕ). Some (record { object = o; file = Some file })) (same n refl)
   same_at (o ∷ objects) (n ∷ source) (suc k) same = same_at objects source k same
 
-  read_as : (cpu from k : ℕ) (objects : List MapObject) (source : List (Option ℕ)) (out : Result ReadObject Refusal) → from ≤ k → AreHeld from source files held → ReadsAt cpu (sources_of objects held source) k out → ReadsAt cpu (sources_of objects files source) k out
-  read_as cpu from k objects source out le are reads s at = reads s (same_at objects source k (λ n here. are k n le here) ∙ at)
+  module _ (named : Bool) (target : Target) (first end : ℕ) (objects : List MapObject) (source : List (Option ℕ)) (are : AreHeld first source files held) where
+    read_as : (k : ℕ) (out : Result ReadObject Refusal) → ReadsAt target (sources_of objects held source) (first + k) out → ReadsAt target (take end (sources_of objects files source)) (first + k) out
+    read_as k out reads s at = reads s (same_at objects source (first + k) (λ n here. are (first + k) n (omega arith) here) ∙ taken_at end (first + k) (sources_of objects files source) s at)
 
-  -- what is read of a batch by the files that are held is read of it by all
-  pub read_held : (cpu first end : ℕ) (objects : List MapObject) (source : List (Option ℕ)) (more : List (Result ReadObject Refusal)) → AreHeld first source files held
-      → GivesAll (λ k out. ReadsAt cpu (sources_of objects held source) (first + k) out) (end - first) more → GivesAll (λ k out. ReadsAt cpu (sources_of objects files source) (first + k) out) (end - first) more
-  read_held cpu first end objects source more are here =
-      given_as (λ k out. ReadsAt cpu (sources_of objects held source) (first + k) out) (λ k out. ReadsAt cpu (sources_of objects files source) (first + k) out) (end - first) more
-      (λ k out lt reads. read_as cpu first (first + k) objects source out (omega arith) are reads) here
+    -- what is read of a batch by the files that are held is read of it by all
+    pub read_held : (count : ℕ) (outs : List (Result ReadObject Refusal)) → GivesAll (λ k out. ReadsNamed named target (sources_of objects held source) first k out) count outs
+        → GivesAll (λ k out. ReadsNamed named target (take end (sources_of objects files source)) first k out) count outs
+    read_held count outs given =
+        given_as (λ k out. ReadsNamed named target (sources_of objects held source) first k out) (λ k out. ReadsNamed named target (take end (sources_of objects files source)) first k out) count outs
+        (λ k out lt reads. (read_as k out reads.0, reads.1)) given
 
 -- ---- lists that were lent
 

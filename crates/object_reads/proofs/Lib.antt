@@ -4,3 +4,4 @@ pub mod MadeNames
 pub mod Marking
 pub mod Members
 pub mod ObjectsRead
+pub mod Slices

@@ -1,3 +1,4 @@
+pub mod Opening
 pub mod Sources
 pub mod Marks
 pub mod Reading

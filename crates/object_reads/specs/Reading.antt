@@ -3,6 +3,8 @@ use Rattle.std.specs.Prelude.{◌≡◌, ◌<◌, ◌≤◌, ◌+◌, ◌-◌, �
 use Rattle.std.specs.List.{All}
 use Rattle.work_share.specs.Results.{GivesAll}
 use Rattle.ds_base.specs.declared.fault.Fault.{Fault}
+use Rattle.ds_base.specs.declared.fault.ReadError.{ReadError}
+use Rattle.ds_base.specs.declared.fault.ReadError.TheVariants as errors
 use Rattle.dwarf_types.specs.declared.analysis.Analysis.{Analysis}
 use Rattle.dwarf_types.specs.Sound.{IsSound}
 use Rattle.link_status.specs.declared.refusal.Refusal.{Refusal}
@@ -11,17 +13,11 @@ use Rattle.object_reads.specs.declared.files.FilesLeft.{FilesLeft}
 use Rattle.object_reads.specs.declared.objects.ReadObject.{ReadObject}
 use Rattle.object_reads.specs.declared.reading.ReadBatch.{ReadBatch}
 use Rattle.object_reads.specs.declared.reading.ReadObjects.{ReadObjects}
+use Rattle.object_reads.specs.declared.target.Target.{Target}
 use Rattle.object_reads.specs.Marks.{AreLive, MarkLive}
 use Rattle.object_reads.specs.Sources.{Source, analyses_from, analysis_from}
 
--- the analysis of the object of a number, or its first fault
-abbrev pub Numbered : ℕ → Result Analysis Fault → Result Analysis Refusal → Type 0
-Numbered number read (Ok seen) = read ≡ Ok seen
-Numbered number read (Err (refusals.Faulty file fault)) = (file ≡ number) × (read ≡ Err fault)
-Numbered number read (Err (refusals.Limit which n)) = ⊥
-Numbered number read (Err refusals.NoMemory) = Unit {0}
-
--- the object of a number with the marks of its live entries, where it has no fault
+-- an object with the marks of its live entries, where it has no fault
 pub record IsRead (read : Result Analysis Fault) (it : ReadObject) : Type 0 where
   pub exact : read ≡ Ok it.analysis
   pub sound : IsSound it.analysis
@@ -29,15 +25,21 @@ pub record IsRead (read : Result Analysis Fault) (it : ReadObject) : Type 0 wher
   pub live : AreLive (it.analysis, it.live)
 
 -- such an object, or its first fault
-abbrev pub ReadsObject : ℕ → Result Analysis Fault → Result ReadObject Refusal → Type 0
-ReadsObject number read (Ok it) = IsRead read it
-ReadsObject number read (Err (refusals.Faulty file fault)) = (file ≡ number) × (read ≡ Err fault)
-ReadsObject number read (Err (refusals.Limit which n)) = ⊥
-ReadsObject number read (Err refusals.NoMemory) = Unit {0}
+abbrev pub ReadsObject : Result Analysis Fault → Result ReadObject ReadError → Type 0
+ReadsObject read (Ok it) = IsRead read it
+ReadsObject read (Err (errors.Faulty fault)) = read ≡ Err fault
+ReadsObject read (Err errors.NoMemory) = Unit {0}
 
--- what is read of the object at a place, for a program of this CPU type
-abbrev pub ReadsAt : ℕ → List Source → ℕ → Result ReadObject Refusal → Type 0
-ReadsAt cpu sources item out = (s : Source) → slice_get sources item ≡ Some s → ReadsObject (item + 1) (analysis_from cpu s.object s.file) out
+-- the same of the object of a number, which its fault tells
+abbrev pub ReadsNumbered : ℕ → Result Analysis Fault → Result ReadObject Refusal → Type 0
+ReadsNumbered number read (Ok it) = IsRead read it
+ReadsNumbered number read (Err (refusals.Faulty file fault)) = (file ≡ number) × (read ≡ Err fault)
+ReadsNumbered number read (Err (refusals.Limit which n)) = ⊥
+ReadsNumbered number read (Err refusals.NoMemory) = Unit {0}
+
+-- what is read of the object at a place, for a program
+abbrev pub ReadsAt : Target → List Source → ℕ → Result ReadObject Refusal → Type 0
+ReadsAt target sources item out = (s : Source) → slice_get sources item ≡ Some s → ReadsNumbered (item + 1) (analysis_from target s.object s.file) out
 
 -- of each file no object stands behind its last
 abbrev pub AreLast : List (Option ℕ) → List ℕ → Type 0
@@ -60,28 +62,28 @@ pub record HoldsFrom (from : ℕ) (source : List (Option ℕ)) (files : List (Li
   pub last : AreLast source it.last.items
 
 -- what is read of the objects from one up to another
-pub record ReadsBatch (cpu : ℕ) (sources : List Source) (first : ℕ) (batch : ReadBatch) : Type 0 where
-  pub some : first < batch.end
+pub record ReadsBatch (target : Target) (sources : List Source) (from : ℕ) (batch : ReadBatch) : Type 0 where
+  pub some : from < batch.end
   pub within : batch.end ≤ length sources
-  pub given : GivesAll (λ k out. ReadsAt cpu sources (first + k) out) (batch.end - first) batch.outs.items
+  pub given : GivesAll (λ k out. ReadsAt target sources (from + k) out) (batch.end - from) batch.outs.items
 
--- the first objects are read, of which none has a fault
-pub record Going (cpu : ℕ) (sources : List Source) (i : ℕ) (seen : List Analysis) (marks : List (List Bool)) : Type 0 where
-  pub exact : analyses_from cpu 1 sources ≡ behind seen (analyses_from cpu (i + 1) (drop i sources))
+-- the objects from the first of a program up to another are read, of which none has a fault
+pub record Going (target : Target) (first : ℕ) (sources : List Source) (end : ℕ) (seen : List Analysis) (marks : List (List Bool)) : Type 0 where
+  pub exact : analyses_from target (first + 1) (drop first sources) ≡ behind seen (analyses_from target (end + 1) (drop end sources))
   pub sound : All IsSound seen
-  pub size : length seen ≡ i
+  pub size : first + length seen ≡ end
   pub live : MarkLive seen marks
 
--- all objects with the marks of their live entries, where none has a fault
-pub record AreRead (cpu : ℕ) (sources : List Source) (seen : List Analysis) (marks : List (List Bool)) : Type 0 where
-  pub exact : analyses_from cpu 1 sources ≡ Ok seen
+-- all objects from the first of a program on with the marks of their live entries, where none has a fault
+pub record AreRead (target : Target) (first : ℕ) (sources : List Source) (seen : List Analysis) (marks : List (List Bool)) : Type 0 where
+  pub exact : analyses_from target (first + 1) (drop first sources) ≡ Ok seen
   pub sound : All IsSound seen
-  pub size : length seen ≡ length sources
+  pub size : first + length seen ≡ length sources
   pub live : MarkLive seen marks
 
 -- such objects, or the first fault of the first that has one
-abbrev pub Reads : ℕ → List Source → Result ReadObjects Refusal → Type 0
-Reads cpu sources (Ok it) = AreRead cpu sources it.seen it.marks
-Reads cpu sources (Err (refusals.Faulty file fault)) = analyses_from cpu 1 sources ≡ Err (refusals.Faulty file fault)
-Reads cpu sources (Err (refusals.Limit which n)) = ⊥
-Reads cpu sources (Err refusals.NoMemory) = Unit {0}
+abbrev pub Reads : Target → ℕ → List Source → Result ReadObjects Refusal → Type 0
+Reads target first sources (Ok it) = AreRead target first sources it.seen it.marks
+Reads target first sources (Err (refusals.Faulty file fault)) = analyses_from target (first + 1) (drop first sources) ≡ Err (refusals.Faulty file fault)
+Reads target first sources (Err (refusals.Limit which n)) = ⊥
+Reads target first sources (Err refusals.NoMemory) = Unit {0}

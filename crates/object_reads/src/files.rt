@@ -6,6 +6,7 @@ ghost use Rattle.object_reads.specs.Reading.{AreHeld, AreLast, HoldsFrom};
 
 use ds_base::{Bytes, List, NoMemory};
 use std::alloc::Global;
+use std::mem::swap;
 
 /// Of all bytes and of all objects a batch has one in so many at least, so that there are few batches.
 const BATCHES: u32 = 32;
@@ -37,7 +38,7 @@ impl FilesLeft {
         source: &[Option<u32>],
         workers: u32,
     ) -> Result<FilesLeft, NoMemory>
-        requires few { length source.now < 2 ^ 16 }
+        requires few { length source.now < 2 ^ 20 }
         requires held { All (λ k. IfSome k (λ n. n < length files)) source.now }
         requires small { All (λ file. length file < 2 ^ 32) files }
         ensures { IfOk result (HoldsFrom 0 source.now files) }
@@ -55,7 +56,7 @@ impl FilesLeft {
 
 /// The number of the last object of each file, counted from 0. A file without one has 0.
 fn last_objects(alloc: Global, source: &[Option<u32>], files: usize) -> Result<Vec<u32>, NoMemory>
-    requires few { length source.now < 2 ^ 16 }
+    requires few { length source.now < 2 ^ 20 }
     requires held { All (λ k. IfSome k (λ n. n < files)) source.now }
     ensures { IfOk result (λ last. AreLast source.now last.items) }
 {
@@ -94,21 +95,22 @@ fn most_objects(objects: u32, workers: u32) -> u32 {
 }
 
 /// Where the batch that begins with an object ends: so far that files of so many bytes go behind it, or that it has so
-/// many objects.
-pub(crate) fn batch_end(files: &FilesLeft, source: &[Option<u32>], first: u32) -> u32
-    requires few { length source.now < 2 ^ 16 }
-    requires there { first < length source.now }
-    ensures { (first < result) × (result ≤ length source.now) }
+/// many objects, and at `end` at the latest.
+pub(crate) fn batch_end(files: &FilesLeft, source: &[Option<u32>], first: u32, end: u32) -> u32
+    requires few { length source.now < 2 ^ 20 }
+    requires there { first < end }
+    requires within { end ≤ length source.now }
+    ensures { (first < result) × (result ≤ end) }
 {
     let mut going: u64 = 0;
-    for k in first..source.len() as u32 {
+    for k in first..end {
         let bytes = bytes_going(files.left.as_slice(), &files.last, source[k as usize], k);
         going = going.saturating_add(bytes);
         if going >= files.least || k + 1 - first >= files.most {
             return k + 1;
         }
     }
-    source.len() as u32
+    end
 }
 
 /// The bytes of a file that goes with this object, which is of the file.
@@ -122,7 +124,7 @@ fn bytes_going(files: &[Bytes], last: &[u32], number: Option<u32>, object: u32) 
     }
 }
 
-/// Drops the files of the objects from `first` up to `end` of which no object is left.
+/// Takes away the files of the objects from `first` up to `end` of which no object is left.
 pub(crate) fn drop_files(
     alloc: Global,
     left: &mut [Bytes],
@@ -130,27 +132,39 @@ pub(crate) fn drop_files(
     last: &[u32],
     first: u32,
     end: u32,
-)
+) -> Result<List<Bytes>, NoMemory>
     requires last { AreLast source.now last.now }
     requires order { end ≤ length source.now }
     ensures held { (files : Listed (Listed ℕ)) → AreHeld end source.now files left.old → AreHeld end source.now files left.new }
     ensures small { All (λ file. length file < 2 ^ 32) left.old → All (λ file. length file < 2 ^ 32) left.new }
 {
+    let mut gone = List::new(alloc);
     for k in first..end {
-        drop_file(alloc, left, last, source[k as usize], end);
+        drop_file(alloc, left, &mut gone, last, source[k as usize], end)?;
     }
+    Ok(gone)
 }
 
-/// Drops a file of which no object from `end` on is.
-fn drop_file(alloc: Global, left: &mut [Bytes], last: &[u32], number: Option<u32>, end: u32)
+/// Takes away a file of which no object from `end` on is.
+fn drop_file(
+    alloc: Global,
+    left: &mut [Bytes],
+    gone: &mut List<Bytes>,
+    last: &[u32],
+    number: Option<u32>,
+    end: u32,
+) -> Result<(), NoMemory>
     ensures held { (source : Listed (Option ℕ)) (files : Listed (Listed ℕ)) → AreLast source last.now → AreHeld end source files left.old → AreHeld end source files left.new }
     ensures small { All (λ file. length file < 2 ^ 32) left.old → All (λ file. length file < 2 ^ 32) left.new }
 {
     let Some(n) = number else {
-        return;
+        return Ok(());
     };
     let n = n as usize;
     if n < left.len() && n < last.len() && last[n] < end {
-        left[n] = Bytes::new(alloc);
+        let mut file = Bytes::new(alloc);
+        swap(&mut left[n], &mut file);
+        gone.push(file)?;
     }
+    Ok(())
 }

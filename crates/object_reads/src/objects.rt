@@ -1,19 +1,20 @@
 //! One object of a program, as it is read.
 
-ghost use Rattle.std.specs.Prelude.{◌≡◌, ◌<◌, ◌≤◌, ◌^◌, Result as Outcome, length, IfOk};
+ghost use Rattle.std.specs.Prelude.{◌≡◌, ◌<◌, ◌≤◌, ◌^◌, Bool, List as Listed, Option as Maybe, Result as Outcome, ℕ, length, IfOk};
 ghost use Rattle.dwarf_types.specs.declared.analysis.Analysis.{Analysis as Seen};
 ghost use Rattle.ds_base.specs.declared.fault.Fault.{Fault as Wrong};
-ghost use Rattle.std.specs.Option.{option_map};
 ghost use Rattle.ds_base.specs.Reading.{Finds, Gives};
 ghost use Rattle.dwarf_types.specs.Sound.{IsSound};
 ghost use Rattle.object_view.specs.Analysis.{analysis_of};
 ghost use Rattle.odr_names.specs.Making.{IsLiveRow};
 ghost use Rattle.object_reads.specs.MadeNames.{HasNames};
-ghost use Rattle.object_reads.specs.Reading.{Numbered, ReadsObject};
-ghost use Rattle.object_reads.specs.Sources.{analysis_from, analysis_in, content_of as bytes_of};
+ghost use Rattle.object_reads.specs.Opening.{IsOpened};
+ghost use Rattle.object_reads.specs.Reading.{ReadsNumbered, ReadsObject};
+ghost use Rattle.object_reads.specs.Sources.{analysis_from, analysis_of_thin as thin_analysis, content_of as bytes_of};
 
-use crate::sources::ObjectFile;
-use ar_read::{Members, read_members};
+use crate::opened::{Opened, ThinFile};
+use crate::target::Target;
+use ar_read::Members;
 use ds_base::{BitRow, Bytes, Fault, List, NoMemory, ReadError};
 use dwarf_types::{Analysis, Entries, OutFrames};
 use link_status::Refusal;
@@ -33,23 +34,22 @@ pub struct ReadObject {
     pub made: Option<ObjectNames>,
 }
 
-/// The object of a number for a program of this CPU type, or its first fault; with its names, if they are wanted.
+/// An object for a program, or its first fault; with its names, which bid by a number, if they are wanted.
 pub(crate) fn read_object(
     alloc: Global,
-    cpu: u32,
+    target: Target,
     named: bool,
-    number: u32,
+    bid: u32,
     object: &MapObject,
-    file: Option<ObjectFile>,
-) -> Result<ReadObject, Refusal>
-    requires counted { (1 ≤ number) × (number < 2 ^ 16) }
-    ensures read { ReadsObject number (analysis_from cpu object.now (option_map (λ it. it.bytes.now) file.entry)) result }
-    ensures names { IfOk result (λ it. HasNames named number it.analysis it.live it.made) }
+    file: Option<&Opened>,
+) -> Result<ReadObject, ReadError>
+    requires counted { (1 ≤ bid) × (bid < 2 ^ 16) }
+    ensures read { (bytes : Maybe (Listed ℕ)) → IsOpened target.arch bytes file.entry → ReadsObject (analysis_from target object.now bytes) result }
+    ensures names { IfOk result (λ it. HasNames named bid it.analysis it.live it.made) }
 {
-    let read = analysis(alloc, cpu, object, file);
-    let analysis = numbered(number, read)?;
+    let analysis = analysis(alloc, target, object, file)?;
     let live = live(alloc, &analysis)?;
-    let made = made_names(alloc, named, number, &analysis, &live)?;
+    let made = made_names(alloc, named, bid, &analysis, &live)?;
     Ok(ReadObject {
         analysis,
         live,
@@ -57,45 +57,13 @@ pub(crate) fn read_object(
     })
 }
 
-/// The names of the object of a number, if they are wanted.
-fn made_names(
-    alloc: Global,
-    named: bool,
-    number: u32,
-    analysis: &Analysis,
-    live: &BitRow,
-) -> Result<Option<ObjectNames>, NoMemory>
-    requires counted { (1 ≤ number) × (number < 2 ^ 16) }
-    requires sound { IsSound analysis.now }
-    requires live { IsLiveRow analysis.now.entries live.now }
-    ensures { IfOk result (HasNames named number analysis.now live.now) }
-{
-    if !named {
-        return Ok(None);
-    }
-    let made = object_names(alloc, analysis, live, number)?;
-    Ok(Some(made))
-}
-
-/// The members of each file; a file that is no archive has none.
-pub(crate) fn members_of<'a>(
-    alloc: Global,
-    files: &'a [Bytes],
-) -> Result<List<Members<'a>>, NoMemory>
-    ensures { IfOk result (λ archives. archives ≡ files.now) }
-{
-    let mut archives = List::new(alloc);
-    for file in files {
-        let members = read_members(alloc, file.as_slice())?;
-        archives.push(members)?;
-    }
-    Ok(archives)
-}
-
 /// What was read of the object of a number.
-fn numbered(number: u32, read: Result<Analysis, ReadError>) -> Result<Analysis, Refusal>
-    ensures exact { (of : Outcome Seen Wrong) → Gives (λ it. it) read of → Numbered number of result }
-    ensures sound { IfOk read IsSound → IfOk result IsSound }
+pub(crate) fn numbered(
+    number: u32,
+    read: Result<ReadObject, ReadError>,
+) -> Result<ReadObject, Refusal>
+    ensures read { (of : Outcome Seen Wrong) → ReadsObject of read → ReadsNumbered number of result }
+    ensures names { (named : Bool) (bid : ℕ) → IfOk read (λ it. HasNames named bid it.analysis it.live it.made) → IfOk result (λ it. HasNames named bid it.analysis it.live it.made) }
 {
     match read {
         Ok(it) => Ok(it),
@@ -107,19 +75,42 @@ fn numbered(number: u32, read: Result<Analysis, ReadError>) -> Result<Analysis, 
     }
 }
 
+/// The names of an object, which bid by a number, if they are wanted.
+fn made_names(
+    alloc: Global,
+    named: bool,
+    bid: u32,
+    analysis: &Analysis,
+    live: &BitRow,
+) -> Result<Option<ObjectNames>, NoMemory>
+    requires counted { (1 ≤ bid) × (bid < 2 ^ 16) }
+    requires sound { IsSound analysis.now }
+    requires live { IsLiveRow analysis.now.entries live.now }
+    ensures { IfOk result (HasNames named bid analysis.now live.now) }
+{
+    if !named {
+        return Ok(None);
+    }
+    let made = object_names(alloc, analysis, live, bid)?;
+    Ok(Some(made))
+}
+
 /// The analysis of an object, which has a file or is left away.
 fn analysis(
     alloc: Global,
-    cpu: u32,
+    target: Target,
     object: &MapObject,
-    file: Option<ObjectFile>,
+    file: Option<&Opened>,
 ) -> Result<Analysis, ReadError>
-    ensures exact { Gives (λ it. it) result (analysis_from cpu object.now (option_map (λ it. it.bytes.now) file.entry)) }
+    ensures exact { (bytes : Maybe (Listed ℕ)) → IsOpened target.arch bytes file.entry → Gives (λ it. it) result (analysis_from target object.now bytes) }
     ensures sound { IfOk result IsSound }
 {
+    let Some(file) = file else {
+        return Ok(no_entries(alloc));
+    };
     match file {
-        Some(file) => analysis_of_file(alloc, cpu, object, file.bytes, file.members),
-        None => Ok(no_entries(alloc)),
+        Opened::Thin(file) => analysis_of_thin(alloc, target.cpu, object, file),
+        Opened::Refused(fault) => Err(ReadError::Faulty(*fault)),
     }
 }
 
@@ -135,21 +126,18 @@ pub fn no_entries(alloc: Global) -> Analysis
     }
 }
 
-/// The analysis of an object by the bytes of its file, and the members of that.
-#[tactic(auto, unfolding(crate::specs::Sources::analysis_in))]
-fn analysis_of_file(
+/// The analysis of an object by a file that isn't universal.
+#[tactic(auto, unfolding(crate::specs::Sources::analysis_of_thin))]
+fn analysis_of_thin(
     alloc: Global,
     cpu: u32,
     object: &MapObject,
-    file: &[u8],
-    members: &Members,
+    file: &ThinFile,
 ) -> Result<Analysis, ReadError>
-    requires members { members.now ≡ file.now }
-    requires small { length file.now < 2 ^ 32 }
-    ensures exact { Gives (λ it. it) result (analysis_in cpu object.now file.now) }
+    ensures exact { Gives (λ it. it) result (thin_analysis cpu object.now file.now.bytes.now) }
     ensures sound { IfOk result IsSound }
 {
-    let bytes = content_of(&object.member, file, members)?;
+    let bytes = content_of(&object.member, file.bytes, &file.members)?;
     analysis_of_bytes(alloc, cpu, object, bytes)
 }
 

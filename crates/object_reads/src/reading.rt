@@ -1,23 +1,28 @@
-//! All objects of a program, read by several threads.
+//! The objects of a program, read by several threads.
 
-ghost use Rattle.std.specs.Prelude.{◌≡◌, ◌<◌, ◌≤◌, ◌+◌, ◌-◌, ◌++◌, ◌^◌, ℕ, Bool, List as Listed, IfOk, IfSome, OnOk, length};
-ghost use Rattle.std.specs.Option.{option_to_list};
+ghost use Rattle.std.specs.Prelude.{◌≡◌, ◌<◌, ◌≤◌, ◌+◌, ◌-◌, ◌++◌, ◌^◌, ℕ, Bool, List as Listed, IfOk, IfSome, OnOk, [], length, slice_index_or};
+ghost use Rattle.std.specs.Option.{option_map, option_to_list};
 ghost use Rattle.std.specs.List.{All};
 ghost use Rattle.work_share.specs.Results.{GivesAll};
 ghost use Rattle.object_reads.specs.Sources.{Source, lent_sources, listed, sources_of};
+ghost use Rattle.object_reads.specs.Opening.{IsOpened};
+ghost use Rattle.object_reads.specs.declared.target.Target.{Target as ATarget};
 ghost use Rattle.object_reads.specs.MadeNames.{AllNamed, HaveNames, NamesAt, ReadsNamed};
 ghost use Rattle.object_reads.specs.Reading.{HoldsFrom, Reads, ReadsAt, ReadsBatch};
 
 use crate::files::{FilesLeft, batch_end, drop_files};
-use crate::objects::{ReadObject, members_of, read_object};
+use crate::lent::Lent;
+use crate::objects::{ReadObject, numbered, read_object};
+use crate::opened::Opened;
+use crate::opening::open_files;
 use crate::sizes::large_first;
-use crate::sources::{Lent, Sources, file_of};
-use ds_base::{BitRow, Bytes, List, NoMemory};
+use crate::sources::Sources;
+use crate::target::Target;
+use ds_base::{BitRow, List, NoMemory};
 use ds_files::{Gate, OpenGate};
 use dwarf_types::Analysis;
 use link_status::Refusal;
 use odr_names::ObjectNames;
-use stab_map::MapObject;
 use std::alloc::Global;
 use std::thread::Threads;
 use work_share::{Job, Work, each_in_order, let_go};
@@ -25,7 +30,7 @@ use work_share::{Job, Work, each_in_order, let_go};
 /// The number of the phase in which objects are read.
 const ANALYSE: u32 = 0;
 
-/// All objects as they were read.
+/// The objects of a program as they were read.
 #[derive(Drop)]
 pub struct ReadObjects {
     pub seen: List<Analysis>,
@@ -43,157 +48,167 @@ pub struct ReadBatch {
     pub outs: Vec<Result<ReadObject, Refusal>>,
 }
 
+/// The objects from one up to another, which are read together.
+#[derive(Clone, Copy)]
+struct Batch {
+    first: u32,
+    end: u32,
+    /// Whether their names are made too.
+    named: bool,
+}
+
 /// Each object of a batch is read.
 #[derive(Drop)]
 struct Reading<'a, 'b, G> {
     alloc: Global,
-    cpu: u32,
-    /// Whether its names are made too.
-    named: bool,
     lent: &'a Lent<'b>,
-    /// The first object of the batch.
-    first: u32,
+    batch: Batch,
     gate: &'a G,
 }
 
 impl<'a, 'b, G: Gate> Job for Reading<'a, 'b, G> {
     type Out = Result<ReadObject, Refusal>;
 
-    ghost takes = { λ job item. job.first + item < length job.lent.now.objects.now };
+    ghost takes = { λ job item. (job.batch.first + item < length job.lent.now.objects.now) × (item + 1 < 2 ^ 16) };
 
-    ghost gives = { λ job item out. ReadsNamed job.named job.cpu (lent_sources job.lent.now) (job.first + item) out };
+    ghost gives = { λ job item out. ReadsNamed job.batch.named job.lent.now.target (lent_sources job.lent.now) job.batch.first item out };
 
     fn run(&self, item: u32) -> Result<ReadObject, Refusal> {
-        let object = self.first + item;
+        let object = self.batch.first + item;
         self.gate.pass(ANALYSE, object);
         let file = file_of(self.lent, self.lent.numbers[object as usize]);
-        read_object(
+        let read = read_object(
             self.alloc,
-            self.cpu,
-            self.named,
-            object + 1,
+            self.lent.target,
+            self.batch.named,
+            item + 1,
             &self.lent.objects[object as usize],
             file,
-        )
+        );
+        numbered(object + 1, read)
     }
 }
 
-/// The analyses of all objects for a program of this CPU type, with the marks of their live entries and their names, if these
-/// are wanted; or the first fault of the first object that has one.
-///
-/// Each archive is walked once. Which thread meets a fault first says nothing. The files go once all objects are read.
-pub fn read_all<R: Threads + Sync, G: Gate + Sync>(
-    work: &Work<R, G>,
-    cpu: u32,
-    named: bool,
-    sources: Sources,
-) -> Result<ReadObjects, Refusal>
-    ensures { AllNamed named cpu (listed sources.entry) result }
+/// The file of a number, as it was opened, if there is one.
+fn file_of<'a>(lent: &Lent<'a>, number: Option<u32>) -> Option<&'a Opened<'a>>
+    requires { IfSome number (λ n. n < length lent.now.files.now) }
+    ensures { IsOpened lent.now.target.arch (option_map (λ k. slice_index_or lent.now.files.now k []) number) result }
 {
-    let Sources {
-        objects,
-        files,
-        numbers,
-    } = sources;
-    let read = read_files(work, cpu, named, objects, files.as_slice(), numbers);
-    let_go(work.workers, files);
-    all_read(work.workers.alloc, read?.into_vec())
+    let n = number? as usize;
+    let opened = lent.opened;
+    Some(&opened[n])
 }
 
-/// What is read of the batch of objects that begins with `first`. Files go of which no later object is.
+/// The analyses of a program's objects, with the marks of their live entries and their names, if these are wanted; or the
+/// first fault of the first object that has one.
+///
+/// Each archive is walked once. Which thread meets a fault first says nothing. Once all objects are read, the files go of
+/// which no object behind them is.
+pub fn read_all<R: Threads + Sync, G: Gate + Sync>(
+    work: &Work<R, G>,
+    target: Target,
+    named: bool,
+    sources: &Sources,
+    files: &mut FilesLeft,
+) -> Result<ReadObjects, Refusal>
+    requires held { All (λ k. IfSome k (λ n. n < length files.old.left)) sources.now.numbers.now }
+    requires files { (all : Listed (Listed ℕ)) × HoldsFrom sources.now.first sources.now.numbers.now all files.old }
+    ensures read { (all : Listed (Listed ℕ)) → HoldsFrom sources.now.first sources.now.numbers.now all files.old → AllNamed named target sources.now.first (listed sources.now all) result }
+    ensures left { (all : Listed (Listed ℕ)) → HoldsFrom sources.now.first sources.now.numbers.now all files.old → IfOk result (λ _. HoldsFrom sources.now.end sources.now.numbers.now all files.new) }
+{
+    let batch = Batch {
+        first: sources.first,
+        end: sources.end,
+        named,
+    };
+    let outs = read_batch(work, target, sources, files, batch)?;
+    all_read(work.workers.alloc, outs)
+}
+
+/// What is read of the batch of a program's objects that begins with `first`. Files go of which no later object is.
 pub fn read_next<R: Threads + Sync, G: Gate + Sync>(
     work: &Work<R, G>,
-    cpu: u32,
-    objects: &[MapObject],
-    numbers: &[Option<u32>],
+    target: Target,
+    sources: &Sources,
     files: &mut FilesLeft,
     first: u32,
 ) -> Result<ReadBatch, NoMemory>
-    requires few { length objects.now < 2 ^ 16 }
-    requires each { length numbers.now ≡ length objects.now }
-    requires held { All (λ k. IfSome k (λ n. n < length files.old.left)) numbers.now }
-    requires there { first < length objects.now }
-    requires files { (all : Listed (Listed ℕ)) × HoldsFrom first numbers.now all files.old }
-    ensures { (all : Listed (Listed ℕ)) → HoldsFrom first numbers.now all files.old
-        → IfOk result (λ batch. ReadsBatch cpu (sources_of objects.now all numbers.now) first batch × HoldsFrom batch.end numbers.now all files.new) }
+    requires there { (sources.now.first ≤ first) × (first < sources.now.end) }
+    requires held { All (λ k. IfSome k (λ n. n < length files.old.left)) sources.now.numbers.now }
+    requires files { (all : Listed (Listed ℕ)) × HoldsFrom first sources.now.numbers.now all files.old }
+    ensures { (all : Listed (Listed ℕ)) → HoldsFrom first sources.now.numbers.now all files.old
+        → IfOk result (λ batch. ReadsBatch target (listed sources.now all) first batch × HoldsFrom batch.end sources.now.numbers.now all files.new) }
 {
-    let alloc = work.workers.alloc;
-    let end = batch_end(files, numbers, first);
-    let outs = {
-        let archives = members_of(alloc, files.left.as_slice())?;
-        let lent = Lent {
-            objects,
-            files: files.left.as_slice(),
-            archives: archives.as_slice(),
-            numbers,
-        };
-        read_batch(work, cpu, false, &lent, first, end)?
-    };
-    drop_files(
-        alloc,
-        files.left.as_mut_slice(),
-        numbers,
-        &files.last,
+    let end = batch_end(files, sources.numbers, first, sources.end);
+    let batch = Batch {
         first,
         end,
-    );
-    Ok(ReadBatch {
-        end,
-        outs: outs.into_vec(),
-    })
-}
-
-/// What is read of all objects, by files that stay.
-fn read_files<R: Threads + Sync, G: Gate + Sync>(
-    work: &Work<R, G>,
-    cpu: u32,
-    named: bool,
-    objects: &[MapObject],
-    files: &[Bytes],
-    numbers: &[Option<u32>],
-) -> Result<List<Result<ReadObject, Refusal>>, NoMemory>
-    requires few { length objects.now < 2 ^ 16 }
-    requires each { length numbers.now ≡ length objects.now }
-    requires held { All (λ k. IfSome k (λ n. n < length files.now)) numbers.now }
-    requires small { All (λ file. length file < 2 ^ 32) files.now }
-    ensures { IfOk result (λ outs. GivesAll (λ k out. ReadsNamed named cpu (sources_of objects.now files.now numbers.now) k out) (length objects.now) outs) }
-{
-    let archives = members_of(work.workers.alloc, files)?;
-    let lent = Lent {
-        objects,
-        files,
-        archives: archives.as_slice(),
-        numbers,
+        named: false,
     };
-    read_batch(work, cpu, named, &lent, 0, objects.len() as u32)
+    let outs = read_batch(work, target, sources, files, batch)?;
+    Ok(ReadBatch { end, outs })
 }
 
-/// What is read of the objects from one up to another, of which large ones are begun first.
+/// What is read of the objects of a batch. Files go of which no later object is.
 fn read_batch<R: Threads + Sync, G: Gate + Sync>(
     work: &Work<R, G>,
-    cpu: u32,
-    named: bool,
+    target: Target,
+    sources: &Sources,
+    files: &mut FilesLeft,
+    batch: Batch,
+) -> Result<Vec<Result<ReadObject, Refusal>>, NoMemory>
+    requires order { (batch.first ≤ batch.end) × (batch.end ≤ sources.now.end) × (sources.now.first ≤ batch.first) }
+    requires held { All (λ k. IfSome k (λ n. n < length files.old.left)) sources.now.numbers.now }
+    requires files { (all : Listed (Listed ℕ)) × HoldsFrom batch.first sources.now.numbers.now all files.old }
+    ensures read { (all : Listed (Listed ℕ)) → HoldsFrom batch.first sources.now.numbers.now all files.old
+        → IfOk result (λ outs. GivesAll (λ k out. ReadsNamed batch.named target (listed sources.now all) batch.first k out) (batch.end - batch.first) outs.items) }
+    ensures left { (all : Listed (Listed ℕ)) → HoldsFrom batch.first sources.now.numbers.now all files.old → IfOk result (λ _. HoldsFrom batch.end sources.now.numbers.now all files.new) }
+{
+    let alloc = work.workers.alloc;
+    let outs = {
+        let opened = open_files(alloc, target.arch, files.left.as_slice())?;
+        let lent = Lent {
+            target,
+            objects: sources.objects,
+            numbers: sources.numbers,
+            files: files.left.as_slice(),
+            opened: opened.as_slice(),
+        };
+        read_lent(work, &lent, batch)?
+    };
+    let gone = drop_files(
+        alloc,
+        files.left.as_mut_slice(),
+        sources.numbers,
+        &files.last,
+        batch.first,
+        batch.end,
+    )?;
+    let_go(work.workers, gone);
+    Ok(outs.into_vec())
+}
+
+/// What is read of the objects of a batch, of which large ones are begun first.
+fn read_lent<R: Threads + Sync, G: Gate + Sync>(
+    work: &Work<R, G>,
     lent: &Lent,
-    first: u32,
-    end: u32,
+    batch: Batch,
 ) -> Result<List<Result<ReadObject, Refusal>>, NoMemory>
-    requires { (first ≤ end) × (end ≤ length lent.now.objects.now) }
-    ensures { IfOk result (λ outs. GivesAll (λ k out. ReadsNamed named cpu (lent_sources lent.now) (first + k) out) (end - first) outs) }
+    requires { (batch.first ≤ batch.end) × (batch.end ≤ length lent.now.objects.now) × (batch.end < batch.first + 2 ^ 16) }
+    ensures { IfOk result (λ outs. GivesAll (λ k out. ReadsNamed batch.named lent.now.target (lent_sources lent.now) batch.first k out) (batch.end - batch.first) outs) }
 {
     let alloc = work.workers.alloc;
     let job = Reading {
         alloc,
-        cpu,
-        named,
         lent,
-        first,
+        batch,
         gate: work.gate,
     };
     let open = OpenGate::new();
-    let order = large_first(alloc, lent.files, lent.numbers, first, end)?;
+    let order = large_first(alloc, lent.files, lent.numbers, batch.first, batch.end)?;
     each_in_order(
         work.workers,
-        end - first,
+        batch.end - batch.first,
         order.as_slice(),
         ANALYSE,
         &open,
@@ -203,7 +218,7 @@ fn read_batch<R: Threads + Sync, G: Gate + Sync>(
 
 /// The objects that were read, or the first fault of the first that has one.
 fn all_read(alloc: Global, outs: Vec<Result<ReadObject, Refusal>>) -> Result<ReadObjects, Refusal>
-    ensures read { (cpu : ℕ) (sources : Listed Source) → GivesAll (ReadsAt cpu sources) (length sources) outs.items → Reads cpu sources result }
+    ensures read { (target : ATarget) (first : ℕ) (sources : Listed Source) → first ≤ length sources → GivesAll (λ k out. ReadsAt target sources (first + k) out) (length sources - first) outs.items → Reads target first sources result }
     ensures names { (named : Bool) (count : ℕ) → GivesAll (NamesAt named) count outs.items → IfOk result (λ it. HaveNames named it.seen it.marks it.made) }
 {
     let mut seen = List::with_capacity(alloc, outs.len())?;

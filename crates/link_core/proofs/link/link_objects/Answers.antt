@@ -1,7 +1,7 @@
 use Rattle.link_core.proofs.link.link_objects.Goals as goal
 
-pub returns-then-wanted : goal.returns-then-wanted
-returns-then-wanted g c = rw c.if-wanted.true c.link_merged.ensures
+pub returns-then-odr-clause-links : goal.returns-then-odr-clause-links
+returns-then-odr-clause-links g c = rw c.if-odr.true c.link_merged.ensures.links
 
-pub returns-else-wanted : goal.returns-else-wanted
-returns-else-wanted g c = rw c.if-wanted.false c.link_unmerged.ensures
+pub returns-else-odr-clause-links : goal.returns-else-odr-clause-links
+returns-else-odr-clause-links g c = rw c.if-odr.false c.link_unmerged.ensures.links

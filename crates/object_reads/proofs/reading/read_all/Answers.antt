@@ -1,15 +1,14 @@
-use Rattle.std.proofs.Common.{length, arith}
+use Rattle.std.proofs.Common.{◌-◌, length, arith}
 use Rattle.object_reads.specs.Sources.{listed}
-use Rattle.object_reads.proofs.Analysing.{sources_long}
+use Rattle.object_reads.proofs.Analysing.{listed_long}
 use Rattle.object_reads.proofs.reading.read_all.Goals as goal
 
-pub returns : goal.returns
-returns g c =
-    let it = c.args.sources in
-    let long = sources_long it.objects.now it.files it.numbers.now it.each in
-    let outs = c.into_vec.ensures in
-    let read = rw c.as_slice.ensures at c.in_ok-read.ensures in
+pub returns-clause-read : goal.returns-clause-read
+returns-clause-read g c = λ all holds.
+    let it = c.args.sources.now in
+    let long = listed_long it.objects.now all it.numbers.now it.end it.each it.within in
+    let read = c.in_ok-outs.ensures.read all holds in
     record {
-      read = c.all_read.ensures.read c.args.cpu (listed it) (rw outs (omega (arith, read.0, long), λ k o at. (read.1 k o at).0));
-      names = c.all_read.ensures.names c.args.named (length it.objects.now) (rw outs (read.0, λ k o at. (read.1 k o at).1));
+      read = c.all_read.ensures.read c.args.target it.first (listed it all) (omega (arith, long, it.order)) (omega (arith, long, read.0), λ k o at. (read.1 k o at).0);
+      names = c.all_read.ensures.names c.args.named (it.end - it.first) (read.0, λ k o at. (read.1 k o at).1);
     }

@@ -1,4 +1,5 @@
 use Rattle.std.proofs.Common.{◌≡◌, ◌+◌, ◌++◌, ℕ, List, length}
+use Rattle.object_reads.specs.declared.target.Target.{Target}
 use Rattle.object_reads.specs.Sources.{Source}
 use Rattle.link_core.specs.Unmerged.{MayAddBatch, SoFar}
 use Rattle.link_core.proofs.unmerged.Unmerged.add_batch.Given as goal
@@ -7,4 +8,4 @@ use Rattle.link_core.proofs.unmerged.Unmerged.add_batch.Given as goal
 abbrev pub invariant-loop-out : goal.invariant-loop-out
 invariant-loop-out l =
     (l.yielded ++ l.out-iterator.rest.items ≡ l.initial.out-iterator.rest.items)
-    × ((cpu first count : ℕ) (sources : List Source) → MayAddBatch cpu sources first count l.initial.self l.initial.out-iterator.rest.items → SoFar cpu sources (first + length l.yielded) l.self)
+    × ((target : Target) (start first count : ℕ) (sources : List Source) → MayAddBatch target start sources first count l.initial.self l.initial.out-iterator.rest.items → SoFar target start sources (first + length l.yielded) l.self)

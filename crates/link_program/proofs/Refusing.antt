@@ -5,7 +5,8 @@ use Rattle.dwarf_types.specs.declared.analysis.Analysis.{Analysis}
 use Rattle.macho_read.specs.declared.image.Image.{Image}
 use Rattle.link_status.specs.declared.refusal.Refusal.{Refusal}
 use Rattle.link_status.specs.declared.refusal.Refusal.TheVariants as refusals
-use Rattle.link_core.specs.Linked.{Bundles, HasNoRefusal, fault, limit, limit_of, no_memory}
+use Rattle.link_core.specs.Linked.{limit_of}
+use Rattle.link_program.specs.Making.{Bundles, HasNoRefusal, fault, limit, no_memory}
 use Rattle.object_reads.specs.Marks.{MarkLive}
 use Rattle.object_reads.specs.Sources.{Source}
 
