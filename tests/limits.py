@@ -16,6 +16,7 @@ from laid_out import N_FUN, N_OSO, TEXT, object_file as file_of_object, program_
 ADDRESS, SIZE = TEXT[2], TEXT[3]
 MANY = [b"/no/such/%d.o" % n for n in range(65536)]
 INPUT = 1 << 29
+SECTIONS_AT = 4096
 
 
 def program(paths, functions):
@@ -77,6 +78,23 @@ def circular():
     return object_file(TABLE + more + b"\0", unit(entries), STRINGS, relocations, [(b"_main", 0), (b"_more", 16)])
 
 
+def worked_circles():
+    """The same with one function that has code, a second without, and a structure; and the sections of the image."""
+    table = "01 11 01 03 0e 13 05 00 00" "02 2e 00 11 01 12 06 47 13 49 13 00 00" "03 2e 00 47 13 00 00" "04 13 01 03 08 00 00" "05 0d 00 49 13 00 00" "00"
+    main = b"\x02" + bytes(8) + struct.pack("<III", SIZE, 0x27, 0x2C)
+    other = b"\x03" + struct.pack("<I", 0x12)
+    structure = b"\x04S\0" + b"\x05" + struct.pack("<I", 0x2C) + b"\0"
+    given = object_file(bytes.fromhex(table), unit(ROOT + main + other + structure + b"\0"), STRINGS, relocation(0x13), [(b"_main", 0)])
+    table = "01 11 01 03 0e 13 05 11 01 55 17 00 00" "02 2e 00 11 01 12 06 47 13 49 13 00 00" "03 2e 00 47 13 00 00" "04 13 01 03 0e 00 00" "05 0d 00 49 13 00 00" "00"
+    root = ROOT + bytes(12)
+    main = b"\x02" + struct.pack("<QIII", ADDRESS, SIZE, 0x33, 0x38)
+    other = b"\x03" + struct.pack("<I", 0x1E)
+    structure = b"\x04" + struct.pack("<I", 4) + b"\x05" + struct.pack("<I", 0x38) + b"\0"
+    ranges = struct.pack("<QQ", ADDRESS, ADDRESS + SIZE) + bytes(16)
+    addresses = struct.pack("<IHIBB", 44, 2, 0, 8, 0) + bytes(4) + struct.pack("<QQ", ADDRESS, SIZE) + bytes(16)
+    return given, bytes.fromhex(table) + unit(root + main + other + structure + b"\0") + b"m.c\0S\0" + ranges + addresses
+
+
 ONE = program([b"m.o"], [(b"_main", ADDRESS, SIZE)])
 TWO = program([b"m.o"], [(b"_main", ADDRESS, 16), (b"_more", ADDRESS + 16, SIZE - 16)])
 # where a further abbreviation stands, and the opening entry behind so many namespaces
@@ -87,7 +105,8 @@ NEST = 11 + len(ROOT) + len(MAIN)
 def cases(stored):
     """What is tried: a name, the program, its object, options, the status, the message, and whether the image is the stored one.
 
-    A file is its bytes, or its first bytes and its size, where zeros follow.
+    A file is its bytes, or its first bytes and its size, where zeros follow. Where the image is neither the stored one nor
+    any, its sections are given in place of the last.
     """
     yield "the object laid out here links as the stored one", ONE, small_object(), [], 0, b"", True
     yield "a thousand open lists", ONE, nested(1000), [], 0, b"", True
@@ -100,6 +119,9 @@ def cases(stored):
     yield "relocations that overlap", ONE, small_object(relocations=overlap), [], 4, b"m.o: RelocOverlap in __debug_info at 23", False
     counts = b"objects 1\nentries 6\nlive 6\npooled 0\nnames 0\nnodes 6\n"
     yield "specifications and a member in circles", TWO, circular(), ["--no-odr", "--statistics"], 0, counts, False
+    given, sections = worked_circles()
+    counts = b"objects 1\nentries 5\nlive 5\npooled 0\nnames 0\nnodes 5\nbytes 4298\n"
+    yield "circles, byte for byte", ONE, given, ["--statistics"], 0, counts, sections
     warnings = b"".join(b"dsymlink: warning: missing: %s\n" % path for path in MANY[:65535])
     yield "65,535 objects that are missing", program(MANY[:65535], []), b"", ["--keep-going"], 0, warnings, False
     yield "one more object", program(MANY, []), b"", ["--keep-going"], 5, b"Objects 65536", False
@@ -138,6 +160,8 @@ def wrong(tool, folder, stored, case):
     if status != 0:
         return "a bundle was written" if os.path.exists(made) else None
     image = open(os.path.join(made, "Contents/Resources/DWARF/a.out"), "rb").read()
+    if isinstance(same, bytes):
+        return None if image[SECTIONS_AT:] == same else "other sections"
     wanted = open(os.path.join(stored, "after/bundle/Contents/Resources/DWARF/a.out"), "rb").read()
     return "another image" if same and image != wanted else None
 
