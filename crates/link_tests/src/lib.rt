@@ -5,6 +5,4 @@
 #![tactic(auto)]
 
 #[cfg(test)]
-mod meeting;
-#[cfg(test)]
 mod tests;

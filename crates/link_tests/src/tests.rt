@@ -7,11 +7,11 @@ ghost use Rattle.macho_read.specs.declared.kind.Role.TheVariants as roles;
 ghost use Rattle.macho_read.specs.Kind.{kind_of};
 ghost use Rattle.macho_read.specs.Sound.{IsSound};
 
-use crate::meeting::{Meeting, met};
 use ds_base::{Bytes, List, NoMemory};
 use ds_files::{Gate, OpenGate};
 use link_core::{Linked, Program, link_objects};
 use macho_read::Image;
+use meeting_gate::Meeting;
 use object_reads::{FilesLeft, Sources};
 use sample_objects::{Generated, generated};
 use std::alloc::Global;
@@ -150,6 +150,11 @@ fn each_has_a_cell(rt: &impl Abort, linked: Option<Linked>) {
     let (seen, names) = (filled(&linked.closed), linked.counts.names);
     drop(linked);
     assert!(rt; seen == names);
+}
+
+/// So many came to the gate, two in each phase, and none waited in vain.
+fn met(rt: &impl Abort, gate: &Meeting, count: u32) {
+    assert!(rt; gate.met() == Some(count));
 }
 
 /// Two threads meet in each phase of a link, with types merged or not, so that so many came in all.

@@ -1,27 +1,36 @@
-//! A gate at which two workers meet.
+//! The gate.
 
 use ds_files::Gate;
 use std::hint::spin_loop;
-use std::process::Abort;
 use std::sync::atomic::Ordering::SeqCst;
 use std::sync::atomic::{AtomicBool, AtomicU32};
 
-/// The first two items of each phase wait for each other here, for so many turns at most.
+/// Each of the first two items of a phase waits here until the other has come, for so many turns at most.
 #[derive(Drop)]
-pub(crate) struct Meeting {
+pub struct Meeting {
     /// How many came.
     arrived: AtomicU32,
-    /// Whether one came alone.
-    gave_up: AtomicBool,
+    /// Whether one waited in vain.
+    alone: AtomicBool,
 }
 
 const TURNS: u32 = 1 << 24;
 
 impl Meeting {
-    pub(crate) fn new() -> Meeting {
+    /// A gate to which none has come.
+    pub fn new() -> Meeting {
         Meeting {
             arrived: AtomicU32::new(0),
-            gave_up: AtomicBool::new(false),
+            alone: AtomicBool::new(false),
+        }
+    }
+
+    /// How many came, two in each phase, unless one waited in vain.
+    pub fn met(&self) -> Option<u32> {
+        if self.alone.load(SeqCst) {
+            None
+        } else {
+            Some(self.arrived.load(SeqCst))
         }
     }
 }
@@ -38,12 +47,6 @@ impl Gate for Meeting {
             }
             spin_loop();
         }
-        self.gave_up.store(true, SeqCst);
+        self.alone.store(true, SeqCst);
     }
-}
-
-/// So many came, two in each phase, and none gave up.
-pub(crate) fn met(rt: &impl Abort, gate: &Meeting, count: u32) {
-    let seen = (gate.arrived.load(SeqCst), gate.gave_up.load(SeqCst));
-    assert!(rt; seen == (count, false));
 }
