@@ -27,7 +27,28 @@ pub(crate) const PROGRAM: &[u8] = b"\
     \x05\0\0\0\x0f\x01\0\0\x50\x3f\0\0\x01\0\0\0\
     \0m.o\0_main\0";
 
-/// The file of its object: a unit `m.c` with the function `main`, whose address is relocated.
+/// The file of a program as above, with a function of an object `n.o` before that of `m.o`, at 0x100003f7a. Both have the name
+/// `_main`.
+#[rattlefmt::skip]
+pub(crate) const PAIR: &[u8] = b"\
+    \xcf\xfa\xed\xfe\x0c\0\0\x01\0\0\0\0\x02\0\0\0\x03\0\0\0\xc8\0\0\0\0\0\0\0\0\0\0\0\
+    \x1b\0\0\0\x18\0\0\0\0\x11\x22\x33\x44\x55\x66\x77\x88\x99\xaa\xbb\xcc\xdd\xee\xff\
+    \x19\0\0\0\x98\0\0\0__TEXT\0\0\0\0\0\0\0\0\0\0\
+    \0\0\0\0\x01\0\0\0\0\x40\0\0\0\0\0\0\0\0\0\0\0\0\0\0\0\0\0\0\0\0\0\0\
+    \x05\0\0\0\x05\0\0\0\x01\0\0\0\0\0\0\0\
+    __text\0\0\0\0\0\0\0\0\0\0__TEXT\0\0\0\0\0\0\0\0\0\0\x50\x3f\0\0\x01\0\0\0\x54\0\0\0\0\0\0\0\
+    \0\0\0\0\x04\0\0\0\0\0\0\0\0\0\0\0\0\x04\0\x80\0\0\0\0\0\0\0\0\0\0\0\0\
+    \x02\0\0\0\x18\0\0\0\xe8\0\0\0\x07\0\0\0\x58\x01\0\0\x0f\0\0\0\
+    \x0b\0\0\0\x66\0\x01\0\0\0\0\0\0\0\0\0\
+    \x05\0\0\0\x24\x01\0\0\x7a\x3f\0\0\x01\0\0\0\
+    \0\0\0\0\x24\0\0\0\x2a\0\0\0\0\0\0\0\
+    \x01\0\0\0\x66\0\x01\0\0\0\0\0\0\0\0\0\
+    \x05\0\0\0\x24\x01\0\0\x50\x3f\0\0\x01\0\0\0\
+    \0\0\0\0\x24\0\0\0\x2a\0\0\0\0\0\0\0\
+    \x05\0\0\0\x0f\x01\0\0\x50\x3f\0\0\x01\0\0\0\
+    \0m.o\0_main\0n.o\0";
+
+/// The file of the object: a unit `m.c` with the function `main`, whose address is relocated.
 ///
 /// The lines have the header, the segment and its four sections and the symbol table as above, and then
 /// - the code
@@ -64,10 +85,52 @@ pub(crate) const OBJECT: &[u8] = b"\
     \x01\0\0\0\x0f\x01\0\0\0\0\0\0\0\0\0\0\
     \0_main\0";
 
-/// Where the sections of its image begin.
+/// The file of that object with other sections of entries behind it, of a unit of C++, so that its structure has a name by which
+/// it is merged.
+///
+/// The last lines have
+/// - the abbreviations of a unit; of a function with low_pc, high_pc, specification and type; of one with a specification; of
+///   a structure; of a member
+/// - of the unit: unit_length, version, debug_abbrev_offset, address_size; the root
+/// - the function `main`, whose specification is the entry at 0x27 and whose type the one at 0x2c
+/// - the other function, whose specification is the entry at 0x12
+/// - the structure `S` at 0x2c with its member, and the ends
+#[rattlefmt::skip]
+pub(crate) const MERGED: &[u8] = b"\
+    \xcf\xfa\xed\xfe\x0c\0\0\x01\0\0\0\0\x01\0\0\0\x02\0\0\0\xa0\x01\0\0\0\0\0\0\0\0\0\0\
+    \x19\0\0\0\x88\x01\0\0\0\0\0\0\0\0\0\0\0\0\0\0\0\0\0\0\
+    \0\0\0\0\0\0\0\0\x6c\0\0\0\0\0\0\0\xc0\x01\0\0\0\0\0\0\x6c\0\0\0\0\0\0\0\
+    \x07\0\0\0\x07\0\0\0\x04\0\0\0\0\0\0\0\
+    __text\0\0\0\0\0\0\0\0\0\0__TEXT\0\0\0\0\0\0\0\0\0\0\0\0\0\0\0\0\0\0\x2a\0\0\0\0\0\0\0\
+    \xc0\x01\0\0\0\0\0\0\0\0\0\0\0\0\0\0\0\x04\0\x80\0\0\0\0\0\0\0\0\0\0\0\0\
+    __debug_abbrev\0\0__DWARF\0\0\0\0\0\0\0\0\0\x2a\0\0\0\0\0\0\0\x2c\0\0\0\0\0\0\0\
+    \x4b\x02\0\0\0\0\0\0\0\0\0\0\0\0\0\0\0\0\0\x02\0\0\0\0\0\0\0\0\0\0\0\0\
+    __debug_info\0\0\0\0__DWARF\0\0\0\0\0\0\0\0\0\x3f\0\0\0\0\0\0\0\x36\0\0\0\0\0\0\0\
+    \x77\x02\0\0\0\0\0\0\x2c\x02\0\0\x01\0\0\0\0\0\0\x02\0\0\0\0\0\0\0\0\0\0\0\0\
+    __debug_str\0\0\0\0\0__DWARF\0\0\0\0\0\0\0\0\0\x63\0\0\0\0\0\0\0\x09\0\0\0\0\0\0\0\
+    \x23\x02\0\0\0\0\0\0\0\0\0\0\0\0\0\0\0\0\0\x02\0\0\0\0\0\0\0\0\0\0\0\0\
+    \x02\0\0\0\x18\0\0\0\x34\x02\0\0\x01\0\0\0\x44\x02\0\0\x07\0\0\0\
+    \0\0\0\0\0\0\0\0\0\0\0\0\0\0\0\0\0\0\0\0\0\0\0\0\0\0\0\0\0\0\0\0\0\0\0\0\0\0\0\0\0\0\
+    \x01\x11\x01\x03\x0e\x13\x05\0\0\x02\x2e\0\x11\x01\x12\x06\x03\x0e\0\0\0\
+    \x20\0\0\0\x04\0\0\0\0\0\x08\
+    \x01\0\0\0\0\x0c\0\
+    \x02\0\0\0\0\0\0\0\0\x2a\0\0\0\x04\0\0\0\
+    \0\
+    m.c\0main\0\
+    \x13\0\0\0\x01\0\0\x06\
+    \x01\0\0\0\x0f\x01\0\0\0\0\0\0\0\0\0\0\
+    \0_main\0\
+    \x01\x11\x01\x03\x0e\x13\x05\0\0\x02\x2e\0\x11\x01\x12\x06\x47\x13\x49\x13\0\0\x03\x2e\0\x47\x13\0\0\
+    \x04\x13\x01\x03\x08\0\0\x05\x0d\0\x49\x13\0\0\0\
+    \x32\0\0\0\x04\0\0\0\0\0\x08\x01\0\0\0\0\x04\0\
+    \x02\0\0\0\0\0\0\0\0\x2a\0\0\0\x27\0\0\0\x2c\0\0\0\
+    \x03\x12\0\0\0\
+    \x04S\0\x05\x2c\0\0\0\0\0";
+
+/// Where the sections of an image begin.
 pub(crate) const SECTIONS_AT: usize = 4096;
 
-/// The sections of that image.
+/// The sections of the image of the first program.
 ///
 /// The lines have
 /// - the abbreviations of the unit and of the function, and the end

@@ -1,268 +1,130 @@
 //! Files and a sink of which one call fails, each call of a link in turn; and threads that share a link.
 
-ghost use Rattle.std.specs.Prelude.{◌≡◌, length};
-
-use crate::bytes::{OBJECT, PROGRAM, SECTIONS};
-use crate::meeting::{Meeting, met};
+use crate::bytes::{MERGED, OBJECT, PAIR, PROGRAM, SECTIONS};
 use crate::worlds::{
-    EARLIER, IMAGE_NAME, PLIST_NAME, THREADS, World, bundle_is, earlier_world, file_is,
-    first_world, run, same, told_is,
+    FIRST, Given, LINK, Row, answer, answer_each, ends, put_file, run, same, world_of,
 };
-use ds_base::NoMemory;
-use ds_files::OpenGate;
-use link_status::Status;
-use sample_objects::{Generated, generated, program_file};
+use link_status::code;
+use meeting_gate::Meeting;
 use std::alloc::Global;
 use std::process::Abort;
 use std::thread::Threads;
 
-const LINK: &str = "-o bundle a.out";
+const NO_READ: &[u8] = b"dsymlink: read fault: a.out\n";
 
-/// What is wanted where a call fails: the status, what is told, and whether Info.plist and the image are new.
-type Ending = (Status, &'static str, bool, bool);
+const NO_OBJECT: &[u8] = b"dsymlink: read fault: m.o\n";
 
-/// How the link of the first program ends where this call of the files fails.
-fn first_ending(call: u64) -> Ending {
-    match call {
-        1 => (
-            Status::ReadFault { file: 0 },
-            "dsymlink: read fault: a.out\n",
-            false,
-            false,
-        ),
-        2 => (
-            Status::ReadFault { file: 1 },
-            "dsymlink: read fault: m.o\n",
-            false,
-            false,
-        ),
-        3 => (
-            Status::WriteFault { file: 0 },
-            "dsymlink: write fault: bundle/Contents/Info.plist\n",
-            false,
-            false,
-        ),
-        4 => (
-            Status::WriteFault { file: 1 },
-            "dsymlink: write fault: bundle/Contents/Resources/DWARF/a.out\n",
-            true,
-            false,
-        ),
-        _ => (Status::Done, "", true, true),
+const NO_PLIST: &[u8] = b"dsymlink: write fault: bundle/Contents/Info.plist\n";
+
+const NO_IMAGE: &[u8] = b"dsymlink: write fault: bundle/Contents/Resources/DWARF/a.out\n";
+
+/// How the link of the first program ends where a call fails. It makes four calls.
+const CALLS: [Row<'static>; 4] = [
+    (1, LINK, 3, 0, NO_READ, 0),
+    (2, LINK, 3, 1, NO_OBJECT, 0),
+    (3, LINK, 6, 0, NO_PLIST, 0),
+    (4, LINK, 6, 1, NO_IMAGE, 1),
+];
+
+/// The command of a row over the first program ends so, and the same link once more, of which no call fails, is done.
+fn mended<R: Threads + Abort + Sync>(rt: &R, alloc: Global, threads: &str, row: &Row) {
+    let again = (0, LINK, 0, 0, row.4, 2);
+    let mut world = world_of(rt, alloc, &FIRST, row.0);
+    ends(rt, alloc, &mut world, &FIRST, threads, row);
+    ends(rt, alloc, &mut world, &FIRST, threads, &again);
+    drop(world);
+}
+
+/// So it is with each of these rows.
+fn each_mended<R: Threads + Abort + Sync>(rt: &R, alloc: Global, threads: &str, rows: &[Row]) {
+    for row in rows {
+        mended(rt, alloc, threads, row);
     }
 }
 
-/// The sources of the first program are as they were, and its bundle is new or not, each of its files.
-fn files_are(rt: &impl Abort, world: &World, plist: bool, image: bool, line: &str) {
-    file_is(rt, world, "a.out", PROGRAM, line);
-    file_is(rt, world, "m.o", OBJECT, line);
-    bundle_is(rt, world, plist, image.then_some(SECTIONS), line);
-}
+const LET_GO: &str = "--keep-going -o bundle a.out";
 
-/// The link of the first program by this line, where this call fails; and the same once more.
-///
-/// A link makes four calls, so a fifth is the first one of the second link; another that fails is over then.
-fn fails_first<R: Threads + Abort + Sync>(rt: &R, alloc: Global, threads: &str, call: u64) {
-    let (status, text, plist, image) = first_ending(call);
-    let mut world = first_world(alloc, call, 0).expect(rt, "memory");
-    let gate = OpenGate::new();
-    same(
-        rt,
-        run(rt, alloc, threads, LINK, &mut world, &gate),
-        status,
-        threads,
-    );
-    told_is(rt, &world, text, threads);
-    files_are(rt, &world, plist, image, threads);
-    let again = if call == 5 {
-        Status::ReadFault { file: 0 }
-    } else {
-        Status::Done
-    };
-    same(
-        rt,
-        run(rt, alloc, threads, LINK, &mut world, &gate),
-        again,
-        threads,
-    );
-    files_are(rt, &world, true, true, threads);
-}
+const GONE: &[u8] = b"dsymlink: warning: missing: n.o\n";
+
+const NO_FIRST: &[u8] = b"dsymlink: read fault: n.o\n";
+
+const NO_SECOND: &[u8] = b"dsymlink: warning: missing: n.o\ndsymlink: read fault: m.o\n";
+
+const NO_PLIST_THEN: &[u8] =
+    b"dsymlink: warning: missing: n.o\ndsymlink: write fault: bundle/Contents/Info.plist\n";
+
+const NO_IMAGE_THEN: &[u8] =
+    b"dsymlink: warning: missing: n.o\ndsymlink: write fault: bundle/Contents/Resources/DWARF/a.out\n";
+
+/// What a link of two objects finds: the file of the first isn't there.
+const HALF: Given<'static> = Given {
+    program: PAIR,
+    object: OBJECT,
+    sections: SECTIONS,
+    put: 0,
+};
+
+/// How it ends where a call fails. The file that isn't there is let go, or not.
+const HALF_CALLS: [Row<'static>; 7] = [
+    (1, LET_GO, 3, 0, NO_READ, 0),
+    (2, LET_GO, 3, 1, NO_FIRST, 0),
+    (3, LET_GO, 3, 2, NO_SECOND, 0),
+    (4, LET_GO, 6, 0, NO_PLIST_THEN, 0),
+    (5, LET_GO, 6, 1, NO_IMAGE_THEN, 1),
+    (6, LET_GO, 0, 0, GONE, 2),
+    (0, LINK, 2, 1, b"dsymlink: missing: n.o\n", 0),
+];
 
 #[test]
-fn each_call_of_the_files_that_fails_is_told_of_its_file(rt: HostRuntime) {
+fn each_call_of_the_files_that_fails_is_told_of_its_file_behind_what_was_let_go(rt: HostRuntime) {
     let alloc = rt.alloc();
-    for call in 1..=5 {
-        for threads in THREADS {
-            fails_first(&rt, alloc, threads, call);
-        }
-    }
+    each_mended(&rt, alloc, "-j 1", &CALLS);
+    each_mended(&rt, alloc, "-j 2", &CALLS);
+    each_mended(&rt, alloc, "-j 8", &CALLS);
+    answer_each(&rt, alloc, &HALF, &HALF_CALLS);
 }
 
-/// How a link of two objects ends where this call fails, the file of the first isn't there, and such files are let go.
-fn second_ending(call: u64) -> Ending {
-    match call {
-        1 => (
-            Status::ReadFault { file: 0 },
-            "dsymlink: read fault: a.out\n",
-            false,
-            false,
-        ),
-        2 => (
-            Status::ReadFault { file: 1 },
-            "dsymlink: read fault: gen/1.o\n",
-            false,
-            false,
-        ),
-        3 => (
-            Status::ReadFault { file: 2 },
-            "dsymlink: warning: missing: gen/1.o\ndsymlink: read fault: gen/2.o\n",
-            false,
-            false,
-        ),
-        4 => (
-            Status::WriteFault { file: 0 },
-            "dsymlink: warning: missing: gen/1.o\ndsymlink: write fault: bundle/Contents/Info.plist\n",
-            false,
-            false,
-        ),
-        5 => (
-            Status::WriteFault { file: 1 },
-            "dsymlink: warning: missing: gen/1.o\ndsymlink: write fault: bundle/Contents/Resources/DWARF/a.out\n",
-            true,
-            false,
-        ),
-        _ => (
-            Status::Done,
-            "dsymlink: warning: missing: gen/1.o\n",
-            true,
-            true,
-        ),
-    }
-}
+/// The first worked program, and a sink that fails.
+const UNHEARD: Given<'static> = Given {
+    program: PROGRAM,
+    object: OBJECT,
+    sections: SECTIONS,
+    put: 1,
+};
 
-/// A generated program has two objects, each with its file.
-fn has_two(rt: &impl Abort, made: &Generated)
-    ensures { length made.now.files ≡ 2 }
-{
-    assert!(rt; made.files.len() == 2);
-}
+/// Nothing is told then. A link that is done tells nothing anyway, and makes no call of the sink.
+const UNTOLD: [Row<'static>; 7] = [
+    (0, LINK, 0, 0, b"", 2),
+    (0, "--statistics -o bundle a.out", 8, 0, b"", 2),
+    (0, "--dump-map -o bundle a.out", 8, 0, b"", 0),
+    (0, "--generate 1 -o bundle a.out", 8, 0, b"", 0),
+    (0, "-o bundle none", 8, 0, b"", 0),
+    (0, "-o bundle m.o", 8, 0, b"", 0),
+    (0, "-o bundle", 8, 0, b"", 0),
+];
 
-/// The files of a generated program of two objects, without that of the first one or with it.
-fn two_objects<R: Threads + Abort + Sync>(rt: &R, alloc: Global, call: u64, first: bool) -> World {
-    let made = generated(rt, alloc, 2).expect(rt, "memory");
-    has_two(rt, &made);
-    store(alloc, &made, call, first).expect(rt, "memory")
-}
-
-fn store(alloc: Global, made: &Generated, call: u64, first: bool) -> Result<World, NoMemory>
-    requires { length made.now.files ≡ 2 }
-{
-    let mut world = earlier_world(alloc, call, 0)?;
-    let program = program_file(alloc, &made.program)?;
-    let files = made.files.as_slice();
-    world.files.set(alloc, "a.out", program.as_slice())?;
-    world.files.set(alloc, "gen/2.o", files[1].as_slice())?;
-    if first {
-        world.files.set(alloc, "gen/1.o", files[0].as_slice())?;
-    }
-    Ok(world)
-}
-
-/// The link of two objects by so many threads, where this call fails.
-fn fails_second<R: Threads + Abort + Sync>(rt: &R, alloc: Global, threads: &str, call: u64) {
-    let (status, text, plist, image) = second_ending(call);
-    let mut world = two_objects(rt, alloc, call, false);
-    let gate = OpenGate::new();
-    let line = "--keep-going -o bundle a.out";
-    same(
-        rt,
-        run(rt, alloc, threads, line, &mut world, &gate),
-        status,
-        threads,
-    );
-    told_is(rt, &world, text, threads);
-    same(rt, is_new(rt, &world, PLIST_NAME), plist, threads);
-    same(rt, is_new(rt, &world, IMAGE_NAME), image, threads);
-}
-
-/// The link of two objects by so many threads, where the first one's file isn't there and isn't let go.
-fn misses_first<R: Threads + Abort + Sync>(rt: &R, alloc: Global, threads: &str) {
-    let mut world = two_objects(rt, alloc, 0, false);
-    let gate = OpenGate::new();
-    let status = Status::Missing { file: 1 };
-    same(
-        rt,
-        run(rt, alloc, threads, LINK, &mut world, &gate),
-        status,
-        threads,
-    );
-    told_is(rt, &world, "dsymlink: missing: gen/1.o\n", threads);
-    bundle_is(rt, &world, false, None, threads);
-}
-
-/// Whether a file of the bundle isn't as before.
-fn is_new(rt: &impl Abort, world: &World, name: &str) -> bool {
-    world.files.file(name).expect(rt, "a file") != EARLIER
-}
-
-#[test]
-fn what_fails_behind_a_file_that_was_let_go_is_told_behind_it(rt: HostRuntime) {
-    let alloc = rt.alloc();
-    for threads in THREADS {
-        for call in 1..=6 {
-            fails_second(&rt, alloc, threads, call);
-        }
-        misses_first(&rt, alloc, threads);
-    }
-}
-
-/// The sink fails, and the link of the first program ends so. Nothing is told, and the bundle is new or not.
-fn is_untold<R: Threads + Abort + Sync>(
-    rt: &R,
-    alloc: Global,
-    line: &str,
-    status: Status,
-    written: bool,
-) {
-    let mut world = first_world(alloc, 0, 1).expect(rt, "memory");
-    same(
-        rt,
-        run(rt, alloc, "", line, &mut world, &OpenGate::new()),
-        status,
-        line,
-    );
-    told_is(rt, &world, "", line);
-    files_are(rt, &world, written, written, line);
-}
-
-// A link that is done tells nothing, and makes no call of the sink then.
 #[test]
 fn a_message_that_is_not_put_out_takes_the_place_of_the_status(rt: HostRuntime) {
-    let alloc = rt.alloc();
-    is_untold(&rt, alloc, "-o bundle a.out", Status::Done, true);
-    for (line, written) in [
-        ("--statistics -o bundle a.out", true),
-        ("--dump-map -o bundle a.out", false),
-        ("--generate 1 -o bundle a.out", false),
-        ("-o bundle none", false),
-        ("-o bundle m.o", false),
-        ("-o bundle", false),
-    ] {
-        is_untold(&rt, alloc, line, Status::MessageFault, written);
-    }
+    answer(&rt, rt.alloc(), &UNHEARD, "", &UNTOLD);
 }
 
+/// What a link of two objects finds, each of which has a type that is merged.
+const BOTH: Given<'static> = Given {
+    program: PAIR,
+    object: MERGED,
+    sections: SECTIONS,
+    put: 0,
+};
+
 /// Two threads meet in each phase of what a line asks, so that so many came in all.
-fn share<R: Threads + Abort + Sync>(rt: &R, alloc: Global, line: &str, count: u32) {
-    let mut world = two_objects(rt, alloc, 0, true);
+fn share<R: Threads + Abort + Sync>(rt: &R, alloc: Global, line: &str, count: u64) {
+    let mut world = world_of(rt, alloc, &BOTH, 0);
+    put_file(rt, alloc, &mut world.files, "n.o", MERGED);
     let gate = Meeting::new();
-    same(
-        rt,
-        run(rt, alloc, "-j 2", line, &mut world, &gate),
-        Status::Done,
-        line,
-    );
-    met(rt, &gate, count);
+    let status = run(rt, alloc, "-j 2", line, &mut world, &gate);
+    drop(world);
+    let met = u64::from(gate.met().unwrap_or(0));
+    same(rt, (code(&status), met), (0, count), line);
 }
 
 // Of the four phases names have one, where types are merged alone.

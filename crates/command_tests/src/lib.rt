@@ -12,8 +12,4 @@ mod bytes;
 #[cfg(test)]
 mod devices;
 #[cfg(test)]
-mod meeting;
-#[cfg(test)]
-mod objects;
-#[cfg(test)]
 mod worlds;
