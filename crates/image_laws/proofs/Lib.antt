@@ -3,3 +3,4 @@ pub mod Symbols
 pub mod Spelled
 pub mod Sections
 pub mod Whole
+pub mod WereRead

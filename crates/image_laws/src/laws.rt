@@ -1,8 +1,9 @@
 //! What the records of Mach-O files say of the definition of an image file.
 
-ghost use Rattle.std.specs.Prelude.{◌≡◌, ◌<◌, ◌^◌, [], Ok, length};
+ghost use Rattle.std.specs.Prelude.{◌≡◌, ◌<◌, ◌^◌, ℕ, List as Listed, [], Ok, length};
 ghost use Rattle.dwarf_types.specs.declared.graph.Graph.{Graph};
 ghost use Rattle.dwarf_types.specs.Encode.{encode};
+ghost use Rattle.dwarf_types.specs.Spelled.{AreBytes};
 ghost use Rattle.dsym_write.specs.Bundle.{file_of, image_file};
 ghost use Rattle.macho_read.specs.declared.image.Image.{Image};
 ghost use Rattle.macho_read.specs.declared.kind.Role.TheVariants as roles;
@@ -13,6 +14,11 @@ ghost use Rattle.reloc_table.specs.declared.sections.Compressed.TheVariants.{Ign
 ghost use Rattle.reloc_table.specs.Parts.{all_tried, sections_in};
 ghost use Rattle.written_laws.specs.ReadUnits.{sections_of};
 ghost use Rattle.image_laws.specs.Fitting.{FitsRecords};
+
+/// A program that was read from a file, and has no segment `__DWARF` of its own, fits the records of one.
+pub fn programs_that_were_read_fit()
+    ensures { (bytes : Listed ℕ) (program : Image) → AreBytes bytes → image_of bytes ≡ Ok program → kind_of program roles.Program ≡ Ok tt → FitsRecords program }
+{}
 
 /// The image file of a graph is spelled by the records of a Mach-O file (mach-o/loader.h, mach-o/nlist.h): a header, the
 /// commands of the program and that of segment `__DWARF`, and the program's symbols with their names. It has fewer than
