@@ -1,14 +1,16 @@
 //! The written sections and images of a graph tell it.
 
-ghost use Rattle.std.specs.Prelude.{◌≡◌, ◌<◌, ◌^◌, [], Ok, length};
+ghost use Rattle.std.specs.Prelude.{◌≡◌, ◌<◌, ◌^◌, ℕ, List as Listed, [], Ok, length};
 ghost use Rattle.ds_base.specs.DwarfNumbers.{LENGTH_RESERVED};
 ghost use Rattle.dwarf_types.specs.declared.graph.Graph.{Graph};
 ghost use Rattle.dwarf_types.specs.Encode.{frame_section};
+ghost use Rattle.dwarf_types.specs.Spelled.{AreBytes};
 ghost use Rattle.dwarf_types.specs.Well.{IsWell};
 ghost use Rattle.dsym_write.specs.Bundle.{image_file};
 ghost use Rattle.image_laws.specs.Fitting.{FitsRecords};
 ghost use Rattle.macho_read.specs.declared.image.Image.{Image};
 ghost use Rattle.macho_read.specs.declared.kind.Role.TheVariants as roles;
+ghost use Rattle.macho_read.specs.Image.{image_of};
 ghost use Rattle.macho_read.specs.Kind.{kind_of};
 ghost use Rattle.reloc_table.specs.declared.relocation.Relocs.{Relocs};
 ghost use Rattle.written_laws.specs.ReadUnits.{IsReadable, sections_of};
@@ -26,5 +28,11 @@ pub fn sections_tell_their_graph()
 /// graph. It has fewer than 2^32 bytes.
 pub fn images_tell_their_graph()
     ensures { (program : Image) (graph : Graph) → FitsRecords program → kind_of program roles.Program ≡ Ok tt → IsWell graph → IsReadable graph → length (image_file program graph) < 2 ^ 32 →
+        TellsImage (image_file program graph) graph }
+{}
+
+/// So the image of each bundle tells its graph: the program was read from a file, and has no segment `__DWARF` of its own.
+pub fn bundles_tell_their_graph()
+    ensures { (file : Listed ℕ) (program : Image) (graph : Graph) → AreBytes file → image_of file ≡ Ok program → kind_of program roles.Program ≡ Ok tt → IsWell graph → IsReadable graph → length (image_file program graph) < 2 ^ 32 →
         TellsImage (image_file program graph) graph }
 {}
